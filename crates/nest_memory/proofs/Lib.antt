@@ -1,0 +1,5 @@
+pub mod Alike
+pub mod BitLists
+pub mod Copied
+pub mod Cuts
+pub mod Rises

@@ -1,0 +1,71 @@
+-- The tree that a data type stands for.
+use Rattle.std.specs.Prelude.{List, [], ◌∷◌, map, String, string_bytes, ℕ, ℤ, Option, None, Some}
+use Rattle.std.specs.Option.{option_map}
+use Rattle.std.specs.declared.alloc.Global.{Global}
+use Rattle.nest_memory.specs.TypeTree as types
+use Rattle.nest_memory.specs.TypeTree.{Letters, Entries, TypeTree, FieldTree, field, FieldTrees, no_fields, more_fields}
+use Rattle.nest_memory.specs.declared.datatypes.DataType.{DataType, fold-DataType}
+use Rattle.nest_memory.specs.declared.datatypes.field.Field.{Field, fold-Field}
+use Rattle.nest_memory.specs.declared.datatypes.DataType.TheOpen.{DataType-F, Field-F}
+
+abbrev pub text_of : Option (String Global) → Option Letters
+text_of None = None
+text_of (Some s) = Some (string_bytes s)
+
+abbrev pub entries_of : List (String Global × String Global) → Entries
+entries_of es = map (λ e. (string_bytes e.0, string_bytes e.1)) es
+
+abbrev pub field_trees : List FieldTree → FieldTrees
+field_trees [] = no_fields
+field_trees (f ∷ fs) = more_fields f (field_trees fs)
+
+-- one level, with each part inside already seen
+abbrev pub type_step : DataType-F TypeTree FieldTree → TypeTree
+type_step DataType-F.Null = types.null
+type_step DataType-F.Boolean = types.boolean
+type_step DataType-F.Int8 = types.int8
+type_step DataType-F.Int16 = types.int16
+type_step DataType-F.Int32 = types.int32
+type_step DataType-F.Int64 = types.int64
+type_step DataType-F.UInt8 = types.uint8
+type_step DataType-F.UInt16 = types.uint16
+type_step DataType-F.UInt32 = types.uint32
+type_step DataType-F.UInt64 = types.uint64
+type_step DataType-F.Float16 = types.float16
+type_step DataType-F.Float32 = types.float32
+type_step DataType-F.Float64 = types.float64
+type_step DataType-F.Date32 = types.date32
+type_step DataType-F.Date64 = types.date64
+type_step DataType-F.Binary = types.binary
+type_step DataType-F.LargeBinary = types.large_binary
+type_step DataType-F.Utf8 = types.utf8
+type_step DataType-F.LargeUtf8 = types.large_utf8
+type_step (DataType-F.Timestamp u z) = types.timestamp u (text_of z)
+type_step (DataType-F.Time32 u) = types.time32 u
+type_step (DataType-F.Time64 u) = types.time64 u
+type_step (DataType-F.Duration u) = types.duration u
+type_step (DataType-F.Interval u) = types.interval u
+type_step (DataType-F.FixedSizeBinary s) = types.fixed_size_binary s
+type_step (DataType-F.List f) = types.list f.value
+type_step (DataType-F.FixedSizeList f s) = types.fixed_size_list f.value s
+type_step (DataType-F.LargeList f) = types.large_list f.value
+type_step (DataType-F.Struct fs) = types.struct (field_trees fs.items)
+type_step (DataType-F.Union fs ids mode) = types.union (field_trees fs.items) (option_map (λ v. v.items) ids) mode
+type_step (DataType-F.Map f sorted) = types.map f.value sorted
+type_step (DataType-F.Dictionary key values ordered) = types.dictionary key values.value ordered
+type_step (DataType-F.Decimal precision scale) = types.decimal precision scale
+type_step (DataType-F.Decimal256 precision scale) = types.decimal256 precision scale
+type_step (DataType-F.Extension name inner metadata) = types.extension (string_bytes name) inner.value (text_of metadata)
+
+abbrev pub field_step : Field-F TypeTree FieldTree → FieldTree
+field_step f = field (string_bytes f.name) f.data_type f.is_nullable (entries_of f.metadata.entries)
+
+abbrev pub type_of : DataType → TypeTree
+type_of = fold-DataType TypeTree FieldTree type_step field_step
+
+abbrev pub field_of : Field → FieldTree
+field_of = fold-Field TypeTree FieldTree type_step field_step
+
+-- the fields of a struct or a union
+abbrev pub field_list_of : List Field → FieldTrees
+field_list_of fs = field_trees (map field_of fs)

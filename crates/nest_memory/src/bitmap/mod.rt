@@ -1,0 +1,6 @@
+//! Bits, one a place: validities and the values of boolean arrays.
+
+mod bits;
+pub mod immutable;
+pub mod iterator;
+pub mod mutable;

@@ -1,0 +1,195 @@
+-- A cut of an array stands for the cut of its slots.
+use Rattle.std.specs.Prelude.{Option, Some, None}
+use Rattle.std.proofs.Common.{◌≡◌, ℕ, ◌+◌, ◌*◌, ◌/◌, ◌<◌, ◌≤◌, ℤ, pos, false, List, [], length, get_or, take, drop, refl, ap, sym, ◌∙◌, arith}
+use Rattle.nest_memory.specs.TypeTree.{size_of}
+use Rattle.nest_memory.specs.Cut.{cut}
+use Rattle.nest_model.specs.Part.{begin, extent, place}
+use Rattle.nest_model.specs.Layout.{Layout, Layouts, null, boolean, primitive, binary, text, fixed_size_binary, fixed_size_list, list, map, struct, union, dictionary, no_layouts, more_layouts, layout_type}
+use Rattle.nest_model.specs.Meaning.{run, len, first_len, union_place, slot, each, slots_of}
+use Rattle.nest_model.specs.Cut.{cut_layout, cut_layouts, cut_offsets}
+use Rattle.nest_model.specs.Runs.{cut-cut, length-cut, get_or-cut, rows-cut, valid-cut, validity-cut-cut, product-sum, product-fits, product-within, product-end, product-below, product-over, run-ext, cut-run}
+
+pub begin-cut : (os : List ℕ) (o n i : ℕ) → i < n → begin (take (n + 1) (drop o os)) i ≡ begin os (o + i)
+begin-cut os o n i h = get_or-cut os o (n + 1) i 0 (omega arith)
+
+pub extent-cut : (os : List ℕ) (o n i : ℕ) → i < n → extent (take (n + 1) (drop o os)) i ≡ extent os (o + i)
+extent-cut os o n i h =
+    let e = get_or-cut os o (n + 1) i 0 (omega arith) in
+    let z : o + (i + 1) ≡ o + i + 1 = omega arith in
+    let f = get_or-cut os o (n + 1) (i + 1) 0 (omega arith) ∙ ap (λ k. get_or os k 0) z in
+    cc
+
+pub union_place-cut : (os : Option (List ℤ)) (start o n i : ℕ) → i < n → union_place (cut_offsets os o n) (start + o) i ≡ union_place os start (o + i)
+union_place-cut None start o n i h = omega arith
+union_place-cut (Some os) start o n i h = ap place (get_or-cut os o n i (pos 0) h)
+
+pub type-cut : (a : Layout) (o n : ℕ) → layout_type (cut_layout a o n) ≡ layout_type a
+type-cut (null t m) o n = refl
+type-cut (boolean t bs va) o n = refl
+type-cut (primitive k t vs va) o n = refl
+type-cut (binary l t os bs va) o n = refl
+type-cut (text l t os bs va) o n = refl
+type-cut (fixed_size_binary t bs va) o n = refl
+type-cut (fixed_size_list t c va) o n = refl
+type-cut (list l t os c va) o n = refl
+type-cut (map t os c va) o n = refl
+type-cut (struct t cs va) o n = refl
+type-cut (union t ks cs os start) o n = refl
+type-cut (dictionary k t ks va c) o n = refl
+
+mutual
+  pub slot-cut : (a : Layout) (o n i : ℕ) → i < n → slot (cut_layout a o n) i ≡ slot a (o + i)
+  slot-cut (null t m) o n i h = refl
+  slot-cut (boolean t bs va) o n i h =
+      let v = valid-cut va o n i h in
+      let e = get_or-cut bs o n i false h in
+      cc
+  slot-cut (primitive k t vs va) o n i h =
+      let v = valid-cut va o n i h in
+      let e = get_or-cut vs o n i [] h in
+      cc
+  slot-cut (binary l t os bs va) o n i h =
+      let v = valid-cut va o n i h in
+      let e = begin-cut os o n i h in
+      let f = extent-cut os o n i h in
+      cc
+  slot-cut (text l t os bs va) o n i h =
+      let v = valid-cut va o n i h in
+      let e = begin-cut os o n i h in
+      let f = extent-cut os o n i h in
+      cc
+  slot-cut (fixed_size_binary t bs va) o n i h =
+      let v = valid-cut va o n i h in
+      let k : i * size_of t + size_of t ≤ n * size_of t = product-end i n (size_of t) h in
+      let e = cut-cut bs (o * size_of t) (n * size_of t) (i * size_of t) (size_of t) k in
+      let p = product-sum o i (size_of t) in
+      cc
+  slot-cut (fixed_size_list t c va) o n i h =
+      let v = valid-cut va o n i h in
+      let p = product-sum o i (size_of t) in
+      let e : run (slot (cut_layout c (o * size_of t) (n * size_of t))) (i * size_of t) (size_of t) ≡ run (slot c) ((o + i) * size_of t) (size_of t)
+      = run-ext (slot (cut_layout c (o * size_of t) (n * size_of t))) (slot c) (i * size_of t) ((o + i) * size_of t) (size_of t)
+      (λ k j. slot-cut c (o * size_of t) (n * size_of t) (i * size_of t + k) (product-within i k n (size_of t) h j)
+      ∙ ap (slot c) (let q : o * size_of t + (i * size_of t + k) ≡ (o + i) * size_of t + k = omega arith in q)) in
+      cc
+  slot-cut (list l t os c va) o n i h =
+      let v = valid-cut va o n i h in
+      let e = begin-cut os o n i h in
+      let f = extent-cut os o n i h in
+      cc
+  slot-cut (map t os c va) o n i h =
+      let v = valid-cut va o n i h in
+      let e = begin-cut os o n i h in
+      let f = extent-cut os o n i h in
+      cc
+  slot-cut (struct t cs va) o n i h =
+      let v = valid-cut va o n i h in
+      let e = each-cut cs o n i h in
+      cc
+  slot-cut (union t ks cs os start) o n i h =
+      let e = get_or-cut ks o n i (pos 0) h in
+      let f = union_place-cut os start o n i h in
+      cc
+  slot-cut (dictionary k t ks va c) o n i h =
+      let v = valid-cut va o n i h in
+      let e = get_or-cut ks o n i (pos 0) h in
+      cc
+
+  pub each-cut : (cs : Layouts) (o n i : ℕ) → i < n → each (cut_layouts cs o n) i ≡ each cs (o + i)
+  each-cut no_layouts o n i h = refl
+  each-cut (more_layouts c cs) o n i h =
+      let a = slot-cut c o n i h in
+      let b = each-cut cs o n i h in
+      cc
+
+mutual
+  pub len-cut : (a : Layout) (o n : ℕ) → o + n ≤ len a → len (cut_layout a o n) ≡ n
+  len-cut (null t m) o n h = refl
+  len-cut (boolean t bs va) o n h = length-cut bs o n h
+  len-cut (primitive k t vs va) o n h = length-cut vs o n h
+  len-cut (binary l t os bs va) o n h = rows-cut os o n h
+  len-cut (text l t os bs va) o n h = rows-cut os o n h
+  len-cut (fixed_size_binary t bs va) o n h =
+      ap (λ z. z / size_of t) (length-cut bs (o * size_of t) (n * size_of t) (product-fits o n (length bs) (size_of t) h)) ∙ product-over o n (length bs) (size_of t) h
+  len-cut (fixed_size_list t c va) o n h =
+      ap (λ z. z / size_of t) (len-cut c (o * size_of t) (n * size_of t) (product-fits o n (len c) (size_of t) h)) ∙ product-over o n (len c) (size_of t) h
+  len-cut (list l t os c va) o n h = rows-cut os o n h
+  len-cut (map t os c va) o n h = rows-cut os o n h
+  len-cut (struct t cs va) o n h = first_len-cut cs o n h
+  len-cut (union t ks cs os start) o n h = length-cut ks o n h
+  len-cut (dictionary k t ks va c) o n h = length-cut ks o n h
+
+  pub first_len-cut : (cs : Layouts) (o n : ℕ) → o + n ≤ first_len cs → first_len (cut_layouts cs o n) ≡ n
+  first_len-cut no_layouts o n h = omega arith
+  first_len-cut (more_layouts c cs) o n h = len-cut c o n h
+
+-- the slots of a cut are the cut of the slots
+pub slots-cut : (a : Layout) (o n : ℕ) → o + n ≤ len a → slots_of (cut_layout a o n) ≡ cut (slots_of a) o n
+slots-cut a o n h =
+    ap (run (slot (cut_layout a o n)) 0) (len-cut a o n h)
+    ∙ run-ext (slot (cut_layout a o n)) (slot a) 0 o n (λ i k. ap (slot (cut_layout a o n)) (let e : 0 + i ≡ i = omega arith in e) ∙ slot-cut a o n i k)
+    ∙ ap (λ q. run (slot a) q n) (let e : o ≡ 0 + o = omega arith in e)
+    ∙ sym (cut-run (slot a) 0 (len a) o n h)
+
+offsets-cut-cut : (os : Option (List ℤ)) (o n p m : ℕ) → p + m ≤ n → cut_offsets (cut_offsets os o n) p m ≡ cut_offsets os (o + p) m
+offsets-cut-cut None o n p m h = refl
+offsets-cut-cut (Some os) o n p m h = ap Some (cut-cut os o n p m h)
+
+-- a cut of a cut is one cut
+mutual
+  pub layout-cut-cut : (a : Layout) (o n p m : ℕ) → p + m ≤ n → cut_layout (cut_layout a o n) p m ≡ cut_layout a (o + p) m
+  layout-cut-cut (null t k) o n p m h = refl
+  layout-cut-cut (boolean t bs va) o n p m h =
+      let v = validity-cut-cut va o n p m h in
+      let e = cut-cut bs o n p m h in
+      cc
+  layout-cut-cut (primitive k t vs va) o n p m h =
+      let v = validity-cut-cut va o n p m h in
+      let e = cut-cut vs o n p m h in
+      cc
+  layout-cut-cut (binary l t os bs va) o n p m h =
+      let v = validity-cut-cut va o n p m h in
+      let e = cut-cut os o (n + 1) p (m + 1) (omega arith) in
+      cc
+  layout-cut-cut (text l t os bs va) o n p m h =
+      let v = validity-cut-cut va o n p m h in
+      let e = cut-cut os o (n + 1) p (m + 1) (omega arith) in
+      cc
+  layout-cut-cut (fixed_size_binary t bs va) o n p m h =
+      let v = validity-cut-cut va o n p m h in
+      let e = cut-cut bs (o * size_of t) (n * size_of t) (p * size_of t) (m * size_of t) (product-below p m n (size_of t) h) in
+      let q = product-sum o p (size_of t) in
+      cc
+  layout-cut-cut (fixed_size_list t c va) o n p m h =
+      let v = validity-cut-cut va o n p m h in
+      let e = layout-cut-cut c (o * size_of t) (n * size_of t) (p * size_of t) (m * size_of t) (product-below p m n (size_of t) h) in
+      let q = product-sum o p (size_of t) in
+      cc
+  layout-cut-cut (list l t os c va) o n p m h =
+      let v = validity-cut-cut va o n p m h in
+      let e = cut-cut os o (n + 1) p (m + 1) (omega arith) in
+      cc
+  layout-cut-cut (map t os c va) o n p m h =
+      let v = validity-cut-cut va o n p m h in
+      let e = cut-cut os o (n + 1) p (m + 1) (omega arith) in
+      cc
+  layout-cut-cut (struct t cs va) o n p m h =
+      let v = validity-cut-cut va o n p m h in
+      let e = layouts-cut-cut cs o n p m h in
+      cc
+  layout-cut-cut (union t ks cs os start) o n p m h =
+      let e = cut-cut ks o n p m h in
+      let f = offsets-cut-cut os o n p m h in
+      let g : start + o + p ≡ start + (o + p) = omega arith in
+      cc
+  layout-cut-cut (dictionary k t ks va c) o n p m h =
+      let v = validity-cut-cut va o n p m h in
+      let e = cut-cut ks o n p m h in
+      cc
+
+  pub layouts-cut-cut : (cs : Layouts) (o n p m : ℕ) → p + m ≤ n → cut_layouts (cut_layouts cs o n) p m ≡ cut_layouts cs (o + p) m
+  layouts-cut-cut no_layouts o n p m h = refl
+  layouts-cut-cut (more_layouts c cs) o n p m h =
+      let a = layout-cut-cut c o n p m h in
+      let b = layouts-cut-cut cs o n p m h in
+      cc

@@ -1,0 +1,246 @@
+-- A cut of an array is an array.
+use Rattle.std.specs.Prelude.{Option, Some, None, get_or}
+use Rattle.std.proofs.Common.{◌≡◌, ℕ, suc, ◌+◌, ◌-◌, ◌*◌, ◌%◌, ◌<◌, ◌≤◌, ℤ, pos, Bool, List, length, take, drop, refl, ap, sym, ◌∙◌, subst, arith}
+use Rattle.std.proofs.lemmas.List.Elements.{All-take, All-drop}
+use Rattle.std.specs.Str.{IsUtf8}
+use Rattle.nest_memory.specs.TypeTree.{FieldTrees, no_fields, more_fields, size_of, ids_of, fields_of, is_dense}
+use Rattle.nest_memory.specs.Cut.{cut}
+use Rattle.nest_model.specs.Part.{Validity, cut_validity, rows, last_offset, begin, extent, field_named}
+use Rattle.nest_model.specs.Layout.{Layout, Layouts, null, boolean, primitive, binary, text, fixed_size_binary, fixed_size_list, list, map, struct, union, dictionary, no_layouts, more_layouts, count_layouts}
+use Rattle.nest_model.specs.Meaning.{len, first_len}
+use Rattle.nest_model.specs.Cut.{cut_layout, cut_layouts, cut_offsets}
+use Rattle.nest_model.specs.Runs.{length-cut, get_or-cut, rows-cut, valid-cut, product-fits, product-exact}
+use Rattle.nest_model.specs.CutLaws.{type-cut, len-cut, first_len-cut, begin-cut, extent-cut}
+use Rattle.nest_model.specs.Fits.{ValidityFits, EachType, EachLen, EachCovers, Names, EachNames, MeansField, EachMeansField, OffsetsCount, OffsetsByMode, SlotsThere, SomeValid, KeysInRange, EachText}
+use Rattle.nest_model.specs.Array.{AreOffsets, TopFits, ChildrenFit, AreArrays, IsArray}
+
+validity-fits-cut : (va : Validity) (m o n : ℕ) → ValidityFits va m → o + n ≤ m → ValidityFits (cut_validity va o n) n
+validity-fits-cut None m o n h k = tt
+validity-fits-cut (Some bits) m o n h k = length-cut bits o n (omega arith)
+
+validity-fits-at : (va : Validity) (m n : ℕ) → m ≡ n → ValidityFits va m → ValidityFits va n
+validity-fits-at va m n e h = subst (ValidityFits va) e h
+
+offsets-length : (os : List ℕ) (o n : ℕ) → 0 < length os → o + n ≤ rows os → length (take (n + 1) (drop o os)) ≡ n + 1
+offsets-length os o n z h = length-cut os o (n + 1) (omega arith)
+
+offsets-cut : (os : List ℕ) (o n : ℕ) → AreOffsets os → o + n ≤ rows os → AreOffsets (cut os o (n + 1))
+offsets-cut os o n h k =
+    let e = offsets-length os o n h.0 k in (
+      omega arith,
+      λ i j a b.
+          let x = get_or-cut os o (n + 1) i 0 (omega arith) in
+          let y = get_or-cut os o (n + 1) j 0 (omega arith) in
+          let z = h.1 (o + i) (o + j) (omega arith) (omega arith) in
+          omega arith,
+    )
+
+last-cut : (os : List ℕ) (o n m : ℕ) → AreOffsets os → o + n ≤ rows os → last_offset os ≤ m → last_offset (cut os o (n + 1)) ≤ m
+last-cut os o n m h k l =
+    let e = rows-cut os o n k in
+    let x = get_or-cut os o (n + 1) n 0 (omega arith) in
+    let y = h.1 (o + n) (length os - 1) (omega arith) (omega arith) in
+    let w = ap (λ q. get_or (cut os o (n + 1)) q 0) e in
+    omega arith
+
+rows-validity : (va : Validity) (os : List ℕ) (o n : ℕ) → ValidityFits va (rows os) → o + n ≤ rows os → ValidityFits (cut_validity va o n) (rows (cut os o (n + 1)))
+rows-validity va os o n h k = validity-fits-at (cut_validity va o n) n (rows (cut os o (n + 1))) (sym (rows-cut os o n k)) (validity-fits-cut va (rows os) o n h k)
+
+text-cut : (os bs : List ℕ) (o n : ℕ) → o + n ≤ rows os → EachText os bs → EachText (cut os o (n + 1)) bs
+text-cut os bs o n k h i j =
+    let e = rows-cut os o n k in
+    let b = begin-cut os o n i (omega arith) in
+    let x = extent-cut os o n i (omega arith) in
+    let q : cut bs (begin os (o + i)) (extent os (o + i)) ≡ cut bs (begin (cut os o (n + 1)) i) (extent (cut os o (n + 1)) i) = ap (λ z. cut bs z (extent os (o + i))) (sym b) ∙ ap (cut bs (begin (cut os o (n + 1)) i)) (sym x) in
+    subst IsUtf8 q (h (o + i) (omega arith))
+
+names-cut : (zs : List ℤ) (m o n : ℕ) → EachNames zs m → EachNames (cut zs o n) m
+names-cut zs m o n h = All-take (λ z. Names z m) n (drop o zs) (All-drop (λ z. Names z m) o zs h)
+
+means-cut : (ids : Option (List ℤ)) (ks : List ℤ) (m o n : ℕ) → EachMeansField ids ks m → EachMeansField ids (cut ks o n) m
+means-cut ids ks m o n h = All-take (λ z. MeansField (field_named ids z) m) n (drop o ks) (All-drop (λ z. MeansField (field_named ids z) m) o ks h)
+
+count-cut : (cs : Layouts) (o n : ℕ) → count_layouts (cut_layouts cs o n) ≡ count_layouts cs
+count-cut no_layouts o n = refl
+count-cut (more_layouts c cs) o n = ap suc (count-cut cs o n)
+
+each-type-cut : (fs : FieldTrees) (cs : Layouts) (o n : ℕ) → EachType fs cs → EachType fs (cut_layouts cs o n)
+each-type-cut no_fields no_layouts o n h = tt
+each-type-cut no_fields (more_layouts c cs) o n h = h
+each-type-cut (more_fields f fs) no_layouts o n h = h
+each-type-cut (more_fields f fs) (more_layouts c cs) o n h = (type-cut c o n ∙ h.0, each-type-cut fs cs o n h.1)
+
+each-len-cut : (cs : Layouts) (m o n : ℕ) → EachLen cs m → o + n ≤ m → EachLen (cut_layouts cs o n) n
+each-len-cut no_layouts m o n h k = tt
+each-len-cut (more_layouts c cs) m o n h k = (len-cut c o n (omega arith), each-len-cut cs m o n h.1 k)
+
+each-len-at : (cs : Layouts) (m n : ℕ) → m ≡ n → EachLen cs m → EachLen cs n
+each-len-at cs m n e h = subst (EachLen cs) e h
+
+covers-less : (cs : Layouts) (m n : ℕ) → n ≤ m → EachCovers cs m → EachCovers cs n
+covers-less no_layouts m n k h = tt
+covers-less (more_layouts c cs) m n k h = (omega arith, covers-less cs m n k h.1)
+
+offsets-count-cut : (os : Option (List ℤ)) (ks : List ℤ) (o n : ℕ) → o + n ≤ length ks → OffsetsCount os (length ks) → OffsetsCount (cut_offsets os o n) (length (cut ks o n))
+offsets-count-cut None ks o n k h = tt
+offsets-count-cut (Some os) ks o n k h = length-cut os o n (omega arith) ∙ sym (length-cut ks o n k)
+
+mode-cut : (os : Option (List ℤ)) (d : Bool) (o n : ℕ) → OffsetsByMode os d → OffsetsByMode (cut_offsets os o n) d
+mode-cut None d o n h = h
+mode-cut (Some os) d o n h = h
+
+there-cut : (ids : Option (List ℤ)) (ks : List ℤ) (cs : Layouts) (os : Option (List ℤ)) (start o n : ℕ) → o + n ≤ length ks → SlotsThere ids ks cs os start → SlotsThere ids (cut ks o n) cs (cut_offsets os o n) (start + o)
+there-cut ids ks cs None start o n k h = let e = length-cut ks o n k in covers-less cs (start + length ks) (start + o + length (cut ks o n)) (omega arith) h
+there-cut ids ks cs (Some os) start o n k h = λ i j.
+    let l = length-cut ks o n k in
+    let e = get_or-cut ks o n i (pos 0) (omega arith) in
+    let f = get_or-cut os o n i (pos 0) (omega arith) in
+    rw (e, f) (h (o + i) (omega arith))
+
+some-valid-cut : (va : Validity) (ks : List ℤ) (o n : ℕ) → o + n ≤ length ks → SomeValid (cut_validity va o n) (length (cut ks o n)) → SomeValid va (length ks)
+some-valid-cut va ks o n k (i, j, v) =
+    let l = length-cut ks o n k in
+    (o + i, omega arith, sym (valid-cut va o n i (omega arith)) ∙ v)
+
+keys-cut : (va : Validity) (ks : List ℤ) (m o n : ℕ) → o + n ≤ length ks → KeysInRange va ks m → KeysInRange (cut_validity va o n) (cut ks o n) m
+keys-cut va ks m o n k h s = names-cut ks m o n (h (some-valid-cut va ks o n k s))
+
+-- a cut of what fits fits: the children need not be arrays
+pub top-fits-cut : (a : Layout) (o n : ℕ) → TopFits a → o + n ≤ len a → TopFits (cut_layout a o n)
+top-fits-cut (null t m) o n h k = h
+top-fits-cut (boolean t bs va) o n h k =
+    let f = h.1 in
+    (tt, (validity-fits-at (cut_validity va o n) n (length (cut bs o n)) (sym (length-cut bs o n k)) (validity-fits-cut va (length bs) o n f.0 k), f.1))
+top-fits-cut (primitive p t vs va) o n h k =
+    let f = h.1 in
+    (tt, (validity-fits-at (cut_validity va o n) n (length (cut vs o n)) (sym (length-cut vs o n k)) (validity-fits-cut va (length vs) o n f.0 k), f.1))
+top-fits-cut (binary l t os bs va) o n h k =
+    let f = h.1 in
+    (offsets-cut os o n h.0 k, (last-cut os o n (length bs) h.0 k f.0, (rows-validity va os o n f.1.0 k, f.1.1)))
+top-fits-cut (text l t os bs va) o n h k =
+    let f = h.1 in
+    (offsets-cut os o n h.0 k, (last-cut os o n (length bs) h.0 k f.0, (text-cut os bs o n k f.1.0, (rows-validity va os o n f.1.1.0 k, f.1.1.1))))
+top-fits-cut (fixed_size_binary t bs va) o n h k =
+    let f = h.1 in
+    let e = length-cut bs (o * size_of t) (n * size_of t) (product-fits o n (length bs) (size_of t) k) in
+    let w = len-cut (fixed_size_binary t bs va) o n k in (
+      tt,
+      (
+        f.0,
+        (
+          f.1.0,
+          (
+            ap (λ z. z % size_of t) e ∙ product-exact n (size_of t),
+            (validity-fits-at (cut_validity va o n) n (len (cut_layout (fixed_size_binary t bs va) o n)) (sym w) (validity-fits-cut va (len (fixed_size_binary t bs va)) o n f.1.1.1.0 k), tt),
+          ),
+        ),
+      ),
+    )
+top-fits-cut (fixed_size_list t c va) o n h k =
+    let f = h.1 in
+    let p = product-fits o n (len c) (size_of t) k in
+    let e = len-cut c (o * size_of t) (n * size_of t) p in
+    let w = len-cut (fixed_size_list t c va) o n k in (
+      tt,
+      (
+        f.0,
+        (
+          f.1.0,
+          (
+            f.1.1.0 ∙ ap Some (sym (type-cut c (o * size_of t) (n * size_of t))),
+            (
+              ap (λ z. z % size_of t) e ∙ product-exact n (size_of t),
+              (validity-fits-at (cut_validity va o n) n (len (cut_layout (fixed_size_list t c va) o n)) (sym w) (validity-fits-cut va (len (fixed_size_list t c va)) o n f.1.1.1.1.0 k), tt),
+            ),
+          ),
+        ),
+      ),
+    )
+top-fits-cut (list l t os c va) o n h k =
+    let f = h.1 in
+    (offsets-cut os o n h.0 k, (last-cut os o n (len c) h.0 k f.0, (rows-validity va os o n f.1.0 k, f.1.1)))
+top-fits-cut (map t os c va) o n h k =
+    let f = h.1 in
+    (offsets-cut os o n h.0 k, (last-cut os o n (len c) h.0 k f.0, (f.1.0, (f.1.1.0, (f.1.1.1.0, (rows-validity va os o n f.1.1.1.1.0 k, tt))))))
+top-fits-cut (struct t cs va) o n h k =
+    let f = h.1 in
+    let e = first_len-cut cs o n k in (
+      tt,
+      (
+        f.0,
+        (
+          f.1.0,
+          (
+            count-cut cs o n ∙ f.1.1.0,
+            (
+              each-type-cut (fields_of t) cs o n f.1.1.1.0,
+              (
+                each-len-at (cut_layouts cs o n) n (first_len (cut_layouts cs o n)) (sym e) (each-len-cut cs (first_len cs) o n f.1.1.1.1.0 k),
+                (validity-fits-at (cut_validity va o n) n (first_len (cut_layouts cs o n)) (sym e) (validity-fits-cut va (first_len cs) o n f.1.1.1.1.1.0 k), tt),
+              ),
+            ),
+          ),
+        ),
+      ),
+    )
+top-fits-cut (union t ks cs os start) o n h k =
+    let f = h.1 in
+    let g = f.1.1.1 in (
+      tt,
+      (
+        f.0,
+        (
+          f.1.0,
+          (
+            f.1.1.0,
+            (
+              g.0,
+              (
+                offsets-count-cut os ks o n k g.1.0,
+                (
+                  mode-cut os (is_dense t) o n g.1.1.0,
+                  (
+                    g.1.1.1.0,
+                    (
+                      g.1.1.1.1.0,
+                      (means-cut (ids_of t) ks (count_layouts cs) o n g.1.1.1.1.1.0, (there-cut (ids_of t) ks cs os start o n k g.1.1.1.1.1.1.0, tt)),
+                    ),
+                  ),
+                ),
+              ),
+            ),
+          ),
+        ),
+      ),
+    )
+top-fits-cut (dictionary p t ks va c) o n h k =
+    let f = h.1 in (
+      validity-fits-at (cut_validity va o n) n (length (cut ks o n)) (sym (length-cut ks o n k)) (validity-fits-cut va (length ks) o n h.0 k),
+      (f.0, (f.1.0, (f.1.1.0, (keys-cut va ks (len c) o n k f.1.1.1.0, tt)))),
+    )
+
+mutual
+  children-cut : (a : Layout) (o n : ℕ) → TopFits a → ChildrenFit a → o + n ≤ len a → ChildrenFit (cut_layout a o n)
+  children-cut (null t m) o n f h k = tt
+  children-cut (boolean t bs va) o n f h k = tt
+  children-cut (primitive p t vs va) o n f h k = tt
+  children-cut (binary l t os bs va) o n f h k = tt
+  children-cut (text l t os bs va) o n f h k = tt
+  children-cut (fixed_size_binary t bs va) o n f h k = tt
+  children-cut (fixed_size_list t c va) o n f h k =
+      let p = product-fits o n (len c) (size_of t) k in
+      (top-fits-cut c (o * size_of t) (n * size_of t) h.0 p, children-cut c (o * size_of t) (n * size_of t) h.0 h.1 p)
+  children-cut (list l t os c va) o n f h k = h
+  children-cut (map t os c va) o n f h k = h
+  children-cut (struct t cs va) o n f h k = arrays-cut cs (first_len cs) o n h f.1.1.1.1.1.0 k
+  children-cut (union t ks cs os start) o n f h k = h
+  children-cut (dictionary p t ks va c) o n f h k = h
+
+  arrays-cut : (cs : Layouts) (m o n : ℕ) → AreArrays cs → EachLen cs m → o + n ≤ m → AreArrays (cut_layouts cs o n)
+  arrays-cut no_layouts m o n h l k = tt
+  arrays-cut (more_layouts c cs) m o n h l k =
+      let p : o + n ≤ len c = omega arith in
+      ((top-fits-cut c o n h.0.0 p, children-cut c o n h.0.0 h.0.1 p), arrays-cut cs m o n h.1 l.1 k)
+
+pub fits-cut : (a : Layout) (o n : ℕ) → IsArray a → o + n ≤ len a → IsArray (cut_layout a o n)
+fits-cut a o n h k = (top-fits-cut a o n h.0 k, children-cut a o n h.0 h.1 k)

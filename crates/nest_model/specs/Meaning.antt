@@ -1,0 +1,70 @@
+-- Which slots an array stands for.
+use Rattle.std.specs.Prelude.{ℕ, zero, suc, ◌+◌, ◌*◌, ◌/◌, ℤ, pos, false, List, [], ◌∷◌, Option, Some, None, length, get_or, if◌then◌else◌}
+use Rattle.nest_memory.specs.TypeTree.{size_of, ids_of}
+use Rattle.nest_memory.specs.Cut.{cut}
+use Rattle.nest_model.specs.Part.{valid_at, begin, extent, rows, place, field_named}
+use Rattle.nest_model.specs.Layout.{Layout, Layouts, null, boolean, primitive, binary, text, fixed_size_binary, fixed_size_list, list, map, struct, union, dictionary, no_layouts, more_layouts, layout_type}
+use Rattle.nest_model.specs.Slot as slots
+use Rattle.nest_model.specs.Slot.{Slot, Slots, seal}
+
+-- the slots that f has at the n places from o
+abbrev pub run : (ℕ → Slot) → ℕ → ℕ → List Slot
+run f o zero = []
+run f o (suc n) = f o ∷ run f (suc o) n
+
+-- how many slots it has
+abbrev mutual
+  pub len : Layout → ℕ
+  len (null t n) = n
+  len (boolean t bs va) = length bs
+  len (primitive k t vs va) = length vs
+  len (binary l t os bs va) = rows os
+  len (text l t os bs va) = rows os
+  len (fixed_size_binary t bs va) = length bs / size_of t
+  len (fixed_size_list t c va) = len c / size_of t
+  len (list l t os c va) = rows os
+  len (map t os c va) = rows os
+  len (struct t cs va) = first_len cs
+  len (union t ks cs os start) = length ks
+  len (dictionary k t ks va c) = length ks
+
+  pub first_len : Layouts → ℕ
+  first_len no_layouts = 0
+  first_len (more_layouts c cs) = len c
+
+-- the place in its field of a union's slot i
+abbrev pub union_place : Option (List ℤ) → ℕ → ℕ → ℕ
+union_place None start i = start + i
+union_place (Some os) start i = place (get_or os i (pos 0))
+
+-- the slot at place i
+abbrev mutual
+  pub slot : Layout → ℕ → Slot
+  slot (null t n) i = slots.null
+  slot (boolean t bs va) i = if valid_at va i then slots.truth (get_or bs i false) else slots.null
+  slot (primitive k t vs va) i = if valid_at va i then slots.number (get_or vs i []) else slots.null
+  slot (binary l t os bs va) i = if valid_at va i then slots.bytes (cut bs (begin os i) (extent os i)) else slots.null
+  slot (text l t os bs va) i = if valid_at va i then slots.text (cut bs (begin os i) (extent os i)) else slots.null
+  slot (fixed_size_binary t bs va) i = if valid_at va i then slots.bytes (cut bs (i * size_of t) (size_of t)) else slots.null
+  slot (fixed_size_list t c va) i = if valid_at va i then slots.list (seal (run (slot c) (i * size_of t) (size_of t))) else slots.null
+  slot (list l t os c va) i = if valid_at va i then slots.list (seal (run (slot c) (begin os i) (extent os i))) else slots.null
+  slot (map t os c va) i = if valid_at va i then slots.list (seal (run (slot c) (begin os i) (extent os i))) else slots.null
+  slot (struct t cs va) i = if valid_at va i then slots.record_of (each cs i) else slots.null
+  slot (union t ks cs os start) i = picked cs (field_named (ids_of t) (get_or ks i (pos 0))) (union_place os start i)
+  slot (dictionary k t ks va c) i = if valid_at va i then slot c (place (get_or ks i (pos 0))) else slots.null
+
+  -- the children's slots at place i
+  pub each : Layouts → ℕ → Slots
+  each no_layouts i = slots.no_slots
+  each (more_layouts c cs) i = slots.more_slots (slot c i) (each cs i)
+
+  -- the pick of slot i of child f, where there is such a child
+  pub picked : Layouts → Option ℕ → ℕ → Slot
+  picked no_layouts f i = slots.null
+  picked (more_layouts c cs) None i = slots.null
+  picked (more_layouts c cs) (Some zero) i = slots.pick (layout_type c) (slot c i)
+  picked (more_layouts c cs) (Some (suc f)) i = picked cs (Some f) i
+
+-- the list of slots that an array stands for
+abbrev pub slots_of : Layout → List Slot
+slots_of a = run (slot a) 0 (len a)

@@ -1,0 +1,106 @@
+-- Null and empty arrays of a data type: their slots, and which types and lengths are refused.
+use Rattle.std.specs.Prelude.{ℕ, zero, suc, ◌+◌, ◌-◌, ◌*◌, ◌^◌, ℤ, pos, negsuc, Bool, true, false, not, ◌&&◌, nat_eq, nat_lt, List, [], ◌∷◌, length, replicate, Option, Some, None}
+use Rattle.nest_memory.specs.TypeTree as types
+use Rattle.nest_memory.specs.TypeTree.{TypeTree, FieldTree, field, FieldTrees, no_fields, more_fields, field_type, count_fields, is_dense_mode, is_pair}
+use Rattle.nest_model.specs.Part.{last_place}
+use Rattle.nest_model.specs.Slot as slots
+use Rattle.nest_model.specs.Slot.{Slot}
+use Rattle.nest_model.specs.Fault as fault
+use Rattle.nest_model.specs.Fault.{Fault}
+
+-- the field that a null slot of a union picks: the one that the first id names, without ids the first
+abbrev pub null_field : Option (List ℤ) → Option ℕ
+null_field None = Some 0
+null_field (Some []) = None
+null_field (Some (z ∷ zs)) = last_place (z ∷ zs) z
+
+-- a null slot: of a union the pick of a null slot of one field, else Null
+abbrev mutual
+  pub null_slot : TypeTree → Slot
+  null_slot (types.union fs ids mode) = null_pick fs (null_field ids)
+  null_slot (types.extension n t m) = null_slot t
+  null_slot t = slots.null
+
+  pub null_pick : FieldTrees → Option ℕ → Slot
+  null_pick no_fields f = slots.null
+  null_pick (more_fields g fs) None = slots.null
+  null_pick (more_fields g fs) (Some zero) = null_of g
+  null_pick (more_fields g fs) (Some (suc f)) = null_pick fs (Some f)
+
+  pub null_of : FieldTree → Slot
+  null_of (field n t b es) = slots.pick t (null_slot t)
+
+abbrev pub null_slots : TypeTree → ℕ → List Slot
+null_slots t n = replicate n (null_slot t)
+
+-- checks that compute: this fault where the test is true, else what follows
+abbrev pub refused : Bool → Fault → Option Fault → Option Fault
+refused true e rest = Some e
+refused false e rest = rest
+
+-- a fault of the first, else of the second
+abbrev pub or_else : Option Fault → Option Fault → Option Fault
+or_else (Some e) rest = Some e
+or_else None rest = rest
+
+-- past the largest length
+abbrev pub is_past : ℕ → Bool
+is_past n = nat_lt (2 ^ 64 - 1) n
+
+abbrev pub is_id : ℤ → Bool
+is_id (pos n) = nat_lt n 128
+is_id (negsuc n) = false
+
+abbrev pub are_ids : List ℤ → Bool
+are_ids [] = true
+are_ids (z ∷ zs) = is_id z && are_ids zs
+
+abbrev pub ids_count_differs : Option (List ℤ) → ℕ → Bool
+ids_count_differs None n = false
+ids_count_differs (Some ids) n = not (nat_eq (length ids) n)
+
+abbrev pub has_bad_id : Option (List ℤ) → Bool
+has_bad_id None = false
+has_bad_id (Some ids) = not (are_ids ids)
+
+-- The first fault of an array of n null slots, in the order node, product, children from the left.
+-- Below a dictionary lie d values: one in a null array, none in an empty one. Below a list or a map lies an empty array.
+abbrev mutual
+  pub fault_of : TypeTree → ℕ → ℕ → Option Fault
+  fault_of types.float16 n d = Some fault.not_implemented
+  fault_of types.float32 n d = Some fault.not_implemented
+  fault_of types.float64 n d = Some fault.not_implemented
+  fault_of types.binary n d = refused (is_past (n + 1)) fault.overflow None
+  fault_of types.large_binary n d = refused (is_past (n + 1)) fault.overflow None
+  fault_of types.utf8 n d = refused (is_past (n + 1)) fault.overflow None
+  fault_of types.large_utf8 n d = refused (is_past (n + 1)) fault.overflow None
+  fault_of (types.fixed_size_binary s) n d = refused (nat_eq s 0) fault.zero_size (refused (is_past (n * s)) fault.overflow None)
+  fault_of (types.list f) n d = refused (is_past (n + 1)) fault.overflow (field_fault f 0 0)
+  fault_of (types.large_list f) n d = refused (is_past (n + 1)) fault.overflow (field_fault f 0 0)
+  fault_of (types.fixed_size_list f s) n d = refused (nat_eq s 0) fault.zero_size (refused (is_past (n * s)) fault.overflow (field_fault f (n * s) d))
+  fault_of (types.map f b) n d = refused (not (is_pair (field_type f))) fault.map_inner (refused (is_past (n + 1)) fault.overflow (field_fault f 0 0))
+  fault_of (types.struct fs) n d = refused (nat_eq (count_fields fs) 0) fault.no_fields (fields_fault fs n d)
+  fault_of (types.union fs ids mode) n d =
+      refused (nat_lt 127 (count_fields fs)) fault.too_many_fields
+      (refused (ids_count_differs ids (count_fields fs)) fault.id_count
+      (refused (has_bad_id ids) fault.id_range
+      (refused (nat_eq (count_fields fs) 0 && nat_lt 0 n) fault.union_type
+      (refused (is_dense_mode mode && nat_lt (2 ^ 31) n) fault.overflow
+      (fields_fault fs n d)))))
+  fault_of (types.dictionary k t b) n d = fault_of t d d
+  fault_of (types.extension x t m) n d = fault_of t n d
+  fault_of t n d = None
+
+  pub field_fault : FieldTree → ℕ → ℕ → Option Fault
+  field_fault (field x t b es) n d = fault_of t n d
+
+  pub fields_fault : FieldTrees → ℕ → ℕ → Option Fault
+  fields_fault no_fields n d = None
+  fields_fault (more_fields f fs) n d = or_else (field_fault f n d) (fields_fault fs n d)
+
+-- the first fault of an array of n null slots, and of an empty one
+abbrev pub type_fault : TypeTree → ℕ → Option Fault
+type_fault t n = fault_of t n 1
+
+abbrev pub empty_fault : TypeTree → Option Fault
+empty_fault t = fault_of t 0 0

@@ -1,0 +1,141 @@
+-- The slots of each kind in the reader's words: cuts and places of the children's lists of slots.
+use Rattle.std.specs.Prelude.{Option, Some, None, if◌then◌else◌}
+use Rattle.std.proofs.Common.{◌≡◌, ℕ, zero, suc, ◌+◌, ◌-◌, ◌*◌, ◌<◌, ◌≤◌, ℤ, pos, negsuc, Bool, true, false, List, length, get_or, refl, ap, sym, ◌∙◌, arith}
+use Rattle.std.proofs.lemmas.List.Elements.{All-get_or}
+use Rattle.nest_memory.specs.TypeTree.{TypeTree}
+use Rattle.nest_memory.specs.declared.datatypes.IntegerType.{IntegerType}
+use Rattle.nest_memory.specs.TypeTree.{size_of, ids_of}
+use Rattle.nest_memory.specs.Cut.{cut}
+use Rattle.nest_model.specs.Part.{Validity, valid_at, rows, last_offset, begin, extent, place, field_named}
+use Rattle.nest_model.specs.Layout.{Layout, Layouts, null, fixed_size_list, list, map, struct, union, dictionary, no_layouts, more_layouts, layout_type, count_layouts}
+use Rattle.nest_model.specs.Slot as slots
+use Rattle.nest_model.specs.Slot.{Slot, Slots, seal}
+use Rattle.nest_model.specs.Meaning.{run, len, first_len, union_place, slot, each, picked, slots_of}
+use Rattle.nest_model.specs.Runs.{product-fits, cut-run, length-run, get_or-run}
+use Rattle.nest_model.specs.Fits.{EachLen, EachCovers, Names, MeansField, SlotsThere, child_len}
+use Rattle.nest_model.specs.Array.{AreOffsets, TopFits}
+
+-- null unless valid
+abbrev pub where_valid : Validity → ℕ → Slot → Slot
+where_valid va i s = if valid_at va i then s else slots.null
+
+-- the record of the children's slots at place i
+abbrev pub row : Layouts → ℕ → Slots
+row no_layouts i = slots.no_slots
+row (more_layouts c cs) i = slots.more_slots (get_or (slots_of c) i slots.null) (row cs i)
+
+-- child f, an empty null array where there is none
+abbrev pub child : Layouts → ℕ → Layout
+child no_layouts f = null types.null 0
+child (more_layouts c cs) zero = c
+child (more_layouts c cs) (suc f) = child cs f
+
+pub slots-length : (a : Layout) → length (slots_of a) ≡ len a
+slots-length a = length-run (slot a) 0 (len a)
+
+-- the list of slots has at each place the slot there
+pub slot-place : (a : Layout) (i : ℕ) (d : Slot) → i < len a → get_or (slots_of a) i d ≡ slot a i
+slot-place a i d h = get_or-run (slot a) 0 (len a) i d h ∙ ap (slot a) (let e : 0 + i ≡ i = omega arith in e)
+
+pub items-cut : (c : Layout) (o n : ℕ) → o + n ≤ len c → run (slot c) o n ≡ cut (slots_of c) o n
+items-cut c o n h = ap (λ q. run (slot c) q n) (let e : o ≡ 0 + o = omega arith in e) ∙ sym (cut-run (slot c) 0 (len c) o n h)
+
+pub extent-fits : (os : List ℕ) (m i : ℕ) → AreOffsets os → last_offset os ≤ m → i < rows os → begin os i + extent os i ≤ m
+extent-fits os m i h l k =
+    let a = h.1 i (i + 1) (omega arith) (omega arith) in
+    let b = h.1 (i + 1) (length os - 1) (omega arith) (omega arith) in
+    omega arith
+
+pub list-slot : (l : Bool) (t : TypeTree) (os : List ℕ) (c : Layout) (va : Validity) (i : ℕ) → TopFits (list l t os c va) → i < rows os
+    → slot (list l t os c va) i ≡ where_valid va i (slots.list (seal (cut (slots_of c) (begin os i) (extent os i))))
+list-slot l t os c va i h k = ap (λ ss. where_valid va i (slots.list (seal ss))) (items-cut c (begin os i) (extent os i) (extent-fits os (len c) i h.0 h.1.0 k))
+
+pub map-slot : (t : TypeTree) (os : List ℕ) (c : Layout) (va : Validity) (i : ℕ) → TopFits (map t os c va) → i < rows os
+    → slot (map t os c va) i ≡ where_valid va i (slots.list (seal (cut (slots_of c) (begin os i) (extent os i))))
+map-slot t os c va i h k = ap (λ ss. where_valid va i (slots.list (seal ss))) (items-cut c (begin os i) (extent os i) (extent-fits os (len c) i h.0 h.1.0 k))
+
+pub fixed_size_list-slot : (t : TypeTree) (c : Layout) (va : Validity) (i : ℕ) → i < len (fixed_size_list t c va)
+    → slot (fixed_size_list t c va) i ≡ where_valid va i (slots.list (seal (cut (slots_of c) (i * size_of t) (size_of t))))
+fixed_size_list-slot t c va i k =
+    let p = product-fits i 1 (len c) (size_of t) (omega arith) in
+    let e : 1 * size_of t ≡ size_of t = omega arith in
+    ap (λ ss. where_valid va i (slots.list (seal ss))) (items-cut c (i * size_of t) (size_of t) (omega arith))
+
+each-row : (cs : Layouts) (n i : ℕ) → EachLen cs n → i < n → each cs i ≡ row cs i
+each-row no_layouts n i h k = refl
+each-row (more_layouts c cs) n i h k =
+    let a = slot-place c i slots.null (omega arith) in
+    let b = each-row cs n i h.1 k in
+    cc
+
+pub struct-slot : (t : TypeTree) (cs : Layouts) (va : Validity) (i : ℕ) → TopFits (struct t cs va) → i < first_len cs
+    → slot (struct t cs va) i ≡ where_valid va i (slots.record_of (row cs i))
+struct-slot t cs va i h k = ap (λ ss. where_valid va i (slots.record_of ss)) (each-row cs (first_len cs) i h.1.1.1.1.1.0 k)
+
+names-place : (z : ℤ) (n : ℕ) → Names z n → place z < n
+names-place (pos k) n h = h
+names-place (negsuc k) n h = absurd h
+
+-- a union's slot is the pick of a field that its type means, and of that field's slot
+picked-child : (cs : Layouts) (f i : ℕ) → f < count_layouts cs → i < len (child cs f)
+    → picked cs (Some f) i ≡ slots.pick (layout_type (child cs f)) (get_or (slots_of (child cs f)) i slots.null)
+picked-child no_layouts f i h k = absurd (omega arith)
+picked-child (more_layouts c cs) zero i h k = ap (slots.pick (layout_type c)) (sym (slot-place c i slots.null k))
+picked-child (more_layouts c cs) (suc f) i h k = picked-child cs f i (omega arith) k
+
+covers-child : (cs : Layouts) (n f : ℕ) → EachCovers cs n → f < count_layouts cs → n ≤ len (child cs f)
+covers-child no_layouts n f h k = absurd (omega arith)
+covers-child (more_layouts c cs) n zero h k = h.0
+covers-child (more_layouts c cs) n (suc f) h k = covers-child cs n f h.1 (omega arith)
+
+child_len-child : (cs : Layouts) (f : ℕ) → f < count_layouts cs → child_len cs (Some f) ≡ len (child cs f)
+child_len-child no_layouts f k = absurd (omega arith)
+child_len-child (more_layouts c cs) zero k = refl
+child_len-child (more_layouts c cs) (suc f) k = child_len-child cs f (omega arith)
+
+-- what slot i of a union is: the pick of field f, which its type means, and of that field's slot
+pub record IsPick (t : TypeTree) (ks : List ℤ) (cs : Layouts) (os : Option (List ℤ)) (start i f : ℕ) : Type 0 where
+  pub means : field_named (ids_of t) (get_or ks i (pos 0)) ≡ Some f
+  pub field_there : f < count_layouts cs
+  pub slot_there : union_place os start i < len (child cs f)
+  pub picks : slot (union t ks cs os start) i ≡ slots.pick (layout_type (child cs f)) (get_or (slots_of (child cs f)) (union_place os start i) slots.null)
+
+there-place : (ids : Option (List ℤ)) (ks : List ℤ) (cs : Layouts) (os : Option (List ℤ)) (start i f : ℕ) → SlotsThere ids ks cs os start → i < length ks
+    → field_named ids (get_or ks i (pos 0)) ≡ Some f → f < count_layouts cs → union_place os start i < len (child cs f)
+there-place ids ks cs None start i f h k e g = let a = covers-child cs (start + length ks) f h g in omega arith
+there-place ids ks cs (Some os) start i f h k e g =
+    let a = names-place (get_or os i (pos 0)) (child_len cs (field_named ids (get_or ks i (pos 0)))) (h i k) in
+    let b = ap (child_len cs) e ∙ child_len-child cs f g in
+    omega arith
+
+means-some : (o : Option ℕ) (n : ℕ) → MeansField o n → (f : ℕ) × (o ≡ Some f) × (f < n)
+means-some None n h = absurd h
+means-some (Some f) n h = (f, refl, h)
+
+pub union-slot : (t : TypeTree) (ks : List ℤ) (cs : Layouts) (os : Option (List ℤ)) (start i : ℕ) → TopFits (union t ks cs os start) → i < length ks
+    → (f : ℕ) × IsPick t ks cs os start i f
+union-slot t ks cs os start i h k =
+    let g = h.1.1.1.1.1.1.1.1.1 in
+    let m = means-some (field_named (ids_of t) (get_or ks i (pos 0))) (count_layouts cs)
+    (All-get_or (λ z. MeansField (field_named (ids_of t) z) (count_layouts cs)) ks i (pos 0) k g.0) in
+    let p = there-place (ids_of t) ks cs os start i m.0 g.1.0 k m.1 m.2 in (
+      m.0,
+      record {
+        means = m.1;
+        field_there = m.2;
+        slot_there = p;
+        picks = ap (λ o. picked cs o (union_place os start i)) m.1 ∙ picked-child cs m.0 (union_place os start i) m.2 p;
+      },
+    )
+
+where-valid : (b : Bool) (x y z : Slot) → (b ≡ true → x ≡ y) → (if b then x else z) ≡ (if b then y else z)
+where-valid true x y z h = h refl
+where-valid false x y z h = refl
+
+pub dictionary-slot : (p : IntegerType) (t : TypeTree) (ks : List ℤ) (va : Validity) (c : Layout) (i : ℕ) → TopFits (dictionary p t ks va c) → i < length ks
+    → slot (dictionary p t ks va c) i ≡ where_valid va i (get_or (slots_of c) (place (get_or ks i (pos 0))) slots.null)
+dictionary-slot p t ks va c i h k =
+    where-valid (valid_at va i) (slot c (place (get_or ks i (pos 0)))) (get_or (slots_of c) (place (get_or ks i (pos 0))) slots.null) slots.null
+    (λ v.
+    let n = All-get_or (λ z. Names z (len c)) ks i (pos 0) k (h.1.1.1.1.0 (i, k, v)) in
+    sym (slot-place c (place (get_or ks i (pos 0))) slots.null (names-place (get_or ks i (pos 0)) (len c) n)))

@@ -1,0 +1,43 @@
+//! Laws of cuts.
+
+ghost use Rattle.std.specs.Prelude.{◌≡◌, ℕ, ◌+◌, ◌≤◌, length};
+ghost use Rattle.nest_model.specs.Layout.{Layout, layout_type};
+ghost use Rattle.nest_model.specs.Meaning.{len, slots_of};
+ghost use Rattle.nest_model.specs.Cut.{cut_layout};
+ghost use Rattle.nest_memory.specs.Cut.{cut};
+ghost use Rattle.nest_model.specs.Array.{IsArray, TopFits};
+
+/// A cut stands for the cut of the slots.
+pub fn cut_slots()
+    ensures { (a : Layout) (o n : ℕ) → o + n ≤ len a → slots_of (cut_layout a o n) ≡ cut (slots_of a) o n }
+{}
+
+/// An array has as many slots as its length says.
+pub fn slots_count()
+    ensures { (a : Layout) → length (slots_of a) ≡ len a }
+{}
+
+/// A cut has as many slots as were asked for.
+pub fn cut_len()
+    ensures { (a : Layout) (o n : ℕ) → o + n ≤ len a → len (cut_layout a o n) ≡ n }
+{}
+
+/// A cut has the data type of its array.
+pub fn cut_keeps_type()
+    ensures { (a : Layout) (o n : ℕ) → layout_type (cut_layout a o n) ≡ layout_type a }
+{}
+
+/// A cut of parts that fit fits.
+pub fn cut_fits()
+    ensures { (a : Layout) (o n : ℕ) → TopFits a → o + n ≤ len a → TopFits (cut_layout a o n) }
+{}
+
+/// A cut of an array is an array.
+pub fn cut_is_array()
+    ensures { (a : Layout) (o n : ℕ) → IsArray a → o + n ≤ len a → IsArray (cut_layout a o n) }
+{}
+
+/// A cut of a cut is one cut.
+pub fn cut_of_cut()
+    ensures { (a : Layout) (o n p m : ℕ) → p + m ≤ n → cut_layout (cut_layout a o n) p m ≡ cut_layout a (o + p) m }
+{}
