@@ -211,7 +211,9 @@ impl NativeType for i256 {
         self.high == other.high && self.low == other.low
     }
 
-    ghost told_by_numbers = { λ x y h. Prim.cc };
+    ghost use Rattle.nest_memory.specs.Native.{same_pair, same_nat};
+
+    ghost told_by_numbers = { λ x y h. let e = same_pair x.high (pos x.low) y.high (pos y.low) h in let p = same_nat x.low y.low e.1 in λ i. record { high = e.0 i; low = p i } };
 }
 
 /// An interval of days and milliseconds.
@@ -239,7 +241,9 @@ impl NativeType for days_ms {
         self.days == other.days && self.milliseconds == other.milliseconds
     }
 
-    ghost told_by_numbers = { λ x y h. Prim.cc };
+    ghost use Rattle.nest_memory.specs.Native.{same_pair};
+
+    ghost told_by_numbers = { λ x y h. let e = same_pair x.days x.milliseconds y.days y.milliseconds h in λ i. record { days = e.0 i; milliseconds = e.1 i } };
 }
 
 /// An interval of months, days and nanoseconds.
@@ -269,5 +273,7 @@ impl NativeType for months_days_ns {
         self.months == other.months && self.days == other.days && self.ns == other.ns
     }
 
-    ghost told_by_numbers = { λ x y h. Prim.cc };
+    ghost use Rattle.nest_memory.specs.Native.{same_triple};
+
+    ghost told_by_numbers = { λ x y h. let e = same_triple x.months x.days x.ns y.months y.days y.ns h in λ i. record { months = e.0 i; days = e.1.0 i; ns = e.1.1 i } };
 }
