@@ -1,13 +1,13 @@
 -- What an accepted item adds to each level of a builder, and what a told row adds.
-use Rattle.std.specs.Prelude.{◌≡◌, ℕ, zero, suc, ◌+◌, ◌-◌, ◌*◌, Bool, true, false, List, [], ◌∷◌, ◌++◌, drop, length, map, replicate, Option, Some, None}
-use Rattle.nest_memory.specs.TypeTree.{TypeTree, size_of}
+use Rattle.std.specs.Prelude.{◌≡◌, ℕ, ◌+◌, ◌*◌, ◌≤◌, Bool, true, false, List, [], ◌∷◌, ◌++◌, drop, length, map, replicate, Option, Some, None}
+use Rattle.nest_memory.specs.TypeTree.{TypeTree, item_type, fields_of, size_of}
 use Rattle.nest_memory.specs.declared.datatypes.IntegerType.{IntegerType}
 use Rattle.nest_model.specs.Slot as slots
 use Rattle.nest_model.specs.Slot.{Slot, seal}
-use Rattle.nest_model.specs.BuilderRow.{Row, told_row, end_from}
-use Rattle.nest_model.specs.BuilderTree.{BuilderTree, BuilderTrees, flat, list, fixed_size_list, dictionary, struct, no_builders, more_builders, builder_len}
-use Rattle.nest_model.specs.BuilderLevels.{own_slots, own_slots_each, valid_or_null, record_at}
-use Rattle.nest_model.specs.BuilderWhole.{IsWhole, cut_builder, ValuesDiffer}
+use Rattle.nest_model.specs.BuilderRow.{Row, told_row, end_from, RisesFrom}
+use Rattle.nest_model.specs.BuilderTree.{BuilderTree, BuilderTrees, flat, list, fixed_size_list, dictionary, struct, no_builders, more_builders, builder_type, builder_types, field_types, builder_len}
+use Rattle.nest_model.specs.BuilderLevels.{own_slots, own_slots_each, levels_below, valid_or_null, record_at, rows_of_items}
+use Rattle.nest_model.specs.BuilderWhole.{IsWhole, AreWhole, cut_builder, ValuesDiffer}
 use Rattle.nest_model.specs.BuilderItem as items
 use Rattle.nest_model.specs.BuilderItem.{PlainValue, Item, Items, no_items, more_items, slot_of_value, slot_of_item, place_of}
 
@@ -101,4 +101,43 @@ pub record AcceptedAll (xs : List Item) (old new : BuilderTree) : Type 0 where
   pub last : own_slots new ≡ own_slots old ++ map slot_of_item xs
   pub whole : IsWhole new
   pub undo : cut_builder new (builder_len old) ≡ old
+  pub differ : ValuesDiffer old → ValuesDiffer new
+
+-- each child accepted the item
+abbrev pub EachAccepted : Item → BuilderTrees → BuilderTrees → Type 0
+EachAccepted x no_builders no_builders = Unit {0}
+EachAccepted x no_builders (more_builders d ds) = ⊥
+EachAccepted x (more_builders c cs) no_builders = ⊥
+EachAccepted x (more_builders c cs) (more_builders d ds) = Accepted x c d × EachAccepted x cs ds
+
+-- the items that wait in the children make a row
+abbrev pub IsReady : BuilderTree → Type 0
+IsReady (flat t xs) = ⊥
+IsReady (list large t rows c) = IsWhole c × (item_type t ≡ Some (builder_type c)) × (end_from 0 rows ≤ builder_len c) × RisesFrom 0 rows
+IsReady (fixed_size_list t bits c) = IsWhole c × (item_type t ≡ Some (builder_type c)) × (builder_len c ≡ (length bits + 1) * size_of t)
+IsReady (dictionary k t keys c) = ⊥
+IsReady (struct t bits cs) = AreWhole cs (length bits + 1) × (builder_types cs ≡ field_types (fields_of t))
+
+-- A row was told over the items that waited: they are its slot, none waits any more, and the levels below are as they were.
+pub record Told (valid : Bool) (old new : BuilderTree) : Type 0 where
+  pub exact : new ≡ told valid old
+  pub last : own_slots new ≡ own_slots old ++ pending_slot valid old ∷ []
+  pub below : levels_below new ≡ levels_below old
+  pub whole : IsWhole new
+  pub differ : ValuesDiffer old → ValuesDiffer new
+
+-- the slots of rows that are told by their lengths
+abbrev pub pending_slots : List (Option ℕ) → BuilderTree → List Slot
+pending_slots ns (flat t xs) = []
+pending_slots ns (list large t rows c) = rows_of_items (end_from 0 rows) (rows_of_lengths (end_from 0 rows) ns) (own_slots c)
+pending_slots ns (fixed_size_list t bits c) = []
+pending_slots ns (dictionary k t keys c) = []
+pending_slots ns (struct t bits cs) = []
+
+-- the same of rows by their lengths
+pub record ToldLengths (ns : List (Option ℕ)) (old new : BuilderTree) : Type 0 where
+  pub exact : new ≡ told_lengths ns old
+  pub last : own_slots new ≡ own_slots old ++ pending_slots ns old
+  pub below : levels_below new ≡ levels_below old
+  pub whole : IsWhole new
   pub differ : ValuesDiffer old → ValuesDiffer new

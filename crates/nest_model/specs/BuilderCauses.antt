@@ -74,7 +74,7 @@ abbrev mutual
   pub HasCause : Error → BuilderTree → Item → Type 0
   HasCause e t items.null = (e ≡ Overflow) × NullsPass 1 t
   HasCause e t (items.plain v) = ValueCause e v t
-  HasCause e (flat t ss) (items.list_of xs) = ⊥
+  HasCause e (flat t ss) (items.list_of xs) = e ≡ InvalidArgumentError ItemType
   HasCause e (list large t rows c) (items.list_of xs) =
       SomeCause e c xs
       ⊎ ((e ≡ Overflow) × (IsPast (length rows + 1) ⊎ (largest_offset large < builder_len (items_appended xs c))))
@@ -82,8 +82,8 @@ abbrev mutual
       SomeCause e c xs
       ⊎ (((e ≡ InvalidArgumentError ItemSize) × (count_items xs ≢ size_of t))
       ⊎ ((e ≡ Overflow) × (IsPast (length bits + 1) ⊎ IsPast ((length bits + 1) * size_of t))))
-  HasCause e (dictionary k t keys c) (items.list_of xs) = ⊥
-  HasCause e (struct t bits cs) (items.list_of xs) = ⊥
+  HasCause e (dictionary k t keys c) (items.list_of xs) = e ≡ InvalidArgumentError ItemType
+  HasCause e (struct t bits cs) (items.list_of xs) = e ≡ InvalidArgumentError ItemType
 
   -- the first refused of several items, pushed one after another
   pub SomeCause : Error → BuilderTree → Items → Type 0

@@ -63,6 +63,14 @@ abbrev mutual
   levels_each no_builders = []
   levels_each (more_builders c cs) = levels c ++ levels_each cs
 
+-- the levels of its children
+abbrev pub levels_below : BuilderTree → List (List Slot)
+levels_below (flat t xs) = []
+levels_below (list large t rows c) = levels c
+levels_below (fixed_size_list t bits c) = levels c
+levels_below (dictionary k t keys c) = levels c
+levels_below (struct t bits cs) = levels_each cs
+
 -- the lengths that the first n rows need, one a level
 abbrev mutual
   pub rows_needed : BuilderTree → ℕ → List ℕ

@@ -26,3 +26,4 @@ pub mod BuilderCauses
 pub mod BuilderRowLaws
 pub mod BuilderLevelLaws
 pub mod BuilderCutLaws
+pub mod BuilderAppendLaws
