@@ -1,23 +1,23 @@
 -- What appending does to each level of a builder, and what accepted pushes add up to.
 use Rattle.std.specs.Prelude.{Option, Some, None}
-use Rattle.std.proofs.Common.{◌≡◌, ℕ, zero, suc, ◌+◌, ◌-◌, ◌*◌, ◌≤◌, ◌<◌, Bool, true, false, List, [], ◌∷◌, ◌++◌, length, get_or, take, drop, map, replicate, refl, sym, ap, ◌∙◌, arith, length-append}
+use Rattle.std.proofs.Common.{◌≡◌, ℕ, zero, suc, ◌+◌, ◌*◌, ◌≤◌, ◌<◌, Bool, true, false, List, [], ◌∷◌, ◌++◌, length, map, replicate, refl, sym, ap, ◌∙◌, arith}
 use Rattle.std.proofs.Math.Seq.{take-append_seam}
-use Rattle.std.proofs.Math.Nat.{add-mul, one-mul, zero-mul, mul-le-mul_right}
+use Rattle.std.proofs.Math.Nat.{add-mul, one-mul, zero-mul}
 use Rattle.std.proofs.lemmas.List.{append-nil, append_assoc, length_push, length-replicate, replicate-append-replicate, map_push, map-append, length-map, get_or_append_left}
-use Rattle.nest_memory.specs.TypeTree.{TypeTree, item_type, size_of}
+use Rattle.nest_memory.specs.TypeTree.{TypeTree, size_of}
 use Rattle.nest_memory.specs.declared.datatypes.IntegerType.{IntegerType}
 use Rattle.nest_model.specs.Slot as slots
 use Rattle.nest_model.specs.Slot.{Slot, seal}
-use Rattle.nest_model.specs.BuilderRow.{Row, told_row, end_from, RisesFrom, values_needed}
+use Rattle.nest_model.specs.BuilderRow.{Row, told_row, end_from}
 use Rattle.nest_model.specs.BuilderTree.{BuilderTree, BuilderTrees, flat, list, fixed_size_list, dictionary, struct, no_builders, more_builders, builder_type, builder_types, builder_len}
-use Rattle.nest_model.specs.BuilderLevels.{valid_or_null, rows_of_items, rows_of_size, value_at, record_at, rows_of_records, own_slots, own_slots_each}
-use Rattle.nest_model.specs.BuilderWhole.{IsWhole, AreWhole, cut_builder, cut_builders, ValuesDiffer, ValuesDifferEach}
+use Rattle.nest_model.specs.BuilderLevels.{value_at, record_at, rows_of_records, own_slots, own_slots_each}
+use Rattle.nest_model.specs.BuilderWhole.{IsWhole, AreWhole, cut_builder, cut_builders, ValuesDifferEach}
 use Rattle.nest_model.specs.BuilderItem as items
 use Rattle.nest_model.specs.BuilderItem.{PlainValue, Item, Items, no_items, more_items, seal_items, count_items, slot_of_value, slot_of_item, slots_of_items, place_of}
 use Rattle.nest_model.specs.BuilderAppend.{nulls_appended, nulls_appended_each, keyed, value_appended, appended, items_appended, all_appended, Accepted, AcceptedAll, EachAccepted}
-use Rattle.nest_model.specs.BuilderRowLaws.{end_from-push, RisesFrom-push, end_from-append, RisesFrom-append, end_from-same, RisesFrom-same, values_needed-nulls}
-use Rattle.nest_model.specs.BuilderLevelLaws.{own-length, len-grown, cut-rest, cut-last, items-push, items-longer, size-push, size-longer, values-longer, records-push}
-use Rattle.nest_model.specs.BuilderCutLaws.{cut-whole, cut-whole-each, builder-cut-cut}
+use Rattle.nest_model.specs.BuilderRowLaws.{end_from-push, RisesFrom-push, end_from-append, end_from-same, values_needed-nulls}
+use Rattle.nest_model.specs.BuilderLevelLaws.{own-length, len-grown, cut-rest, cut-last, items-push, items-longer, size-push, size-longer, records-push}
+use Rattle.nest_model.specs.BuilderCutLaws.{cut-whole, builder-cut-cut}
 
 -- data types stay
 mutual
@@ -95,7 +95,7 @@ accepted_more xs x a b c h k = record {
   last = rw (k.last, h.last, map_push slot_of_item xs x) (append_assoc (own_slots a) (map slot_of_item xs) (slot_of_item x ∷ []));
   whole = k.whole;
   undo = sym (builder-cut-cut c (builder_len a) (builder_len b) k.whole (omega (arith, len-accepted_all xs a b h))) ∙ (ap (λ u. cut_builder u (builder_len a)) k.undo ∙ h.undo);
-  differ = λ d. k.differ (h.differ d)
+  differ = λ d. k.differ (h.differ d);
 }
 
 pub accepted_one : (x : Item) (a b : BuilderTree) → IsWhole a → Accepted x a b → AcceptedAll (x ∷ []) a b
@@ -108,7 +108,7 @@ accepted_both xs ys a b c h k = record {
   last = rw (k.last, h.last, map-append slot_of_item xs ys) (append_assoc (own_slots a) (map slot_of_item xs) (map slot_of_item ys));
   whole = k.whole;
   undo = sym (builder-cut-cut c (builder_len a) (builder_len b) k.whole (omega (arith, len-accepted_all xs a b h))) ∙ (ap (λ u. cut_builder u (builder_len a)) k.undo ∙ h.undo);
-  differ = λ d. k.differ (h.differ d)
+  differ = λ d. k.differ (h.differ d);
 }
   where
     all_appended-append : (us vs : List Item) (t : BuilderTree) → all_appended (us ++ vs) t ≡ all_appended vs (all_appended us t)
@@ -135,7 +135,7 @@ list_took large k rows new c d xs end e f w a =
       last = rw (slots-sealed xs, items-push 0 rows (told_row true (builder_len d)) (own_slots d), a.last, items-longer 0 rows (own_slots c) ss w.3 (omega arith), all, cut-rest (own_slots c) ss (end_from 0 rows) at_end) refl;
       whole = (a.whole, w.1 ∙ ap Some (sym (type-accepted_all xs c d a)), sym (end_from-push 0 rows (told_row true (builder_len d))), RisesFrom-push 0 rows (told_row true (builder_len d)) w.3 longer);
       undo = rw (take-append_seam rows (told_row true (builder_len d) ∷ []), ← w.2, a.undo) refl;
-      differ = a.differ
+      differ = a.differ;
     })
 
 -- a null row covers no item
@@ -146,7 +146,7 @@ list_took_null large k rows new c end e f w = rw (f, e) (record {
   last = items-push 0 rows (told_row false (end_from 0 rows)) (own_slots c);
   whole = (w.0, w.1, w.2 ∙ sym (end_from-push 0 rows (told_row false (end_from 0 rows))), RisesFrom-push 0 rows (told_row false (end_from 0 rows)) w.3 (omega arith));
   undo = rw (take-append_seam rows (told_row false (end_from 0 rows) ∷ []), ← w.2, cut-whole c w.0) refl;
-  differ = λ d. d
+  differ = λ d. d;
 })
 
 -- a refused row, whose items were taken back
@@ -166,7 +166,7 @@ fixed_size_list_took k bits new c d xs n f w a =
       last = rw (slots-sealed xs, size-push 0 (size_of k) bits true (own_slots d), a.last, size-longer 0 (size_of k) bits (own_slots c) ss (omega arith), cut-last (own_slots c) ss (0 + length bits * size_of k) (size_of k) at_end count) refl;
       whole = (a.whole, w.1 ∙ ap Some (sym (type-accepted_all xs c d a)), rw (length_push bits true) (omega (arith, len-accepted_all xs c d a, w.2, n, add-mul (length bits) 1 (size_of k))));
       undo = rw (take-append_seam bits (true ∷ []), ← w.2, a.undo) refl;
-      differ = a.differ
+      differ = a.differ;
     })
 
 pub fixed_size_list_undone : (k : TypeTree) (bits new : List Bool) (c d e : BuilderTree) (n : ℕ) → new ≡ bits → n ≡ builder_len c → e ≡ cut_builder d n → cut_builder d (builder_len c) ≡ c
@@ -216,7 +216,7 @@ fixed_size_list_took_null k bits new c d f w a =
       last = rw (size-push 0 (size_of k) bits false (own_slots d), a.last, size-longer 0 (size_of k) bits (own_slots c) ss (omega arith)) refl;
       whole = (a.whole, w.1 ∙ ap Some (sym (type-accepted_all (replicate (size_of k) items.null) c d a)), rw (length_push bits false) (omega (arith, len-accepted_all (replicate (size_of k) items.null) c d a, w.2, length-replicate (size_of k) items.null, add-mul (length bits) 1 (size_of k))));
       undo = rw (take-append_seam bits (false ∷ []), ← w.2, a.undo) refl;
-      differ = a.differ
+      differ = a.differ;
     })
 
 -- a null key adds no value
@@ -227,7 +227,7 @@ dictionary_took_null i k keys new c e w = rw e (record {
   last = map_push (value_at (own_slots c)) keys None;
   whole = (w.0, w.1, w.2 ∙ sym (values_needed-nulls keys 1));
   undo = rw (take-append_seam keys (None ∷ []), ← w.2, cut-whole c w.0) refl;
-  differ = λ d. d
+  differ = λ d. d;
 })
 
 -- a null record, once each child has its null
@@ -279,5 +279,5 @@ struct_took_null k bits new cs ds e w h = rw e (record {
   last = rw (records-push 0 bits false (own_slots_each ds), each-records items.null cs ds (length bits) 0 bits (omega arith) h w.0) refl;
   whole = (each-whole items.null cs ds (length bits) (length (bits ++ false ∷ [])) (length_push bits false) h w.0, each-types items.null cs ds h ∙ w.1);
   undo = rw (take-append_seam bits (false ∷ []), each-undone items.null cs ds (length bits) h w.0) refl;
-  differ = each-differ items.null cs ds h
+  differ = each-differ items.null cs ds h;
 })

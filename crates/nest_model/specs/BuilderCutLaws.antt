@@ -1,10 +1,10 @@
 -- What a cut keeps of a whole builder, level by level.
-use Rattle.std.specs.Prelude.{Option, Some, None}
-use Rattle.std.proofs.Common.{◌≡◌, ℕ, zero, suc, ◌+◌, ◌*◌, ◌≤◌, ◌<◌, Bool, List, [], ◌∷◌, ◌++◌, length, get_or, take, map, refl, sym, ap, ◌∙◌, arith}
+use Rattle.std.specs.Prelude.{Option, Some}
+use Rattle.std.proofs.Common.{◌≡◌, ℕ, suc, ◌*◌, ◌≤◌, ◌<◌, Bool, List, [], ◌∷◌, ◌++◌, length, take, map, refl, sym, ap, ◌∙◌, arith}
 use Rattle.std.proofs.Math.Seq.{take-length}
 use Rattle.std.proofs.Math.Nat.{mul-le-mul_right, zero-mul}
-use Rattle.std.proofs.lemmas.List.{take-take, take-map, length-take, length-map, get_or-take, map-append, length-append}
-use Rattle.nest_memory.specs.TypeTree.{TypeTree, size_of, fields_of}
+use Rattle.std.proofs.lemmas.List.{take-take, take-map, length-take, get_or-take, map-append, length-append}
+use Rattle.nest_memory.specs.TypeTree.{size_of}
 use Rattle.nest_model.specs.Slot as slots
 use Rattle.nest_model.specs.Slot.{Slot}
 use Rattle.nest_model.specs.BuilderRow.{Row, end_from, RisesFrom, values_needed}

@@ -1,6 +1,6 @@
 -- The slots of a builder's rows: how many, of first rows, of one row more, and over a longer or a shorter list of a child's slots.
 use Rattle.std.specs.Prelude.{Option, Some, None}
-use Rattle.std.proofs.Common.{◌≡◌, ℕ, zero, suc, ◌+◌, ◌-◌, ◌*◌, ◌≤◌, ◌<◌, Bool, List, [], ◌∷◌, ◌++◌, length, get_or, take, drop, map, refl, sym, ap, ◌∙◌, arith, length-append}
+use Rattle.std.proofs.Common.{◌≡◌, ℕ, zero, suc, ◌+◌, ◌-◌, ◌*◌, ◌≤◌, ◌<◌, Bool, List, [], ◌∷◌, ◌++◌, length, take, drop, map, refl, sym, ap, ◌∙◌, arith, length-append}
 use Rattle.std.proofs.Math.Seq.{drop-append_seam}
 use Rattle.std.proofs.Math.Nat.{suc-mul, zero-mul, add-zero}
 use Rattle.std.proofs.lemmas.List.{take_all, take-append-le, drop-append-le, length-drop, length-take, length-map, get_or-take, get_or_append_left}
@@ -9,7 +9,7 @@ use Rattle.nest_memory.specs.TypeTree.{size_of}
 use Rattle.nest_model.specs.Slot as slots
 use Rattle.nest_model.specs.Slot.{Slot, seal}
 use Rattle.nest_model.specs.BuilderRow.{Row, end_from, RisesFrom, values_needed}
-use Rattle.nest_model.specs.BuilderTree.{BuilderTree, BuilderTrees, flat, list, fixed_size_list, dictionary, struct, no_builders, more_builders, builder_len}
+use Rattle.nest_model.specs.BuilderTree.{BuilderTree, flat, list, fixed_size_list, dictionary, struct, builder_len}
 use Rattle.nest_model.specs.BuilderLevels.{valid_or_null, rows_of_items, rows_of_size, value_at, record_at, rows_of_records, own_slots, own_slots_each}
 use Rattle.nest_model.specs.BuilderRowLaws.{end_from-le}
 

@@ -1,5 +1,5 @@
 -- Rows that a builder was told: the ends of a list's items, the keys of a dictionary.
-use Rattle.std.specs.Prelude.{ℕ, suc, ◌+◌, ◌≤◌, Bool, List, [], ◌∷◌, max, Option, Some, None}
+use Rattle.std.specs.Prelude.{ℕ, suc, ◌≤◌, Bool, List, [], ◌∷◌, max, Option, Some, None}
 
 -- Variable-size List Layout: whether the row is valid, and the offset at which its items end; they begin where the row before it ends
 pub record Row : Type 0 where

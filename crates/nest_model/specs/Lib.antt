@@ -27,3 +27,4 @@ pub mod BuilderRowLaws
 pub mod BuilderLevelLaws
 pub mod BuilderCutLaws
 pub mod BuilderAppendLaws
+pub mod BuilderExamples
