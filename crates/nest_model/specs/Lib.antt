@@ -17,3 +17,15 @@ pub mod DecideType
 pub mod FitsDecide
 pub mod LayoutCode
 pub mod Examples
+pub mod BuilderRow
+pub mod BuilderTree
+pub mod BuilderLevels
+pub mod BuilderWhole
+pub mod BuilderItem
+pub mod BuilderAppend
+pub mod BuilderCauses
+pub mod BuilderRowLaws
+pub mod BuilderLevelLaws
+pub mod BuilderCutLaws
+pub mod BuilderAppendLaws
+pub mod BuilderExamples
