@@ -142,9 +142,13 @@ impl DataType {
         ensures { option_map (λ fs. field_list_of fs.items) result ≡ own_fields (type_of self) }
     {
         match self {
-            DataType::Struct(fields) | DataType::Union(fields, _, _) => Some(fields),
-            DataType::Extension(_, inner, _) => Box::into_inner(inner).into_fields(),
-            _ => None,
+            DataType::Struct(fields) => Some(fields),
+            DataType::Union(fields, _ids, _mode) => Some(fields),
+            DataType::Extension(_name, inner, _metadata) => Box::into_inner(inner).into_fields(),
+            other => {
+                drop(other);
+                None
+            }
         }
     }
 }
