@@ -1,13 +1,12 @@
 //! Data types, after `datatypes` of arrow2: logical types, physical types and fields.
-#[cfg(test)]
-mod tests;
-
 mod cloning;
 mod conversion;
 mod equality;
 pub mod field;
 mod parts;
 pub mod physical_type;
+#[cfg(test)]
+mod tests;
 
 ghost use Rattle.std.specs.Prelude.{◌≡◌, ◌↔◌, IsTrue};
 ghost use Rattle.nest_memory.specs.declared.datatypes.UnionMode.TheVariants.{Sparse};

@@ -69,9 +69,10 @@ fn fields_differ_in_each_part(rt: HostRuntime) -> Result<(), Fail> {
     let field = Field::new(alloc, "item", DataType::Int32, true)?;
     let mut tagged = field.clone(alloc)?;
     assert!(rt; tagged == field);
-    tagged
-        .metadata
-        .insert(String::from_str(alloc, "unit")?, String::from_str(alloc, "m")?)?;
+    tagged.metadata.insert(
+        String::from_str(alloc, "unit")?,
+        String::from_str(alloc, "m")?,
+    )?;
     assert!(rt; tagged != field);
     for other in [
         Field::new(alloc, "items", DataType::Int32, true)?,
@@ -112,16 +113,31 @@ fn physical_types(rt: HostRuntime) {
         (DataType::Int32, PrimitiveType::Int32),
         (DataType::Date32, PrimitiveType::Int32),
         (DataType::Time32(TimeUnit::Second), PrimitiveType::Int32),
-        (DataType::Interval(IntervalUnit::YearMonth), PrimitiveType::Int32),
+        (
+            DataType::Interval(IntervalUnit::YearMonth),
+            PrimitiveType::Int32,
+        ),
         (DataType::Int64, PrimitiveType::Int64),
         (DataType::Date64, PrimitiveType::Int64),
         (DataType::Time64(TimeUnit::Nanosecond), PrimitiveType::Int64),
-        (DataType::Timestamp(TimeUnit::Second, None), PrimitiveType::Int64),
-        (DataType::Duration(TimeUnit::Millisecond), PrimitiveType::Int64),
+        (
+            DataType::Timestamp(TimeUnit::Second, None),
+            PrimitiveType::Int64,
+        ),
+        (
+            DataType::Duration(TimeUnit::Millisecond),
+            PrimitiveType::Int64,
+        ),
         (DataType::Decimal(5, 2), PrimitiveType::Int128),
         (DataType::Decimal256(50, 2), PrimitiveType::Int256),
-        (DataType::Interval(IntervalUnit::DayTime), PrimitiveType::DaysMs),
-        (DataType::Interval(IntervalUnit::MonthDayNano), PrimitiveType::MonthDayNano),
+        (
+            DataType::Interval(IntervalUnit::DayTime),
+            PrimitiveType::DaysMs,
+        ),
+        (
+            DataType::Interval(IntervalUnit::MonthDayNano),
+            PrimitiveType::MonthDayNano,
+        ),
         (DataType::UInt32, PrimitiveType::UInt32),
         (DataType::Float16, PrimitiveType::Float16),
     ];
@@ -141,7 +157,11 @@ fn physical_types(rt: HostRuntime) {
 
 #[test]
 fn native_data_types(rt: HostRuntime) {
-    for native in [PrimitiveType::UInt16, PrimitiveType::Int256, PrimitiveType::DaysMs] {
+    for native in [
+        PrimitiveType::UInt16,
+        PrimitiveType::Int256,
+        PrimitiveType::DaysMs,
+    ] {
         let t = DataType::from(native);
         assert_eq!(rt; t.to_physical_type(), PhysicalType::Primitive(native));
     }
