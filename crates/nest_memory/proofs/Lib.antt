@@ -1,4 +1,5 @@
 pub mod Alike
+pub mod BitCounts
 pub mod BitLists
 pub mod Copied
 pub mod Cuts
