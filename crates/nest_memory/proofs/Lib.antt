@@ -3,4 +3,5 @@ pub mod BitCounts
 pub mod BitLists
 pub mod Copied
 pub mod Cuts
+pub mod OffsetReads
 pub mod Rises
