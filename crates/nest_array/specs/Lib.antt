@@ -1,0 +1,5 @@
+pub mod Items
+pub mod Parts
+pub mod Reads
+pub mod Refusal
+pub mod Types
