@@ -1,22 +1,22 @@
 -- Offsets of lists, their cuts and the slots that they tell.
 use Rattle.std.specs.Prelude.{Option, Some, None, slice_get, option_map}
-use Rattle.std.proofs.Common.{◌≡◌, ℕ, ◌+◌, ◌-◌, ◌<◌, ◌≤◌, Bool, true, false, List, length, get_or, refl, ap, sym, ◌∙◌, subst, arith}
+use Rattle.std.proofs.Common.{◌≡◌, ℕ, ◌+◌, ◌-◌, ◌<◌, ◌≤◌, Bool, true, false, List, get_or, refl, ap, sym, ◌∙◌, subst, arith}
 use Rattle.std.proofs.lemmas.Option.{slice_get-get_or, slice_get_within}
 use Rattle.nest_memory.specs.TypeTree as types
 use Rattle.nest_memory.specs.TypeTree.{TypeTree, FieldTree, field_type, item_type, item_field}
 use Rattle.nest_memory.specs.Cut.{cut}
-use Rattle.nest_model.specs.Part.{Validity, cut_validity, begin, extent, rows, last_offset}
+use Rattle.nest_model.specs.Part.{Validity, cut_validity, begin, extent}
 use Rattle.nest_model.specs.Slot as slots
 use Rattle.nest_model.specs.Slot.{seal}
 use Rattle.nest_model.specs.Layout.{Layout}
 use Rattle.nest_model.specs.Meaning.{len, slot, slots_of}
 use Rattle.nest_model.specs.Cut.{cut_layout}
 use Rattle.nest_model.specs.CutLaws.{slots-cut}
-use Rattle.nest_model.specs.Array.{AreOffsets, TopFits}
+use Rattle.nest_model.specs.Array.{TopFits}
 use Rattle.nest_model.specs.FitsLaws.{top-fits-cut}
 use Rattle.nest_model.specs.Reads.{where_valid, list-slot, extent-fits}
 use Rattle.nest_array.specs.Parts.{list_parts}
-use Rattle.nest_array.specs.Reads.{offsets_of, child_of, validity_of}
+use Rattle.nest_model.specs.Accessors.{offsets_of, child_of, validity_of}
 
 -- the type of the items is that of their field
 pub item_type-field : (t : TypeTree) → item_type t ≡ option_map field_type (item_field t)

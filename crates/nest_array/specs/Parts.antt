@@ -1,10 +1,8 @@
 -- The layouts that the arrays of this crate have, and what their accessors show.
-use Rattle.std.specs.Prelude.{ℕ, ◌≤◌, ℤ, false, List as Seq, [], ◌∷◌, map, length, Option, Some, None}
+use Rattle.std.specs.Prelude.{ℕ, ◌≤◌, ℤ, false, List as Seq, [], ◌∷◌, map, length, Some, None}
 use Rattle.nest_memory.specs.TypeTree.{TypeTree}
 use Rattle.nest_memory.specs.declared.datatypes.physical_type.PrimitiveType.TheVariants as native
 use Rattle.nest_model.specs.Part.{Validity}
-use Rattle.nest_model.specs.Slot as slots
-use Rattle.nest_model.specs.Slot.{Slot, seal}
 use Rattle.nest_model.specs.Layout as layouts
 use Rattle.nest_model.specs.Layout.{Layout}
 

@@ -12,14 +12,11 @@ ghost use Rattle.nest_model.specs.Layout.{layout_type};
 ghost use Rattle.nest_model.specs.Meaning.{len, slot, slots_of};
 ghost use Rattle.nest_model.specs.Reads.{where_valid};
 ghost use Rattle.nest_model.specs.Cut.{cut_layout};
-ghost use Rattle.nest_model.specs.Fits.{Fits};
+ghost use Rattle.nest_model.specs.Fits.{Fits, FirstFault};
 ghost use Rattle.nest_model.specs.Array.{TopFits};
-ghost use Rattle.nest_array.specs.Refusal.{Refuses};
 ghost use Rattle.nest_array.specs.Parts.{list_parts};
 ghost use Rattle.nest_array.specs.Types.{default_list_type};
-ghost use Rattle.nest_array.specs.Reads.{offsets_of, child_of, validity_of};
-
-
+ghost use Rattle.nest_model.specs.Accessors.{offsets_of, child_of, validity_of};
 
 use crate::primitive::PrimitiveArray;
 use crate::validity;
@@ -71,7 +68,7 @@ impl ListArray {
         validity: Option<Bitmap>,
     ) -> Result<ListArray, Error>
         ensures { let parts = list_parts (type_of data_type) offsets values validity in
-            MatchResult result (λ a. Fits parts × (a ≡ parts)) (λ e. Refuses e parts) }
+            MatchResult result (λ a. Fits parts × (a ≡ parts)) (λ e. FirstFault e parts) }
     {
         if let Some(error) = fault(&data_type, &offsets, &values, &validity) {
             return Err(error);
@@ -205,7 +202,7 @@ fn fault(
     validity: &Option<Bitmap>,
 ) -> Option<Error>
     ensures { let parts = list_parts (type_of data_type.now) offsets.now values.now validity.now in
-        MatchOption result (Fits parts) (λ e. Refuses e parts) }
+        MatchOption result (Fits parts) (λ e. FirstFault e parts) }
 {
     if !end_within(offsets, values.len()) {
         return Some(Error::OutOfSpec(Spec::OffsetPastChild));

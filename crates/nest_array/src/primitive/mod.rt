@@ -8,14 +8,11 @@ ghost use Rattle.nest_model.specs.Slot.{null};
 ghost use Rattle.nest_model.specs.Layout.{layout_type};
 ghost use Rattle.nest_model.specs.Meaning.{len, slot, slots_of};
 ghost use Rattle.nest_model.specs.Cut.{cut_layout};
-ghost use Rattle.nest_model.specs.Fits.{Fits};
+ghost use Rattle.nest_model.specs.Fits.{Fits, FirstFault};
 ghost use Rattle.nest_model.specs.Array.{TopFits};
-ghost use Rattle.nest_array.specs.Refusal.{Refuses};
 ghost use Rattle.nest_array.specs.Parts.{primitive_parts, natives};
-ghost use Rattle.nest_array.specs.Reads.{natives_of, validity_of};
+ghost use Rattle.nest_model.specs.Accessors.{natives_of, validity_of};
 ghost use Rattle.nest_array.specs.Items.{item_slot};
-
-
 
 use crate::validity;
 use nest_memory::bitmap::immutable::Bitmap;
@@ -61,7 +58,7 @@ impl PrimitiveArray {
         validity: Option<Bitmap>,
     ) -> Result<PrimitiveArray, Error>
         ensures { let parts = primitive_parts (type_of data_type) values validity in
-            MatchResult result (λ a. Fits parts × (a ≡ parts)) (λ e. Refuses e parts) }
+            MatchResult result (λ a. Fits parts × (a ≡ parts)) (λ e. FirstFault e parts) }
     {
         if !validity::fits(&validity, values.len()) {
             return Err(Error::OutOfSpec(Spec::ValidityLength));

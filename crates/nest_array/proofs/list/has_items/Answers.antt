@@ -7,7 +7,7 @@ use Rattle.nest_array.proofs.list.has_items.Goals as goal
 
 pub returns-in-None : goal.returns-in-None
 returns-in-None c =
-    (λ e. let u : false ≡ true = e in cc, λ e. absurd (no-items (λ f. field_of f.now) _ _ _ c.item_field.ensures c.in-None.is e))
+    (λ e. let u : false ≡ true = e in cc, λ e. absurd (no-items (λ f. field_of f.now) c.item_field.result (type_of c.args.list.now) (type_of c.args.items.now) c.item_field.ensures c.in-None.is e))
 
 pub returns-in-Some : goal.returns-in-Some
 returns-in-Some c =

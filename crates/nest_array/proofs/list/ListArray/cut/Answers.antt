@@ -1,6 +1,6 @@
 use Rattle.std.proofs.Common.{ap, arith}
 use Rattle.nest_model.specs.Meaning.{len}
-use Rattle.nest_array.proofs.Lists.{list-cut, list-cut-fits}
+use Rattle.nest_array.proofs.Lists.{list-cut-fits}
 use Rattle.nest_array.proofs.list.ListArray.cut.Goals as goal
 
 pub overflow_add-n : goal.overflow_add-n

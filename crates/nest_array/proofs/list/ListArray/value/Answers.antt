@@ -1,6 +1,6 @@
 use Rattle.std.proofs.Common.{ap, ◌∙◌}
 use Rattle.nest_model.specs.Cut.{cut_layout}
-use Rattle.nest_array.specs.Reads.{child_of}
+use Rattle.nest_model.specs.Accessors.{child_of}
 use Rattle.nest_array.proofs.Lists.{slot-items}
 use Rattle.nest_array.proofs.list.ListArray.value.Goals as goal
 
