@@ -78,6 +78,10 @@ stands-chosen k (s ∷ ss) (suc j) h =
 pub true-mask_places : (ss : List Slot) (p : ℕ) → IsTrueAt ss p → Contains (mask_places ss) p
 true-mask_places ss p h = contains-at (0 + p) p (mask_places ss) (omega arith) (stands-chosen 0 ss p h)
 
+-- a mask chooses exactly those
+pub mask_places-exact : (ss : List Slot) (p : ℕ) → Contains (mask_places ss) p ↔ IsTrueAt ss p
+mask_places-exact ss p = (λ (i, l, e). subst (IsTrueAt ss) e (mask_places-true ss i p l), true-mask_places ss p)
+
 all-after : (k : ℕ) (ss : List Slot) → All (λ p. k < p) (places_from (suc k) ss)
 all-after k ss i d l = let (j, e, t) = all-stand (suc k) ss i d l in omega arith
 

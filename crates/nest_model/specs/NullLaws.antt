@@ -54,7 +54,7 @@ pub record AreNullArrays (fs : FieldTrees) (n : ℕ) (cs : Layouts) : Type 0 whe
   pub picks : (f i : ℕ) → f < count_fields fs → i < n → picked cs (Some f) i ≡ null_pick fs (Some f)
   pub arrays : AreArrays cs
 
-is-array : (t : TypeTree) (n : ℕ) (a : Layout) → IsNullArray t n a → IsArray a
+pub is-array : (t : TypeTree) (n : ℕ) (a : Layout) → IsNullArray t n a → IsArray a
 is-array t n a r = ((r.parts, fits-keeps a r.parts r.fits), r.children)
 
 -- refusals that did not come
