@@ -1,4 +1,4 @@
--- A cut of an array: where the parts of its n slots from place o lie.
+-- A cut of an array: the parts of its n slots from place o (of this project). No value is copied; a validity that is there stays.
 use Rattle.std.specs.Prelude.{ℕ, ◌+◌, ◌*◌, ℤ, List, Option, Some, None}
 use Rattle.nest_memory.specs.TypeTree.{size_of}
 use Rattle.nest_memory.specs.Cut.{cut}

@@ -1,9 +1,12 @@
 -- Arrays of the worked examples.
+use Rattle.nest_memory.specs.declared.datatypes.IntegerType.{IntegerType}
 use Rattle.nest_memory.specs.declared.datatypes.IntegerType.TheVariants as integers
+use Rattle.nest_memory.specs.declared.datatypes.UnionMode.{UnionMode}
 use Rattle.nest_memory.specs.declared.datatypes.UnionMode.TheVariants as modes
 use Rattle.std.specs.Prelude.{ℕ, ℤ, pos, Bool, true, false, List, [], ◌∷◌, map, Option, Some, None}
 use Rattle.nest_memory.specs.TypeTree as types
 use Rattle.nest_memory.specs.TypeTree.{TypeTree, FieldTree, field, FieldTrees, no_fields, more_fields}
+use Rattle.nest_memory.specs.declared.datatypes.physical_type.PrimitiveType.{PrimitiveType}
 use Rattle.nest_memory.specs.declared.datatypes.physical_type.PrimitiveType.TheVariants as primitives
 use Rattle.nest_model.specs.Part.{Validity}
 use Rattle.nest_model.specs.Layout as layouts
@@ -110,3 +113,72 @@ one_id = layouts.union (sparse_union types.int32 types.utf8 (Some (pos 5 ∷ pos
 
 abbrev pub null_text : Layout
 null_text = layouts.text false types.utf8 (0 ∷ 0 ∷ []) [] (Some (false ∷ []))
+
+-- 1 and null, and a row that is null over the item 5
+abbrev pub one_and_null : Layout
+one_and_null = layouts.primitive primitives.Int32 types.int32 ((pos 1 ∷ []) ∷ (pos 0 ∷ []) ∷ []) (Some (true ∷ false ∷ []))
+
+abbrev pub null_over_items : Layout
+null_over_items = layouts.list false (list_type types.int32) (0 ∷ 2 ∷ 3 ∷ 3 ∷ [])
+    (layouts.primitive primitives.Int32 types.int32 ((pos 1 ∷ []) ∷ (pos 0 ∷ []) ∷ (pos 5 ∷ []) ∷ []) (Some (true ∷ false ∷ true ∷ []))) (Some (true ∷ false ∷ true ∷ []))
+
+abbrev pub null_over_nothing : Layout
+null_over_nothing = layouts.list false (list_type types.int32) (0 ∷ 2 ∷ 2 ∷ 2 ∷ []) one_and_null (Some (true ∷ false ∷ true ∷ []))
+
+-- lists of 1 to 5 by these offsets
+abbrev pub five_by : List ℕ → Layout
+five_by os = lists types.int32 os (ints (1 ∷ 2 ∷ 3 ∷ 4 ∷ 5 ∷ []))
+
+-- pairs of 1 to 6
+abbrev pub pairs_type : ℕ → TypeTree
+pairs_type s = types.fixed_size_list (a_field types.int32) s
+
+abbrev pub pairs : ℕ → Validity → Layout
+pairs s va = layouts.fixed_size_list (pairs_type s) (ints (1 ∷ 2 ∷ 3 ∷ 4 ∷ 5 ∷ 6 ∷ [])) va
+
+-- "ab" and "cd"
+abbrev pub two_bytes : Layout
+two_bytes = layouts.fixed_size_binary (types.fixed_size_binary 2) (97 ∷ 98 ∷ 99 ∷ 100 ∷ []) None
+
+-- "hello" with three bytes more behind it, the second row null over them or over nothing
+abbrev pub greetings : List ℕ → Validity → Layout
+greetings os va = layouts.binary false types.binary os (104 ∷ 101 ∷ 108 ∷ 108 ∷ 111 ∷ 102 ∷ 111 ∷ 111 ∷ []) va
+
+-- "aéb"
+abbrev pub accented : List ℕ → Layout
+accented os = texts os (97 ∷ 195 ∷ 169 ∷ 98 ∷ [])
+
+-- records of a number and a text, or of a text and a number
+abbrev pub three_ints : Layout
+three_ints = ints (1 ∷ 2 ∷ 3 ∷ [])
+
+abbrev pub two_texts : Layout
+two_texts = texts (0 ∷ 1 ∷ 2 ∷ []) (97 ∷ 98 ∷ [])
+
+abbrev pub number_and_text : Layouts → Validity → Layout
+number_and_text cs va = layouts.struct (types.struct (two_fields types.int32 types.utf8)) cs va
+
+-- a map whose entries have another type
+abbrev pub map_over : TypeTree → Layout → Validity → Layout
+map_over t c va = layouts.map (types.map (a_field t) false) (0 ∷ 1 ∷ []) c va
+
+abbrev pub one_entry : Layout
+one_entry = layouts.struct (types.struct (two_fields types.utf8 types.utf8)) (both (texts (0 ∷ 1 ∷ []) (97 ∷ [])) (texts (0 ∷ 1 ∷ []) (98 ∷ []))) None
+
+abbrev pub extended : TypeTree → TypeTree
+extended t = types.extension (120 ∷ []) t None
+
+-- keys of 8 bits over the value "x"
+abbrev pub x_by : PrimitiveType → TypeTree → IntegerType → List ℤ → Validity → Layout
+x_by k t key zs va = layouts.dictionary (types.dictionary key types.utf8 false) (layouts.primitive k t (map (λ z. z ∷ []) zs) va) (texts (0 ∷ 1 ∷ []) (120 ∷ []))
+
+abbrev pub short_keys : List ℤ → Validity → Layout
+short_keys zs va = x_by primitives.Int8 types.int8 integers.Int8 zs va
+
+-- two numbers and one text, of which only numbers are picked
+abbrev pub short_child : Layout
+short_child = layouts.union (sparse_union types.int32 types.utf8 None) (pos 0 ∷ pos 0 ∷ []) (both (ints (1 ∷ 2 ∷ [])) (texts (0 ∷ 1 ∷ []) (97 ∷ []))) None 0
+
+-- the union of one number under these types and offsets, of this mode and these ids
+abbrev pub one_number : UnionMode → Option (List ℤ) → List ℤ → Option (List ℤ) → Layout
+one_number mode ids ks os = layouts.union (types.union (more_fields (a_field types.int32) no_fields) ids mode) ks (more_layouts (ints (7 ∷ [])) no_layouts) os 0

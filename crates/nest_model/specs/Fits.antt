@@ -1,4 +1,5 @@
--- Which parts make an array: the checks of each constructor, in order. A check asks of a child its length and its data type alone.
+-- Which parts make an array: the checks of each constructor, in order. What is checked is what the Arrow columnar format asks of a
+-- layout; the order and the errors are of this project. A check asks of a child its length and its data type alone.
 use Rattle.std.specs.Prelude.{◌≡◌, ℕ, zero, suc, ◌+◌, ◌≤◌, ◌<◌, ◌%◌, ℤ, pos, negsuc, Bool, true, false, IsTrue, List, length, get_or, Option, Some, None}
 use Rattle.std.specs.Str.{IsUtf8}
 use Rattle.std.specs.List.{All}
@@ -17,24 +18,24 @@ use Rattle.nest_memory.specs.declared.error.Error.{Error}
 use Rattle.nest_memory.specs.declared.error.Error.TheVariants.{OutOfSpec, InvalidArgumentError}
 use Rattle.nest_model.specs.Checks.{Checks, done, check, Pass, FailFirst}
 
--- a validity has a bit for each of n places
+-- Validity bitmaps: a bit for each of n slots
 abbrev pub ValidityFits : Validity → ℕ → Type 0
 ValidityFits None n = Unit {0}
 ValidityFits (Some bits) n = length bits ≡ n
 
--- each child has the type of its field, in order
+-- Struct Layout, Union Layout: one child for each field, of the field's type, in order
 abbrev pub EachType : FieldTrees → Layouts → Type 0
 EachType no_fields no_layouts = Unit {0}
 EachType no_fields (more_layouts c cs) = ⊥
 EachType (more_fields f fs) no_layouts = ⊥
 EachType (more_fields f fs) (more_layouts c cs) = (layout_type c ≡ field_type f) × EachType fs cs
 
--- each child has n slots
+-- Struct Layout: each child has n slots
 abbrev pub EachLen : Layouts → ℕ → Type 0
 EachLen no_layouts n = Unit {0}
 EachLen (more_layouts c cs) n = (len c ≡ n) × EachLen cs n
 
--- each child has at least n slots
+-- Union Layout, sparse: each child has at least n slots
 abbrev pub EachCovers : Layouts → ℕ → Type 0
 EachCovers no_layouts n = Unit {0}
 EachCovers (more_layouts c cs) n = (n ≤ len c) × EachCovers cs n
@@ -60,7 +61,7 @@ abbrev pub IdsCount : Option (List ℤ) → ℕ → Type 0
 IdsCount None n = Unit {0}
 IdsCount (Some ids) n = length ids ≡ n
 
--- ids are from 0 to 127
+-- Union Layout: ids are types of 8 bits that aren't negative
 abbrev pub IdsInRange : Option (List ℤ) → Type 0
 IdsInRange None = Unit {0}
 IdsInRange (Some ids) = EachNames ids 128
@@ -74,7 +75,7 @@ MeansField (Some f) n = f < n
 abbrev pub EachMeansField : Option (List ℤ) → List ℤ → ℕ → Type 0
 EachMeansField ids ks n = All (λ k. MeansField (field_named ids k) n) ks
 
--- offsets as many as slots
+-- Union Layout, dense: as many offsets as slots; a sparse union has none
 abbrev pub OffsetsCount : Option (List ℤ) → ℕ → Type 0
 OffsetsCount None n = Unit {0}
 OffsetsCount (Some os) n = length os ≡ n
@@ -98,7 +99,7 @@ is_dictionary (types.dictionary k t b) = true
 is_dictionary (types.extension n t m) = is_dictionary t
 is_dictionary t = false
 
--- the values' type is this one, but for extensions
+-- Dictionary-encoded Layout: the values have the value type, looked through extensions
 abbrev pub IsLogically : Option TypeTree → TypeTree → Type 0
 IsLogically None t = ⊥
 IsLogically (Some u) t = logical_type t ≡ logical_type u
@@ -115,7 +116,7 @@ KeysInRange ks n = SomeValid (validity_of ks) (len ks) → EachNames (raw_keys k
 abbrev pub EachValidNames : Validity → Layout → ℕ → Type 0
 EachValidNames va ks n = (i : ℕ) → i < len ks → valid_at va i ≡ true → Names (key_at ks i) n
 
--- each slot's bytes are a text
+-- the bytes of each slot are a text
 abbrev pub EachText : List ℕ → List ℕ → Type 0
 EachText os bs = (i : ℕ) → i < rows os → IsUtf8 (cut bs (begin os i) (extent os i))
 

@@ -1,4 +1,5 @@
--- An array as a plain tree: its kind and the parts that its accessors show.
+-- An array as a plain tree: its kind and its parts, as its accessors show them after its cuts. A kind is a layout of the Arrow columnar
+-- format; each begins with the data type.
 use Rattle.std.specs.Prelude.{ℕ, suc, ℤ, Bool, List, Option}
 use Rattle.nest_memory.specs.TypeTree.{TypeTree}
 use Rattle.nest_memory.specs.declared.datatypes.physical_type.PrimitiveType.{PrimitiveType}
@@ -6,26 +7,28 @@ use Rattle.nest_model.specs.Part.{Validity}
 
 mutual
   pub data Layout : Type 0 where
-    -- Null Layout: a length
+    -- Null Layout: how many slots
     null : TypeTree → ℕ → Layout
-    -- Fixed-Size Primitive Layout of bits
+    -- Fixed-size Primitive Layout of bits: the bits, the validity
     boolean : TypeTree → List Bool → Validity → Layout
-    -- Fixed-Size Primitive Layout: each native value as its whole numbers
+    -- Fixed-size Primitive Layout: the kind of native values, each value as its whole numbers
     primitive : PrimitiveType → TypeTree → List (List ℤ) → Validity → Layout
-    -- Variable-Size Binary Layout: whether its offsets have 64 bits, its offsets, its bytes
+    -- Variable-size Binary Layout: whether its offsets have 64 bits, its offsets, its bytes
     binary : Bool → TypeTree → List ℕ → List ℕ → Validity → Layout
+    -- Variable-size Binary Layout of bytes that are UTF-8
     text : Bool → TypeTree → List ℕ → List ℕ → Validity → Layout
-    -- Fixed-Size Primitive Layout of bytes; the size stands in the type
+    -- Fixed-size Primitive Layout of some bytes a slot: the bytes; the size stands in the type
     fixed_size_binary : TypeTree → List ℕ → Validity → Layout
     -- Fixed-Size List Layout: its items; the size stands in the type
     fixed_size_list : TypeTree → Layout → Validity → Layout
-    -- Variable-Size List Layout: whether its offsets have 64 bits, its offsets, its items
+    -- Variable-size List Layout: whether its offsets have 64 bits, its offsets, its items
     list : Bool → TypeTree → List ℕ → Layout → Validity → Layout
-    -- a list of entries, by offsets of 32 bits
+    -- Variable-size List Layout of a map's entries: offsets of 32 bits, the entries
     map : TypeTree → List ℕ → Layout → Validity → Layout
-    -- Struct Layout: one child a field
+    -- Struct Layout: one child for each field
     struct : TypeTree → Layouts → Validity → Layout
-    -- Union Layout: a type a slot, one child a field, an offset a slot where it is dense, the place in a sparse child where its slots begin
+    -- Union Layout: a type for each slot, one child for each field, an offset for each slot of a dense one, and where the window of a cut
+    -- begins in the children of a sparse one
     union : TypeTree → List ℤ → Layouts → Option (List ℤ) → ℕ → Layout
     -- Dictionary-encoded Layout: its keys, an array of whole numbers, and the values that they name
     dictionary : TypeTree → Layout → Layout → Layout

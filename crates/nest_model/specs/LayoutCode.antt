@@ -114,7 +114,7 @@ mutual
 abbrev pub coded_layout : Coded Layout
 coded_layout = record { code = code_layout; inj = layout_one }
 
--- how many arrays it is made of, itself not counted
+-- how many arrays below it its slots are made of; keys are flat and not counted
 abbrev mutual
   pub weight : Layout → ℕ
   weight (fixed_size_list t c va) = weight c + 1

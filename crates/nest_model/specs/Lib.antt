@@ -11,6 +11,7 @@ pub mod Cut
 pub mod Checks
 pub mod Fits
 pub mod Array
+pub mod Facts
 pub mod Nulls
 pub mod NullLayout
 pub mod NullLaws

@@ -1,4 +1,4 @@
--- Which slots an array stands for.
+-- Which slots an array stands for: the meaning of each layout of the Arrow columnar format.
 use Rattle.std.specs.Prelude.{ℕ, zero, suc, ◌+◌, ◌*◌, ◌/◌, ℤ, pos, false, List, [], ◌∷◌, Option, Some, None, length, get_or, if◌then◌else◌}
 use Rattle.nest_memory.specs.TypeTree.{size_of, ids_of}
 use Rattle.nest_memory.specs.Cut.{cut}
@@ -13,7 +13,7 @@ abbrev pub run : (ℕ → Slot) → ℕ → ℕ → List Slot
 run f o zero = []
 run f o (suc n) = f o ∷ run f (suc o) n
 
--- how many slots it has
+-- Array lengths: as many slots as values, as offsets but one, as items of the size go into the child, as a struct's first child, as types, as keys
 abbrev mutual
   pub len : Layout → ℕ
   len (null t n) = n
@@ -33,12 +33,20 @@ abbrev mutual
   first_len no_layouts = 0
   first_len (more_layouts c cs) = len c
 
--- the place in its field of a union's slot i
+-- Union Layout: where in its field slot i of a union lies. A sparse one reads at its own place, from where the window begins;
+-- a dense one at its offset.
 abbrev pub union_place : Option (List ℤ) → ℕ → ℕ → ℕ
 union_place None start i = start + i
 union_place (Some os) start i = place (get_or os i (pos 0))
 
--- the slot at place i
+-- The slot at place i. But for unions, which have no validity, it is Null where the validity says so; else it is
+-- of a Fixed-size Primitive Layout the value there,
+-- of a Variable-size Binary Layout the bytes from its offset to the next,
+-- of a Variable-size List Layout the items from its offset to the next, a map's entries likewise,
+-- of a Fixed-Size List Layout the items, or the bytes, from i times the size on, as many as the size,
+-- of a Struct Layout what each child has at that place,
+-- of a Union Layout the pick of the field that its type means,
+-- of a Dictionary-encoded Layout the value that its key names; a null key and a key to a null value are the same.
 abbrev mutual
   pub slot : Layout → ℕ → Slot
   slot (null t n) i = slots.null

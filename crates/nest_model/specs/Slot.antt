@@ -1,27 +1,31 @@
--- Slots: what the places of an array stand for.
+-- Slots: what the places of an array stand for, without buffers, offsets, keys or windows (of this project).
 use Rattle.std.specs.Prelude.{ℕ, ℤ, ◌+◌, Bool, List, [], ◌∷◌}
 use Rattle.nest_memory.specs.TypeTree.{TypeTree}
 
 mutual
   pub data Slot : Type 0 where
+    -- no value
     null : Slot
+    -- a value of a boolean array
     truth : Bool → Slot
-    -- a native value's whole numbers
+    -- a native value of a primitive array, as its whole numbers, the high one first
     number : List ℤ → Slot
-    -- the bytes of a text
+    -- a text, as its bytes
     text : List ℕ → Slot
+    -- a binary value
     bytes : List ℕ → Slot
+    -- the items of a row of a list, a fixed-size list or a map
     list : Slots → Slot
-    -- one slot a field
+    -- the slot of each field of a row of a struct
     record_of : Slots → Slot
-    -- what a union's slot picked: a field's type and its slot
+    -- what a row of a union picks: a field's data type and that field's slot
     pick : TypeTree → Slot → Slot
 
   pub data Slots : Type 0 where
     no_slots : Slots
     more_slots : Slot → Slots → Slots
 
--- a list of slots inside a slot, and back
+-- a list of slots as it lies inside a slot, and back
 abbrev pub seal : List Slot → Slots
 seal [] = no_slots
 seal (s ∷ ss) = more_slots s (seal ss)

@@ -1,89 +1,127 @@
-//! Worked examples.
+//! Worked examples: the slots that arrays stand for.
 
+ghost use Rattle.std.specs.Prelude.{◌≡◌, ◌≢◌, ◌+◌, ◌-◌, ◌^◌, ℕ, ℤ, pos, negsuc, true, false, map, List, [], ◌∷◌, Some, None};
 ghost use Rattle.nest_memory.specs.declared.datatypes.UnionMode.TheVariants as modes;
-ghost use Rattle.std.specs.Prelude.{◌≡◌, ◌+◌, ◌-◌, ◌^◌, ℕ, ℤ, pos, true, false, map, List, [], ◌∷◌, Some, None};
+ghost use Rattle.nest_memory.specs.declared.datatypes.physical_type.PrimitiveType.TheVariants as primitives;
 ghost use Rattle.nest_memory.specs.TypeTree as types;
 ghost use Rattle.nest_model.specs.Slot as slots;
 ghost use Rattle.nest_model.specs.Slot.{node_counts};
+ghost use Rattle.nest_model.specs.Layout as layouts;
+ghost use Rattle.nest_model.specs.Accessors.{with_validity};
 ghost use Rattle.nest_model.specs.Meaning.{len, slot, slots_of};
 ghost use Rattle.nest_model.specs.Cut.{cut_layout};
 ghost use Rattle.nest_model.specs.Part.{field_named};
-ghost use Rattle.nest_model.specs.Nulls.{null_slots, type_fault};
-ghost use Rattle.nest_memory.specs.declared.error.Spec.TheVariants as spec;
-ghost use Rattle.nest_memory.specs.declared.error.Error.TheVariants.{OutOfSpec, Overflow, NotYetImplemented};
-ghost use Rattle.nest_model.specs.Fits.{Fits, FirstFault, ValidityFault};
-ghost use Rattle.nest_model.specs.Examples.{a_field, two_fields, list_type, text_dictionary, ints, truths, texts, lists, dictionaries, both, sparse_union, number, list_slot, record_slot, numbers, small_lists, deep_lists, entries, small_map, structs, with_ids, eleven_types, in_turn, null_keys, dense_of, one_id, null_text};
+ghost use Rattle.nest_model.specs.Nullness.{is_null_at, null_count};
+ghost use Rattle.nest_model.specs.SameArray.{IsSameArray};
+ghost use Rattle.nest_model.specs.Chosen.{chosen, mask_places};
+ghost use Rattle.nest_model.specs.Fits.{Fits};
+ghost use Rattle.nest_model.specs.Examples.{text_dictionary, ints, texts, dictionaries, both, number, list_slot, record_slot, numbers, small_lists, deep_lists, small_map, structs, with_ids, eleven_types, in_turn, dense_of, one_id, null_text, null_over_items, null_over_nothing, five_by, pairs, two_bytes, greetings, accented, map_over, one_entry, short_keys};
 
-/// Lists, and lists of lists.
+/// A list whose second row is empty, and ranges of its child by offsets that begin later or end earlier.
 pub fn lists_of_numbers()
-    ensures flat { slots_of small_lists ≡ numbers (1 ∷ 2 ∷ []) ∷ numbers [] ∷ numbers (3 ∷ []) ∷ numbers (4 ∷ 5 ∷ []) ∷ [] }
-    ensures deep { slots_of deep_lists
+    ensures rows { slots_of small_lists ≡ numbers (1 ∷ 2 ∷ []) ∷ numbers [] ∷ numbers (3 ∷ []) ∷ numbers (4 ∷ 5 ∷ []) ∷ [] }
+    ensures ends_earlier { slots_of (five_by (0 ∷ 2 ∷ [])) ≡ numbers (1 ∷ 2 ∷ []) ∷ [] }
+    ensures begins_later { slots_of (five_by (1 ∷ 3 ∷ 5 ∷ [])) ≡ numbers (2 ∷ 3 ∷ []) ∷ numbers (4 ∷ 5 ∷ []) ∷ [] }
+    ensures of_a_cut { slots_of (cut_layout small_lists 1 2) ≡ numbers [] ∷ numbers (3 ∷ []) ∷ [] }
+    ensures no_row_left { slots_of (cut_layout small_lists 4 0) ≡ [] }
+{}
+
+/// A list of lists: each row, and how many comparisons it is worth.
+pub fn lists_of_lists()
+    ensures rows { slots_of deep_lists
         ≡ list_slot (numbers (1 ∷ 2 ∷ []) ∷ numbers (3 ∷ 4 ∷ []) ∷ [])
         ∷ list_slot (numbers (5 ∷ 6 ∷ 7 ∷ []) ∷ numbers [] ∷ numbers (8 ∷ []) ∷ [])
         ∷ list_slot (numbers (9 ∷ 10 ∷ []) ∷ []) ∷ [] }
     ensures worth { node_counts (slots_of deep_lists) ≡ 19 }
+    ensures fits { Fits deep_lists }
 {}
 
-/// A map's entries, and those of its cut.
+/// A null row that covers an item is the same slot as one that covers nothing.
+pub fn items_under_a_null()
+    ensures rows { slots_of null_over_items ≡ list_slot (number 1 ∷ slots.null ∷ []) ∷ slots.null ∷ list_slot [] ∷ [] }
+    ensures same { IsSameArray null_over_items null_over_nothing }
+    ensures fits { Fits null_over_items }
+{}
+
+/// Lists of a fixed size: the rows of a cut under a new validity, and their number.
+pub fn pairs_of_numbers()
+    ensures rows { slots_of (pairs 2 None) ≡ numbers (1 ∷ 2 ∷ []) ∷ numbers (3 ∷ 4 ∷ []) ∷ numbers (5 ∷ 6 ∷ []) ∷ [] }
+    ensures length { len (cut_layout (pairs 2 None) 1 2) ≡ 2 }
+    ensures of_a_cut { slots_of (with_validity (cut_layout (pairs 2 None) 1 2) (Some (false ∷ true ∷ []))) ≡ slots.null ∷ numbers (5 ∷ 6 ∷ []) ∷ [] }
+    ensures threes { slots_of (pairs 3 None) ≡ numbers (1 ∷ 2 ∷ 3 ∷ []) ∷ numbers (4 ∷ 5 ∷ 6 ∷ []) ∷ [] }
+{}
+
+/// Bytes of a fixed size, bytes by offsets, and texts: what lies under a null is no part of the array.
+pub fn bytes_and_texts()
+    ensures fixed { slots_of two_bytes ≡ slots.bytes (97 ∷ 98 ∷ []) ∷ slots.bytes (99 ∷ 100 ∷ []) ∷ [] }
+    ensures fixed_cut { slots_of (cut_layout two_bytes 1 1) ≡ slots.bytes (99 ∷ 100 ∷ []) ∷ [] }
+    ensures same { IsSameArray (greetings (0 ∷ 5 ∷ 8 ∷ []) (Some (true ∷ false ∷ []))) (greetings (0 ∷ 5 ∷ 5 ∷ []) (Some (true ∷ false ∷ []))) }
+    ensures other { slots_of (greetings (0 ∷ 5 ∷ 8 ∷ []) None) ≢ slots_of (greetings (0 ∷ 5 ∷ 8 ∷ []) (Some (true ∷ false ∷ []))) }
+    ensures character { slots_of (accented (1 ∷ 3 ∷ [])) ≡ slots.text (195 ∷ 169 ∷ []) ∷ [] }
+{}
+
+/// Native values as their whole numbers: the high half first, signed, and then the low one.
+pub fn halves()
+    ensures { slots_of (layouts.primitive primitives.Int256 (types.decimal256 76 0) ((negsuc 0 ∷ pos (2 ^ 128 - 1) ∷ []) ∷ []) None)
+        ≡ slots.number (negsuc 0 ∷ pos (2 ^ 128 - 1) ∷ []) ∷ [] }
+{}
+
+/// A map's entries, those of its cut, and a null row over an entry.
 pub fn maps()
     ensures count { len small_map ≡ 2 }
     ensures first { slot small_map 0 ≡ list_slot (record_slot (slots.text (97 ∷ []) ∷ slots.text (98 ∷ []) ∷ []) ∷ []) }
     ensures second { slot (cut_layout small_map 1 1) 0 ≡ list_slot (record_slot (slots.text (97 ∷ 97 ∷ []) ∷ slots.text (98 ∷ 98 ∷ []) ∷ []) ∷ []) }
+    ensures null_row { slots_of (map_over (types.struct (types.more_fields (types.field [] types.utf8 true []) (types.more_fields (types.field [] types.utf8 true []) types.no_fields))) one_entry (Some (false ∷ []))) ≡ slots.null ∷ [] }
     ensures fits { Fits small_map }
 {}
 
-/// A struct: what lies under its null is no part of it.
+/// A struct: what lies under its null is no part of it, and its cut keeps its null.
 pub fn structs_with_a_null()
-    ensures all { slots_of (structs 19) ≡ record_slot (slots.truth false ∷ number 42 ∷ []) ∷ record_slot (slots.truth false ∷ number 28 ∷ []) ∷ slots.null ∷ record_slot (slots.truth true ∷ number 31 ∷ []) ∷ [] }
-    ensures same { slots_of (structs 19) ≡ slots_of (structs 77) }
+    ensures rows { slots_of (structs 19) ≡ record_slot (slots.truth false ∷ number 42 ∷ []) ∷ record_slot (slots.truth false ∷ number 28 ∷ []) ∷ slots.null ∷ record_slot (slots.truth true ∷ number 31 ∷ []) ∷ [] }
+    ensures same { IsSameArray (structs 19) (structs 77) }
     ensures worth { node_counts (slots_of (structs 19)) ≡ 10 }
+    ensures of_a_cut { slots_of (cut_layout (structs 19) 2 2) ≡ slots.null ∷ record_slot (slots.truth true ∷ number 31 ∷ []) ∷ [] }
     ensures fits { Fits (structs 19) }
 {}
 
-/// Dictionaries with the same values at their keys; a null key and a key of a null.
+/// Dictionaries with the same values at other keys, and a null key beside a key to a null.
 pub fn dictionary_keys()
-    ensures same { slots_of (cut_layout (dictionaries (0 ∷ 1 ∷ 0 ∷ []) None (texts (0 ∷ 1 ∷ 2 ∷ []) (97 ∷ 98 ∷ []))) 1 2)
-        ≡ slots_of (dictionaries (1 ∷ 0 ∷ []) None (texts (0 ∷ 1 ∷ 2 ∷ 3 ∷ []) (97 ∷ 98 ∷ 97 ∷ []))) }
+    ensures other_keys { IsSameArray (cut_layout (dictionaries (0 ∷ 1 ∷ 0 ∷ []) None (texts (0 ∷ 1 ∷ 2 ∷ []) (97 ∷ 98 ∷ []))) 1 2)
+        (dictionaries (1 ∷ 0 ∷ []) None (texts (0 ∷ 1 ∷ 2 ∷ 3 ∷ []) (97 ∷ 98 ∷ 97 ∷ []))) }
     ensures worth { node_counts (slots_of (dictionaries (1 ∷ 0 ∷ []) None (texts (0 ∷ 1 ∷ 2 ∷ 3 ∷ []) (97 ∷ 98 ∷ 97 ∷ [])))) ≡ 2 }
-    ensures nulls { slots_of (dictionaries (0 ∷ []) (Some (false ∷ [])) (texts (0 ∷ 1 ∷ []) (120 ∷ []))) ≡ slots_of (dictionaries (0 ∷ []) None null_text) }
-    ensures accepted { Fits null_keys }
-    ensures refused { ValidityFault (OutOfSpec spec.KeyRange) null_keys None }
+    ensures null_key { IsSameArray (short_keys (pos 0 ∷ []) (Some (false ∷ []))) (short_keys (pos 7 ∷ []) (Some (false ∷ []))) }
+    ensures null_value { IsSameArray (dictionaries (0 ∷ []) (Some (false ∷ [])) (texts (0 ∷ 1 ∷ []) (120 ∷ []))) (dictionaries (0 ∷ []) None null_text) }
+    ensures null_by_key { is_null_at (dictionaries (0 ∷ []) (Some (false ∷ [])) (texts (0 ∷ 1 ∷ []) (120 ∷ []))) 0 ≡ true }
+    ensures null_by_value { is_null_at (dictionaries (0 ∷ []) None null_text) 0 ≡ false }
 {}
 
-/// The fields that a union's types mean.
+/// The fields that a union's types mean: by ids, and by the later of two fields with one id.
 pub fn union_fields()
     ensures fields { map (field_named (Some (pos 5 ∷ pos 7 ∷ []))) eleven_types ≡ Some 0 ∷ Some 1 ∷ Some 0 ∷ Some 1 ∷ Some 1 ∷ Some 1 ∷ Some 0 ∷ Some 1 ∷ Some 1 ∷ Some 0 ∷ Some 0 ∷ [] }
     ensures fits { Fits (with_ids (pos 5 ∷ pos 7 ∷ []) eleven_types) }
-    ensures of_no_field { FirstFault (OutOfSpec spec.UnionType) (with_ids (pos 5 ∷ pos 7 ∷ []) (pos 6 ∷ eleven_types)) }
-    ensures id_too_large { FirstFault (OutOfSpec spec.IdRange) (with_ids (pos 5 ∷ pos 128 ∷ []) eleven_types) }
+    ensures of_a_cut { slots_of (cut_layout (with_ids (pos 5 ∷ pos 7 ∷ []) eleven_types) 9 2) ≡ slots.pick types.int32 (number 9) ∷ slots.pick types.int32 (number 10) ∷ [] }
     ensures later_of_two { slots_of one_id ≡ slots.pick types.utf8 (slots.text (97 ∷ [])) ∷ [] }
 {}
 
 /// Picks of a cut of a sparse union, and of a dense one.
 pub fn union_picks()
-    ensures cut { slots_of (cut_layout in_turn 1 2) ≡ slots.pick types.utf8 (slots.text (98 ∷ [])) ∷ slots.pick types.int32 (number 12) ∷ [] }
+    ensures sparse_cut { slots_of (cut_layout in_turn 1 2) ≡ slots.pick types.utf8 (slots.text (98 ∷ [])) ∷ slots.pick types.int32 (number 12) ∷ [] }
+    ensures cut_again { slots_of (cut_layout (cut_layout in_turn 1 3) 1 1) ≡ slots.pick types.int32 (number 12) ∷ [] }
     ensures dense { slots_of (dense_of 0) ≡ slots.pick types.int32 (number 7) ∷ [] }
     ensures dense_fits { Fits (dense_of 0) }
-    ensures past { FirstFault (OutOfSpec spec.UnionSlot) (dense_of 1) }
 {}
 
-/// Null slots of a union of two fields with one id.
-pub fn null_union_slots()
-    ensures { null_slots (types.union (two_fields types.int32 types.utf8) (Some (pos 5 ∷ pos 5 ∷ [])) modes.Sparse) 2 ≡ slots.pick types.utf8 slots.null ∷ slots.pick types.utf8 slots.null ∷ [] }
+/// Which places are null: all of a null array, none of a union, of a struct those that its validity names.
+pub fn nulls_counted()
+    ensures null_place { is_null_at (layouts.null types.null 3) 1 ≡ true }
+    ensures of_null { null_count (layouts.null types.null 3) ≡ 3 }
+    ensures of_struct { null_count (structs 19) ≡ 1 }
+    ensures of_union { null_count in_turn ≡ 0 }
 {}
 
-/// Which types have no null array, and which lengths are too long.
-pub fn refused_types()
-    ensures float { type_fault types.float32 0 ≡ Some NotYetImplemented }
-    ensures product_first { type_fault (types.fixed_size_list (a_field (types.fixed_size_binary 0)) 2) (2 ^ 63) ≡ Some Overflow }
-    ensures child_after { type_fault (types.fixed_size_list (a_field (types.fixed_size_binary 0)) 2) 1 ≡ Some (OutOfSpec spec.ZeroSize) }
-    ensures children_from_left { type_fault (types.struct (two_fields types.float32 (types.fixed_size_binary 0))) 1 ≡ Some NotYetImplemented }
-    ensures no_fields { type_fault (types.struct types.no_fields) 1 ≡ Some (OutOfSpec spec.NoFields) }
-    ensures empty_union { type_fault (types.union types.no_fields None modes.Sparse) 0 ≡ None }
-    ensures union_of_none { type_fault (types.union types.no_fields None modes.Sparse) 1 ≡ Some (OutOfSpec spec.UnionType) }
-    ensures dense_too_long { type_fault (types.union (types.more_fields (a_field types.int32) types.no_fields) None modes.Dense) (2 ^ 31 + 1) ≡ Some Overflow }
-    ensures offsets_too_long { type_fault (list_type types.int32) (2 ^ 64 - 1) ≡ Some Overflow }
-    ensures null_of_any_length { type_fault types.null (2 ^ 64 - 1) ≡ None }
-    ensures ids_of_another_count { type_fault (types.union (types.more_fields (a_field types.int32) types.no_fields) (Some (pos 1 ∷ pos 2 ∷ [])) modes.Sparse) 0 ≡ Some (OutOfSpec spec.IdCount) }
-    ensures id_out_of_range { type_fault (types.union (types.more_fields (a_field types.int32) types.no_fields) (Some (pos 200 ∷ [])) modes.Sparse) 0 ≡ Some (OutOfSpec spec.IdRange) }
+/// Chosen rows, some of them twice; a mask's null chooses nothing.
+pub fn choices()
+    ensures rows { chosen (slots_of (ints (10 ∷ 20 ∷ 30 ∷ []))) (2 ∷ 0 ∷ 2 ∷ []) ≡ number 30 ∷ number 10 ∷ number 30 ∷ [] }
+    ensures past_the_end { chosen (slots_of (ints (10 ∷ []))) (3 ∷ []) ≡ slots.null ∷ [] }
+    ensures places { mask_places (slots_of (layouts.boolean types.boolean (true ∷ true ∷ false ∷ true ∷ []) (Some (true ∷ false ∷ true ∷ true ∷ [])))) ≡ 0 ∷ 3 ∷ [] }
 {}
