@@ -1,5 +1,5 @@
 -- Items of a list at places, and the places that a mask chooses (of this project).
-use Rattle.std.specs.Prelude.{ℕ, zero, suc, true, List, [], ◌∷◌, map, get_or}
+use Rattle.std.specs.Prelude.{ℕ, suc, true, List, [], ◌∷◌, map, get_or}
 use Rattle.nest_model.specs.Slot as slots
 use Rattle.nest_model.specs.Slot.{Slot}
 

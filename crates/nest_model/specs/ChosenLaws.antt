@@ -1,10 +1,10 @@
 -- Laws of chosen items and of the places that a mask chooses.
-use Rattle.std.specs.Prelude.{◌↔◌, true, List, [], ◌∷◌, ◌++◌, map, length, get_or, replicate}
+use Rattle.std.specs.Prelude.{◌↔◌, true, List, [], ◌∷◌, ◌++◌, length, get_or, replicate}
 use Rattle.std.specs.List.{All, AllPairs, Contains, range_with_len}
-use Rattle.std.proofs.Common.{◌≡◌, ℕ, zero, suc, ◌+◌, ◌<◌, ◌≤◌, refl, ap, sym, ◌∙◌, subst, arith, length-drop}
+use Rattle.std.proofs.Common.{◌≡◌, ℕ, zero, suc, ◌+◌, ◌<◌, ◌≤◌, refl, ap, ◌∙◌, subst, arith}
 use Rattle.std.proofs.Math.Seq.{drop-cons}
 use Rattle.std.proofs.lemmas.List.{length-map, map-append}
-use Rattle.std.proofs.lemmas.List.Elements.{All-nil, All-cons, All-get_or}
+use Rattle.std.proofs.lemmas.List.Elements.{All-nil, All-cons}
 use Rattle.std.proofs.lemmas.List.Kept.{AllPairs-cons}
 use Rattle.nest_memory.specs.Cut.{cut}
 use Rattle.nest_model.specs.Slot as slots

@@ -1,5 +1,5 @@
 -- What is known of an array of each kind at its top level, each fact by its name.
-use Rattle.std.specs.Prelude.{◌≡◌, ℕ, ◌+◌, ◌≤◌, ◌<◌, ◌%◌, ℤ, Bool, IsTrue, List, length, Option, Some}
+use Rattle.std.specs.Prelude.{◌≡◌, ℕ, ◌≤◌, ◌<◌, ◌%◌, ℤ, Bool, IsTrue, List, length, Option, Some}
 use Rattle.nest_memory.specs.declared.datatypes.physical_type.PhysicalType.TheVariants as physical
 use Rattle.nest_memory.specs.TypeTree.{TypeTree, count_fields, item_type, size_of, fields_of, ids_of, is_dense, has_pairs, key_type, value_type}
 use Rattle.nest_memory.specs.Physical.{physical_type, list_of_width, binary_of_width, text_of_width}

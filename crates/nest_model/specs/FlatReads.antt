@@ -1,15 +1,14 @@
 -- The slots of flat arrays as lists.
-use Rattle.std.specs.Prelude.{true, Some, None, List, [], ◌∷◌, map, length, get_or, if◌then◌else◌}
-use Rattle.std.proofs.Common.{◌≡◌, ℕ, zero, suc, ◌+◌, ◌<◌, ◌≤◌, ℤ, Bool, false, refl, ap, sym, ◌∙◌, arith}
+use Rattle.std.specs.Prelude.{Some, None, List, [], ◌∷◌, map, length, get_or, if◌then◌else◌}
+use Rattle.std.proofs.Common.{◌≡◌, ℕ, zero, suc, ◌+◌, ◌<◌, ℤ, Bool, false, refl, ap, sym, ◌∙◌, arith}
 use Rattle.std.proofs.lemmas.List.{get_or-map, length-map}
 use Rattle.nest_memory.specs.declared.datatypes.physical_type.PrimitiveType.{PrimitiveType}
 use Rattle.nest_memory.specs.TypeTree.{TypeTree}
 use Rattle.nest_model.specs.Part.{Validity, valid_at}
 use Rattle.nest_model.specs.Slot as slots
 use Rattle.nest_model.specs.Slot.{Slot}
-use Rattle.nest_model.specs.Layout.{Layout, boolean, primitive}
-use Rattle.nest_model.specs.Meaning.{run, len, slot, slots_of}
-use Rattle.nest_model.specs.Fits.{ValidityFits}
+use Rattle.nest_model.specs.Layout.{boolean, primitive}
+use Rattle.nest_model.specs.Meaning.{run, slots_of}
 
 -- some slots, but Null where the validity says so (Validity bitmaps)
 abbrev pub masked : Validity → List Slot → List Slot

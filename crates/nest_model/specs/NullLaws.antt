@@ -1,5 +1,5 @@
 -- Null and empty arrays are arrays of their data type: they fit, and their slots are the null slots.
-use Rattle.std.specs.Prelude.{Option, Some, None, get_or, replicate, map, length, if◌then◌else◌, take, drop, IsSome, IsTrue, not, ◌&&◌, nat_eq, nat_lt}
+use Rattle.std.specs.Prelude.{Option, Some, None, get_or, replicate, map, length, if◌then◌else◌, take, not, ◌&&◌, nat_eq, nat_lt}
 use Rattle.std.specs.Ordering.{int_eq}
 use Rattle.std.specs.List.{All, range_with_len}
 use Rattle.std.specs.Str.{IsUtf8}
@@ -22,18 +22,18 @@ use Rattle.nest_memory.specs.TypeTree as types
 use Rattle.nest_memory.specs.TypeTree.{Letters, Entries, TypeTree, FieldTree, field, FieldTrees, no_fields, more_fields, field_type, count_fields, item_type, size_of, is_dense_mode, is_pair, has_pairs}
 use Rattle.nest_memory.specs.Physical.{physical_type, list_of_width, binary_of_width, text_of_width}
 use Rattle.nest_memory.specs.Cut.{cut}
-use Rattle.nest_model.specs.Part.{Validity, valid_at, begin, extent, rows, last_offset, place, last_place, field_named}
+use Rattle.nest_model.specs.Part.{valid_at, begin, extent, rows, last_offset, place, last_place, field_named}
 use Rattle.nest_model.specs.Slot as slots
 use Rattle.nest_model.specs.Slot.{Slot}
 use Rattle.nest_model.specs.Layout.{Layout, Layouts, null, boolean, primitive, binary, text, fixed_size_binary, fixed_size_list, list, struct, union, dictionary, no_layouts, more_layouts, layout_type, count_layouts}
 use Rattle.nest_model.specs.Layout as layouts
-use Rattle.nest_model.specs.Accessors.{validity_of, with_type, key_kind, key_type_of}
+use Rattle.nest_model.specs.Accessors.{with_type, key_type_of}
 use Rattle.nest_model.specs.Meaning.{run, len, first_len, union_place, slot, picked, slots_of}
 use Rattle.nest_model.specs.Runs.{product-exact}
-use Rattle.nest_model.specs.Fits.{Fits, ValidityFits, EachType, EachLen, EachCovers, Names, MeansField, EachMeansField, IdsCount, IdsInRange, OffsetsCount, OffsetsByMode, SlotsThere, child_len, KeysInRange, IsLogically}
+use Rattle.nest_model.specs.Fits.{Fits, ValidityFits, EachType, EachLen, EachCovers, Names, MeansField, EachMeansField, IdsCount, IdsInRange, OffsetsCount, OffsetsByMode, SlotsThere, child_len}
 use Rattle.nest_model.specs.FitsLaws.{fits-keeps}
-use Rattle.nest_model.specs.Array.{AreOffsets, AreKeys, PartsHold, TopFits, ChildrenFit, AreArrays, IsArray}
-use Rattle.nest_model.specs.Nulls.{null_field, null_slot, null_pick, null_of, null_slots, refused, or_else, is_past, is_id, are_ids, ids_count_differs, has_bad_id, fault_of, field_fault, fields_fault, type_fault, empty_fault}
+use Rattle.nest_model.specs.Array.{AreOffsets, AreKeys, PartsHold, ChildrenFit, AreArrays, IsArray}
+use Rattle.nest_model.specs.Nulls.{null_field, null_slot, null_pick, null_slots, refused, or_else, is_past, is_id, are_ids, ids_count_differs, has_bad_id, fault_of, field_fault, fields_fault, type_fault, empty_fault}
 use Rattle.nest_model.specs.NullLayout.{zero_value, native_of_key, type_of_key, none_valid, native_nulls, null_type, null_offsets, null_array, null_item, null_children, null_layout, empty_layout}
 
 -- an array of n null slots of data type t

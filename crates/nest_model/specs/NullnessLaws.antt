@@ -1,6 +1,6 @@
 -- A place is null exactly where its slot is Null; of a dictionary, where its key is null. The null count counts such places.
-use Rattle.std.specs.Prelude.{true, false, not, Some, None, List, [], ◌∷◌, length, get_or, take, drop, if◌then◌else◌}
-use Rattle.std.specs.List.{count_by, sum_by, range_with_len}
+use Rattle.std.specs.Prelude.{true, false, not, Some, None, List, [], ◌∷◌, length, get_or, take, if◌then◌else◌}
+use Rattle.std.specs.List.{count_by, range_with_len}
 use Rattle.std.proofs.Common.{◌≡◌, ℕ, zero, suc, ◌+◌, ◌<◌, ◌≤◌, Bool, refl, ap, sym, ◌∙◌, arith}
 use Rattle.std.proofs.Math.Seq.{drop-cons}
 use Rattle.std.proofs.lemmas.List.Sums.{sum_by-cons}

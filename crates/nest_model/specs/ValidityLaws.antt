@@ -1,18 +1,15 @@
 -- The same array under a new validity, and which places of an array are null.
-use Rattle.std.specs.Prelude.{◌↔◌, true, false, not, Some, None, List, [], ◌∷◌, map, length, get_or, if◌then◌else◌}
-use Rattle.std.specs.List.{count_by, range_with_len, sum_by}
-use Rattle.std.proofs.Common.{◌≡◌, ℕ, zero, suc, ◌+◌, ◌<◌, ◌≤◌, ℤ, Bool, refl, ap, sym, ◌∙◌, subst, arith}
-use Rattle.nest_memory.specs.Cut.{cut}
+use Rattle.std.specs.Prelude.{true, false, if◌then◌else◌}
+use Rattle.std.proofs.Common.{◌≡◌, ℕ, Bool, refl, ap, sym, ◌∙◌, subst, arith}
 use Rattle.nest_model.specs.Part.{Validity, valid_at, place}
 use Rattle.nest_model.specs.Slot as slots
 use Rattle.nest_model.specs.Slot.{Slot}
-use Rattle.nest_model.specs.Layout.{Layout, Layouts, null, boolean, primitive, binary, text, fixed_size_binary, fixed_size_list, list, map as map_of, struct, union, dictionary, layout_type}
-use Rattle.nest_model.specs.Accessors.{validity_of, with_validity, key_at, key_type_of, raw_keys}
+use Rattle.nest_model.specs.Layout.{Layout, null, boolean, primitive, binary, text, fixed_size_binary, fixed_size_list, list, map as map_of, struct, union, dictionary, layout_type}
+use Rattle.nest_model.specs.Accessors.{validity_of, with_validity, key_at, key_type_of}
 use Rattle.nest_model.specs.Meaning.{len, slot}
 use Rattle.nest_model.specs.Checks.{Pass}
-use Rattle.nest_model.specs.Fits.{Fits, Names, EachValidNames, ValidityFits, validity_checks}
-use Rattle.nest_model.specs.Array.{AreKeys, PartsHold, Keeps, TopFits, ChildrenFit, IsArray}
-use Rattle.nest_model.specs.Nullness.{is_null_at, null_count}
+use Rattle.nest_model.specs.Fits.{Names, EachValidNames, ValidityFits, validity_checks}
+use Rattle.nest_model.specs.Array.{AreKeys, PartsHold, TopFits, ChildrenFit, IsArray}
 
 -- it keeps its length, its data type, its keys' values
 pub len-with_validity : (a : Layout) (va : Validity) → len (with_validity a va) ≡ len a
