@@ -35,18 +35,18 @@ pub trait NativeType: Copy + Eq {
     ghost parts: { (a : Self) → length (numbers a) ≡ parts_of PRIMITIVE };
 }
 
-/// A signed number of 256 bits, without arithmetic.
+/// A signed number of 256 bits: `high * 2^128 + low`. There is no arithmetic on it.
 #[allow(non_camel_case_types)]
 #[derive(Clone, Copy, Debug, PartialEq, Eq, Hash)]
 pub struct i256 {
-    /// The upper 128 bits, with the sign.
+    /// The upper half, with the sign.
     pub high: i128,
-    /// The lower 128 bits.
+    /// The lower half.
     pub low: u128,
 }
 
 impl i256 {
-    /// The number `high * 2^128 + low`.
+    /// The number of those halves.
     pub const fn from_words(high: i128, low: u128) -> i256
         ensures { result ≡ record { high = high; low = low } }
     {
@@ -54,15 +54,22 @@ impl i256 {
     }
 }
 
-/// Days and milliseconds.
+/// A span of days and of milliseconds.
 #[allow(non_camel_case_types)]
 #[derive(Clone, Copy, Debug, PartialEq, Eq, Hash)]
-pub struct days_ms(pub i32, pub i32);
+pub struct days_ms {
+    pub days: i32,
+    pub milliseconds: i32,
+}
 
-/// Months, days and nanoseconds.
+/// A span of months, of days and of nanoseconds.
 #[allow(non_camel_case_types)]
 #[derive(Clone, Copy, Debug, PartialEq, Eq, Hash)]
-pub struct months_days_ns(pub i32, pub i32, pub i64);
+pub struct months_days_ns {
+    pub months: i32,
+    pub days: i32,
+    pub ns: i64,
+}
 
 impl NativeType for i8 {
     ghost use Rattle.std.proofs.Common.{refl};
@@ -296,7 +303,10 @@ impl NativeType for days_ms {
     const PRIMITIVE: PrimitiveType = PrimitiveType::DaysMs;
 
     fn zero() -> days_ms {
-        days_ms(0, 0)
+        days_ms {
+            days: 0,
+            milliseconds: 0,
+        }
     }
 
     ghost injective = { days-one };
@@ -318,7 +328,11 @@ impl NativeType for months_days_ns {
     const PRIMITIVE: PrimitiveType = PrimitiveType::MonthDayNano;
 
     fn zero() -> months_days_ns {
-        months_days_ns(0, 0, 0)
+        months_days_ns {
+            months: 0,
+            days: 0,
+            ns: 0,
+        }
     }
 
     ghost injective = { months-one };

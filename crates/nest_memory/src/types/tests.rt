@@ -41,6 +41,21 @@ fn native_types(rt: HostRuntime) {
     expect_native(&rt, u32::MAX, PrimitiveType::UInt32);
     expect_native(&rt, u64::MAX, PrimitiveType::UInt64);
     expect_native(&rt, i256::from_words(0, 1), PrimitiveType::Int256);
-    expect_native(&rt, days_ms(0, 1), PrimitiveType::DaysMs);
-    expect_native(&rt, months_days_ns(0, 0, -1), PrimitiveType::MonthDayNano);
+    expect_native(
+        &rt,
+        days_ms {
+            days: 0,
+            milliseconds: 1,
+        },
+        PrimitiveType::DaysMs,
+    );
+    expect_native(
+        &rt,
+        months_days_ns {
+            months: 0,
+            days: 0,
+            ns: -1,
+        },
+        PrimitiveType::MonthDayNano,
+    );
 }
