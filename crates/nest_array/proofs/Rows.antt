@@ -27,10 +27,10 @@ ending-ends : (va : Validity) (es : List ℕ) → ValidityFits va (length es) �
 ending-ends None es h = valid-ends es
 ending-ends (Some bits) es h = zip-ends bits es h
 
-tail-count : (os : List ℕ) → length (drop 1 os) ≡ rows os
+pub tail-count : (os : List ℕ) → length (drop 1 os) ≡ rows os
 tail-count os = length-drop 1 os
 
-told-ends : (os : List ℕ) (va : Validity) → ValidityFits va (rows os) → ends (rows_told os va) ≡ drop 1 os
+pub told-ends : (os : List ℕ) (va : Validity) → ValidityFits va (rows os) → ends (rows_told os va) ≡ drop 1 os
 told-ends os va h = ending-ends va (drop 1 os) (subst (ValidityFits va) (sym (tail-count os)) h)
 
 -- as many rows as the offsets tell
@@ -41,7 +41,7 @@ end-place : (s : ℕ) (rs : List Row) → end_from s rs ≡ get_or (s ∷ ends r
 end-place s [] = refl
 end-place s (r ∷ rs) = end-place r.end rs
 
-first-rest : (os : List ℕ) → 0 < length os → slice_index os 0 ≡ 0 → os ≡ 0 ∷ drop 1 os
+pub first-rest : (os : List ℕ) → 0 < length os → slice_index os 0 ≡ 0 → os ≡ 0 ∷ drop 1 os
 first-rest [] h k = absurd (omega arith)
 first-rest (o ∷ os) h k = ap (λ x. x ∷ os) k
 

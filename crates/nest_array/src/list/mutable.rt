@@ -1,6 +1,7 @@
 //! The builder of arrays of lists.
-ghost use Rattle.std.specs.Prelude.{◌≡◌, ◌+◌, ◌≤◌, ◌<◌, ◌⊎◌, ◌↔◌, ◌++◌, ◌∷◌, [], false, true, map, option_map, IsTrue, OnOk, OnErr, IfOk, IfErr, IsErrOf, IsOkUnless, alloc_error, length, Some};
+ghost use Rattle.std.specs.Prelude.{◌≡◌, ◌+◌, ◌≤◌, ◌<◌, ◌⊎◌, ◌↔◌, ◌++◌, ◌∷◌, [], false, true, map, IsTrue, OnOk, OnErr, IfOk, IfErr, IsErrOf, IsOkUnless, alloc_error, length, Some};
 ghost use Rattle.std.specs.Borrow.{sem, Lends};
+ghost use Rattle.std.specs.Option.{option_copied};
 ghost use Rattle.nest_memory.specs.declared.error.Error.TheVariants.{Memory, Overflow, InvalidArgumentError};
 ghost use Rattle.nest_memory.specs.declared.error.Argument.TheVariants.{Unfinished};
 ghost use Rattle.nest_memory.specs.declared.datatypes.physical_type.PhysicalType.TheVariants as physical;
@@ -151,11 +152,11 @@ impl MutableListArray {
     /// `Overflow` where there are more than 2^31 - 1 items then, `Memory`. No slot is added at any level then.
     pub fn try_push(&mut self, row: Option<&[Option<i64>]>) -> Result<(), Error>
         requires { IsWhole (tree_of self.old) }
-        ensures accepted { OnOk result (Accepted (row_item (option_map (λ xs. xs.now) row)) (tree_of self.old) (tree_of self.new)) }
-        ensures own { OnOk result (own_slots (tree_of self.new) ≡ own_slots (tree_of self.old) ++ row_slot (option_map (λ xs. xs.now) row) ∷ []) }
-        ensures items { OnOk result (item_count self.new ≡ item_count self.old + row_len (option_map (λ xs. xs.now) row)) }
+        ensures accepted { OnOk result (Accepted (row_item (option_copied row.entry)) (tree_of self.old) (tree_of self.new)) }
+        ensures own { OnOk result (own_slots (tree_of self.new) ≡ own_slots (tree_of self.old) ++ row_slot (option_copied row.entry) ∷ []) }
+        ensures items { OnOk result (item_count self.new ≡ item_count self.old + row_len (option_copied row.entry)) }
         ensures err { OnErr result (tree_of self.new ≡ tree_of self.old) }
-        ensures overflow { IsErrOf result Overflow ↔ (largest_offset false < item_count self.old + row_len (option_map (λ xs. xs.now) row)) }
+        ensures overflow { IsErrOf result Overflow ↔ (largest_offset false < item_count self.old + row_len (option_copied row.entry)) }
         ensures errors { IfErr result (λ e. (e ≡ Overflow) ⊎ (e ≡ Memory alloc_error)) }
     {
         match row {
@@ -184,11 +185,23 @@ impl MutableListArray {
         ensures overflow { IsErrOf result Overflow ↔ (largest_offset false < item_count self.old + length items.now) }
         ensures errors { IfErr result (λ e. (e ≡ Overflow) ⊎ (e ≡ Memory alloc_error)) }
     {
-        let len = self.values.len();
-        let end = len.saturating_add(items.len());
+        let end = self.values.len().saturating_add(items.len());
         if end > LARGEST_OFFSET {
             return Err(Error::Overflow);
         }
+        self.push_within(items, end)
+    }
+
+    fn push_within(&mut self, items: &[Option<i64>], end: usize) -> Result<(), Error>
+        requires whole { IsWhole (tree_of self.old) }
+        requires ends { end ≡ item_count self.old + length items.now }
+        requires within { end ≤ largest_offset false }
+        ensures accepted { OnOk result (Accepted (row_item (Some items.now)) (tree_of self.old) (tree_of self.new)) }
+        ensures items { OnOk result (item_count self.new ≡ end) }
+        ensures err { OnErr result (tree_of self.new ≡ tree_of self.old) }
+        ensures memory { IsOkUnless result (Memory alloc_error) }
+    {
+        let len = self.values.len();
         extend(&mut self.values, items)?;
         if let Err(error) = self.rows.push(true, end) {
             self.values.truncate(len);
