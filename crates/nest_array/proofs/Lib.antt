@@ -1,1 +1,5 @@
+pub mod Grown
 pub mod Lists
+pub mod Pushed
+pub mod Rows
+pub mod Spelled

@@ -1,3 +1,5 @@
+pub mod Growth
 pub mod Items
 pub mod Parts
+pub mod Seen
 pub mod Types

@@ -2,5 +2,8 @@
 #![tactic(auto)]
 
 pub mod list;
+pub mod primitive;
+mod growth;
 
-pub use list::ListArray;
+pub use list::{ListArray, MutableListArray};
+pub use primitive::MutablePrimitiveArray;

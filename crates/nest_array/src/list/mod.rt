@@ -18,6 +18,12 @@ ghost use Rattle.nest_array.specs.Parts.{list_parts};
 ghost use Rattle.nest_array.specs.Types.{default_list_type};
 ghost use Rattle.nest_model.specs.Accessors.{offsets_of, child_of, validity_of};
 
+mod mutable;
+mod rows;
+
+pub use mutable::MutableListArray;
+pub use rows::ListRows;
+
 use nest_flat::primitive::PrimitiveArray;
 use nest_flat::validity;
 use nest_memory::bitmap::immutable::Bitmap;
@@ -80,6 +86,25 @@ impl ListArray {
             values,
             validity,
         })
+    }
+
+    /// The array of parts that fit.
+    pub fn new(
+        data_type: DataType,
+        offsets: OffsetsBuffer<i32>,
+        values: PrimitiveArray<i64>,
+        validity: Option<Bitmap>,
+    ) -> ListArray
+        requires { Fits (list_parts (type_of data_type) offsets values validity) }
+        ensures { result ≡ list_parts (type_of data_type) offsets values validity }
+    {
+        offsets.known();
+        ListArray {
+            data_type,
+            offsets,
+            values,
+            validity,
+        }
     }
 
     /// What holds of every such array.
