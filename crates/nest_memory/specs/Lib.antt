@@ -1,5 +1,6 @@
 pub mod Bits
 pub mod Cut
+pub mod Native
 pub mod Physical
 pub mod Rising
 pub mod TypeCode

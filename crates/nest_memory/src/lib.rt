@@ -9,3 +9,4 @@ pub mod error;
 mod memory_tests;
 pub mod offset;
 pub mod offsets;
+pub mod types;

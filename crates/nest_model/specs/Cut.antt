@@ -9,7 +9,8 @@ abbrev pub cut_offsets : Option (List ℤ) → ℕ → ℕ → Option (List ℤ)
 cut_offsets None o n = None
 cut_offsets (Some os) o n = Some (cut os o n)
 
--- The child of a list, a map, a union and a dictionary stays whole; those of a fixed-size list and a struct are cut too.
+-- The items of a list and a map, the children of a union and the values of a dictionary stay whole;
+-- the items of a fixed-size list, the children of a struct and the keys of a dictionary are cut too.
 abbrev mutual
   pub cut_layout : Layout → ℕ → ℕ → Layout
   cut_layout (null t m) o n = null t n
@@ -23,7 +24,7 @@ abbrev mutual
   cut_layout (map t os c va) o n = map t (cut os o (n + 1)) c (cut_validity va o n)
   cut_layout (struct t cs va) o n = struct t (cut_layouts cs o n) (cut_validity va o n)
   cut_layout (union t ks cs os start) o n = union t (cut ks o n) cs (cut_offsets os o n) (start + o)
-  cut_layout (dictionary k t ks va c) o n = dictionary k t (cut ks o n) (cut_validity va o n) c
+  cut_layout (dictionary t ks c) o n = dictionary t (cut_layout ks o n) c
 
   pub cut_layouts : Layouts → ℕ → ℕ → Layouts
   cut_layouts no_layouts o n = no_layouts

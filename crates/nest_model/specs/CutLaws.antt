@@ -1,11 +1,13 @@
 -- A cut of an array stands for the cut of its slots.
 use Rattle.std.specs.Prelude.{Option, Some, None}
 use Rattle.std.proofs.Common.{◌≡◌, ℕ, ◌+◌, ◌*◌, ◌/◌, ◌<◌, ◌≤◌, ℤ, pos, false, List, [], length, get_or, take, drop, refl, ap, sym, ◌∙◌, arith}
+use Rattle.std.proofs.Math.ListN.{get_or-map}
 use Rattle.nest_memory.specs.TypeTree.{size_of}
 use Rattle.nest_memory.specs.Cut.{cut}
-use Rattle.nest_model.specs.Part.{begin, extent, place}
+use Rattle.nest_model.specs.Part.{valid_at, begin, extent, place}
 use Rattle.nest_model.specs.Layout.{Layout, Layouts, null, boolean, primitive, binary, text, fixed_size_binary, fixed_size_list, list, map, struct, union, dictionary, no_layouts, more_layouts, layout_type}
 use Rattle.nest_model.specs.Meaning.{run, len, first_len, union_place, slot, each, slots_of}
+use Rattle.nest_model.specs.Accessors.{validity_of, whole, key_at}
 use Rattle.nest_model.specs.Cut.{cut_layout, cut_layouts, cut_offsets}
 use Rattle.nest_model.specs.Runs.{cut-cut, length-cut, get_or-cut, rows-cut, valid-cut, validity-cut-cut, product-sum, product-fits, product-within, product-end, product-below, product-over, run-ext, cut-run}
 
@@ -23,6 +25,28 @@ pub union_place-cut : (os : Option (List ℤ)) (start o n i : ℕ) → i < n →
 union_place-cut None start o n i h = omega arith
 union_place-cut (Some os) start o n i h = ap place (get_or-cut os o n i (pos 0) h)
 
+-- the validity and the raw keys of a cut
+pub valid_at-cut : (a : Layout) (o n i : ℕ) → i < n → valid_at (validity_of (cut_layout a o n)) i ≡ valid_at (validity_of a) (o + i)
+valid_at-cut (null t m) o n i h = refl
+valid_at-cut (boolean t bs va) o n i h = valid-cut va o n i h
+valid_at-cut (primitive k t vs va) o n i h = valid-cut va o n i h
+valid_at-cut (binary l t os bs va) o n i h = valid-cut va o n i h
+valid_at-cut (text l t os bs va) o n i h = valid-cut va o n i h
+valid_at-cut (fixed_size_binary t bs va) o n i h = valid-cut va o n i h
+valid_at-cut (fixed_size_list t c va) o n i h = valid-cut va o n i h
+valid_at-cut (list l t os c va) o n i h = valid-cut va o n i h
+valid_at-cut (map t os c va) o n i h = valid-cut va o n i h
+valid_at-cut (struct t cs va) o n i h = valid-cut va o n i h
+valid_at-cut (union t ks cs os start) o n i h = refl
+valid_at-cut (dictionary t ks c) o n i h = valid_at-cut ks o n i h
+
+pub key_at-cut : (a : Layout) (o n i : ℕ) → i < n → key_at (cut_layout a o n) i ≡ key_at a (o + i)
+key_at-cut (primitive k t vs va) o n i h =
+    get_or-map whole (take n (drop o vs)) i []
+    ∙ ap whole (get_or-cut vs o n i [] h)
+    ∙ sym (get_or-map whole vs (o + i) [])
+key_at-cut a o n i h = refl
+
 pub type-cut : (a : Layout) (o n : ℕ) → layout_type (cut_layout a o n) ≡ layout_type a
 type-cut (null t m) o n = refl
 type-cut (boolean t bs va) o n = refl
@@ -35,7 +59,7 @@ type-cut (list l t os c va) o n = refl
 type-cut (map t os c va) o n = refl
 type-cut (struct t cs va) o n = refl
 type-cut (union t ks cs os start) o n = refl
-type-cut (dictionary k t ks va c) o n = refl
+type-cut (dictionary t ks c) o n = refl
 
 mutual
   pub slot-cut : (a : Layout) (o n i : ℕ) → i < n → slot (cut_layout a o n) i ≡ slot a (o + i)
@@ -90,9 +114,9 @@ mutual
       let e = get_or-cut ks o n i (pos 0) h in
       let f = union_place-cut os start o n i h in
       cc
-  slot-cut (dictionary k t ks va c) o n i h =
-      let v = valid-cut va o n i h in
-      let e = get_or-cut ks o n i (pos 0) h in
+  slot-cut (dictionary t ks c) o n i h =
+      let v = valid_at-cut ks o n i h in
+      let e = key_at-cut ks o n i h in
       cc
 
   pub each-cut : (cs : Layouts) (o n i : ℕ) → i < n → each (cut_layouts cs o n) i ≡ each cs (o + i)
@@ -117,7 +141,7 @@ mutual
   len-cut (map t os c va) o n h = rows-cut os o n h
   len-cut (struct t cs va) o n h = first_len-cut cs o n h
   len-cut (union t ks cs os start) o n h = length-cut ks o n h
-  len-cut (dictionary k t ks va c) o n h = length-cut ks o n h
+  len-cut (dictionary t ks c) o n h = len-cut ks o n h
 
   pub first_len-cut : (cs : Layouts) (o n : ℕ) → o + n ≤ first_len cs → first_len (cut_layouts cs o n) ≡ n
   first_len-cut no_layouts o n h = omega arith
@@ -182,10 +206,7 @@ mutual
       let f = offsets-cut-cut os o n p m h in
       let g : start + o + p ≡ start + (o + p) = omega arith in
       cc
-  layout-cut-cut (dictionary k t ks va c) o n p m h =
-      let v = validity-cut-cut va o n p m h in
-      let e = cut-cut ks o n p m h in
-      cc
+  layout-cut-cut (dictionary t ks c) o n p m h = ap (λ z. dictionary t z c) (layout-cut-cut ks o n p m h)
 
   pub layouts-cut-cut : (cs : Layouts) (o n p m : ℕ) → p + m ≤ n → cut_layouts (cut_layouts cs o n) p m ≡ cut_layouts cs (o + p) m
   layouts-cut-cut no_layouts o n p m h = refl

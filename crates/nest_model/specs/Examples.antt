@@ -4,7 +4,6 @@ use Rattle.nest_memory.specs.declared.datatypes.UnionMode.TheVariants as modes
 use Rattle.std.specs.Prelude.{ℕ, ℤ, pos, Bool, true, false, List, [], ◌∷◌, map, Option, Some, None}
 use Rattle.nest_memory.specs.TypeTree as types
 use Rattle.nest_memory.specs.TypeTree.{TypeTree, FieldTree, field, FieldTrees, no_fields, more_fields}
-use Rattle.nest_memory.specs.declared.datatypes.physical_type.PhysicalType.TheVariants as physical
 use Rattle.nest_memory.specs.declared.datatypes.physical_type.PrimitiveType.TheVariants as primitives
 use Rattle.nest_model.specs.Part.{Validity}
 use Rattle.nest_model.specs.Layout as layouts
@@ -39,7 +38,7 @@ abbrev pub lists : TypeTree → List ℕ → Layout → Layout
 lists t os c = layouts.list false (list_type t) os c None
 
 abbrev pub dictionaries : List ℕ → Validity → Layout → Layout
-dictionaries ks va c = layouts.dictionary integers.Int32 text_dictionary (map (λ k. pos k) ks) va c
+dictionaries ks va c = layouts.dictionary text_dictionary (layouts.primitive primitives.Int32 types.int32 (map (λ k. pos k ∷ []) ks) va) c
 
 abbrev pub both : Layout → Layout → Layouts
 both c d = more_layouts c (more_layouts d no_layouts)

@@ -5,15 +5,17 @@ use Rattle.std.specs.List.{All}
 use Rattle.nest_memory.specs.TypeTree as types
 use Rattle.nest_memory.specs.TypeTree.{TypeTree, FieldTrees, no_fields, more_fields, field_type, logical_type, count_fields, item_type, size_of, fields_of, ids_of, is_dense, has_pairs}
 use Rattle.nest_memory.specs.declared.datatypes.physical_type.PhysicalType.TheVariants as physical
-use Rattle.nest_memory.specs.declared.datatypes.physical_type.PrimitiveType.TheVariants as primitives
-use Rattle.nest_memory.specs.declared.datatypes.physical_type.PhysicalType.{PhysicalType}
 use Rattle.nest_memory.specs.Physical.{physical_type, list_of_width, binary_of_width, text_of_width}
 use Rattle.nest_memory.specs.Cut.{cut}
 use Rattle.nest_model.specs.Part.{Validity, valid_at, begin, extent, rows, last_offset, field_named}
 use Rattle.nest_model.specs.Layout.{Layout, Layouts, null, boolean, primitive, binary, text, fixed_size_binary, fixed_size_list, list, map, struct, union, dictionary, no_layouts, more_layouts, layout_type, count_layouts}
+use Rattle.nest_model.specs.Accessors.{validity_of, raw_keys, key_at, key_type_of}
 use Rattle.nest_model.specs.Meaning.{len, first_len}
-use Rattle.nest_model.specs.Fault as fault
-use Rattle.nest_model.specs.Fault.{Fault, Checks, done, check, Pass, FailFirst}
+use Rattle.nest_memory.specs.declared.error.Spec.TheVariants as spec
+use Rattle.nest_memory.specs.declared.error.Argument.TheVariants as argument
+use Rattle.nest_memory.specs.declared.error.Error.{Error}
+use Rattle.nest_memory.specs.declared.error.Error.TheVariants.{OutOfSpec, InvalidArgumentError}
+use Rattle.nest_model.specs.Checks.{Checks, done, check, Pass, FailFirst}
 
 -- a validity has a bit for each of n places
 abbrev pub ValidityFits : Validity → ℕ → Type 0
@@ -105,13 +107,13 @@ IsLogically (Some u) t = logical_type t ≡ logical_type u
 abbrev pub SomeValid : Validity → ℕ → Type 0
 SomeValid va n = (i : ℕ) × (i < n) × (valid_at va i ≡ true)
 
--- each raw key names a value, also under a null; where all keys are null no raw key is looked at
-abbrev pub KeysInRange : Validity → List ℤ → ℕ → Type 0
-KeysInRange va ks n = SomeValid va (length ks) → EachNames ks n
+-- each raw key names one of n values, also under a null; where all keys are null no raw key is looked at
+abbrev pub KeysInRange : Layout → ℕ → Type 0
+KeysInRange ks n = SomeValid (validity_of ks) (len ks) → EachNames (raw_keys ks) n
 
--- each valid key names one of n values
-abbrev pub EachValidNames : Validity → List ℤ → ℕ → Type 0
-EachValidNames va ks n = (i : ℕ) → i < length ks → valid_at va i ≡ true → Names (get_or ks i (pos 0)) n
+-- each key that is valid under this validity names one of n values
+abbrev pub EachValidNames : Validity → Layout → ℕ → Type 0
+EachValidNames va ks n = (i : ℕ) → i < len ks → valid_at va i ≡ true → Names (key_at ks i) n
 
 -- each slot's bytes are a text
 abbrev pub EachText : List ℕ → List ℕ → Type 0
@@ -120,84 +122,84 @@ EachText os bs = (i : ℕ) → i < rows os → IsUtf8 (cut bs (begin os i) (exte
 -- the checks of each constructor, in order
 abbrev pub checks : Layout → Checks
 checks (null t n) =
-    check fault.wrong_type (physical_type t ≡ physical.Null) done
+    check (OutOfSpec spec.WrongType) (physical_type t ≡ physical.Null) done
 checks (boolean t bs va) =
-    check fault.validity_length (ValidityFits va (length bs))
-    (check fault.wrong_type (physical_type t ≡ physical.Boolean) done)
+    check (OutOfSpec spec.ValidityLength) (ValidityFits va (length bs))
+    (check (OutOfSpec spec.WrongType) (physical_type t ≡ physical.Boolean) done)
 checks (primitive k t vs va) =
-    check fault.validity_length (ValidityFits va (length vs))
-    (check fault.wrong_type (physical_type t ≡ physical.Primitive k) done)
+    check (OutOfSpec spec.ValidityLength) (ValidityFits va (length vs))
+    (check (OutOfSpec spec.WrongType) (physical_type t ≡ physical.Primitive k) done)
 checks (binary large t os bs va) =
-    check fault.offset_past_child (last_offset os ≤ length bs)
-    (check fault.validity_length (ValidityFits va (rows os))
-    (check fault.wrong_type (physical_type t ≡ binary_of_width large) done))
+    check (OutOfSpec spec.OffsetPastChild) (last_offset os ≤ length bs)
+    (check (OutOfSpec spec.ValidityLength) (ValidityFits va (rows os))
+    (check (OutOfSpec spec.WrongType) (physical_type t ≡ binary_of_width large) done))
 checks (text large t os bs va) =
-    check fault.offset_past_child (last_offset os ≤ length bs)
-    (check fault.text (EachText os bs)
-    (check fault.validity_length (ValidityFits va (rows os))
-    (check fault.wrong_type (physical_type t ≡ text_of_width large) done)))
+    check (OutOfSpec spec.OffsetPastChild) (last_offset os ≤ length bs)
+    (check (OutOfSpec spec.Text) (EachText os bs)
+    (check (OutOfSpec spec.ValidityLength) (ValidityFits va (rows os))
+    (check (OutOfSpec spec.WrongType) (physical_type t ≡ text_of_width large) done)))
 checks (fixed_size_binary t bs va) =
-    check fault.wrong_type (physical_type t ≡ physical.FixedSizeBinary)
-    (check fault.zero_size (0 < size_of t)
-    (check fault.not_multiple (length bs % size_of t ≡ 0)
-    (check fault.validity_length (ValidityFits va (len (fixed_size_binary t bs va))) done)))
+    check (OutOfSpec spec.WrongType) (physical_type t ≡ physical.FixedSizeBinary)
+    (check (OutOfSpec spec.ZeroSize) (0 < size_of t)
+    (check (OutOfSpec spec.NotMultiple) (length bs % size_of t ≡ 0)
+    (check (OutOfSpec spec.ValidityLength) (ValidityFits va (len (fixed_size_binary t bs va))) done)))
 checks (fixed_size_list t c va) =
-    check fault.wrong_type (physical_type t ≡ physical.FixedSizeList)
-    (check fault.zero_size (0 < size_of t)
-    (check fault.child_type (item_type t ≡ Some (layout_type c))
-    (check fault.not_multiple (len c % size_of t ≡ 0)
-    (check fault.validity_length (ValidityFits va (len (fixed_size_list t c va))) done))))
+    check (OutOfSpec spec.WrongType) (physical_type t ≡ physical.FixedSizeList)
+    (check (OutOfSpec spec.ZeroSize) (0 < size_of t)
+    (check (OutOfSpec spec.ChildType) (item_type t ≡ Some (layout_type c))
+    (check (OutOfSpec spec.NotMultiple) (len c % size_of t ≡ 0)
+    (check (OutOfSpec spec.ValidityLength) (ValidityFits va (len (fixed_size_list t c va))) done))))
 checks (list large t os c va) =
-    check fault.offset_past_child (last_offset os ≤ len c)
-    (check fault.validity_length (ValidityFits va (rows os))
-    (check fault.wrong_type (physical_type t ≡ list_of_width large)
-    (check fault.child_type (item_type t ≡ Some (layout_type c)) done)))
+    check (OutOfSpec spec.OffsetPastChild) (last_offset os ≤ len c)
+    (check (OutOfSpec spec.ValidityLength) (ValidityFits va (rows os))
+    (check (OutOfSpec spec.WrongType) (physical_type t ≡ list_of_width large)
+    (check (OutOfSpec spec.ChildType) (item_type t ≡ Some (layout_type c)) done)))
 checks (map t os c va) =
-    check fault.offset_past_child (last_offset os ≤ len c)
-    (check fault.wrong_type (physical_type t ≡ physical.Map)
-    (check fault.map_inner (IsTrue (has_pairs t))
-    (check fault.child_type (item_type t ≡ Some (layout_type c))
-    (check fault.validity_length (ValidityFits va (rows os)) done))))
+    check (OutOfSpec spec.OffsetPastChild) (last_offset os ≤ len c)
+    (check (OutOfSpec spec.WrongType) (physical_type t ≡ physical.Map)
+    (check (InvalidArgumentError argument.MapInner) (IsTrue (has_pairs t))
+    (check (InvalidArgumentError argument.ChildType) (item_type t ≡ Some (layout_type c))
+    (check (OutOfSpec spec.ValidityLength) (ValidityFits va (rows os)) done))))
 checks (struct t cs va) =
-    check fault.wrong_type (physical_type t ≡ physical.Struct)
-    (check fault.no_fields (0 < count_fields (fields_of t))
-    (check fault.field_count (count_layouts cs ≡ count_fields (fields_of t))
-    (check fault.child_type (EachType (fields_of t) cs)
-    (check fault.child_length (EachLen cs (first_len cs))
-    (check fault.validity_length (ValidityFits va (first_len cs)) done)))))
+    check (OutOfSpec spec.WrongType) (physical_type t ≡ physical.Struct)
+    (check (OutOfSpec spec.NoFields) (0 < count_fields (fields_of t))
+    (check (OutOfSpec spec.FieldCount) (count_layouts cs ≡ count_fields (fields_of t))
+    (check (OutOfSpec spec.ChildType) (EachType (fields_of t) cs)
+    (check (OutOfSpec spec.ChildLength) (EachLen cs (first_len cs))
+    (check (OutOfSpec spec.ValidityLength) (ValidityFits va (first_len cs)) done)))))
 checks (union t ks cs os start) =
-    check fault.wrong_type (physical_type t ≡ physical.Union)
-    (check fault.field_count (count_layouts cs ≡ count_fields (fields_of t))
-    (check fault.too_many_fields (count_layouts cs ≤ 127)
-    (check fault.child_type (EachType (fields_of t) cs)
-    (check fault.offset_count (OffsetsCount os (length ks))
-    (check fault.union_mode (OffsetsByMode os (is_dense t))
-    (check fault.id_count (IdsCount (ids_of t) (count_layouts cs))
-    (check fault.id_range (IdsInRange (ids_of t))
-    (check fault.union_type (EachMeansField (ids_of t) ks (count_layouts cs))
-    (check fault.union_slot (SlotsThere (ids_of t) ks cs os start) done)))))))))
-checks (dictionary k t ks va c) =
-    check fault.wrong_type (IsTrue (is_dictionary t))
-    (check fault.key_type (types.key_type t ≡ Some k)
-    (check fault.child_type (IsLogically (types.value_type t) (layout_type c))
-    (check fault.key_range (KeysInRange va ks (len c)) done)))
+    check (OutOfSpec spec.WrongType) (physical_type t ≡ physical.Union)
+    (check (OutOfSpec spec.FieldCount) (count_layouts cs ≡ count_fields (fields_of t))
+    (check (OutOfSpec spec.TooManyFields) (count_layouts cs ≤ 127)
+    (check (OutOfSpec spec.ChildType) (EachType (fields_of t) cs)
+    (check (OutOfSpec spec.OffsetCount) (OffsetsCount os (length ks))
+    (check (OutOfSpec spec.UnionMode) (OffsetsByMode os (is_dense t))
+    (check (OutOfSpec spec.IdCount) (IdsCount (ids_of t) (count_layouts cs))
+    (check (OutOfSpec spec.IdRange) (IdsInRange (ids_of t))
+    (check (OutOfSpec spec.UnionType) (EachMeansField (ids_of t) ks (count_layouts cs))
+    (check (OutOfSpec spec.UnionSlot) (SlotsThere (ids_of t) ks cs os start) done)))))))))
+checks (dictionary t ks c) =
+    check (OutOfSpec spec.WrongType) (IsTrue (is_dictionary t))
+    (check (OutOfSpec spec.KeyType) (types.key_type t ≡ key_type_of ks)
+    (check (OutOfSpec spec.ChildType) (IsLogically (types.value_type t) (layout_type c))
+    (check (OutOfSpec spec.KeyRange) (KeysInRange ks (len c)) done)))
 
 -- the parts make an array
 abbrev pub Fits : Layout → Type 0
 Fits a = Pass (checks a)
 
--- the constructor refuses the parts with this fault
-abbrev pub FirstFault : Fault → Layout → Type 0
+-- the constructor refuses the parts with this error
+abbrev pub FirstFault : Error → Layout → Type 0
 FirstFault e a = FailFirst e (checks a)
 
 -- what a new validity has to meet: a null and a union array take none, a dictionary's keys must still name values
 abbrev pub validity_checks : Layout → Validity → Checks
-validity_checks (null t n) va = check fault.no_validity ⊥ done
-validity_checks (union t ks cs os start) va = check fault.no_validity ⊥ done
-validity_checks (dictionary k t ks old c) va =
-    check fault.validity_length (ValidityFits va (length ks))
-    (check fault.key_range (EachValidNames va ks (len c)) done)
-validity_checks a va = check fault.validity_length (ValidityFits va (len a)) done
+validity_checks (null t n) va = check (InvalidArgumentError argument.NoValidity) ⊥ done
+validity_checks (union t ks cs os start) va = check (InvalidArgumentError argument.NoValidity) ⊥ done
+validity_checks (dictionary t ks c) va =
+    check (OutOfSpec spec.ValidityLength) (ValidityFits va (len ks))
+    (check (OutOfSpec spec.KeyRange) (EachValidNames va ks (len c)) done)
+validity_checks a va = check (OutOfSpec spec.ValidityLength) (ValidityFits va (len a)) done
 
-abbrev pub ValidityFault : Fault → Layout → Validity → Type 0
+abbrev pub ValidityFault : Error → Layout → Validity → Type 0
 ValidityFault e a va = FailFirst e (validity_checks a va)

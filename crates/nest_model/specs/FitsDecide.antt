@@ -9,7 +9,6 @@ use Rattle.std.specs.Coded.{coded_option}
 use Rattle.nest_memory.specs.declared.datatypes.IntegerType.{IntegerType}
 use Rattle.nest_memory.specs.TypeTree.{TypeTree, FieldTrees, no_fields, more_fields, field_type, logical_type, count_fields, item_type, size_of, fields_of, ids_of, is_dense, has_pairs, key_type, value_type}
 use Rattle.nest_memory.specs.declared.datatypes.physical_type.PhysicalType.TheVariants as physical
-use Rattle.nest_memory.specs.declared.datatypes.physical_type.PrimitiveType.TheVariants as primitives
 use Rattle.nest_memory.specs.declared.datatypes.physical_type.PhysicalType.{PhysicalType}
 use Rattle.nest_memory.specs.declared.datatypes.physical_type.PrimitiveType.{PrimitiveType}
 use Rattle.nest_memory.specs.Physical.{physical_type, list_of_width, binary_of_width, text_of_width}
@@ -18,8 +17,10 @@ use Rattle.nest_memory.specs.contracts.datatypes.IntegerType.{the_row as integer
 use Rattle.nest_memory.specs.Cut.{cut}
 use Rattle.nest_model.specs.Part.{Validity, valid_at, begin, extent, rows, last_offset, field_named}
 use Rattle.nest_model.specs.Layout.{Layout, Layouts, null, boolean, primitive, binary, text, fixed_size_binary, fixed_size_list, list, map, struct, union, dictionary, no_layouts, more_layouts, layout_type, count_layouts}
+use Rattle.nest_model.specs.Accessors.{validity_of, raw_keys, key_at, key_type_of}
 use Rattle.nest_model.specs.Meaning.{len, first_len}
-use Rattle.nest_model.specs.Fault.{Fault, Pass}
+use Rattle.nest_memory.specs.declared.error.Error.{Error}
+use Rattle.nest_model.specs.Checks.{Pass}
 use Rattle.nest_model.specs.Fits.{ValidityFits, EachType, EachLen, EachCovers, Names, MeansField, IdsCount, IdsInRange, OffsetsCount, OffsetsByMode, SlotsThere, KeysInRange, IsLogically, is_dictionary, child_len, checks, Fits, FirstFault, EachValidNames, validity_checks, ValidityFault}
 use Rattle.nest_model.specs.Decide.{Decided, AllDecided, are_distinct, apart, decide_bool, decide_number, decide_both, decide_as, pass-or_fault}
 use Rattle.nest_memory.specs.TypeCode.{coded_type}
@@ -148,8 +149,8 @@ decide_covers (more_layouts c cs) n = decide_both (decide_le n (len c)) (decide_
 decide_item : (o : Option TypeTree) (t : TypeTree) → Decided (o ≡ Some t)
 decide_item o t = decide_by (coded_option coded_type) o (Some t)
 
-decide_key : (o : Option IntegerType) (k : IntegerType) → Decided (o ≡ Some k)
-decide_key o k = decide_by (coded_option integer_row.coded) o (Some k)
+decide_key : (o p : Option IntegerType) → Decided (o ≡ p)
+decide_key o p = decide_by (coded_option integer_row.coded) o p
 
 decide_logically : (o : Option TypeTree) (t : TypeTree) → Decided (IsLogically o t)
 decide_logically None t = inr (λ h. h)
@@ -181,11 +182,11 @@ decide_there ids ks cs None start = decide_covers cs (start + length ks)
 decide_there ids ks cs (Some os) start =
     decide_below (λ i. Names (get_or os i (pos 0)) (child_len cs (field_named ids (get_or ks i (pos 0))))) (λ i. decide_names (get_or os i (pos 0)) (child_len cs (field_named ids (get_or ks i (pos 0))))) (length ks)
 
-decide_keys : (va : Validity) (ks : List ℤ) (n : ℕ) → Decided (KeysInRange va ks n)
-decide_keys va ks n =
-    elim (decide_all (λ z. Names z n) (λ z. decide_names z n) ks) as (λ _. Decided (KeysInRange va ks n)) [
+decide_keys : (ks : Layout) (n : ℕ) → Decided (KeysInRange ks n)
+decide_keys ks n =
+    elim (decide_all (λ z. Names z n) (λ z. decide_names z n) (raw_keys ks)) as (λ _. Decided (KeysInRange ks n)) [
       | inl h ↦ inl (λ _. h)
-      | inr k ↦ elim (decide_some (λ i. valid_at va i ≡ true) (λ i. decide_bool (valid_at va i)) (length ks)) as (λ _. Decided (KeysInRange va ks n)) [
+      | inr k ↦ elim (decide_some (λ i. valid_at (validity_of ks) i ≡ true) (λ i. decide_bool (valid_at (validity_of ks) i)) (len ks)) as (λ _. Decided (KeysInRange ks n)) [
         | inl s ↦ inr (λ f. k (f s))
         | inr m ↦ inl (λ s. absurd (m s))
       ]
@@ -253,8 +254,8 @@ decide_checks (union t ks cs os start) u = (
     ),
   ),
 )
-decide_checks (dictionary k t ks va c) u =
-    (decide_bool (is_dictionary t), (decide_key (key_type t) k, (decide_logically (value_type t) (layout_type c), (decide_keys va ks (len c), tt))))
+decide_checks (dictionary t ks c) u =
+    (decide_bool (is_dictionary t), (decide_key (key_type t) (key_type_of ks), (decide_logically (value_type t) (layout_type c), (decide_keys ks (len c), tt))))
 
 checks-distinct : (a : Layout) → are_distinct (checks a) ≡ true
 checks-distinct (null t n) = refl
@@ -268,10 +269,10 @@ checks-distinct (list l t os c va) = refl
 checks-distinct (map t os c va) = refl
 checks-distinct (struct t cs va) = refl
 checks-distinct (union t ks cs os start) = refl
-checks-distinct (dictionary k t ks va c) = refl
+checks-distinct (dictionary t ks c) = refl
 
 -- parts fit or have a first fault
-pub fits-or_fault : (a : Layout) → ((bs : List ℕ) → Decided (IsUtf8 bs)) → Fits a ⊎ ((e : Fault) × FirstFault e a)
+pub fits-or_fault : (a : Layout) → ((bs : List ℕ) → Decided (IsUtf8 bs)) → Fits a ⊎ ((e : Error) × FirstFault e a)
 fits-or_fault a u = pass-or_fault (checks a) (decide_checks a u) (checks-distinct a)
 
 -- bytes are a text or not
@@ -283,12 +284,11 @@ decide_implied {p} {q} d (inl y) = inl (λ _. y)
 decide_implied {p} {q} (inl x) (inr k) = inr (λ h. k (h x))
 decide_implied {p} {q} (inr n) (inr k) = inl (λ x. absurd (n x))
 
-decide_valid_keys : (va : Validity) (ks : List ℤ) (n : ℕ) → Decided (EachValidNames va ks n)
-decide_valid_keys va ks n =
-    decide_below (λ i. valid_at va i ≡ true → Names (get_or ks i (pos 0)) n) (λ i. decide_implied (decide_bool (valid_at va i)) (decide_names (get_or ks i (pos 0)) n)) (length ks)
+decide_valid_keys : (va : Validity) (ks : Layout) (n : ℕ) → Decided (EachValidNames va ks n)
+decide_valid_keys va ks n = decide_below (λ i. valid_at va i ≡ true → Names (key_at ks i) n) (λ i. decide_implied (decide_bool (valid_at va i)) (decide_names (key_at ks i) n)) (len ks)
 
 -- a new validity is taken or has a first fault
-pub validity-or_fault : (a : Layout) (va : Validity) → Pass (validity_checks a va) ⊎ ((e : Fault) × ValidityFault e a va)
+pub validity-or_fault : (a : Layout) (va : Validity) → Pass (validity_checks a va) ⊎ ((e : Error) × ValidityFault e a va)
 validity-or_fault (null t n) va = pass-or_fault (validity_checks (null t n) va) (inr (λ h. h), tt) refl
 validity-or_fault (boolean t bs old) va = pass-or_fault (validity_checks (boolean t bs old) va) (decide_validity va (length bs), tt) refl
 validity-or_fault (primitive k t vs old) va = pass-or_fault (validity_checks (primitive k t vs old) va) (decide_validity va (length vs), tt) refl
@@ -300,4 +300,4 @@ validity-or_fault (list l t os c old) va = pass-or_fault (validity_checks (list 
 validity-or_fault (map t os c old) va = pass-or_fault (validity_checks (map t os c old) va) (decide_validity va (rows os), tt) refl
 validity-or_fault (struct t cs old) va = pass-or_fault (validity_checks (struct t cs old) va) (decide_validity va (first_len cs), tt) refl
 validity-or_fault (union t ks cs os start) va = pass-or_fault (validity_checks (union t ks cs os start) va) (inr (λ h. h), tt) refl
-validity-or_fault (dictionary k t ks old c) va = pass-or_fault (validity_checks (dictionary k t ks old c) va) (decide_validity va (length ks), (decide_valid_keys va ks (len c), tt)) refl
+validity-or_fault (dictionary t ks c) va = pass-or_fault (validity_checks (dictionary t ks c) va) (decide_validity va (len ks), (decide_valid_keys va ks (len c), tt)) refl

@@ -7,12 +7,14 @@ use Rattle.nest_memory.specs.TypeTree.{FieldTrees, no_fields, more_fields, size_
 use Rattle.nest_memory.specs.Cut.{cut}
 use Rattle.nest_model.specs.Part.{Validity, cut_validity, rows, last_offset, begin, extent, field_named}
 use Rattle.nest_model.specs.Layout.{Layout, Layouts, null, boolean, primitive, binary, text, fixed_size_binary, fixed_size_list, list, map, struct, union, dictionary, no_layouts, more_layouts, count_layouts}
+use Rattle.std.specs.List.{take-map, drop-map}
+use Rattle.nest_model.specs.Accessors.{validity_of, whole, raw_keys, key_type_of}
 use Rattle.nest_model.specs.Meaning.{len, first_len}
 use Rattle.nest_model.specs.Cut.{cut_layout, cut_layouts, cut_offsets}
-use Rattle.nest_model.specs.Runs.{length-cut, get_or-cut, rows-cut, valid-cut, product-fits, product-exact}
-use Rattle.nest_model.specs.CutLaws.{type-cut, len-cut, first_len-cut, begin-cut, extent-cut}
-use Rattle.nest_model.specs.Fits.{ValidityFits, EachType, EachLen, EachCovers, Names, EachNames, MeansField, EachMeansField, OffsetsCount, OffsetsByMode, SlotsThere, SomeValid, KeysInRange, EachText}
-use Rattle.nest_model.specs.Array.{AreOffsets, TopFits, ChildrenFit, AreArrays, IsArray}
+use Rattle.nest_model.specs.Runs.{length-cut, get_or-cut, rows-cut, product-fits, product-exact}
+use Rattle.nest_model.specs.CutLaws.{valid_at-cut, key_at-cut, type-cut, len-cut, first_len-cut, begin-cut, extent-cut}
+use Rattle.nest_model.specs.Fits.{Fits, ValidityFits, EachType, EachLen, EachCovers, Names, EachNames, MeansField, EachMeansField, OffsetsCount, OffsetsByMode, SlotsThere, SomeValid, KeysInRange, EachText, EachValidNames}
+use Rattle.nest_model.specs.Array.{AreOffsets, AreKeys, PartsHold, Keeps, TopFits, ChildrenFit, AreArrays, IsArray}
 
 validity-fits-cut : (va : Validity) (m o n : ℕ) → ValidityFits va m → o + n ≤ m → ValidityFits (cut_validity va o n) n
 validity-fits-cut None m o n h k = tt
@@ -97,114 +99,119 @@ there-cut ids ks cs (Some os) start o n k h = λ i j.
     let f = get_or-cut os o n i (pos 0) (omega arith) in
     rw (e, f) (h (o + i) (omega arith))
 
-some-valid-cut : (va : Validity) (ks : List ℤ) (o n : ℕ) → o + n ≤ length ks → SomeValid (cut_validity va o n) (length (cut ks o n)) → SomeValid va (length ks)
-some-valid-cut va ks o n k (i, j, v) =
-    let l = length-cut ks o n k in
-    (o + i, omega arith, sym (valid-cut va o n i (omega arith)) ∙ v)
+-- the keys of a cut of a dictionary
+some-valid-cut : (ks : Layout) (o n : ℕ) → o + n ≤ len ks → SomeValid (validity_of (cut_layout ks o n)) (len (cut_layout ks o n)) → SomeValid (validity_of ks) (len ks)
+some-valid-cut ks o n k (i, j, v) =
+    let l = len-cut ks o n k in
+    let m : i < n = omega arith in
+    (o + i, omega arith, sym (valid_at-cut ks o n i m) ∙ v)
 
-keys-cut : (va : Validity) (ks : List ℤ) (m o n : ℕ) → o + n ≤ length ks → KeysInRange va ks m → KeysInRange (cut_validity va o n) (cut ks o n) m
-keys-cut va ks m o n k h s = names-cut ks m o n (h (some-valid-cut va ks o n k s))
+raw_keys-cut : (ks : Layout) (m o n : ℕ) → AreKeys ks → EachNames (raw_keys ks) m → EachNames (raw_keys (cut_layout ks o n)) m
+raw_keys-cut (primitive p t vs va) m o n a h =
+    subst (λ zs. EachNames zs m) (ap (take n) (drop-map whole o vs) ∙ take-map whole n (drop o vs)) (names-cut (raw_keys (primitive p t vs va)) m o n h)
+raw_keys-cut ks m o n a h = absurd a
+
+keys-cut : (ks : Layout) (m o n : ℕ) → AreKeys ks → o + n ≤ len ks → KeysInRange ks m → KeysInRange (cut_layout ks o n) m
+keys-cut ks m o n a k h s = raw_keys-cut ks m o n a (h (some-valid-cut ks o n k s))
+
+valid-names-cut : (ks : Layout) (m o n : ℕ) → o + n ≤ len ks → EachValidNames (validity_of ks) ks m → EachValidNames (validity_of (cut_layout ks o n)) (cut_layout ks o n) m
+valid-names-cut ks m o n k h i j v =
+    let l = len-cut ks o n k in
+    let q : i < n = omega arith in
+    subst (λ z. Names z m) (sym (key_at-cut ks o n i q)) (h (o + i) (omega arith) (sym (valid_at-cut ks o n i q) ∙ v))
+
+key_type-cut : (a : Layout) (o n : ℕ) → key_type_of (cut_layout a o n) ≡ key_type_of a
+key_type-cut (primitive p t vs va) o n = refl
+key_type-cut a o n = refl
+
+are-keys-cut : (ks : Layout) (o n : ℕ) → AreKeys ks → o + n ≤ len ks → AreKeys (cut_layout ks o n)
+are-keys-cut (primitive p t vs va) o n h k =
+    (h.0, (validity-fits-at (cut_validity va o n) n (length (cut vs o n)) (sym (length-cut vs o n k)) (validity-fits-cut va (length vs) o n h.1.0 k), h.1.1))
+are-keys-cut ks o n h k = absurd h
+
+-- what the parts' types promise holds of a cut
+pub parts-cut : (a : Layout) (o n : ℕ) → PartsHold a → o + n ≤ len a → PartsHold (cut_layout a o n)
+parts-cut (binary l t os bs va) o n h k = offsets-cut os o n h k
+parts-cut (text l t os bs va) o n h k = offsets-cut os o n h k
+parts-cut (list l t os c va) o n h k = offsets-cut os o n h k
+parts-cut (map t os c va) o n h k = offsets-cut os o n h k
+parts-cut (dictionary t ks c) o n h k = are-keys-cut ks o n h k
+parts-cut a o n h k = tt
 
 -- a cut of what fits fits: the children need not be arrays
-pub top-fits-cut : (a : Layout) (o n : ℕ) → TopFits a → o + n ≤ len a → TopFits (cut_layout a o n)
-top-fits-cut (null t m) o n h k = h
-top-fits-cut (boolean t bs va) o n h k =
-    let f = h.1 in
-    (tt, (validity-fits-at (cut_validity va o n) n (length (cut bs o n)) (sym (length-cut bs o n k)) (validity-fits-cut va (length bs) o n f.0 k), f.1))
-top-fits-cut (primitive p t vs va) o n h k =
-    let f = h.1 in
-    (tt, (validity-fits-at (cut_validity va o n) n (length (cut vs o n)) (sym (length-cut vs o n k)) (validity-fits-cut va (length vs) o n f.0 k), f.1))
-top-fits-cut (binary l t os bs va) o n h k =
-    let f = h.1 in
-    (offsets-cut os o n h.0 k, (last-cut os o n (length bs) h.0 k f.0, (rows-validity va os o n f.1.0 k, f.1.1)))
-top-fits-cut (text l t os bs va) o n h k =
-    let f = h.1 in
-    (offsets-cut os o n h.0 k, (last-cut os o n (length bs) h.0 k f.0, (text-cut os bs o n k f.1.0, (rows-validity va os o n f.1.1.0 k, f.1.1.1))))
-top-fits-cut (fixed_size_binary t bs va) o n h k =
-    let f = h.1 in
+pub fits-cut : (a : Layout) (o n : ℕ) → PartsHold a → Fits a → o + n ≤ len a → Fits (cut_layout a o n)
+fits-cut (null t m) o n h f k = f
+fits-cut (boolean t bs va) o n h f k =
+    (validity-fits-at (cut_validity va o n) n (length (cut bs o n)) (sym (length-cut bs o n k)) (validity-fits-cut va (length bs) o n f.0 k), f.1)
+fits-cut (primitive p t vs va) o n h f k =
+    (validity-fits-at (cut_validity va o n) n (length (cut vs o n)) (sym (length-cut vs o n k)) (validity-fits-cut va (length vs) o n f.0 k), f.1)
+fits-cut (binary l t os bs va) o n h f k = (last-cut os o n (length bs) h k f.0, (rows-validity va os o n f.1.0 k, f.1.1))
+fits-cut (text l t os bs va) o n h f k = (last-cut os o n (length bs) h k f.0, (text-cut os bs o n k f.1.0, (rows-validity va os o n f.1.1.0 k, f.1.1.1)))
+fits-cut (fixed_size_binary t bs va) o n h f k =
     let e = length-cut bs (o * size_of t) (n * size_of t) (product-fits o n (length bs) (size_of t) k) in
     let w = len-cut (fixed_size_binary t bs va) o n k in (
-      tt,
+      f.0,
       (
-        f.0,
+        f.1.0,
         (
-          f.1.0,
-          (
-            ap (λ z. z % size_of t) e ∙ product-exact n (size_of t),
-            (validity-fits-at (cut_validity va o n) n (len (cut_layout (fixed_size_binary t bs va) o n)) (sym w) (validity-fits-cut va (len (fixed_size_binary t bs va)) o n f.1.1.1.0 k), tt),
-          ),
+          ap (λ z. z % size_of t) e ∙ product-exact n (size_of t),
+          (validity-fits-at (cut_validity va o n) n (len (cut_layout (fixed_size_binary t bs va) o n)) (sym w) (validity-fits-cut va (len (fixed_size_binary t bs va)) o n f.1.1.1.0 k), tt),
         ),
       ),
     )
-top-fits-cut (fixed_size_list t c va) o n h k =
-    let f = h.1 in
+fits-cut (fixed_size_list t c va) o n h f k =
     let p = product-fits o n (len c) (size_of t) k in
     let e = len-cut c (o * size_of t) (n * size_of t) p in
     let w = len-cut (fixed_size_list t c va) o n k in (
-      tt,
+      f.0,
       (
-        f.0,
+        f.1.0,
         (
-          f.1.0,
+          f.1.1.0 ∙ ap Some (sym (type-cut c (o * size_of t) (n * size_of t))),
           (
-            f.1.1.0 ∙ ap Some (sym (type-cut c (o * size_of t) (n * size_of t))),
-            (
-              ap (λ z. z % size_of t) e ∙ product-exact n (size_of t),
-              (validity-fits-at (cut_validity va o n) n (len (cut_layout (fixed_size_list t c va) o n)) (sym w) (validity-fits-cut va (len (fixed_size_list t c va)) o n f.1.1.1.1.0 k), tt),
-            ),
+            ap (λ z. z % size_of t) e ∙ product-exact n (size_of t),
+            (validity-fits-at (cut_validity va o n) n (len (cut_layout (fixed_size_list t c va) o n)) (sym w) (validity-fits-cut va (len (fixed_size_list t c va)) o n f.1.1.1.1.0 k), tt),
           ),
         ),
       ),
     )
-top-fits-cut (list l t os c va) o n h k =
-    let f = h.1 in
-    (offsets-cut os o n h.0 k, (last-cut os o n (len c) h.0 k f.0, (rows-validity va os o n f.1.0 k, f.1.1)))
-top-fits-cut (map t os c va) o n h k =
-    let f = h.1 in
-    (offsets-cut os o n h.0 k, (last-cut os o n (len c) h.0 k f.0, (f.1.0, (f.1.1.0, (f.1.1.1.0, (rows-validity va os o n f.1.1.1.1.0 k, tt))))))
-top-fits-cut (struct t cs va) o n h k =
-    let f = h.1 in
+fits-cut (list l t os c va) o n h f k = (last-cut os o n (len c) h k f.0, (rows-validity va os o n f.1.0 k, f.1.1))
+fits-cut (map t os c va) o n h f k = (last-cut os o n (len c) h k f.0, (f.1.0, (f.1.1.0, (f.1.1.1.0, (rows-validity va os o n f.1.1.1.1.0 k, tt)))))
+fits-cut (struct t cs va) o n h f k =
     let e = first_len-cut cs o n k in (
-      tt,
+      f.0,
       (
-        f.0,
+        f.1.0,
         (
-          f.1.0,
+          count-cut cs o n ∙ f.1.1.0,
           (
-            count-cut cs o n ∙ f.1.1.0,
+            each-type-cut (fields_of t) cs o n f.1.1.1.0,
             (
-              each-type-cut (fields_of t) cs o n f.1.1.1.0,
-              (
-                each-len-at (cut_layouts cs o n) n (first_len (cut_layouts cs o n)) (sym e) (each-len-cut cs (first_len cs) o n f.1.1.1.1.0 k),
-                (validity-fits-at (cut_validity va o n) n (first_len (cut_layouts cs o n)) (sym e) (validity-fits-cut va (first_len cs) o n f.1.1.1.1.1.0 k), tt),
-              ),
+              each-len-at (cut_layouts cs o n) n (first_len (cut_layouts cs o n)) (sym e) (each-len-cut cs (first_len cs) o n f.1.1.1.1.0 k),
+              (validity-fits-at (cut_validity va o n) n (first_len (cut_layouts cs o n)) (sym e) (validity-fits-cut va (first_len cs) o n f.1.1.1.1.1.0 k), tt),
             ),
           ),
         ),
       ),
     )
-top-fits-cut (union t ks cs os start) o n h k =
-    let f = h.1 in
+fits-cut (union t ks cs os start) o n h f k =
     let g = f.1.1.1 in (
-      tt,
+      f.0,
       (
-        f.0,
+        f.1.0,
         (
-          f.1.0,
+          f.1.1.0,
           (
-            f.1.1.0,
+            g.0,
             (
-              g.0,
+              offsets-count-cut os ks o n k g.1.0,
               (
-                offsets-count-cut os ks o n k g.1.0,
+                mode-cut os (is_dense t) o n g.1.1.0,
                 (
-                  mode-cut os (is_dense t) o n g.1.1.0,
+                  g.1.1.1.0,
                   (
-                    g.1.1.1.0,
-                    (
-                      g.1.1.1.1.0,
-                      (means-cut (ids_of t) ks (count_layouts cs) o n g.1.1.1.1.1.0, (there-cut (ids_of t) ks cs os start o n k g.1.1.1.1.1.1.0, tt)),
-                    ),
+                    g.1.1.1.1.0,
+                    (means-cut (ids_of t) ks (count_layouts cs) o n g.1.1.1.1.1.0, (there-cut (ids_of t) ks cs os start o n k g.1.1.1.1.1.1.0, tt)),
                   ),
                 ),
               ),
@@ -213,11 +220,15 @@ top-fits-cut (union t ks cs os start) o n h k =
         ),
       ),
     )
-top-fits-cut (dictionary p t ks va c) o n h k =
-    let f = h.1 in (
-      validity-fits-at (cut_validity va o n) n (length (cut ks o n)) (sym (length-cut ks o n k)) (validity-fits-cut va (length ks) o n h.0 k),
-      (f.0, (f.1.0, (f.1.1.0, (keys-cut va ks (len c) o n k f.1.1.1.0, tt)))),
-    )
+fits-cut (dictionary t ks c) o n h f k = (f.0, (f.1.0 ∙ sym (key_type-cut ks o n), (f.1.1.0, (keys-cut ks (len c) o n h k f.1.1.1.0, tt))))
+
+-- what an array keeps, its cut keeps
+pub keeps-cut : (a : Layout) (o n : ℕ) → TopFits a → o + n ≤ len a → Keeps (cut_layout a o n)
+keeps-cut (dictionary t ks c) o n h k = (h.1.0, (h.1.1.0 ∙ sym (key_type-cut ks o n), (h.1.1.1.0, valid-names-cut ks (len c) o n k h.1.1.1.1)))
+keeps-cut a o n h k = fits-cut a o n h.0 h.1 k
+
+pub top-fits-cut : (a : Layout) (o n : ℕ) → TopFits a → o + n ≤ len a → TopFits (cut_layout a o n)
+top-fits-cut a o n h k = (parts-cut a o n h.0 k, keeps-cut a o n h k)
 
 mutual
   children-cut : (a : Layout) (o n : ℕ) → TopFits a → ChildrenFit a → o + n ≤ len a → ChildrenFit (cut_layout a o n)
@@ -234,7 +245,7 @@ mutual
   children-cut (map t os c va) o n f h k = h
   children-cut (struct t cs va) o n f h k = arrays-cut cs (first_len cs) o n h f.1.1.1.1.1.0 k
   children-cut (union t ks cs os start) o n f h k = h
-  children-cut (dictionary p t ks va c) o n f h k = h
+  children-cut (dictionary t ks c) o n f h k = h
 
   arrays-cut : (cs : Layouts) (m o n : ℕ) → AreArrays cs → EachLen cs m → o + n ≤ m → AreArrays (cut_layouts cs o n)
   arrays-cut no_layouts m o n h l k = tt
@@ -242,5 +253,5 @@ mutual
       let p : o + n ≤ len c = omega arith in
       ((top-fits-cut c o n h.0.0 p, children-cut c o n h.0.0 h.0.1 p), arrays-cut cs m o n h.1 l.1 k)
 
-pub fits-cut : (a : Layout) (o n : ℕ) → IsArray a → o + n ≤ len a → IsArray (cut_layout a o n)
-fits-cut a o n h k = (top-fits-cut a o n h.0 k, children-cut a o n h.0 h.1 k)
+pub array-cut : (a : Layout) (o n : ℕ) → IsArray a → o + n ≤ len a → IsArray (cut_layout a o n)
+array-cut a o n h k = (top-fits-cut a o n h.0 k, children-cut a o n h.0 h.1 k)

@@ -1,6 +1,5 @@
 -- An array as a plain tree: its kind and the parts that its accessors show.
 use Rattle.std.specs.Prelude.{ℕ, suc, ℤ, Bool, List, Option}
-use Rattle.nest_memory.specs.declared.datatypes.IntegerType.{IntegerType}
 use Rattle.nest_memory.specs.TypeTree.{TypeTree}
 use Rattle.nest_memory.specs.declared.datatypes.physical_type.PrimitiveType.{PrimitiveType}
 use Rattle.nest_model.specs.Part.{Validity}
@@ -28,8 +27,8 @@ mutual
     struct : TypeTree → Layouts → Validity → Layout
     -- Union Layout: a type a slot, one child a field, an offset a slot where it is dense, the place in a sparse child where its slots begin
     union : TypeTree → List ℤ → Layouts → Option (List ℤ) → ℕ → Layout
-    -- Dictionary-encoded Layout: the keys' type, the keys with their validity, the values
-    dictionary : IntegerType → TypeTree → List ℤ → Validity → Layout → Layout
+    -- Dictionary-encoded Layout: its keys, an array of whole numbers, and the values that they name
+    dictionary : TypeTree → Layout → Layout → Layout
 
   pub data Layouts : Type 0 where
     no_layouts : Layouts
@@ -48,7 +47,7 @@ layout_type (list l t os c va) = t
 layout_type (map t os c va) = t
 layout_type (struct t cs va) = t
 layout_type (union t ks cs os start) = t
-layout_type (dictionary k t ks va c) = t
+layout_type (dictionary t ks c) = t
 
 abbrev pub count_layouts : Layouts → ℕ
 count_layouts no_layouts = 0

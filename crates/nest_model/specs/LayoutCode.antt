@@ -4,12 +4,10 @@ use Rattle.std.specs.Coded.{Coded, coded_ℕ, coded_ℤ, coded_bool, coded_list,
 use Rattle.std.proofs.Common.{refl, ap}
 use base.Stored.{Gv, gnil, gnum, gcons}
 use Rattle.nest_model.specs.Decide.{apart}
-use Rattle.nest_memory.specs.declared.datatypes.IntegerType.{IntegerType}
 use Rattle.nest_memory.specs.TypeTree.{TypeTree}
-use Rattle.nest_memory.specs.TypeCode.{coded_type, head, tail, tag}
+use Rattle.nest_memory.specs.TypeCode.{coded_type, code_type, type_one, head, tail, tag}
 use Rattle.nest_memory.specs.declared.datatypes.physical_type.PrimitiveType.{PrimitiveType}
 use Rattle.nest_memory.specs.contracts.datatypes.physical_type.PrimitiveType.{the_row as native_row}
-use Rattle.nest_memory.specs.contracts.datatypes.IntegerType.{the_row as integer_row}
 use Rattle.nest_model.specs.Part.{Validity}
 use Rattle.nest_model.specs.Layout.{Layout, Layouts, null, boolean, primitive, binary, text, fixed_size_binary, fixed_size_list, list, map, struct, union, dictionary, no_layouts, more_layouts}
 
@@ -50,9 +48,6 @@ list_part = coded× (coded× coded_bool coded_type) (coded× numbers validity)
 abbrev union_part : Coded ((TypeTree × List ℤ) × (Option (List ℤ) × ℕ))
 union_part = coded× (coded× coded_type whole) (coded× (coded_option whole) coded_ℕ)
 
-abbrev dictionary_part : Coded ((IntegerType × TypeTree) × (List ℤ × Validity))
-dictionary_part = coded× (coded× integer_row.coded coded_type) (coded× whole validity)
-
 abbrev mutual
   pub code_layout : Layout → Gv
   code_layout (null t n) = gcons (gnum 0) (null_part.code (t, n))
@@ -66,7 +61,7 @@ abbrev mutual
   code_layout (map t os c va) = gcons (gnum 8) (gcons (fixed_part.code (t, (os, va))) (code_layout c))
   code_layout (struct t cs va) = gcons (gnum 9) (gcons (top_part.code (t, va)) (code_layouts cs))
   code_layout (union t ks cs os start) = gcons (gnum 10) (gcons (union_part.code ((t, ks), (os, start))) (code_layouts cs))
-  code_layout (dictionary k t ks va c) = gcons (gnum 11) (gcons (dictionary_part.code ((k, t), (ks, va))) (code_layout c))
+  code_layout (dictionary t ks c) = gcons (gnum 11) (gcons (code_type t) (gcons (code_layout ks) (code_layout c)))
 
   pub code_layouts : Layouts → Gv
   code_layouts no_layouts = gnil
@@ -100,10 +95,11 @@ mutual
       let p = union_part.inj ((t, ks), (os, start)) ((u, ls), (ps, begin)) (ap (λ v. head (tail v)) h) in
       let q = layouts_one cs ds (ap (λ v. tail (tail v)) h) in
       λ i. union (p i).0.0 (p i).0.1 (q i) (p i).1.0 (p i).1.1
-  layout_one (dictionary k t ks va c) (dictionary l u ls wa d) h =
-      let p = dictionary_part.inj ((k, t), (ks, va)) ((l, u), (ls, wa)) (ap (λ v. head (tail v)) h) in
-      let q = layout_one c d (ap (λ v. tail (tail v)) h) in
-      λ i. dictionary (p i).0.0 (p i).0.1 (p i).1.0 (p i).1.1 (q i)
+  layout_one (dictionary t ks c) (dictionary u ls d) h =
+      let p = type_one t u (ap (λ v. head (tail v)) h) in
+      let k = layout_one ks ls (ap (λ v. head (tail (tail v))) h) in
+      let q = layout_one c d (ap (λ v. tail (tail (tail v))) h) in
+      λ i. dictionary (p i) (k i) (q i)
   layout_one x y h = absurd (apart (tag (code_layout x)) (tag (code_layout y)) refl (ap tag h))
 
   pub layouts_one : (x y : Layouts) → code_layouts x ≡ code_layouts y → x ≡ y
@@ -126,7 +122,7 @@ abbrev mutual
   weight (map t os c va) = weight c + 1
   weight (struct t cs va) = weight_all cs + 1
   weight (union t ks cs os start) = weight_all cs + 1
-  weight (dictionary k t ks va c) = weight c + 1
+  weight (dictionary t ks c) = weight c + 1
   weight a = 0
 
   pub weight_all : Layouts → ℕ

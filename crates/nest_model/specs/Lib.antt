@@ -1,9 +1,10 @@
 pub mod Slot
 pub mod Layout
+pub mod Accessors
 pub mod Part
 pub mod Meaning
 pub mod Cut
-pub mod Fault
+pub mod Checks
 pub mod Fits
 pub mod Array
 pub mod Nulls

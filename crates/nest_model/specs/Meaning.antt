@@ -4,6 +4,7 @@ use Rattle.nest_memory.specs.TypeTree.{size_of, ids_of}
 use Rattle.nest_memory.specs.Cut.{cut}
 use Rattle.nest_model.specs.Part.{valid_at, begin, extent, rows, place, field_named}
 use Rattle.nest_model.specs.Layout.{Layout, Layouts, null, boolean, primitive, binary, text, fixed_size_binary, fixed_size_list, list, map, struct, union, dictionary, no_layouts, more_layouts, layout_type}
+use Rattle.nest_model.specs.Accessors.{validity_of, key_at}
 use Rattle.nest_model.specs.Slot as slots
 use Rattle.nest_model.specs.Slot.{Slot, Slots, seal}
 
@@ -26,7 +27,7 @@ abbrev mutual
   len (map t os c va) = rows os
   len (struct t cs va) = first_len cs
   len (union t ks cs os start) = length ks
-  len (dictionary k t ks va c) = length ks
+  len (dictionary t ks c) = len ks
 
   pub first_len : Layouts → ℕ
   first_len no_layouts = 0
@@ -51,7 +52,7 @@ abbrev mutual
   slot (map t os c va) i = if valid_at va i then slots.list (seal (run (slot c) (begin os i) (extent os i))) else slots.null
   slot (struct t cs va) i = if valid_at va i then slots.record_of (each cs i) else slots.null
   slot (union t ks cs os start) i = picked cs (field_named (ids_of t) (get_or ks i (pos 0))) (union_place os start i)
-  slot (dictionary k t ks va c) i = if valid_at va i then slot c (place (get_or ks i (pos 0))) else slots.null
+  slot (dictionary t ks c) i = if valid_at (validity_of ks) i then slot c (place (key_at ks i)) else slots.null
 
   -- the children's slots at place i
   pub each : Layouts → ℕ → Slots

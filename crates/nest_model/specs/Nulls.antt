@@ -5,8 +5,10 @@ use Rattle.nest_memory.specs.TypeTree.{TypeTree, FieldTree, field, FieldTrees, n
 use Rattle.nest_model.specs.Part.{last_place}
 use Rattle.nest_model.specs.Slot as slots
 use Rattle.nest_model.specs.Slot.{Slot}
-use Rattle.nest_model.specs.Fault as fault
-use Rattle.nest_model.specs.Fault.{Fault}
+use Rattle.nest_memory.specs.declared.error.Spec.TheVariants as spec
+use Rattle.nest_memory.specs.declared.error.Argument.TheVariants as argument
+use Rattle.nest_memory.specs.declared.error.Error.{Error}
+use Rattle.nest_memory.specs.declared.error.Error.TheVariants.{OutOfSpec, InvalidArgumentError, Overflow, NotYetImplemented}
 
 -- the field that a null slot of a union picks: the one that the first id names, without ids the first
 abbrev pub null_field : Option (List ℤ) → Option ℕ
@@ -34,12 +36,12 @@ abbrev pub null_slots : TypeTree → ℕ → List Slot
 null_slots t n = replicate n (null_slot t)
 
 -- checks that compute: this fault where the test is true, else what follows
-abbrev pub refused : Bool → Fault → Option Fault → Option Fault
+abbrev pub refused : Bool → Error → Option Error → Option Error
 refused true e rest = Some e
 refused false e rest = rest
 
 -- a fault of the first, else of the second
-abbrev pub or_else : Option Fault → Option Fault → Option Fault
+abbrev pub or_else : Option Error → Option Error → Option Error
 or_else (Some e) rest = Some e
 or_else None rest = rest
 
@@ -66,41 +68,41 @@ has_bad_id (Some ids) = not (are_ids ids)
 -- The first fault of an array of n null slots, in the order node, product, children from the left.
 -- Below a dictionary lie d values: one in a null array, none in an empty one. Below a list or a map lies an empty array.
 abbrev mutual
-  pub fault_of : TypeTree → ℕ → ℕ → Option Fault
-  fault_of types.float16 n d = Some fault.not_implemented
-  fault_of types.float32 n d = Some fault.not_implemented
-  fault_of types.float64 n d = Some fault.not_implemented
-  fault_of types.binary n d = refused (is_past (n + 1)) fault.overflow None
-  fault_of types.large_binary n d = refused (is_past (n + 1)) fault.overflow None
-  fault_of types.utf8 n d = refused (is_past (n + 1)) fault.overflow None
-  fault_of types.large_utf8 n d = refused (is_past (n + 1)) fault.overflow None
-  fault_of (types.fixed_size_binary s) n d = refused (nat_eq s 0) fault.zero_size (refused (is_past (n * s)) fault.overflow None)
-  fault_of (types.list f) n d = refused (is_past (n + 1)) fault.overflow (field_fault f 0 0)
-  fault_of (types.large_list f) n d = refused (is_past (n + 1)) fault.overflow (field_fault f 0 0)
-  fault_of (types.fixed_size_list f s) n d = refused (nat_eq s 0) fault.zero_size (refused (is_past (n * s)) fault.overflow (field_fault f (n * s) d))
-  fault_of (types.map f b) n d = refused (not (is_pair (field_type f))) fault.map_inner (refused (is_past (n + 1)) fault.overflow (field_fault f 0 0))
-  fault_of (types.struct fs) n d = refused (nat_eq (count_fields fs) 0) fault.no_fields (fields_fault fs n d)
+  pub fault_of : TypeTree → ℕ → ℕ → Option Error
+  fault_of types.float16 n d = Some NotYetImplemented
+  fault_of types.float32 n d = Some NotYetImplemented
+  fault_of types.float64 n d = Some NotYetImplemented
+  fault_of types.binary n d = refused (is_past (n + 1)) Overflow None
+  fault_of types.large_binary n d = refused (is_past (n + 1)) Overflow None
+  fault_of types.utf8 n d = refused (is_past (n + 1)) Overflow None
+  fault_of types.large_utf8 n d = refused (is_past (n + 1)) Overflow None
+  fault_of (types.fixed_size_binary s) n d = refused (nat_eq s 0) (OutOfSpec spec.ZeroSize) (refused (is_past (n * s)) Overflow None)
+  fault_of (types.list f) n d = refused (is_past (n + 1)) Overflow (field_fault f 0 0)
+  fault_of (types.large_list f) n d = refused (is_past (n + 1)) Overflow (field_fault f 0 0)
+  fault_of (types.fixed_size_list f s) n d = refused (nat_eq s 0) (OutOfSpec spec.ZeroSize) (refused (is_past (n * s)) Overflow (field_fault f (n * s) d))
+  fault_of (types.map f b) n d = refused (not (is_pair (field_type f))) (InvalidArgumentError argument.MapInner) (refused (is_past (n + 1)) Overflow (field_fault f 0 0))
+  fault_of (types.struct fs) n d = refused (nat_eq (count_fields fs) 0) (OutOfSpec spec.NoFields) (fields_fault fs n d)
   fault_of (types.union fs ids mode) n d =
-      refused (nat_lt 127 (count_fields fs)) fault.too_many_fields
-      (refused (ids_count_differs ids (count_fields fs)) fault.id_count
-      (refused (has_bad_id ids) fault.id_range
-      (refused (nat_eq (count_fields fs) 0 && nat_lt 0 n) fault.union_type
-      (refused (is_dense_mode mode && nat_lt (2 ^ 31) n) fault.overflow
+      refused (nat_lt 127 (count_fields fs)) (OutOfSpec spec.TooManyFields)
+      (refused (ids_count_differs ids (count_fields fs)) (OutOfSpec spec.IdCount)
+      (refused (has_bad_id ids) (OutOfSpec spec.IdRange)
+      (refused (nat_eq (count_fields fs) 0 && nat_lt 0 n) (OutOfSpec spec.UnionType)
+      (refused (is_dense_mode mode && nat_lt (2 ^ 31) n) Overflow
       (fields_fault fs n d)))))
   fault_of (types.dictionary k t b) n d = fault_of t d d
   fault_of (types.extension x t m) n d = fault_of t n d
   fault_of t n d = None
 
-  pub field_fault : FieldTree → ℕ → ℕ → Option Fault
+  pub field_fault : FieldTree → ℕ → ℕ → Option Error
   field_fault (field x t b es) n d = fault_of t n d
 
-  pub fields_fault : FieldTrees → ℕ → ℕ → Option Fault
+  pub fields_fault : FieldTrees → ℕ → ℕ → Option Error
   fields_fault no_fields n d = None
   fields_fault (more_fields f fs) n d = or_else (field_fault f n d) (fields_fault fs n d)
 
 -- the first fault of an array of n null slots, and of an empty one
-abbrev pub type_fault : TypeTree → ℕ → Option Fault
+abbrev pub type_fault : TypeTree → ℕ → Option Error
 type_fault t n = fault_of t n 1
 
-abbrev pub empty_fault : TypeTree → Option Fault
+abbrev pub empty_fault : TypeTree → Option Error
 empty_fault t = fault_of t 0 0

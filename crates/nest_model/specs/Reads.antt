@@ -2,15 +2,14 @@
 use Rattle.std.specs.Prelude.{Option, Some, None, if◌then◌else◌}
 use Rattle.std.proofs.Common.{◌≡◌, ℕ, zero, suc, ◌+◌, ◌-◌, ◌*◌, ◌<◌, ◌≤◌, ℤ, pos, negsuc, Bool, true, false, List, length, get_or, refl, ap, sym, ◌∙◌, arith}
 use Rattle.std.proofs.lemmas.List.Elements.{All-get_or}
-use Rattle.nest_memory.specs.TypeTree as types
 use Rattle.nest_memory.specs.TypeTree.{TypeTree}
-use Rattle.nest_memory.specs.declared.datatypes.IntegerType.{IntegerType}
 use Rattle.nest_memory.specs.TypeTree.{size_of, ids_of}
 use Rattle.nest_memory.specs.Cut.{cut}
 use Rattle.nest_model.specs.Part.{Validity, valid_at, rows, last_offset, begin, extent, place, field_named}
-use Rattle.nest_model.specs.Layout.{Layout, Layouts, null, fixed_size_list, list, map, struct, union, dictionary, no_layouts, more_layouts, layout_type, count_layouts}
+use Rattle.nest_model.specs.Layout.{Layout, Layouts, fixed_size_list, list, map, struct, union, dictionary, no_layouts, more_layouts, layout_type, count_layouts}
 use Rattle.nest_model.specs.Slot as slots
 use Rattle.nest_model.specs.Slot.{Slot, Slots, seal}
+use Rattle.nest_model.specs.Accessors.{validity_of, child_at, key_at}
 use Rattle.nest_model.specs.Meaning.{run, len, first_len, union_place, slot, each, picked, slots_of}
 use Rattle.nest_model.specs.Runs.{product-fits, cut-run, length-run, get_or-run}
 use Rattle.nest_model.specs.Fits.{EachLen, EachCovers, Names, MeansField, SlotsThere, child_len}
@@ -24,12 +23,6 @@ where_valid va i s = if valid_at va i then s else slots.null
 abbrev pub row : Layouts → ℕ → Slots
 row no_layouts i = slots.no_slots
 row (more_layouts c cs) i = slots.more_slots (get_or (slots_of c) i slots.null) (row cs i)
-
--- child f, an empty null array where there is none
-abbrev pub child : Layouts → ℕ → Layout
-child no_layouts f = null types.null 0
-child (more_layouts c cs) zero = c
-child (more_layouts c cs) (suc f) = child cs f
 
 pub slots-length : (a : Layout) → length (slots_of a) ≡ len a
 slots-length a = length-run (slot a) 0 (len a)
@@ -78,18 +71,18 @@ names-place (pos k) n h = h
 names-place (negsuc k) n h = absurd h
 
 -- a union's slot is the pick of a field that its type means, and of that field's slot
-picked-child : (cs : Layouts) (f i : ℕ) → f < count_layouts cs → i < len (child cs f)
-    → picked cs (Some f) i ≡ slots.pick (layout_type (child cs f)) (get_or (slots_of (child cs f)) i slots.null)
+picked-child : (cs : Layouts) (f i : ℕ) → f < count_layouts cs → i < len (child_at cs f)
+    → picked cs (Some f) i ≡ slots.pick (layout_type (child_at cs f)) (get_or (slots_of (child_at cs f)) i slots.null)
 picked-child no_layouts f i h k = absurd (omega arith)
 picked-child (more_layouts c cs) zero i h k = ap (slots.pick (layout_type c)) (sym (slot-place c i slots.null k))
 picked-child (more_layouts c cs) (suc f) i h k = picked-child cs f i (omega arith) k
 
-covers-child : (cs : Layouts) (n f : ℕ) → EachCovers cs n → f < count_layouts cs → n ≤ len (child cs f)
+covers-child : (cs : Layouts) (n f : ℕ) → EachCovers cs n → f < count_layouts cs → n ≤ len (child_at cs f)
 covers-child no_layouts n f h k = absurd (omega arith)
 covers-child (more_layouts c cs) n zero h k = h.0
 covers-child (more_layouts c cs) n (suc f) h k = covers-child cs n f h.1 (omega arith)
 
-child_len-child : (cs : Layouts) (f : ℕ) → f < count_layouts cs → child_len cs (Some f) ≡ len (child cs f)
+child_len-child : (cs : Layouts) (f : ℕ) → f < count_layouts cs → child_len cs (Some f) ≡ len (child_at cs f)
 child_len-child no_layouts f k = absurd (omega arith)
 child_len-child (more_layouts c cs) zero k = refl
 child_len-child (more_layouts c cs) (suc f) k = child_len-child cs f (omega arith)
@@ -98,11 +91,11 @@ child_len-child (more_layouts c cs) (suc f) k = child_len-child cs f (omega arit
 pub record IsPick (t : TypeTree) (ks : List ℤ) (cs : Layouts) (os : Option (List ℤ)) (start i f : ℕ) : Type 0 where
   pub means : field_named (ids_of t) (get_or ks i (pos 0)) ≡ Some f
   pub field_there : f < count_layouts cs
-  pub slot_there : union_place os start i < len (child cs f)
-  pub picks : slot (union t ks cs os start) i ≡ slots.pick (layout_type (child cs f)) (get_or (slots_of (child cs f)) (union_place os start i) slots.null)
+  pub slot_there : union_place os start i < len (child_at cs f)
+  pub picks : slot (union t ks cs os start) i ≡ slots.pick (layout_type (child_at cs f)) (get_or (slots_of (child_at cs f)) (union_place os start i) slots.null)
 
 there-place : (ids : Option (List ℤ)) (ks : List ℤ) (cs : Layouts) (os : Option (List ℤ)) (start i f : ℕ) → SlotsThere ids ks cs os start → i < length ks
-    → field_named ids (get_or ks i (pos 0)) ≡ Some f → f < count_layouts cs → union_place os start i < len (child cs f)
+    → field_named ids (get_or ks i (pos 0)) ≡ Some f → f < count_layouts cs → union_place os start i < len (child_at cs f)
 there-place ids ks cs None start i f h k e g = let a = covers-child cs (start + length ks) f h g in omega arith
 there-place ids ks cs (Some os) start i f h k e g =
     let a = names-place (get_or os i (pos 0)) (child_len cs (field_named ids (get_or ks i (pos 0)))) (h i k) in
@@ -133,10 +126,8 @@ where-valid : (b : Bool) (x y z : Slot) → (b ≡ true → x ≡ y) → (if b t
 where-valid true x y z h = h refl
 where-valid false x y z h = refl
 
-pub dictionary-slot : (p : IntegerType) (t : TypeTree) (ks : List ℤ) (va : Validity) (c : Layout) (i : ℕ) → TopFits (dictionary p t ks va c) → i < length ks
-    → slot (dictionary p t ks va c) i ≡ where_valid va i (get_or (slots_of c) (place (get_or ks i (pos 0))) slots.null)
-dictionary-slot p t ks va c i h k =
-    where-valid (valid_at va i) (slot c (place (get_or ks i (pos 0)))) (get_or (slots_of c) (place (get_or ks i (pos 0))) slots.null) slots.null
-    (λ v.
-    let n = All-get_or (λ z. Names z (len c)) ks i (pos 0) k (h.1.1.1.1.0 (i, k, v)) in
-    sym (slot-place c (place (get_or ks i (pos 0))) slots.null (names-place (get_or ks i (pos 0)) (len c) n)))
+pub dictionary-slot : (t : TypeTree) (ks c : Layout) (i : ℕ) → TopFits (dictionary t ks c) → i < len ks
+    → slot (dictionary t ks c) i ≡ where_valid (validity_of ks) i (get_or (slots_of c) (place (key_at ks i)) slots.null)
+dictionary-slot t ks c i h k =
+    where-valid (valid_at (validity_of ks) i) (slot c (place (key_at ks i))) (get_or (slots_of c) (place (key_at ks i)) slots.null) slots.null
+    (λ v. sym (slot-place c (place (key_at ks i)) slots.null (names-place (key_at ks i) (len c) (h.1.1.1.1 i k v))))

@@ -1,12 +1,12 @@
 //! What a slot of each nested kind is, in the children's lists of slots.
 
 ghost use Rattle.std.specs.Prelude.{◌≡◌, ℕ, ◌+◌, ◌*◌, ◌<◌, ℤ, pos, Bool, List, length, get_or, Option, Some};
-ghost use Rattle.nest_memory.specs.declared.datatypes.IntegerType.{IntegerType};
 ghost use Rattle.nest_memory.specs.TypeTree.{TypeTree, size_of};
 ghost use Rattle.nest_memory.specs.Cut.{cut};
 ghost use Rattle.nest_model.specs.Part.{Validity, begin, extent, rows, place};
 ghost use Rattle.nest_model.specs.Layout as layouts;
 ghost use Rattle.nest_model.specs.Layout.{Layout, Layouts};
+ghost use Rattle.nest_model.specs.Accessors.{validity_of, key_at};
 ghost use Rattle.nest_model.specs.Slot as slots;
 ghost use Rattle.nest_model.specs.Slot.{Slot, seal};
 ghost use Rattle.nest_model.specs.Meaning.{len, first_len, slot, slots_of};
@@ -50,6 +50,6 @@ pub fn union_slots()
 
 /// A dictionary's slot is null or the value at its key.
 pub fn dictionary_slots()
-    ensures { (k : IntegerType) (t : TypeTree) (ks : List ℤ) (va : Validity) (c : Layout) (i : ℕ) → TopFits (layouts.dictionary k t ks va c) → i < length ks
-        → slot (layouts.dictionary k t ks va c) i ≡ where_valid va i (get_or (slots_of c) (place (get_or ks i (pos 0))) slots.null) }
+    ensures { (t : TypeTree) (ks c : Layout) (i : ℕ) → TopFits (layouts.dictionary t ks c) → i < len ks
+        → slot (layouts.dictionary t ks c) i ≡ where_valid (validity_of ks) i (get_or (slots_of c) (place (key_at ks i)) slots.null) }
 {}

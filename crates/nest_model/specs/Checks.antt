@@ -1,0 +1,69 @@
+-- Checks that a constructor makes in an order, each with the error that refuses what fails it (of this project).
+use Rattle.std.specs.Prelude.{ℕ, Bool, true, false, nat_eq}
+use Rattle.nest_memory.specs.declared.error.Spec.{Spec}
+use Rattle.nest_memory.specs.declared.error.Spec.TheVariants as spec
+use Rattle.nest_memory.specs.declared.error.Argument.{Argument}
+use Rattle.nest_memory.specs.declared.error.Argument.TheVariants as argument
+use Rattle.nest_memory.specs.declared.error.Error.{Error}
+use Rattle.nest_memory.specs.declared.error.Error.TheVariants.{OutOfSpec, InvalidArgumentError, Overflow, NotYetImplemented, Memory}
+
+-- errors told apart by a number each
+abbrev pub spec_number : Spec → ℕ
+spec_number spec.WrongType = 0
+spec_number spec.ZeroSize = 1
+spec_number spec.ChildType = 2
+spec_number spec.NotMultiple = 3
+spec_number spec.ValidityLength = 4
+spec_number spec.OffsetPastChild = 5
+spec_number spec.NoFields = 6
+spec_number spec.FieldCount = 7
+spec_number spec.ChildLength = 8
+spec_number spec.TooManyFields = 9
+spec_number spec.OffsetCount = 10
+spec_number spec.UnionMode = 11
+spec_number spec.IdCount = 12
+spec_number spec.IdRange = 13
+spec_number spec.UnionType = 14
+spec_number spec.UnionSlot = 15
+spec_number spec.KeyType = 16
+spec_number spec.KeyRange = 17
+spec_number spec.Offsets = 18
+spec_number spec.Text = 19
+
+abbrev pub argument_number : Argument → ℕ
+argument_number argument.ChildType = 20
+argument_number argument.MapInner = 21
+argument_number argument.NoValidity = 22
+argument_number argument.ItemSize = 23
+argument_number argument.ItemType = 24
+argument_number argument.Unfinished = 25
+argument_number argument.LengthsSum = 26
+argument_number argument.ValuesType = 27
+argument_number argument.ChildNotEmpty = 28
+
+abbrev pub error_number : Error → ℕ
+error_number (OutOfSpec s) = spec_number s
+error_number (InvalidArgumentError a) = argument_number a
+error_number Overflow = 29
+error_number NotYetImplemented = 30
+error_number (Memory e) = 31
+
+-- checks in order: the error of each, and what has to hold
+pub data Checks : Type 1 where
+  done : Checks
+  check : Error → Type 0 → Checks → Checks
+
+-- every check passes
+abbrev pub Pass : Checks → Type 0
+Pass done = Unit {0}
+Pass (check e p cs) = p × Pass cs
+
+-- this check fails, or it passes and the rest holds
+abbrev pub FailsOr : Bool → Type 0 → Type 0 → Type 0
+FailsOr true p rest = ¬ p
+FailsOr false p rest = p × rest
+
+-- the check of this error is the first that fails: those before it pass
+abbrev pub FailFirst : Error → Checks → Type 0
+FailFirst f done = ⊥
+FailFirst f (check e p cs) = FailsOr (nat_eq (error_number f) (error_number e)) p (FailFirst f cs)
