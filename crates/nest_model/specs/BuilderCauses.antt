@@ -41,11 +41,7 @@ BytesPass _ n = ⊥
 abbrev pub HasOtherSize : TypeTree → Slot → Type 0
 HasOtherSize t s = (physical_type t ≡ physical.FixedSizeBinary) × (byte_count s ≢ size_of t)
 
--- the value stands at place k of a builder that takes its kind
-abbrev pub Stands : BuilderTree → PlainValue → ℕ → Type 0
-Stands c v k = (takes c v ≡ true) × (place_of v (own_slots c) ≡ Some k)
-
--- it stands at none
+-- no place of the values holds it
 abbrev pub IsNew : BuilderTree → PlainValue → Type 0
 IsNew c v = (takes c v ≡ false) ⊎ (place_of v (own_slots c) ≡ None)
 

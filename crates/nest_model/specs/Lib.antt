@@ -28,4 +28,7 @@ pub mod BuilderRowLaws
 pub mod BuilderLevelLaws
 pub mod BuilderCutLaws
 pub mod BuilderAppendLaws
+pub mod BuilderKeyLaws
+pub mod BuilderAcceptLaws
+pub mod BuilderCauseLaws
 pub mod BuilderExamples

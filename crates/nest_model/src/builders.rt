@@ -4,8 +4,11 @@ ghost use Rattle.std.specs.Prelude.{◌≡◌, ℕ, ◌≤◌, List, [], ◌∷�
 ghost use Rattle.nest_model.specs.BuilderTree.{BuilderTree, builder_len, builder_type};
 ghost use Rattle.nest_model.specs.BuilderLevels.{own_slots, levels, rows_needed, cut_levels};
 ghost use Rattle.nest_model.specs.BuilderWhole.{IsWhole, cut_builder, emptied, ValuesDiffer};
+ghost use Rattle.nest_model.specs.BuilderItem as items;
 ghost use Rattle.nest_model.specs.BuilderItem.{Item};
-ghost use Rattle.nest_model.specs.BuilderAppend.{Accepted, AcceptedAll};
+ghost use Rattle.nest_model.specs.BuilderAppend.{appended, Accepted, AcceptedAll};
+ghost use Rattle.nest_model.specs.BuilderCauses.{HasNoCause};
+ghost use Rattle.nest_model.specs.BuilderCauseLaws.{};
 
 /// A builder has as many slots of its own as rows.
 pub fn own_count()
@@ -26,4 +29,14 @@ pub fn levels_of_cut()
 pub fn accepted_in_order()
     ensures none { (t : BuilderTree) → IsWhole t → AcceptedAll [] t t }
     ensures more { (xs : List Item) (x : Item) (a b c : BuilderTree) → AcceptedAll xs a b → Accepted x b c → AcceptedAll (xs ++ x ∷ []) a c }
+{}
+
+/// A null is appended rightly to any whole builder.
+pub fn accepted_null()
+    ensures { (t : BuilderTree) → IsWhole t → Accepted items.null t (appended items.null t) }
+{}
+
+/// What nothing refuses is appended rightly, to a builder of any nesting.
+pub fn accepted_without_cause()
+    ensures { (x : Item) (t : BuilderTree) → IsWhole t → HasNoCause t x → Accepted x t (appended x t) }
 {}
