@@ -1,6 +1,6 @@
 -- Which pushes have a cause to be refused, and which have none.
 use Rattle.std.specs.Prelude.{◌⊎◌, Option, Some, None}
-use Rattle.std.proofs.Common.{◌≡◌, ◌≢◌, ℕ, zero, suc, ◌+◌, ◌*◌, ◌≤◌, ◌<◌, Bool, true, false, List, [], ◌∷◌, ◌++◌, length, replicate, refl, sym, ap, subst, ◌∙◌, arith, inl, inr}
+use Rattle.std.proofs.Common.{◌≡◌, ◌≢◌, ℕ, zero, suc, ◌+◌, ◌*◌, ◌≤◌, ◌<◌, Bool, true, false, List, [], ◌∷◌, ◌++◌, length, get_or, replicate, refl, sym, ap, subst, ◌∙◌, arith, inl, inr}
 use Rattle.std.proofs.Math.Nat.{add-mul, mul-le-mul_right}
 use Rattle.std.proofs.lemmas.List.{length-append, length-replicate}
 use Rattle.nest_memory.specs.TypeTree.{TypeTree, size_of}
@@ -11,12 +11,12 @@ use Rattle.nest_memory.specs.declared.datatypes.IntegerType.{IntegerType}
 use Rattle.nest_model.specs.Slot as slots
 use Rattle.nest_model.specs.Slot.{Slot}
 use Rattle.nest_model.specs.BuilderRow.{Row, told_row, end_from}
-use Rattle.nest_model.specs.BuilderTree.{BuilderTree, BuilderTrees, flat, list, fixed_size_list, dictionary, struct, no_builders, more_builders, builder_len, largest_length, IsPast, largest_offset, key_count}
+use Rattle.nest_model.specs.BuilderTree.{BuilderTree, BuilderTrees, flat, list, fixed_size_list, dictionary, struct, no_builders, more_builders, join_builders, builder_len, largest_length, IsPast, largest_offset, key_count}
 use Rattle.nest_model.specs.BuilderLevels.{own_slots}
 use Rattle.nest_model.specs.BuilderItem as items
-use Rattle.nest_model.specs.BuilderItem.{PlainValue, Item, Items, no_items, more_items, seal_items, count_items, takes, place_of}
+use Rattle.nest_model.specs.BuilderItem.{PlainValue, Item, Items, no_items, more_items, seal_items, count_items, slot_of_value, takes}
 use Rattle.nest_model.specs.BuilderAppend.{nulls_appended, nulls_appended_each, appended, items_appended, all_appended, AcceptedAll}
-use Rattle.nest_model.specs.BuilderCauses.{NullsPass, NullsPassEach, IsNew, ValueCause, HasCause, SomeCause, HasNoCause, HaveNoCause}
+use Rattle.nest_model.specs.BuilderCauses.{NullsPass, NullsPassEach, HasOtherSize, IsNew, IsFull, HasCause, SomeCause, HasNoCause, HaveNoCause}
 use Rattle.nest_model.specs.BuilderAppendLaws.{appended-sealed, count-sealed, nulls-all}
 
 -- items one after another: none has a cause so far, one more has none, one more has one
@@ -106,6 +106,26 @@ mutual
   NullsPass-after-each (more_builders c cs) m n (inl p) = inl (NullsPass-after c m n p)
   NullsPass-after-each (more_builders c cs) m n (inr p) = inr (NullsPass-after-each cs m n p)
 
+split-fixed : (k : TypeTree) (bits : List Bool) (c : BuilderTree) (m n : ℕ) → NullsPass (m * size_of k) c ⊎ NullsPass (n * size_of k) (nulls_appended (m * size_of k) c)
+    → NullsPass m (fixed_size_list k bits c) ⊎ NullsPass n (nulls_appended m (fixed_size_list k bits c))
+split-fixed k bits c m n (inl p) = inl (inr (inr p))
+split-fixed k bits c m n (inr p) = inr (inr (inr p))
+
+split-struct : (bits : List Bool) (cs : BuilderTrees) (m n : ℕ) → NullsPassEach m cs ⊎ NullsPassEach n (nulls_appended_each m cs)
+    → (IsPast (length bits + m) ⊎ NullsPassEach m cs) ⊎ (IsPast (length (bits ++ replicate m false) + n) ⊎ NullsPassEach n (nulls_appended_each m cs))
+split-struct bits cs m n (inl p) = inl (inr p)
+split-struct bits cs m n (inr p) = inr (inr p)
+
+split-first : (c : BuilderTree) (cs : BuilderTrees) (m n : ℕ) → NullsPass m c ⊎ NullsPass n (nulls_appended m c)
+    → NullsPassEach m (more_builders c cs) ⊎ NullsPassEach n (nulls_appended_each m (more_builders c cs))
+split-first c cs m n (inl p) = inl (inl p)
+split-first c cs m n (inr p) = inr (inl p)
+
+split-rest : (c : BuilderTree) (cs : BuilderTrees) (m n : ℕ) → NullsPassEach m cs ⊎ NullsPassEach n (nulls_appended_each m cs)
+    → NullsPassEach m (more_builders c cs) ⊎ NullsPassEach n (nulls_appended_each m (more_builders c cs))
+split-rest c cs m n (inl p) = inl (inr p)
+split-rest c cs m n (inr p) = inr (inr p)
+
 mutual
   pub NullsPass-split : (t : BuilderTree) (m n : ℕ) → NullsPass (m + n) t → NullsPass m t ⊎ NullsPass n (nulls_appended m t)
   NullsPass-split (flat k xs) m n (inl p) = inr (inl (omega (arith, p, longer xs slots.null m n)))
@@ -123,22 +143,73 @@ mutual
   NullsPass-split-each (more_builders c cs) m n (inl p) = split-first c cs m n (NullsPass-split c m n p)
   NullsPass-split-each (more_builders c cs) m n (inr p) = split-rest c cs m n (NullsPass-split-each cs m n p)
 
-  split-fixed : (k : TypeTree) (bits : List Bool) (c : BuilderTree) (m n : ℕ) → NullsPass (m * size_of k) c ⊎ NullsPass (n * size_of k) (nulls_appended (m * size_of k) c)
-      → NullsPass m (fixed_size_list k bits c) ⊎ NullsPass n (nulls_appended m (fixed_size_list k bits c))
-  split-fixed k bits c m n (inl p) = inl (inr (inr p))
-  split-fixed k bits c m n (inr p) = inr (inr (inr p))
+-- A null row of a fixed-size list: the cause of one of its child's nulls is its own; else none, where the row has its place.
+pub fixed_size_list_null_cause : (e : Error) (k : TypeTree) (bits : List Bool) (c : BuilderTree) (i : ℕ) → i < size_of k → HasCause e (all_appended (replicate i items.null) c) items.null → HasCause e (fixed_size_list k bits c) items.null
+fixed_size_list_null_cause e k bits c i l q =
+    let at : NullsPass 1 (nulls_appended i c) = subst (NullsPass 1) (nulls-all i c) q.1 in
+    let size : 1 * size_of k ≡ size_of k = omega arith in
+    let le : i + 1 ≤ 1 * size_of k = omega (arith, l) in
+    (q.0, inr (inr (NullsPass-le c (i + 1) (1 * size_of k) le (NullsPass-after c i 1 at))))
 
-  split-struct : (bits : List Bool) (cs : BuilderTrees) (m n : ℕ) → NullsPassEach m cs ⊎ NullsPassEach n (nulls_appended_each m cs)
-      → (IsPast (length bits + m) ⊎ NullsPassEach m cs) ⊎ (IsPast (length (bits ++ replicate m false) + n) ⊎ NullsPassEach n (nulls_appended_each m cs))
-  split-struct bits cs m n (inl p) = inl (inr p)
-  split-struct bits cs m n (inr p) = inr (inr p)
+no_nulls_pass : (n : ℕ) (t : BuilderTree) → HaveNoCause t (replicate (suc n) items.null) → ¬ NullsPass (suc n) t
+no_nulls_pass zero t h = λ p. h.0 Overflow (refl, p)
+no_nulls_pass (suc n) t h = λ p.
+    let sum : suc (suc n) ≡ 1 + suc n = omega arith in
+    either (λ q. h.0 Overflow (refl, q)) (no_nulls_pass n (nulls_appended 1 t) h.1) (NullsPass-split t 1 (suc n) (subst (λ m. NullsPass m t) sum p))
 
-  split-first : (c : BuilderTree) (cs : BuilderTrees) (m n : ℕ) → NullsPass m c ⊎ NullsPass n (nulls_appended m c)
-      → NullsPassEach m (more_builders c cs) ⊎ NullsPassEach n (nulls_appended_each m (more_builders c cs))
-  split-first c cs m n (inl p) = inl (inl p)
-  split-first c cs m n (inr p) = inr (inl p)
+none_pass : (n : ℕ) (t : BuilderTree) → 0 < n → HaveNoCause t (replicate n items.null) → ¬ NullsPass n t
+none_pass zero t l h = absurd (omega (arith, l))
+none_pass (suc n) t l h = no_nulls_pass n t h
 
-  split-rest : (c : BuilderTree) (cs : BuilderTrees) (m n : ℕ) → NullsPassEach m cs ⊎ NullsPassEach n (nulls_appended_each m cs)
-      → NullsPassEach m (more_builders c cs) ⊎ NullsPassEach n (nulls_appended_each m (more_builders c cs))
-  split-rest c cs m n (inl p) = inl (inr p)
-  split-rest c cs m n (inr p) = inr (inr p)
+pub fixed_size_list_null_no_cause : (k : TypeTree) (bits : List Bool) (c : BuilderTree) → 0 < size_of k → HaveNoCause c (replicate (size_of k) items.null) → length bits + 1 ≤ largest_length → (length bits + 1) * size_of k ≤ largest_length
+    → HasNoCause (fixed_size_list k bits c) items.null
+fixed_size_list_null_no_cause k bits c z h l m e = λ q.
+    let size : 1 * size_of k ≡ size_of k = omega arith in
+    either (λ p. omega (arith, p, l)) (either (λ p. omega (arith, p, m)) (λ p. none_pass (size_of k) c z h (subst (λ n. NullsPass n c) size p))) q.1
+
+-- A null list and a null key: none, where the row has its place.
+pub list_null_no_cause : (large : Bool) (k : TypeTree) (rows : List Row) (c : BuilderTree) → length rows + 1 ≤ largest_length → HasNoCause (list large k rows c) items.null
+list_null_no_cause large k rows c l e = λ q. omega (arith, q.1, l)
+
+pub dictionary_null_no_cause : (i : IntegerType) (k : TypeTree) (keys : List (Option ℕ)) (c : BuilderTree) → length keys + 1 ≤ largest_length → HasNoCause (dictionary i k keys c) items.null
+dictionary_null_no_cause i k keys c l e = λ q. omega (arith, q.1, l)
+
+-- A null record: the cause of one of its children's nulls is its own; else none, where the row has its place.
+pub struct_null_cause : (e : Error) (k : TypeTree) (bits : List Bool) (cs : List BuilderTree) (i : ℕ) (d : BuilderTree) → i < length cs → HasCause e (get_or cs i d) items.null → HasCause e (struct k bits (join_builders cs)) items.null
+struct_null_cause e k bits cs i d l q = (q.0, inr (pass-at cs i d l q.1))
+  where
+    pass-at : (bs : List BuilderTree) (j : ℕ) (b : BuilderTree) → j < length bs → NullsPass 1 (get_or bs j b) → NullsPassEach 1 (join_builders bs)
+    pass-at [] j b m p = absurd (omega (arith, m))
+    pass-at (x ∷ bs) zero b m p = inl p
+    pass-at (x ∷ bs) (suc j) b m p = inr (pass-at bs j b (omega (arith, m)) p)
+
+abbrev pub EachNoCause : Item → BuilderTrees → Type 0
+EachNoCause x no_builders = Unit {0}
+EachNoCause x (more_builders c cs) = HasNoCause c x × EachNoCause x cs
+
+pub struct_null_no_cause : (k : TypeTree) (bits : List Bool) (cs : BuilderTrees) → length bits + 1 ≤ largest_length → EachNoCause items.null cs → HasNoCause (struct k bits cs) items.null
+struct_null_no_cause k bits cs l h e = λ q. either (λ p. omega (arith, p, l)) (none cs h) q.1
+  where
+    none : (ds : BuilderTrees) → EachNoCause items.null ds → ¬ NullsPassEach 1 ds
+    none no_builders g = λ p. p
+    none (more_builders d ds) g = either (λ p. g.0 Overflow (refl, p)) (none ds g.1)
+
+-- A value of a dictionary: one that it knows has no cause, a new one the values' cause.
+differ : (b : Bool) → b ≡ true → b ≡ false → ⊥
+differ b e f = absurd (let a : true ≡ false = sym e ∙ f in cc)
+
+pub known_no_cause : (i : IntegerType) (k : TypeTree) (keys : List (Option ℕ)) (c : BuilderTree) (v : PlainValue) → takes c v ≡ true → ¬ IsNew c v → length keys + 1 ≤ largest_length → HasNoCause (dictionary i k keys c) (items.plain v)
+known_no_cause i k keys c v t n l e =
+    either (λ q. differ (takes c v) t q.1) (either (λ q. omega (arith, q.1, l)) (either (λ q. n q.1) (λ q. n q.0)))
+
+pub new_no_cause : (i : IntegerType) (k : TypeTree) (keys : List (Option ℕ)) (c : BuilderTree) (v : PlainValue) → takes c v ≡ true → builder_len c < key_count i → HasNoCause c (items.plain v) → length keys + 1 ≤ largest_length
+    → HasNoCause (dictionary i k keys c) (items.plain v)
+new_no_cause i k keys c v t r h l e =
+    either (λ q. differ (takes c v) t q.1) (either (λ q. omega (arith, q.1, l)) (either (λ q. omega (arith, q.2, r)) (λ q. h e q.1)))
+
+-- A value of a flat builder that takes it, of its size, and that has a place for it.
+pub flat_no_cause : (k : TypeTree) (xs : List Slot) (v : PlainValue) → takes (flat k xs) v ≡ true → ¬ HasOtherSize k (slot_of_value v) → ¬ IsFull k xs (slot_of_value v) → HasNoCause (flat k xs) (items.plain v)
+flat_no_cause k xs v t s f e = either (λ q. differ (takes (flat k xs) v) t q.1) (either (λ q. s q.1) (λ q. f q.1))
+
+pub flat_null_no_cause : (k : TypeTree) (xs : List Slot) → length xs + 1 ≤ largest_length → (length xs + 1) * size_of k ≤ largest_length → HasNoCause (flat k xs) items.null
+flat_null_no_cause k xs l m e = λ q. either (λ p. omega (arith, p, l)) (λ p. omega (arith, p, m)) q.1

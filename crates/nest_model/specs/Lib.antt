@@ -31,4 +31,6 @@ pub mod BuilderAppendLaws
 pub mod BuilderKeyLaws
 pub mod BuilderAcceptLaws
 pub mod BuilderCauseLaws
+pub mod BuilderToldLaws
+pub mod BuilderTakesLaws
 pub mod BuilderExamples
