@@ -34,3 +34,9 @@ pub mod BuilderCauseLaws
 pub mod BuilderToldLaws
 pub mod BuilderTakesLaws
 pub mod BuilderExamples
+pub mod BuilderFreeze
+pub mod BuilderFreezeLaws
+pub mod BuilderSpells
+pub mod BuilderSpellsLaws
+pub mod BuilderJoin
+pub mod BuilderJoinLaws

@@ -13,6 +13,7 @@ ghost use Rattle.nest_model.specs.BuilderWhole.{IsWhole, cut_builder, emptied, V
 ghost use Rattle.nest_model.specs.BuilderItem as items;
 ghost use Rattle.nest_model.specs.BuilderItem.{PlainValue, Item, seal_items, native_number, takes, Stands, Lacks, place_of};
 ghost use Rattle.nest_model.specs.BuilderAppend.{told, told_lengths, appended, nulls_appended, all_appended, Accepted, AcceptedAll, IsReady, Told, ToldLengths};
+ghost use Rattle.nest_model.specs.BuilderJoin.{AreAlike, joined, Joined};
 ghost use Rattle.nest_model.specs.BuilderCauses.{NullsPass, HasCause, SomeCause, HasNoCause, HaveNoCause, items_told};
 
 /// A builder has as many slots of its own as rows.
@@ -121,4 +122,9 @@ pub fn kinds_taken()
     ensures appended { (x : Item) (t : BuilderTree) (v : PlainValue) → takes (appended x t) v ≡ takes t v }
     ensures cut { (t : BuilderTree) (n : ℕ) (v : PlainValue) → takes (cut_builder t n) v ≡ takes t v }
     ensures one_kind { (t : BuilderTree) (p q : PrimitiveType) (zs ws : List ℤ) → takes t (items.native p zs) ≡ true → takes t (items.native q ws) ≡ true → native_number p ≡ native_number q }
+{}
+
+/// The rows of two whole builders of the same kinds are joined level by level.
+pub fn joined_rows()
+    ensures { (t other : BuilderTree) → AreAlike t other → IsWhole t → IsWhole other → Joined other t (joined t other) }
 {}
