@@ -1,26 +1,26 @@
 -- What nothing refuses is appended rightly, to a builder of any nesting.
-use Rattle.std.specs.Prelude.{◌⊎◌, Option, Some, None}
-use Rattle.std.proofs.Common.{◌≡◌, ◌≢◌, ℕ, zero, suc, ◌+◌, ◌*◌, ◌≤◌, ◌<◌, Bool, true, false, List, [], ◌∷◌, ◌++◌, length, map, replicate, refl, sym, ap, subst, ◌∙◌, arith, inl, inr}
+use Rattle.std.specs.Prelude.{Option, Some, None}
+use Rattle.std.proofs.Common.{◌≡◌, ◌≢◌, ℕ, zero, suc, ◌+◌, ◌*◌, Bool, true, false, List, [], ◌∷◌, ◌++◌, length, replicate, refl, sym, ap, subst, ◌∙◌, arith, inl, inr}
 use Rattle.std.proofs.lemmas.Bool.Decides.{eqb_tells}
-use Rattle.std.proofs.Math.Nat.{add-mul, one-mul}
-use Rattle.std.proofs.lemmas.List.{append_assoc, append-nil, length_push, length-append, length-replicate, replicate-append-replicate}
+use Rattle.std.proofs.Math.Nat.{add-mul}
+use Rattle.std.proofs.lemmas.List.{append_assoc, length-append, length-replicate, replicate-append-replicate}
 use Rattle.nest_memory.specs.TypeTree.{TypeTree, size_of}
 use Rattle.nest_memory.specs.declared.error.Error.{Error}
-use Rattle.nest_memory.specs.declared.error.Error.TheVariants.{InvalidArgumentError, Overflow}
+use Rattle.nest_memory.specs.declared.error.Error.TheVariants.{InvalidArgumentError}
 use Rattle.nest_memory.specs.declared.error.Argument.TheVariants.{ItemSize, ItemType}
 use Rattle.nest_memory.specs.declared.datatypes.IntegerType.{IntegerType}
 use Rattle.nest_model.specs.Slot as slots
 use Rattle.nest_model.specs.Slot.{Slot}
-use Rattle.nest_model.specs.BuilderRow.{Row, told_row, end_from, RisesFrom, values_needed}
-use Rattle.nest_model.specs.BuilderTree.{BuilderTree, BuilderTrees, flat, list, fixed_size_list, dictionary, struct, no_builders, more_builders, builder_type, builder_types, builder_len}
+use Rattle.nest_model.specs.BuilderRow.{Row, told_row, end_from}
+use Rattle.nest_model.specs.BuilderTree.{BuilderTree, BuilderTrees, flat, list, fixed_size_list, dictionary, struct, no_builders, more_builders, builder_len}
 use Rattle.nest_model.specs.BuilderLevels.{own_slots}
 use Rattle.nest_model.specs.BuilderWhole.{IsWhole, AreWhole}
 use Rattle.nest_model.specs.BuilderItem as items
 use Rattle.nest_model.specs.BuilderItem.{PlainValue, Item, Items, no_items, more_items, seal_items, unseal_items, count_items, slot_of_value, takes, place_of}
-use Rattle.nest_model.specs.BuilderAppend.{told, nulls_appended, nulls_appended_each, keyed, value_appended, appended, items_appended, Accepted, AcceptedAll, EachAccepted}
-use Rattle.nest_model.specs.BuilderCauses.{ValueCause, HasCause, SomeCause, HasNoCause}
+use Rattle.nest_model.specs.BuilderAppend.{nulls_appended, nulls_appended_each, keyed, value_appended, appended, items_appended, Accepted, AcceptedAll, EachAccepted}
+use Rattle.nest_model.specs.BuilderCauses.{SomeCause, HasNoCause}
 use Rattle.nest_model.specs.BuilderRowLaws.{end_from-append, end_from-same, RisesFrom-append, RisesFrom-same, values_needed-nulls}
-use Rattle.nest_model.specs.BuilderAppendLaws.{type-nulls, types-nulls, accepted_none, accepted_one, accepted_both, count-sealed, nulls-zero, nulls-more, flat_took, flat_took_null, list_took, list_took_null, fixed_size_list_took, fixed_size_list_took_null, dictionary_took_null, struct_took_null}
+use Rattle.nest_model.specs.BuilderAppendLaws.{type-nulls, types-nulls, accepted_none, accepted_one, accepted_both, count-sealed, nulls-zero, flat_took, flat_took_null, list_took, list_took_null, fixed_size_list_took, fixed_size_list_took_null, dictionary_took_null, struct_took_null}
 use Rattle.nest_model.specs.BuilderKeyLaws.{dictionary_knew, dictionary_took}
 
 -- n nulls more
@@ -39,9 +39,11 @@ mutual
   whole-nulls n (flat k xs) w = tt
   whole-nulls n (list large k rows c) w =
       (w.0, w.1, w.2 ∙ sym (end-nulls rows n), RisesFrom-append 0 rows (replicate n (told_row false (end_from 0 rows))) w.3 (RisesFrom-same (end_from 0 rows) n))
-  whole-nulls n (fixed_size_list k bits c) w =
-      (whole-nulls (n * size_of k) c w.0, w.1 ∙ ap Some (sym (type-nulls (n * size_of k) c)),
-       rw (len-nulls (n * size_of k) c, length-append bits (replicate n false), length-replicate n false) (omega (arith, w.2, add-mul (length bits) n (size_of k))))
+  whole-nulls n (fixed_size_list k bits c) w = (
+    whole-nulls (n * size_of k) c w.0,
+    w.1 ∙ ap Some (sym (type-nulls (n * size_of k) c)),
+    rw (len-nulls (n * size_of k) c, length-append bits (replicate n false), length-replicate n false) (omega (arith, w.2, add-mul (length bits) n (size_of k))),
+  )
   whole-nulls n (dictionary i k keys c) w = (w.0, w.1, w.2 ∙ sym (values_needed-nulls keys n))
   whole-nulls n (struct k bits cs) w =
       (rw (length-append bits (replicate n false), length-replicate n false) (whole-nulls-each n cs (length bits) w.0), types-nulls n cs ∙ w.1)

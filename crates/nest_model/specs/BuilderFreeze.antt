@@ -5,7 +5,7 @@ use Rattle.nest_model.specs.Layout.{Layout, Layouts, no_layouts, more_layouts}
 use Rattle.nest_model.specs.Accessors.{validity_of, key_at}
 use Rattle.nest_model.specs.Meaning.{len, slots_of}
 use Rattle.nest_model.specs.BuilderRow.{Row}
-use Rattle.nest_model.specs.BuilderTree.{BuilderTree, BuilderTrees, no_builders, more_builders}
+use Rattle.nest_model.specs.BuilderTree.{BuilderTrees, no_builders, more_builders}
 use Rattle.nest_model.specs.BuilderLevels.{own_slots}
 
 -- Variable-size List Layout: the offsets of rows whose items begin at s, and their bits

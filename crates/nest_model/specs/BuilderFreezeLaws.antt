@@ -1,6 +1,6 @@
 -- An array that is frozen from a builder's rows and its children's arrays stands for the builder's own slots.
 use Rattle.std.specs.Prelude.{Option, Some, None, if◌then◌else◌}
-use Rattle.std.proofs.Common.{◌≡◌, ℕ, zero, suc, ◌+◌, ◌-◌, ◌*◌, ◌/◌, ◌≤◌, ◌<◌, Bool, true, false, List, [], ◌∷◌, length, get_or, map, refl, sym, ap, ◌∙◌, arith}
+use Rattle.std.proofs.Common.{◌≡◌, ℕ, zero, suc, ◌+◌, ◌*◌, ◌/◌, ◌≤◌, ◌<◌, Bool, true, false, List, [], ◌∷◌, length, get_or, map, refl, sym, ap, ◌∙◌, arith}
 use Rattle.std.proofs.Math.Nat.{mul-div_cancel, mul-le-mul_right, add-mul, suc-mul, zero-mul}
 use Rattle.std.proofs.lemmas.List.{length-map}
 use Rattle.nest_memory.specs.TypeTree.{TypeTree, size_of}
@@ -14,7 +14,7 @@ use Rattle.nest_model.specs.Layout.{Layout, Layouts, no_layouts, more_layouts}
 use Rattle.nest_model.specs.Accessors.{validity_of, key_at}
 use Rattle.nest_model.specs.Meaning.{run, len, first_len, slot, each, slots_of}
 use Rattle.nest_model.specs.Reads.{slots-length, slot-place, items-cut}
-use Rattle.nest_model.specs.BuilderRow.{Row, end_from, RisesFrom, values_needed}
+use Rattle.nest_model.specs.BuilderRow.{Row, end_from, RisesFrom}
 use Rattle.nest_model.specs.BuilderTree.{BuilderTree, BuilderTrees, list, fixed_size_list, dictionary, struct, no_builders, more_builders, builder_len}
 use Rattle.nest_model.specs.BuilderLevels.{valid_or_null, rows_of_items, rows_of_size, value_at, record_at, rows_of_records, own_slots, own_slots_each}
 use Rattle.nest_model.specs.BuilderWhole.{IsWhole, AreWhole}

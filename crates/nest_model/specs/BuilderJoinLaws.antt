@@ -1,21 +1,19 @@
 -- What joining does to each level.
-use Rattle.std.proofs.Common.{◌≡◌, ℕ, zero, suc, ◌+◌, ◌-◌, ◌*◌, ◌≤◌, ◌<◌, Bool, List, [], ◌∷◌, ◌++◌, length, take, drop, map, refl, sym, ap, subst, ◌∙◌, arith, length-append}
+use Rattle.std.proofs.Common.{◌≡◌, ℕ, zero, suc, ◌+◌, ◌-◌, ◌*◌, Bool, List, [], ◌∷◌, ◌++◌, length, drop, refl, sym, ap, subst, ◌∙◌, arith, length-append}
 use Rattle.std.specs.Prelude.{Some}
 use Rattle.std.proofs.Math.Seq.{take-append_seam}
 use Rattle.std.proofs.Math.Nat.{add-mul}
-use Rattle.std.proofs.lemmas.List.{length-map}
 use Rattle.nest_memory.specs.TypeTree.{TypeTree, size_of}
 use Rattle.nest_memory.specs.Cut.{cut}
 use Rattle.nest_model.specs.Slot as slots
 use Rattle.nest_model.specs.Slot.{Slot, seal}
-use Rattle.nest_model.specs.BuilderRow.{Row, told_row, end_from, RisesFrom}
-use Rattle.nest_model.specs.BuilderTree.{BuilderTree, BuilderTrees, flat, list, fixed_size_list, dictionary, struct, builder_type, builder_len}
+use Rattle.nest_model.specs.BuilderRow.{Row, end_from, RisesFrom}
+use Rattle.nest_model.specs.BuilderTree.{BuilderTree, flat, list, fixed_size_list, dictionary, struct, builder_type, builder_len}
 use Rattle.nest_model.specs.BuilderLevels.{valid_or_null, rows_of_items, rows_of_size, own_slots, levels}
-use Rattle.nest_model.specs.BuilderWhole.{IsWhole, cut_builder, ValuesDiffer}
-use Rattle.nest_model.specs.BuilderJoin.{moved, AreAlike, joined, joined_levels, Joined}
+use Rattle.nest_model.specs.BuilderWhole.{IsWhole}
+use Rattle.nest_model.specs.BuilderJoin.{moved, AreAlike, joined, Joined}
 use Rattle.nest_model.specs.BuilderRowLaws.{end_from-append, RisesFrom-append}
 use Rattle.nest_model.specs.BuilderLevelLaws.{own-length, items-append, items-longer, size-longer}
-use Rattle.nest_model.specs.BuilderCutLaws.{cut-whole}
 
 -- rows further on
 end_from-moved : (e s : ℕ) (rs : List Row) → end_from (e + s) (moved e rs) ≡ e + end_from s rs
@@ -88,9 +86,9 @@ list_joined large k rows more new c d e f w v t h =
     let grown : builder_len e ≡ builder_len c + builder_len d = omega (arith, own-length c, own-length d, own-length e, ap length h.last, length-append (own_slots c) (own_slots d)) in
     let ends : end_from n (moved n more) ≡ n + end_from 0 more = ap (λ o. end_from o (moved n more)) (sym zero_more) ∙ end_from-moved n 0 more in
     let behind : rows_of_items n (moved n more) (own_slots c ++ own_slots d) ≡ rows_of_items 0 more (own_slots d)
-        = ap (λ o. rows_of_items o (moved n more) (own_slots c ++ own_slots d)) (sym zero_more) ∙ items-moved n 0 more (own_slots c) (own_slots d) at_end in
+    = ap (λ o. rows_of_items o (moved n more) (own_slots c ++ own_slots d)) (sym zero_more) ∙ items-moved n 0 more (own_slots c) (own_slots d) at_end in
     let own : rows_of_items 0 (rows ++ moved n more) (own_slots e) ≡ rows_of_items 0 rows (own_slots c) ++ rows_of_items 0 more (own_slots d)
-        = rw (h.last, items-append 0 rows (moved n more) (own_slots c ++ own_slots d), items-longer 0 rows (own_slots c) (own_slots d) w.3 (omega (arith, at_end)), behind) refl in
+    = rw (h.last, items-append 0 rows (moved n more) (own_slots c ++ own_slots d), items-longer 0 rows (own_slots c) (own_slots d) w.3 (omega (arith, at_end)), behind) refl in
     let rises : RisesFrom n (moved n more) = subst (λ o. RisesFrom o (moved n more)) zero_more (RisesFrom-moved n 0 more v.3) in
     rw f (record {
       exact = rw h.exact refl;
@@ -98,7 +96,7 @@ list_joined large k rows more new c d e f w v t h =
       last = own;
       whole = (h.whole, w.1 ∙ ap Some (sym t), omega (arith, grown, w.2, v.2, end_from-append 0 rows (moved n more), ends), RisesFrom-append 0 rows (moved n more) w.3 rises);
       undo = rw (take-append_seam rows (moved n more), ← w.2, h.undo) refl;
-      differ = h.differ
+      differ = h.differ;
     })
 
 pub fixed_size_list_joined : (k : TypeTree) (bits more new : List Bool) (c d e : BuilderTree) → new ≡ bits ++ more → IsWhole (fixed_size_list k bits c) → IsWhole (fixed_size_list k more d) → builder_type e ≡ builder_type c
@@ -108,14 +106,14 @@ fixed_size_list_joined k bits more new c d e f w v t h =
     let at_end : length (own_slots c) ≡ length bits * s = own-length c ∙ w.2 in
     let grown : builder_len e ≡ builder_len c + builder_len d = omega (arith, own-length c, own-length d, own-length e, ap length h.last, length-append (own_slots c) (own_slots d)) in
     let own : rows_of_size 0 s (bits ++ more) (own_slots e) ≡ rows_of_size 0 s bits (own_slots c) ++ rows_of_size 0 s more (own_slots d)
-        = rw (h.last, size-append 0 s bits more (own_slots c ++ own_slots d), size-longer 0 s bits (own_slots c) (own_slots d) (omega (arith, at_end)), size-moved (length bits * s) 0 s more (own_slots c) (own_slots d) at_end) refl in
+    = rw (h.last, size-append 0 s bits more (own_slots c ++ own_slots d), size-longer 0 s bits (own_slots c) (own_slots d) (omega (arith, at_end)), size-moved (length bits * s) 0 s more (own_slots c) (own_slots d) at_end) refl in
     rw f (record {
       exact = rw h.exact refl;
       every = both _ _ _ _ own h.every;
       last = own;
       whole = (h.whole, w.1 ∙ ap Some (sym t), rw (length-append bits more) (omega (arith, grown, w.2, v.2, add-mul (length bits) (length more) s)));
       undo = rw (take-append_seam bits more, ← w.2, h.undo) refl;
-      differ = h.differ
+      differ = h.differ;
     })
 
 pub flat_joined : (k : TypeTree) (xs ys new : List Slot) → new ≡ xs ++ ys → Joined (flat k ys) (flat k xs) (flat k new)

@@ -1,13 +1,13 @@
 -- A dictionary's push: where a value stands, and that the values stay different.
-use Rattle.std.specs.Prelude.{◌↔◌, ◌⊎◌, Option, Some, None, if◌then◌else◌}
+use Rattle.std.specs.Prelude.{◌↔◌, Option, Some, None, if◌then◌else◌}
 use Rattle.std.specs.Bool.{Decides, beq}
 use Rattle.std.specs.Option.{option_map}
 use Rattle.std.specs.Ordering.{int_eq}
 use Rattle.std.specs.Cmp.Lexicographic.{pointwise, pointwise_decides, bytes_decides}
-use Rattle.std.proofs.Common.{◌≡◌, ◌≢◌, ℕ, ℤ, zero, suc, ◌+◌, ◌≤◌, ◌<◌, ltb, Bool, true, false, cond, List, [], ◌∷◌, ◌++◌, length, get_or, map, max, refl, sym, ap, ◌∙◌, arith, inl, inr}
+use Rattle.std.proofs.Common.{◌≡◌, ◌≢◌, ℕ, ℤ, zero, suc, ◌≤◌, ◌<◌, ltb, Bool, true, false, cond, List, [], ◌∷◌, ◌++◌, length, get_or, map, refl, sym, ap, ◌∙◌, arith, inl, inr}
 use Rattle.std.proofs.Math.Seq.{take-append_seam}
 use Rattle.std.proofs.lemmas.Bool.{ltb-true, ltb-false}
-use Rattle.std.proofs.lemmas.Bool.Decides.{Decides-int_eq, not_from_Decides}
+use Rattle.std.proofs.lemmas.Bool.Decides.{Decides-int_eq}
 use Rattle.std.proofs.lemmas.List.{length_push, map_push, get_or_append_left, get_or_push}
 use Rattle.nest_memory.specs.TypeTree.{TypeTree}
 use Rattle.nest_memory.specs.declared.datatypes.IntegerType.{IntegerType}
@@ -19,7 +19,7 @@ use Rattle.nest_model.specs.BuilderLevels.{value_at, own_slots}
 use Rattle.nest_model.specs.BuilderWhole.{IsWhole, AreDifferent}
 use Rattle.nest_model.specs.BuilderItem as items
 use Rattle.nest_model.specs.BuilderItem.{PlainValue, truth, native, text, bytes, slot_of_value, takes, is_value, Holds, Stands, Lacks, place_of}
-use Rattle.nest_model.specs.BuilderAppend.{value_appended, Accepted}
+use Rattle.nest_model.specs.BuilderAppend.{Accepted}
 use Rattle.nest_model.specs.BuilderCauses.{IsNew}
 use Rattle.nest_model.specs.BuilderRowLaws.{values_needed-push, values_needed-nulls}
 use Rattle.nest_model.specs.BuilderLevelLaws.{own-length, len-grown, values-longer}
@@ -160,6 +160,7 @@ AreDifferent-push xs v d f i j li lj e = different (ltb i (length xs)) (ltb j (l
   where
     at_end : (k : ℕ) → k < length (xs ++ v ∷ []) → length xs ≤ k → get_or (xs ++ v ∷ []) k slots.null ≡ v
     at_end k a b = let q : k ≡ length xs = omega (arith, length_push xs v) in rw q (get_or_push xs v slots.null (length xs) refl)
+
     different : (b c : Bool) → ltb i (length xs) ≡ b → ltb j (length xs) ≡ c → i ≡ j
     different true true p q = d i j (ltb-true i (length xs) p) (ltb-true j (length xs) q) (sym (get_or_append_left xs (v ∷ []) slots.null i (ltb-true i (length xs) p)) ∙ (e ∙ get_or_append_left xs (v ∷ []) slots.null j (ltb-true j (length xs) q)))
     different true false p q = absurd (f i (ltb-true i (length xs) p) (sym (get_or_append_left xs (v ∷ []) slots.null i (ltb-true i (length xs) p)) ∙ (e ∙ at_end j lj (ltb-false j (length xs) q))))
@@ -180,7 +181,7 @@ dictionary_knew i t keys new c v k f g w =
       last = map_push (value_at (own_slots c)) keys (Some k) ∙ ap (λ x. map (value_at (own_slots c)) keys ++ x ∷ []) there.1;
       whole = (w.0, w.1, rw (values_needed-push keys k) (omega (arith, w.2, below)));
       undo = rw (take-append_seam keys (Some k ∷ []), ← w.2, cut-whole c w.0) refl;
-      differ = λ d. d
+      differ = λ d. d;
     })
 
 -- A dictionary's values took a new value: its key is the number of values before.
@@ -193,14 +194,15 @@ dictionary_took i t keys new c d v f g w a =
       last = rw (map_push (value_at (own_slots d)) keys (Some (builder_len c)), a.last, values-longer keys (own_slots c) (slot_of_value v ∷ []) at_end, get_or_push (own_slots c) (slot_of_value v) slots.null (builder_len c) (own-length c)) refl;
       whole = (a.whole, rw (type-accepted (items.plain v) c d a) w.1, rw (values_needed-push keys (builder_len c)) (omega (arith, len-grown (slot_of_value v ∷ []) c d a.last, w.2)));
       undo = rw (take-append_seam keys (Some (builder_len c) ∷ []), ← w.2, a.undo) refl;
-      differ = λ h. (AreDifferent-took c d v f a.last h.0, a.differ h.1)
+      differ = λ h. (AreDifferent-took c d v f a.last h.0, a.differ h.1);
     })
 
 -- the key of a value among different ones
 pub key_exact : (c : BuilderTree) (v : PlainValue) (k r j : ℕ) → Stands c v k → AreDifferent (own_slots c) → r ≡ k → (◌≡◌ {A = Option ℕ} (Some r) (Some j)) ↔ Stands c v j
-key_exact c v k r j h d g =
-    (λ q. let s : j ≡ k = sym (some_same r j q) ∙ g in rw s h,
-     λ q. ap (λ n. Some n) (g ∙ d k j (rw (own-length c) h.0) (rw (own-length c) q.0) (h.1.1 ∙ sym q.1.1)))
+key_exact c v k r j h d g = (
+  λ q. let s : j ≡ k = sym (some_same r j q) ∙ g in rw s h,
+  λ q. ap (λ n. Some n) (g ∙ d k j (rw (own-length c) h.0) (rw (own-length c) q.0) (h.1.1 ∙ sym q.1.1)),
+)
 
 pub key_exact-none : (c : BuilderTree) (v : PlainValue) (j : ℕ) → Lacks c v → (◌≡◌ {A = Option ℕ} None (Some j)) ↔ Stands c v j
 key_exact-none c v j h = (λ q. absurd cc, λ q. absurd (h j q))

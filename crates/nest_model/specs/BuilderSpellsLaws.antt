@@ -1,5 +1,5 @@
 -- Values that are pushed one after another.
-use Rattle.std.proofs.Common.{◌≡◌, ◌<◌, List, [], ◌∷◌, ◌++◌, Bool, true, false, length, refl, ap, ◌∙◌, arith, OnOk, OnErr, length-append}
+use Rattle.std.proofs.Common.{◌≡◌, List, [], ◌∷◌, ◌++◌, Bool, true, false, length, refl, ap, ◌∙◌, arith, OnOk, OnErr}
 use Rattle.std.specs.Prelude.{Result, Ok, Err}
 use Rattle.std.specs.Result.{is_ok}
 use Rattle.std.specs.List.{AllZip, items_where_true}
@@ -10,8 +10,8 @@ use Rattle.nest_memory.specs.declared.error.Error.{Error}
 use Rattle.nest_model.specs.BuilderTree.{BuilderTree}
 use Rattle.nest_model.specs.BuilderWhole.{IsWhole}
 use Rattle.nest_model.specs.BuilderItem.{Item}
-use Rattle.nest_model.specs.BuilderAppend.{all_appended, Accepted, AcceptedAll}
-use Rattle.nest_model.specs.BuilderCauses.{HasCause, HasNoCause, HaveNoCause}
+use Rattle.nest_model.specs.BuilderAppend.{Accepted}
+use Rattle.nest_model.specs.BuilderCauses.{HasCause, HasNoCause}
 use Rattle.nest_model.specs.BuilderSpells.{Extends, StopsAt}
 use Rattle.nest_model.specs.BuilderAppendLaws.{accepted_none, accepted_more}
 use Rattle.nest_model.specs.BuilderCauseLaws.{no_cause-more}

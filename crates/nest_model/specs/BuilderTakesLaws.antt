@@ -1,6 +1,6 @@
 -- Which values a builder takes: no call changes it, and no builder takes two kinds.
-use Rattle.std.specs.Prelude.{Option, Some, None, nat_eq}
-use Rattle.std.proofs.Common.{◌≡◌, ℕ, ℤ, Bool, true, false, List, refl, sym, ◌∙◌}
+use Rattle.std.specs.Prelude.{Option, Some, None}
+use Rattle.std.proofs.Common.{◌≡◌, ℕ, ℤ, true, List, refl, sym, ◌∙◌}
 use Rattle.std.proofs.lemmas.Bool.Decides.{Decides-eqb}
 use Rattle.nest_memory.specs.TypeTree.{TypeTree}
 use Rattle.nest_memory.specs.Physical.{physical_type}

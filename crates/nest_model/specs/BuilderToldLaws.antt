@@ -1,16 +1,13 @@
 -- What a told row adds, over items that waited in the children.
 use Rattle.std.specs.Prelude.{Option, Some, None}
-use Rattle.std.proofs.Common.{◌≡◌, ℕ, zero, suc, ◌+◌, ◌-◌, ◌*◌, ◌≤◌, ◌<◌, Bool, true, false, List, [], ◌∷◌, ◌++◌, length, drop, refl, sym, ap, ◌∙◌, arith}
+use Rattle.std.proofs.Common.{◌≡◌, ℕ, ◌+◌, ◌-◌, ◌*◌, Bool, List, [], ◌∷◌, ◌++◌, length, refl, sym, ap, ◌∙◌, arith}
 use Rattle.std.proofs.Math.Nat.{add-mul}
 use Rattle.std.proofs.lemmas.List.{length_push}
 use Rattle.nest_memory.specs.TypeTree.{TypeTree, size_of}
-use Rattle.nest_model.specs.Slot as slots
-use Rattle.nest_model.specs.Slot.{Slot, seal}
 use Rattle.nest_model.specs.BuilderRow.{Row, told_row, end_from, RisesFrom}
 use Rattle.nest_model.specs.BuilderTree.{BuilderTree, BuilderTrees, flat, list, fixed_size_list, dictionary, struct, builder_len}
-use Rattle.nest_model.specs.BuilderLevels.{valid_or_null, rows_of_items, record_at, own_slots, own_slots_each, levels, levels_below}
-use Rattle.nest_model.specs.BuilderWhole.{IsWhole, AreWhole}
-use Rattle.nest_model.specs.BuilderAppend.{told, rows_of_lengths, told_lengths, IsReady, Told, ToldLengths}
+use Rattle.nest_model.specs.BuilderLevels.{own_slots, own_slots_each}
+use Rattle.nest_model.specs.BuilderAppend.{told, rows_of_lengths, IsReady, Told, ToldLengths}
 use Rattle.nest_model.specs.BuilderCauses.{items_told}
 use Rattle.nest_model.specs.BuilderRowLaws.{end_from-push, end_from-append, RisesFrom-push, RisesFrom-append}
 use Rattle.nest_model.specs.BuilderLevelLaws.{own-length, cut-all_after, items-push, items-append, size-push, records-push}
@@ -25,7 +22,7 @@ list_told valid large k rows new c end e f w =
       last = rw (items-push 0 rows (told_row valid (builder_len c)) (own_slots c), cut-all_after (own_slots c) (end_from 0 rows) (builder_len c - end_from 0 rows) rest) refl;
       below = refl;
       whole = (w.0, w.1, sym (end_from-push 0 rows (told_row valid (builder_len c))), RisesFrom-push 0 rows (told_row valid (builder_len c)) w.3 w.2);
-      differ = λ d. d
+      differ = λ d. d;
     })
 
 -- a fixed-size list's row
@@ -38,7 +35,7 @@ fixed_size_list_told valid k bits new c f w =
       last = rw (size-push 0 (size_of k) bits valid (own_slots c), cut-all_after (own_slots c) (0 + length bits * size_of k) (size_of k) rest, from) refl;
       below = refl;
       whole = (w.0, w.1, rw (length_push bits valid) (omega (arith, w.2)));
-      differ = λ d. d
+      differ = λ d. d;
     })
 
 -- a struct's row
@@ -50,7 +47,7 @@ struct_told valid k bits new cs f w =
       last = rw (records-push 0 bits valid (own_slots_each cs), from) refl;
       below = refl;
       whole = (rw (length_push bits valid) w.0, w.1);
-      differ = λ d. d
+      differ = λ d. d;
     })
 
 -- a row of any builder whose children have it ready
@@ -91,5 +88,5 @@ list_told_lengths ns large k rows new c f n w =
       last = items-append 0 rows more (own_slots c);
       below = refl;
       whole = (w.0, w.1, sym n ∙ sym (end_from-lengths (end_from 0 rows) ns) ∙ sym (end_from-append 0 rows more), RisesFrom-append 0 rows more w.3 (RisesFrom-lengths (end_from 0 rows) ns));
-      differ = λ d. d
+      differ = λ d. d;
     })
