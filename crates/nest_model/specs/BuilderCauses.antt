@@ -1,5 +1,5 @@
 -- Why an item, a row or lengths are refused.
-use Rattle.std.specs.Prelude.{◌≡◌, ◌≢◌, ◌⊎◌, ℕ, ◌+◌, ◌*◌, ◌<◌, ◌≤◌, true, false, List, [], ◌∷◌, length, sum_by, Option, Some, None}
+use Rattle.std.specs.Prelude.{◌≡◌, ◌≢◌, ◌⊎◌, ℕ, ◌+◌, ◌*◌, ◌<◌, ◌≤◌, true, false, List, [], ◌∷◌, length, Option, Some, None}
 use Rattle.nest_memory.specs.TypeTree.{TypeTree, item_type, fields_of, size_of}
 use Rattle.nest_memory.specs.Physical.{physical_type}
 use Rattle.nest_memory.specs.declared.error.Error.{Error}
@@ -41,11 +41,7 @@ BytesPass _ n = ⊥
 abbrev pub HasOtherSize : TypeTree → Slot → Type 0
 HasOtherSize t s = (physical_type t ≡ physical.FixedSizeBinary) × (byte_count s ≢ size_of t)
 
--- the value stands at place k of a builder that takes its kind
-abbrev pub Stands : BuilderTree → PlainValue → ℕ → Type 0
-Stands c v k = (takes c v ≡ true) × (place_of v (own_slots c) ≡ Some k)
-
--- it stands at none
+-- no place of the values holds it
 abbrev pub IsNew : BuilderTree → PlainValue → Type 0
 IsNew c v = (takes c v ≡ false) ⊎ (place_of v (own_slots c) ≡ None)
 
@@ -122,14 +118,16 @@ HasRowCause e (struct t bits cs) =
     ((e ≡ InvalidArgumentError Unfinished) × IsUnfinished (struct t bits cs))
     ⊎ ((e ≡ Overflow) × IsPast (length bits + 1))
 
-abbrev pub length_of : Option ℕ → ℕ
-length_of None = 0
-length_of (Some n) = n
+-- how many items lengths tell; a null row has none
+abbrev pub items_told : List (Option ℕ) → ℕ
+items_told [] = 0
+items_told (None ∷ ns) = items_told ns
+items_told (Some n ∷ ns) = n + items_told ns
 
 -- Why a list refuses rows that are told by their lengths: they don't end where its items end.
 abbrev pub HasLengthsCause : Error → List (Option ℕ) → BuilderTree → Type 0
 HasLengthsCause e ns (list large t rows c) =
     ((e ≡ InvalidArgumentError Unfinished) × IsUnfinished (list large t rows c))
-    ⊎ (((e ≡ InvalidArgumentError LengthsSum) × (end_from 0 rows + sum_by length_of ns ≢ builder_len c))
-    ⊎ ((e ≡ Overflow) × (IsPast (length rows + length ns) ⊎ (largest_offset large < end_from 0 rows + sum_by length_of ns))))
+    ⊎ (((e ≡ InvalidArgumentError LengthsSum) × (end_from 0 rows + items_told ns ≢ builder_len c))
+    ⊎ ((e ≡ Overflow) × (IsPast (length rows + length ns) ⊎ (largest_offset large < end_from 0 rows + items_told ns))))
 HasLengthsCause e ns _ = ⊥

@@ -191,8 +191,35 @@ own-emptied (fixed_size_list k bits c) = refl
 own-emptied (dictionary i k keys c) = refl
 own-emptied (struct k bits cs) = refl
 
-len-emptied : (t : BuilderTree) → builder_len (emptied t) ≡ 0
-len-emptied t = sym (own-length (emptied t)) ∙ ap length (own-emptied t)
+pub emptied-cut : (t : BuilderTree) → emptied t ≡ cut_builder t 0
+emptied-cut t = sym (cut-none t)
+
+pub whole-emptied : (t : BuilderTree) → IsWhole t → IsWhole (emptied t)
+whole-emptied t w = rw (emptied-cut t) (whole-cut t 0 w (omega arith))
+
+mutual
+  pub levels-emptied : (t : BuilderTree) → map length (levels (emptied t)) ≡ rows_needed (emptied t) 0
+  levels-emptied (flat k xs) = refl
+  levels-emptied (list large k rows c) = ap (◌∷◌ 0) (levels-emptied c)
+  levels-emptied (fixed_size_list k bits c) = ap (◌∷◌ 0) (levels-emptied c ∙ ap (rows_needed (emptied c)) (sym (zero-mul (size_of k))))
+  levels-emptied (dictionary i k keys c) = ap (◌∷◌ 0) (levels-emptied c)
+  levels-emptied (struct k bits cs) = ap (◌∷◌ 0) (levels-emptied-each cs)
+
+  levels-emptied-each : (cs : BuilderTrees) → map length (levels_each (emptied_each cs)) ≡ rows_needed_each (emptied_each cs) 0
+  levels-emptied-each no_builders = refl
+  levels-emptied-each (more_builders c cs) = rw (map-append length (levels (emptied c)) (levels_each (emptied_each cs)), levels-emptied c, levels-emptied-each cs) refl
+
+mutual
+  pub ValuesDiffer-emptied : (t : BuilderTree) → ValuesDiffer (emptied t)
+  ValuesDiffer-emptied (flat k xs) = tt
+  ValuesDiffer-emptied (list large k rows c) = ValuesDiffer-emptied c
+  ValuesDiffer-emptied (fixed_size_list k bits c) = ValuesDiffer-emptied c
+  ValuesDiffer-emptied (dictionary i k keys c) = (rw (own-emptied c) (λ m n l. absurd (omega (arith, l))), ValuesDiffer-emptied c)
+  ValuesDiffer-emptied (struct k bits cs) = ValuesDiffer-emptied-each cs
+
+  ValuesDiffer-emptied-each : (cs : BuilderTrees) → ValuesDifferEach (emptied_each cs)
+  ValuesDiffer-emptied-each no_builders = tt
+  ValuesDiffer-emptied-each (more_builders c cs) = (ValuesDiffer-emptied c, ValuesDiffer-emptied-each cs)
 
 -- places of first slots
 pub AreDifferent-take : (xs : List Slot) (n : ℕ) → AreDifferent xs → AreDifferent (take n xs)

@@ -1,5 +1,5 @@
 -- What is pushed into a builder: null, a plain value, or a list of items.
-use Rattle.std.specs.Prelude.{ℕ, suc, ◌+◌, ℤ, Bool, true, false, nat_eq, ◌==◌, cond, List, [], ◌∷◌, length, Option, Some, None}
+use Rattle.std.specs.Prelude.{◌≡◌, ℕ, suc, ◌+◌, ◌<◌, ℤ, Bool, true, false, nat_eq, ◌==◌, cond, List, [], ◌∷◌, length, get_or, Option, Some, None}
 use Rattle.std.specs.Bool.{beq}
 use Rattle.std.specs.Option.{option_map}
 use Rattle.std.specs.Ordering.{int_eq}
@@ -11,7 +11,8 @@ use Rattle.nest_memory.specs.declared.datatypes.physical_type.PrimitiveType.{Pri
 use Rattle.nest_memory.specs.declared.datatypes.physical_type.PrimitiveType.TheVariants as primitives
 use Rattle.nest_model.specs.Slot as slots
 use Rattle.nest_model.specs.Slot.{Slot, Slots, seal}
-use Rattle.nest_model.specs.BuilderTree.{BuilderTree, flat, list, fixed_size_list, dictionary, struct}
+use Rattle.nest_model.specs.BuilderTree.{BuilderTree, flat, list, fixed_size_list, dictionary, struct, builder_len}
+use Rattle.nest_model.specs.BuilderLevels.{own_slots}
 
 -- a value of a flat builder: a native one has a kind, and the whole numbers that it is made of
 pub data PlainValue : Type 0 where
@@ -30,10 +31,14 @@ mutual
     no_items : Items
     more_items : Item → Items → Items
 
--- a list of items inside an item
+-- a list of items inside an item, and back
 abbrev pub seal_items : List Item → Items
 seal_items [] = no_items
 seal_items (x ∷ xs) = more_items x (seal_items xs)
+
+abbrev pub unseal_items : Items → List Item
+unseal_items no_items = []
+unseal_items (more_items x xs) = x ∷ unseal_items xs
 
 abbrev pub count_items : Items → ℕ
 count_items no_items = 0
@@ -100,6 +105,17 @@ is_value (native p zs) (slots.number ws) = pointwise int_eq zs ws
 is_value (text s) (slots.text t) = pointwise ◌==◌ s t
 is_value (bytes a) (slots.bytes b) = pointwise ◌==◌ a b
 is_value _ _ = false
+
+-- the builder takes that kind, and its slot i is the value
+abbrev pub Holds : BuilderTree → ℕ → PlainValue → Type 0
+Holds t i v = (takes t v ≡ true) × (get_or (own_slots t) i slots.null ≡ slot_of_value v)
+
+-- so at one of its places, and at none
+abbrev pub Stands : BuilderTree → PlainValue → ℕ → Type 0
+Stands t v k = (k < builder_len t) × Holds t k v
+
+abbrev pub Lacks : BuilderTree → PlainValue → Type 0
+Lacks t v = (k : ℕ) → ¬ Stands t v k
 
 -- the first place where the value stands
 abbrev pub place_of : PlainValue → List Slot → Option ℕ

@@ -65,6 +65,10 @@ pub items-push : (s : ℕ) (rows : List Row) (r : Row) (xs : List Slot) → rows
 items-push s [] r xs = refl
 items-push s (q ∷ rs) r xs = ap (λ ys. valid_or_null q.valid (slots.list (seal (cut xs s (q.end - s)))) ∷ ys) (items-push q.end rs r xs)
 
+pub items-append : (s : ℕ) (xs ys : List Row) (zs : List Slot) → rows_of_items s (xs ++ ys) zs ≡ rows_of_items s xs zs ++ rows_of_items (end_from s xs) ys zs
+items-append s [] ys zs = refl
+items-append s (x ∷ xs) ys zs = ap (λ us. valid_or_null x.valid (slots.list (seal (cut zs s (x.end - s)))) ∷ us) (items-append x.end xs ys zs)
+
 pub size-push : (s n : ℕ) (bits : List Bool) (b : Bool) (xs : List Slot) → rows_of_size s n (bits ++ b ∷ []) xs ≡ rows_of_size s n bits xs ++ valid_or_null b (slots.list (seal (cut xs (s + length bits * n) n))) ∷ []
 size-push s n [] b xs = rw (zero-mul n, add-zero s) refl
 size-push s n (q ∷ bs) b xs =

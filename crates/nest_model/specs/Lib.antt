@@ -41,4 +41,15 @@ pub mod BuilderRowLaws
 pub mod BuilderLevelLaws
 pub mod BuilderCutLaws
 pub mod BuilderAppendLaws
+pub mod BuilderKeyLaws
+pub mod BuilderAcceptLaws
+pub mod BuilderCauseLaws
+pub mod BuilderToldLaws
+pub mod BuilderTakesLaws
 pub mod BuilderExamples
+pub mod BuilderFreeze
+pub mod BuilderFreezeLaws
+pub mod BuilderSpells
+pub mod BuilderSpellsLaws
+pub mod BuilderJoin
+pub mod BuilderJoinLaws

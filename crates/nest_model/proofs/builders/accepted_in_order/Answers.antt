@@ -1,4 +1,4 @@
-use Rattle.nest_model.specs.BuilderAppendLaws.{accepted_none, accepted_more}
+use Rattle.nest_model.specs.BuilderAppendLaws.{accepted_none, accepted_more, accepted_both}
 use Rattle.nest_model.proofs.builders.accepted_in_order.Goals as goal
 
 pub returns-clause-none : goal.returns-clause-none
@@ -6,3 +6,6 @@ returns-clause-none c = accepted_none
 
 pub returns-clause-more : goal.returns-clause-more
 returns-clause-more c = accepted_more
+
+pub returns-clause-both : goal.returns-clause-both
+returns-clause-both c = accepted_both

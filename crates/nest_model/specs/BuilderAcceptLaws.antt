@@ -1,0 +1,153 @@
+-- What nothing refuses is appended rightly, to a builder of any nesting.
+use Rattle.std.specs.Prelude.{Option, Some, None}
+use Rattle.std.proofs.Common.{◌≡◌, ◌≢◌, ℕ, zero, suc, ◌+◌, ◌*◌, Bool, true, false, List, [], ◌∷◌, ◌++◌, length, replicate, refl, sym, ap, subst, ◌∙◌, arith, inl, inr}
+use Rattle.std.proofs.lemmas.Bool.Decides.{eqb_tells}
+use Rattle.std.proofs.Math.Nat.{add-mul}
+use Rattle.std.proofs.lemmas.List.{append_assoc, length-append, length-replicate, replicate-append-replicate}
+use Rattle.nest_memory.specs.TypeTree.{TypeTree, size_of}
+use Rattle.nest_memory.specs.declared.error.Error.{Error}
+use Rattle.nest_memory.specs.declared.error.Error.TheVariants.{InvalidArgumentError}
+use Rattle.nest_memory.specs.declared.error.Argument.TheVariants.{ItemSize, ItemType}
+use Rattle.nest_memory.specs.declared.datatypes.IntegerType.{IntegerType}
+use Rattle.nest_model.specs.Slot as slots
+use Rattle.nest_model.specs.Slot.{Slot}
+use Rattle.nest_model.specs.BuilderRow.{Row, told_row, end_from}
+use Rattle.nest_model.specs.BuilderTree.{BuilderTree, BuilderTrees, flat, list, fixed_size_list, dictionary, struct, no_builders, more_builders, builder_len}
+use Rattle.nest_model.specs.BuilderLevels.{own_slots}
+use Rattle.nest_model.specs.BuilderWhole.{IsWhole, AreWhole}
+use Rattle.nest_model.specs.BuilderItem as items
+use Rattle.nest_model.specs.BuilderItem.{PlainValue, Item, Items, no_items, more_items, seal_items, unseal_items, count_items, slot_of_value, takes, place_of}
+use Rattle.nest_model.specs.BuilderAppend.{nulls_appended, nulls_appended_each, keyed, value_appended, appended, items_appended, Accepted, AcceptedAll, EachAccepted}
+use Rattle.nest_model.specs.BuilderCauses.{SomeCause, HasNoCause}
+use Rattle.nest_model.specs.BuilderRowLaws.{end_from-append, end_from-same, RisesFrom-append, RisesFrom-same, values_needed-nulls}
+use Rattle.nest_model.specs.BuilderAppendLaws.{type-nulls, types-nulls, accepted_none, accepted_one, accepted_both, count-sealed, nulls-zero, flat_took, flat_took_null, list_took, list_took_null, fixed_size_list_took, fixed_size_list_took_null, dictionary_took_null, struct_took_null}
+use Rattle.nest_model.specs.BuilderKeyLaws.{dictionary_knew, dictionary_took}
+
+-- n nulls more
+pub len-nulls : (n : ℕ) (t : BuilderTree) → builder_len (nulls_appended n t) ≡ builder_len t + n
+len-nulls n (flat k xs) = omega (arith, length-append xs (replicate n slots.null), length-replicate n slots.null)
+len-nulls n (list large k rows c) = omega (arith, length-append rows (replicate n (told_row false (end_from 0 rows))), length-replicate n (told_row false (end_from 0 rows)))
+len-nulls n (fixed_size_list k bits c) = omega (arith, length-append bits (replicate n false), length-replicate n false)
+len-nulls n (dictionary i k keys c) = omega (arith, length-append keys (replicate n None), length-replicate {A = Option ℕ} n None)
+len-nulls n (struct k bits cs) = omega (arith, length-append bits (replicate n false), length-replicate n false)
+
+end-nulls : (rows : List Row) (n : ℕ) → end_from 0 (rows ++ replicate n (told_row false (end_from 0 rows))) ≡ end_from 0 rows
+end-nulls rows n = end_from-append 0 rows (replicate n (told_row false (end_from 0 rows))) ∙ end_from-same (end_from 0 rows) n
+
+mutual
+  pub whole-nulls : (n : ℕ) (t : BuilderTree) → IsWhole t → IsWhole (nulls_appended n t)
+  whole-nulls n (flat k xs) w = tt
+  whole-nulls n (list large k rows c) w =
+      (w.0, w.1, w.2 ∙ sym (end-nulls rows n), RisesFrom-append 0 rows (replicate n (told_row false (end_from 0 rows))) w.3 (RisesFrom-same (end_from 0 rows) n))
+  whole-nulls n (fixed_size_list k bits c) w = (
+    whole-nulls (n * size_of k) c w.0,
+    w.1 ∙ ap Some (sym (type-nulls (n * size_of k) c)),
+    rw (len-nulls (n * size_of k) c, length-append bits (replicate n false), length-replicate n false) (omega (arith, w.2, add-mul (length bits) n (size_of k))),
+  )
+  whole-nulls n (dictionary i k keys c) w = (w.0, w.1, w.2 ∙ sym (values_needed-nulls keys n))
+  whole-nulls n (struct k bits cs) w =
+      (rw (length-append bits (replicate n false), length-replicate n false) (whole-nulls-each n cs (length bits) w.0), types-nulls n cs ∙ w.1)
+
+  whole-nulls-each : (n : ℕ) (cs : BuilderTrees) (m : ℕ) → AreWhole cs m → AreWhole (nulls_appended_each n cs) (m + n)
+  whole-nulls-each n no_builders m w = tt
+  whole-nulls-each n (more_builders c cs) m w = (whole-nulls n c w.0, omega (arith, len-nulls n c, w.1), whole-nulls-each n cs m w.2)
+
+-- one null after another, where each is accepted
+many : (t : BuilderTree) (m n : ℕ) → IsWhole t → ((k : ℕ) → Accepted items.null (nulls_appended k t) (nulls_appended (k + 1) t)) → AcceptedAll (replicate n items.null) (nulls_appended m t) (nulls_appended (m + n) t)
+many t m zero w step = let e : m ≡ m + 0 = omega arith in subst (λ k. AcceptedAll [] (nulls_appended m t) (nulls_appended k t)) e (accepted_none (nulls_appended m t) (whole-nulls m t w))
+many t m (suc n) w step =
+    let e : m + 1 + n ≡ m + suc n = omega arith in
+    let rest = subst (λ k. AcceptedAll (replicate n items.null) (nulls_appended (m + 1) t) (nulls_appended k t)) e (many t (m + 1) n w step) in
+    accepted_both (items.null ∷ []) (replicate n items.null) (nulls_appended m t) (nulls_appended (m + 1) t) (nulls_appended (m + suc n) t)
+    (accepted_one items.null (nulls_appended m t) (nulls_appended (m + 1) t) (whole-nulls m t w) (step m)) rest
+
+one-more : {A : Type 0} (xs : List A) (m : ℕ) (x : A) → xs ++ replicate (m + 1) x ≡ (xs ++ replicate m x) ++ x ∷ []
+one-more xs m x = ap (λ ys. xs ++ ys) (sym (replicate-append-replicate m 1 x)) ∙ sym (append_assoc xs (replicate m x) (x ∷ []))
+
+mutual
+  next-null : (t : BuilderTree) (m : ℕ) → IsWhole t → Accepted items.null (nulls_appended m t) (nulls_appended (m + 1) t)
+  next-null (flat k xs) m w = flat_took_null k (xs ++ replicate m slots.null) (xs ++ replicate (m + 1) slots.null) (one-more xs m slots.null)
+  next-null (list large k rows c) m w =
+      list_took_null large k (rows ++ replicate m (told_row false (end_from 0 rows))) (rows ++ replicate (m + 1) (told_row false (end_from 0 rows))) c (end_from 0 rows)
+      (sym (end-nulls rows m)) (one-more rows m (told_row false (end_from 0 rows))) (whole-nulls m (list large k rows c) w)
+  next-null (fixed_size_list k bits c) m w =
+      let e : m * size_of k + size_of k ≡ (m + 1) * size_of k = omega (arith, add-mul m 1 (size_of k)) in
+      fixed_size_list_took_null k (bits ++ replicate m false) (bits ++ replicate (m + 1) false) (nulls_appended (m * size_of k) c) (nulls_appended ((m + 1) * size_of k) c)
+      (one-more bits m false) (whole-nulls m (fixed_size_list k bits c) w)
+      (subst (λ n. AcceptedAll (replicate (size_of k) items.null) (nulls_appended (m * size_of k) c) (nulls_appended n c)) e (many c (m * size_of k) (size_of k) w.0 (λ j. next-null c j w.0)))
+  next-null (dictionary i k keys c) m w = dictionary_took_null i k (keys ++ replicate m None) (keys ++ replicate (m + 1) None) c (one-more keys m None) (whole-nulls m (dictionary i k keys c) w)
+  next-null (struct k bits cs) m w =
+      struct_took_null k (bits ++ replicate m false) (bits ++ replicate (m + 1) false) (nulls_appended_each m cs) (nulls_appended_each (m + 1) cs)
+      (one-more bits m false) (whole-nulls m (struct k bits cs) w) (next-null-each cs m (length bits) w.0)
+
+  next-null-each : (cs : BuilderTrees) (m n : ℕ) → AreWhole cs n → EachAccepted items.null (nulls_appended_each m cs) (nulls_appended_each (m + 1) cs)
+  next-null-each no_builders m n w = tt
+  next-null-each (more_builders c cs) m n w = (next-null c m w.0, next-null-each cs m n w.2)
+
+-- a null is appended rightly to any whole builder, and so are several
+pub accepted-null : (t : BuilderTree) → IsWhole t → Accepted items.null t (nulls_appended 1 t)
+accepted-null t w = subst (λ u. Accepted items.null u (nulls_appended 1 t)) (nulls-zero t) (next-null t 0 w)
+
+pub accepted-nulls : (t : BuilderTree) (n : ℕ) → IsWhole t → AcceptedAll (replicate n items.null) t (nulls_appended n t)
+accepted-nulls t n w =
+    let e : 0 + n ≡ n = omega arith in
+    let all = subst (λ m. AcceptedAll (replicate n items.null) (nulls_appended 0 t) (nulls_appended m t)) e (many t 0 n w (λ j. next-null t j w)) in
+    subst (λ u. AcceptedAll (replicate n items.null) u (nulls_appended n t)) (nulls-zero t) all
+
+-- a value that nothing refuses
+accepted-key : (v : PlainValue) (i : IntegerType) (k : TypeTree) (keys : List (Option ℕ)) (c d : BuilderTree) (o : Option ℕ) → place_of v (own_slots c) ≡ o → IsWhole (dictionary i k keys c)
+    → (place_of v (own_slots c) ≡ None → Accepted (items.plain v) c d) → Accepted (items.plain v) (dictionary i k keys c) (keyed i k keys c d o)
+accepted-key v i k keys c d (Some j) e w h = dictionary_knew i k keys (keys ++ Some j ∷ []) c v j e refl w
+accepted-key v i k keys c d None e w h = dictionary_took i k keys (keys ++ Some (builder_len c) ∷ []) c d v e refl w (h e)
+
+pub accepted-value : (v : PlainValue) (t : BuilderTree) → IsWhole t → HasNoCause t (items.plain v) → Accepted (items.plain v) t (value_appended v t)
+accepted-value v (flat k xs) w h = flat_took k xs (xs ++ slot_of_value v ∷ []) v refl
+accepted-value v (list large k rows c) w h = absurd (h (InvalidArgumentError ItemType) refl)
+accepted-value v (fixed_size_list k bits c) w h = absurd (h (InvalidArgumentError ItemType) refl)
+accepted-value v (dictionary i k keys c) w h =
+    accepted-key v i k keys c (value_appended v c) (place_of v (own_slots c)) refl w (λ p. accepted-value v c w.0 (λ e q. h e (inr (inr (inr (inr p, q))))))
+accepted-value v (struct k bits cs) w h = absurd (h (InvalidArgumentError ItemType) refl)
+
+-- a list of items that nothing refuses
+pub seal-unseal : (xs : Items) → seal_items (unseal_items xs) ≡ xs
+seal-unseal no_items = refl
+seal-unseal (more_items x xs) = ap (more_items x) (seal-unseal xs)
+
+count-unsealed : (xs : Items) → length (unseal_items xs) ≡ count_items xs
+count-unsealed xs = sym (count-sealed (unseal_items xs)) ∙ ap count_items (seal-unseal xs)
+
+same_count : (m n : ℕ) → ((m ≢ n) → ⊥) → m ≡ n
+same_count m n h = elim (eqb_tells m n) [ inl e ↦ e.1 | inr e ↦ absurd (h e.1) ]
+
+accepted-list : (large : Bool) (k : TypeTree) (rows : List Row) (c : BuilderTree) (xs : Items) → IsWhole (list large k rows c) → AcceptedAll (unseal_items xs) c (items_appended xs c)
+    → Accepted (items.list_of xs) (list large k rows c) (appended (items.list_of xs) (list large k rows c))
+accepted-list large k rows c xs w a =
+    let d = items_appended xs c in
+    subst (λ ys. Accepted (items.list_of ys) (list large k rows c) (list large k (rows ++ told_row true (builder_len d) ∷ []) d)) (seal-unseal xs)
+    (list_took large k rows (rows ++ told_row true (builder_len d) ∷ []) c d (unseal_items xs) (builder_len d) refl refl w a)
+
+accepted-fixed : (k : TypeTree) (bits : List Bool) (c : BuilderTree) (xs : Items) → count_items xs ≡ size_of k → IsWhole (fixed_size_list k bits c) → AcceptedAll (unseal_items xs) c (items_appended xs c)
+    → Accepted (items.list_of xs) (fixed_size_list k bits c) (appended (items.list_of xs) (fixed_size_list k bits c))
+accepted-fixed k bits c xs n w a =
+    let d = items_appended xs c in
+    subst (λ ys. Accepted (items.list_of ys) (fixed_size_list k bits c) (fixed_size_list k (bits ++ true ∷ []) d)) (seal-unseal xs)
+    (fixed_size_list_took k bits (bits ++ true ∷ []) c d (unseal_items xs) (count-unsealed xs ∙ n) refl w a)
+
+-- what nothing refuses is appended rightly
+mutual
+  pub accepted-appended : (x : Item) (t : BuilderTree) → IsWhole t → HasNoCause t x → Accepted x t (appended x t)
+  accepted-appended items.null t w h = accepted-null t w
+  accepted-appended (items.plain v) t w h = accepted-value v t w h
+  accepted-appended (items.list_of xs) (flat k ss) w h = absurd (h (InvalidArgumentError ItemType) refl)
+  accepted-appended (items.list_of xs) (list large k rows c) w h = accepted-list large k rows c xs w (accepted-items xs c w.0 (λ e q. h e (inl q)))
+  accepted-appended (items.list_of xs) (fixed_size_list k bits c) w h =
+      accepted-fixed k bits c xs (same_count (count_items xs) (size_of k) (λ n. h (InvalidArgumentError ItemSize) (inr (inl (refl, n))))) w (accepted-items xs c w.0 (λ e q. h e (inl q)))
+  accepted-appended (items.list_of xs) (dictionary i k keys c) w h = absurd (h (InvalidArgumentError ItemType) refl)
+  accepted-appended (items.list_of xs) (struct k bits cs) w h = absurd (h (InvalidArgumentError ItemType) refl)
+
+  accepted-items : (xs : Items) (t : BuilderTree) → IsWhole t → ((e : Error) → ¬ SomeCause e t xs) → AcceptedAll (unseal_items xs) t (items_appended xs t)
+  accepted-items no_items t w h = accepted_none t w
+  accepted-items (more_items x xs) t w h =
+      let first = accepted-appended x t w (λ e q. h e (inl q)) in
+      accepted_both (x ∷ []) (unseal_items xs) t (appended x t) (items_appended xs (appended x t)) (accepted_one x t (appended x t) w first)
+      (accepted-items xs (appended x t) first.whole (λ e q. h e (inr (λ f r. h f (inl r), q))))

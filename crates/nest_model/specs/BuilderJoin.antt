@@ -1,0 +1,56 @@
+-- One builder's rows after another's of the same kind.
+use Rattle.std.specs.Prelude.{◌≡◌, ◌≢◌, ◌⊎◌, ℕ, ◌+◌, ◌*◌, ◌<◌, List, [], ◌∷◌, ◌++◌, length, map}
+use Rattle.nest_memory.specs.TypeTree.{size_of}
+use Rattle.nest_memory.specs.Physical.{physical_type}
+use Rattle.nest_memory.specs.declared.error.Error.{Error}
+use Rattle.nest_memory.specs.declared.error.Error.TheVariants.{InvalidArgumentError, Overflow}
+use Rattle.nest_memory.specs.declared.error.Argument.TheVariants.{ItemType}
+use Rattle.nest_model.specs.Slot.{Slot}
+use Rattle.nest_model.specs.BuilderRow.{Row, told_row, end_from}
+use Rattle.nest_model.specs.BuilderTree.{BuilderTree, flat, list, fixed_size_list, builder_type, builder_len, IsPast, largest_offset}
+use Rattle.nest_model.specs.BuilderLevels.{own_slots, levels}
+use Rattle.nest_model.specs.BuilderWhole.{IsWhole, cut_builder, ValuesDiffer}
+use Rattle.nest_model.specs.BuilderItem.{bytes_held}
+use Rattle.nest_model.specs.BuilderCauses.{BytesPass}
+
+-- Variable-size List Layout: rows whose items lie s places further
+abbrev pub moved : ℕ → List Row → List Row
+moved s rows = map (λ (r : Row). told_row r.valid (s + r.end)) rows
+
+-- the same kinds and data types at every level; dictionaries and structs aren't joined
+abbrev pub AreAlike : BuilderTree → BuilderTree → Type 0
+AreAlike (flat t xs) (flat u ys) = t ≡ u
+AreAlike (list large t rows c) (list wide u more d) = (large ≡ wide) × (t ≡ u) × AreAlike c d
+AreAlike (fixed_size_list t bits c) (fixed_size_list u more d) = (t ≡ u) × AreAlike c d
+AreAlike _ _ = ⊥
+
+abbrev pub joined : BuilderTree → BuilderTree → BuilderTree
+joined (flat t xs) (flat u ys) = flat t (xs ++ ys)
+joined (list large t rows c) (list wide u more d) = list large t (rows ++ moved (end_from 0 rows) more) (joined c d)
+joined (fixed_size_list t bits c) (fixed_size_list u more d) = fixed_size_list t (bits ++ more) (joined c d)
+joined t _ = t
+
+-- each level with the other's level behind it
+abbrev pub joined_levels : List (List Slot) → List (List Slot) → List (List Slot)
+joined_levels (xs ∷ xss) (ys ∷ yss) = (xs ++ ys) ∷ joined_levels xss yss
+joined_levels _ _ = []
+
+-- The rows of other were joined to old: each level gained other's level, no item waits, and a cut to the former length takes them back.
+pub record Joined (other old new : BuilderTree) : Type 0 where
+  pub exact : new ≡ joined old other
+  pub every : levels new ≡ joined_levels (levels old) (levels other)
+  pub last : own_slots new ≡ own_slots old ++ own_slots other
+  pub whole : IsWhole new
+  pub undo : cut_builder new (builder_len old) ≡ old
+  pub differ : ValuesDiffer old → ValuesDiffer new
+
+-- the rows of both pass a limit, here or at a level below
+abbrev pub JoinPasses : BuilderTree → BuilderTree → Type 0
+JoinPasses (flat t xs) (flat u ys) = IsPast (length xs + length ys) ⊎ (IsPast ((length xs + length ys) * size_of t) ⊎ BytesPass (physical_type t) (bytes_held xs + bytes_held ys))
+JoinPasses (list large t rows c) (list wide u more d) = IsPast (length rows + length more) ⊎ ((largest_offset large < end_from 0 rows + end_from 0 more) ⊎ JoinPasses c d)
+JoinPasses (fixed_size_list t bits c) (fixed_size_list u more d) = IsPast (length bits + length more) ⊎ (IsPast ((length bits + length more) * size_of t) ⊎ JoinPasses c d)
+JoinPasses _ _ = ⊥
+
+-- why another builder's rows are refused: its data type is another, or both pass a limit
+abbrev pub HasJoinCause : Error → BuilderTree → BuilderTree → Type 0
+HasJoinCause e old other = ((e ≡ InvalidArgumentError ItemType) × (builder_type old ≢ builder_type other)) ⊎ ((e ≡ Overflow) × JoinPasses old other)
