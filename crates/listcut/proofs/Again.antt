@@ -1,5 +1,5 @@
 -- What is spelled is read again.
-use Rattle.std.proofs.Common.{◌≡◌, ℕ, zero, suc, ◌+◌, ◌-◌, ◌^◌, ◌<◌, ◌≤◌, true, false, not, eqb, List, [], ◌∷◌, ◌++◌, length, get_or, map, Option, Some, None, Ok, ℤ, pos, negsuc, refl, sym, ap, neg_ℤ, lit<, lit≤, zero-add, ◌∙◌, append_assoc, arith, rules, option_map, All, length-append}
+use Rattle.std.proofs.Common.{◌≡◌, ℕ, zero, suc, ◌+◌, ◌-◌, ◌^◌, ◌<◌, ◌≤◌, true, false, not, eqb, List, [], ◌∷◌, ◌++◌, length, get_or, map, Some, Ok, ℤ, pos, negsuc, refl, sym, ap, neg_ℤ, lit<, lit≤, zero-add, ◌∙◌, append_assoc, arith, rules, option_map, All, length-append}
 use Rattle.std.specs.Prelude.{codes, bytes_eq, decimal, FitsSigned, option_and_then}
 use Rattle.std.specs.Int.{w64, IsInRange}
 use Rattle.std.specs.Fmt.{signed_decimal}

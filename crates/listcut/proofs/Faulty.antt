@@ -3,9 +3,8 @@ use Rattle.std.proofs.Common.{◌≡◌, ℕ, ◌+◌, ◌^◌, ◌≤◌, cond,
 use Rattle.std.proofs.lemmas.Bool.{ltb-false}
 use Rattle.std.proofs.lemmas.Option.{same_Some, none-some}
 use Rattle.std.proofs.lemmas.List.Sums.{sum_by-append}
-use Rattle.nest_model.specs.Slot as slots
-use Rattle.nest_model.specs.Slot.{Slot, Slots, seal, unseal, no_slots, more_slots}
-use Rattle.listcut.specs.Rows.{row_len, item_count, IsItem, IsRow, AreRows}
+use Rattle.nest_model.specs.Slot.{Slot}
+use Rattle.listcut.specs.Rows.{row_len, item_count, IsRow}
 use Rattle.listcut.specs.Grammar.{row_of, lines_of, rows_after, rows_of, with_row}
 use Rattle.listcut.specs.Spelling.{row_text, IsFirstFault}
 use Rattle.listcut.proofs.Again.{row_again}

@@ -7,3 +7,6 @@ pub mod Again
 pub mod Spelled
 pub mod Faulty
 pub mod Unended
+pub mod Written
+pub mod Texts
+pub mod Counted

@@ -1,19 +1,9 @@
 -- The program's rows, each as its slot: Null, or a List of Null and whole numbers.
-use Rattle.std.specs.Prelude.{◌≡◌, ℕ, ◌^◌, ◌<◌, List, [], ◌∷◌, map, length, sum_by, Option, Some, None, ℤ, FitsSigned}
+use Rattle.std.specs.Prelude.{ℕ, ◌^◌, ◌<◌, List, [], ◌∷◌, length, sum_by, FitsSigned}
 use Rattle.std.specs.Int.{w64}
 use Rattle.std.specs.List.{AllByRecursion}
 use Rattle.nest_model.specs.Slot as slots
-use Rattle.nest_model.specs.Slot.{Slot, seal, unseal}
-
--- the slot of an item that the code holds
-abbrev pub item_slot : Option ℤ → Slot
-item_slot None = slots.null
-item_slot (Some number) = slots.number (number ∷ [])
-
--- the slot of a row that the code holds
-abbrev pub row_slot : Option (List (Option ℤ)) → Slot
-row_slot None = slots.null
-row_slot (Some items) = slots.list (seal (map item_slot items))
+use Rattle.nest_model.specs.Slot.{Slot, unseal}
 
 -- how many items a row has
 abbrev pub row_len : Slot → ℕ

@@ -1,5 +1,5 @@
 -- The one spelling of rows. It is this project's own.
-use Rattle.std.specs.Prelude.{◌≡◌, ◌⊎◌, List, [], ◌∷◌, ◌++◌, map, flat_map, ℕ, codes, ◌+◌, ◌<◌, ◌≤◌, ◌^◌, length}
+use Rattle.std.specs.Prelude.{◌≡◌, ◌⊎◌, List, [], ◌∷◌, ◌++◌, map, flat_map, ℕ, codes, ◌+◌, ◌≤◌, ◌^◌, length}
 use Rattle.std.specs.List.{join_with_byte}
 use Rattle.std.specs.Fmt.{signed_decimal}
 use Rattle.nest_model.specs.Slot as slots

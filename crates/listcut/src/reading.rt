@@ -1,12 +1,20 @@
 //! Rows from bytes.
-ghost use Rattle.std.specs.Prelude.{◌≡◌, ℕ, ◌+◌, ◌<◌, ◌∷◌, ◌++◌, ◌==◌, false, All, MatchOption, option_map, map, IfOk, length};
+ghost use Rattle.std.specs.Prelude.{◌≡◌, ℕ, ◌+◌, ◌<◌, ◌∷◌, ◌++◌, ◌==◌, false, All, MatchOption, option_map, map, IfOk, IfErr, Ok, length};
 ghost use Rattle.std.specs.Bool.{then_some};
-ghost use Rattle.listcut.specs.Rows.{item_slot};
+ghost use Rattle.nest_array.specs.Items.{item_slot};
 ghost use Rattle.listcut.specs.SeenRow.{seen_row};
+ghost use Rattle.nest_memory.specs.TypeTree as types;
+ghost use Rattle.nest_model.specs.Layout.{layout_type};
+ghost use Rattle.nest_model.specs.Meaning.{slots_of};
+ghost use Rattle.nest_array.specs.Types.{default_list_type};
+ghost use Rattle.listcut.specs.Outcome.{ReadFault};
 ghost use Rattle.listcut.specs.Grammar.{item_of, items_of, row_of, lines_of, rows_of};
 
+use crate::fault::Fault;
 use crate::numbers::parse_number;
-use std::alloc::AllocError;
+use nest_array::{ListArray, MutableListArray};
+use nest_memory::error::Error;
+use std::alloc::{AllocError, Global};
 
 /// The items of a row, or nothing where it is null.
 type Row<'a> = Option<&'a [Option<i64>]>;
@@ -81,5 +89,41 @@ fn next_line(bytes: &[u8]) -> (&[u8], &[u8])
     match after {
         Some(rest) => (line, rest),
         None => (line, &[]),
+    }
+}
+
+/// The array that the bytes spell, of type `List(Int64)`. Lines end with a line feed, which the last may lack.
+/// A line is `null` or `[`, items with `,` between them, `]`; an item is `null` or a whole number of 64 bits.
+///
+/// # Errors
+/// `Line(k)` where line k, from 1, is the first that is no row, or with which there are 2^31 items or more.
+/// `Memory`.
+pub fn read_rows(alloc: Global, bytes: &[u8]) -> Result<ListArray, Fault>
+    ensures rows { IfOk result (λ a. rows_of bytes.now ≡ Ok (slots_of a)) }
+    ensures same_type { IfOk result (λ a. layout_type a ≡ default_list_type types.int64) }
+    ensures fault { IfErr result (λ fault. ReadFault fault (rows_of bytes.now)) }
+{
+    let Ok(mut rows) = MutableListArray::new(alloc) else {
+        return Err(Fault::Memory);
+    };
+    let mut items = Vec::new(alloc);
+    let mut above = 0u64;
+    let mut rest = bytes;
+    'lines: while !rest.is_empty() {
+        let (line, after) = next_line(rest);
+        let Some(row) = parse_row(line, &mut items)? else {
+            return Err(Fault::Line(above + 1));
+        };
+        match rows.try_push(row) {
+            Ok(()) => {}
+            Err(Error::Overflow) => return Err(Fault::Line(above + 1)),
+            Err(_) => return Err(Fault::Memory),
+        }
+        above += 1;
+        rest = after;
+    }
+    match rows.freeze() {
+        Ok(rows) => Ok(rows),
+        Err(_) => Err(Fault::Memory),
     }
 }
