@@ -1,5 +1,5 @@
 -- Spelling, one item and one row after another.
-use Rattle.std.proofs.Common.{◌≡◌, ℕ, ◌+◌, ◌<◌, ◌≤◌, List, [], ◌∷◌, ◌++◌, length, take, map, refl, sym, ap, ◌∙◌, append_assoc, append-nil, arith}
+use Rattle.std.proofs.Common.{◌≡◌, ℕ, ◌+◌, ◌<◌, ◌≤◌, List, [], ◌∷◌, ◌++◌, length, take, map, refl, sym, ap, ◌∙◌, append_assoc, append-nil, arith, Option, Some, None, ℤ}
 use Rattle.std.specs.List.{join_with_byte}
 use Rattle.std.proofs.lemmas.List.{take_more, take_all, map-append, length-take}
 use Rattle.std.proofs.lemmas.List.Concat.{flat_map-cons}
@@ -8,6 +8,8 @@ use Rattle.nest_model.specs.Slot.{Slot}
 use Rattle.nest_model.specs.Layout.{Layout}
 use Rattle.nest_model.specs.Meaning.{len, slot, slots_of}
 use Rattle.nest_model.specs.Reads.{slots-length, slot-place}
+use Rattle.nest_flat.specs.FlatParts.{optional}
+use Rattle.nest_array.specs.Items.{item_slot}
 use Rattle.listcut.specs.Spelling.{item_text, row_text, text_of}
 
 -- ---- the first slots of an array
@@ -21,6 +23,11 @@ pub all-slots : (a : Layout) (i : ℕ) → len a ≤ i → take i (slots_of a) �
 all-slots a i h = take_all i (slots_of a) (omega (arith, slots-length a))
 
 -- ---- items
+
+-- the slot of an item that was got
+pub got-item : (item : Option ℤ) → optional (λ x. slots.number (x ∷ [])) item ≡ item_slot item
+got-item None = refl
+got-item (Some number) = refl
 
 abbrev pub joined : List Slot → List ℕ
 joined items = join_with_byte 44 (map item_text items)
@@ -58,7 +65,7 @@ text-more : (rows : List Slot) (row : Slot) → text_of (rows ++ row ∷ []) ≡
 text-more [] row = flat_map-cons (λ r. row_text r ++ 10 ∷ []) row [] ∙ append-nil (row_text row ++ 10 ∷ [])
 text-more (x ∷ xs) row =
     flat_map-cons (λ r. row_text r ++ 10 ∷ []) x (xs ++ row ∷ []) ∙ ap (λ l. (row_text x ++ 10 ∷ []) ++ l) (text-more xs row)
-    ∙ sym (append_assoc (row_text x ++ 10 ∷ []) (text_of xs) (row_text row ++ 10 ∷ []) )
+    ∙ sym (append_assoc (row_text x ++ 10 ∷ []) (text_of xs) (row_text row ++ 10 ∷ []))
     ∙ ap (λ l. l ++ (row_text row ++ 10 ∷ [])) (sym (flat_map-cons (λ r. row_text r ++ 10 ∷ []) x xs))
 
 pub rows-next : (a : Layout) (i : ℕ) (before between after : List ℕ) → i < len a → before ≡ text_of (take i (slots_of a)) → between ≡ before ++ row_text (slot a i) → after ≡ between ++ 10 ∷ []

@@ -35,8 +35,7 @@ text_end row [] fits = (row_text row, row_end row fits.0, flat_map-cons (λ r. r
 text_end row (next ∷ more) fits =
     let rest = text_end next more fits.1 in
     let end = rest.1 in
-    let front = row_text row ++ 10 ∷ [] in
-    (
+    let front = row_text row ++ 10 ∷ [] in (
       front ++ rest.0,
       (front ++ end.0, end.1, end.2, ap (λ l. front ++ l) end.3 ∙ sym (append_assoc front end.0 (end.1 ∷ []))),
       flat_map-cons (λ r. row_text r ++ 10 ∷ []) row (next ∷ more) ∙ ap (λ l. front ++ l) rest.2 ∙ sym (append_assoc front rest.0 (10 ∷ [])),

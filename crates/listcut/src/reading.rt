@@ -61,7 +61,10 @@ fn parse_items(bytes: &[u8], items: &mut Vec<Option<i64>>) -> Result<bool, Alloc
 }
 
 /// The row that the line spells, if it spells one. Its items are put in place of those in `items`.
-fn parse_row<'a>(line: &[u8], items: &'a mut Vec<Option<i64>>) -> Result<Option<Row<'a>>, AllocError>
+fn parse_row<'a>(
+    line: &[u8],
+    items: &'a mut Vec<Option<i64>>,
+) -> Result<Option<Row<'a>>, AllocError>
     ensures { IfOk result (λ found. option_map seen_row found ≡ row_of line.now) }
 {
     if line == b"null".as_slice() {

@@ -83,8 +83,18 @@ fn cuts_rows(rt: HostRuntime) -> Result<(), Fail> {
         ("4", "0", ROWS, ""),
         ("0", "1", "[1]", "[1]\n"),
         ("0", "0", "", ""),
-        ("0", "1", "[-9223372036854775808]\n", "[-9223372036854775808]\n"),
-        ("0", "1", "[9223372036854775807,0,-1]\n", "[9223372036854775807,0,-1]\n"),
+        (
+            "0",
+            "1",
+            "[-9223372036854775808]\n",
+            "[-9223372036854775808]\n",
+        ),
+        (
+            "0",
+            "1",
+            "[9223372036854775807,0,-1]\n",
+            "[9223372036854775807,0,-1]\n",
+        ),
     ] {
         let out = cut(rt.alloc(), &[offset, len], input)?;
         assert_eq!(rt; out.as_slice(), want.as_bytes(), "{offset} {len}");
@@ -105,7 +115,10 @@ fn refuses_arguments(rt: HostRuntime) {
         assert_eq!(rt; cut(rt.alloc(), &words, ROWS).err(), Some(Fault::Arguments));
     }
     assert_eq!(rt; cut(rt.alloc(), &["1"], ROWS).err(), Some(Fault::Arguments));
-    assert_eq!(rt; cut(rt.alloc(), &["1", "1", "1"], ROWS).err(), Some(Fault::Arguments));
+    assert_eq!(rt;
+        cut(rt.alloc(), &["1", "1", "1"], ROWS).err(),
+        Some(Fault::Arguments)
+    );
 }
 
 #[test]
@@ -121,9 +134,16 @@ fn refuses_lines_and_ranges(rt: HostRuntime) {
         ("5", ROWS, Fault::Range),
         ("18446744073709551615", ROWS, Fault::Range),
     ] {
-        assert_eq!(rt; cut(rt.alloc(), &["0", len], input).err(), Some(want), "{input}");
+        assert_eq!(rt;
+            cut(rt.alloc(), &["0", len], input).err(),
+            Some(want),
+            "{input}"
+        );
     }
-    assert_eq!(rt; cut(rt.alloc(), &["3", "2"], ROWS).err(), Some(Fault::Range));
+    assert_eq!(rt;
+        cut(rt.alloc(), &["3", "2"], ROWS).err(),
+        Some(Fault::Range)
+    );
 }
 
 #[test]

@@ -11,7 +11,8 @@ ghost use Rattle.listcut.specs.Outcome.{Writes};
 
 use crate::fault::Fault;
 use itoa::Buffer;
-use nest_array::{ListArray, PrimitiveArray};
+use nest_array::ListArray;
+use nest_flat::primitive::PrimitiveArray;
 use std::alloc::{AllocError, Global};
 use std::io::Write;
 
@@ -27,7 +28,7 @@ fn push_item(out: &mut Vec<u8>, item: Option<i64>) -> Result<(), AllocError>
     }
 }
 
-fn push_items(out: &mut Vec<u8>, items: &PrimitiveArray) -> Result<(), AllocError>
+fn push_items(out: &mut Vec<u8>, items: &PrimitiveArray<i64>) -> Result<(), AllocError>
     ensures { OnOk result (out.new.items ≡ out.old.items ++ join_with_byte 44 (map item_text (slots_of items.now))) }
 {
     for i in 0..items.len() {
@@ -39,14 +40,14 @@ fn push_items(out: &mut Vec<u8>, items: &PrimitiveArray) -> Result<(), AllocErro
     Ok(())
 }
 
-fn push_row(out: &mut Vec<u8>, rows: &ListArray, i: usize) -> Result<(), AllocError>
+fn push_row(alloc: Global, out: &mut Vec<u8>, rows: &ListArray, i: usize) -> Result<(), AllocError>
     requires { i < len rows.now }
     ensures { OnOk result (out.new.items ≡ out.old.items ++ row_text (slot rows.now i)) }
 {
     if rows.is_null(i) {
         return out.extend_from_slice(b"null");
     }
-    let Ok(items) = rows.value(i) else {
+    let Ok(items) = rows.value(alloc, i) else {
         return Err(AllocError);
     };
     out.push(b'[')?;
@@ -61,7 +62,7 @@ fn spell(alloc: Global, rows: &ListArray) -> Result<Vec<u8>, AllocError>
 {
     let mut out = Vec::new(alloc);
     for i in 0..rows.len() {
-        push_row(&mut out, rows, i)?;
+        push_row(alloc, &mut out, rows, i)?;
         out.push(b'\n')?;
     }
     Ok(out)
@@ -90,11 +91,7 @@ fn write_bytes<W: Write>(writer: &mut W, bytes: &[u8]) -> Result<(), Fault>
 /// # Errors
 /// `Output` where a write or the flush fails or a write takes no byte: a beginning of the text went out.
 /// `Memory`: nothing was written.
-pub fn write_rows<W: Write>(
-    alloc: Global,
-    rows: &ListArray,
-    writer: &mut W,
-) -> Result<(), Fault>
+pub fn write_rows<W: Write>(alloc: Global, rows: &ListArray, writer: &mut W) -> Result<(), Fault>
     requires { item_type (layout_type rows.now) ≡ Some types.int64 }
     ensures { Writes result (W.contents writer.old) (W.contents writer.new) (text_of (slots_of rows.now)) }
 {
