@@ -1,15 +1,17 @@
 -- Spelling, one item and one row after another.
-use Rattle.std.proofs.Common.{◌≡◌, ℕ, ◌+◌, ◌<◌, ◌≤◌, List, [], ◌∷◌, ◌++◌, length, take, map, refl, sym, ap, ◌∙◌, append_assoc, append-nil, arith, Option, Some, None, ℤ}
+use Rattle.std.proofs.Common.{◌≡◌, ℕ, ◌+◌, ◌<◌, ◌≤◌, List, [], ◌∷◌, ◌++◌, length, take, map, refl, sym, ap, ◌∙◌, append_assoc, append-nil, arith, Option, Some, None, ℤ, Bool, true, false, cond}
 use Rattle.std.specs.List.{join_with_byte}
 use Rattle.std.proofs.lemmas.List.{take_more, take_all, map-append, length-take}
 use Rattle.std.proofs.lemmas.List.Concat.{flat_map-cons}
 use Rattle.nest_model.specs.Slot as slots
-use Rattle.nest_model.specs.Slot.{Slot}
+use Rattle.nest_model.specs.Slot.{Slot, seal}
+use Rattle.nest_model.specs.Part.{Validity, valid_at}
 use Rattle.nest_model.specs.Layout.{Layout}
 use Rattle.nest_model.specs.Meaning.{len, slot, slots_of}
-use Rattle.nest_model.specs.Reads.{slots-length, slot-place}
+use Rattle.nest_model.specs.Reads.{where_valid, slots-length, slot-place}
 use Rattle.nest_flat.specs.FlatParts.{optional}
 use Rattle.nest_array.specs.Items.{item_slot}
+use Rattle.listcut.proofs.Sealed.{unseal-seal}
 use Rattle.listcut.specs.Spelling.{item_text, row_text, text_of}
 
 -- ---- the first slots of an array
@@ -60,6 +62,18 @@ module _ (a : Layout) (i : ℕ) (within : i < len a) (old before between after :
       pushed ∙ ap (λ l. l ++ item_text item) (same ∙ so_far ∙ ap (λ l. old ++ joined l) none ∙ append-nil old) ∙ ap (λ l. old ++ l) (sym one)
 
 -- ---- rows
+
+-- a list that is not null
+where-valid : (valid : Bool) (s r : Slot) → r ≡ cond valid s slots.null → (r ≡ slots.null → ⊥) → r ≡ s
+where-valid true s r e h = e
+where-valid false s r e h = absurd (h e)
+
+pub row-pushed : (old one two three : List ℕ) (va : Validity) (i : ℕ) (row : Slot) (items : List Slot) → row ≡ where_valid va i (slots.list (seal items)) → (row ≡ slots.null → ⊥)
+    → one ≡ old ++ 91 ∷ [] → two ≡ one ++ joined items → three ≡ two ++ 93 ∷ [] → three ≡ old ++ row_text row
+row-pushed old one two three va i row items at some opened filled closed =
+    let inside = joined items in
+    let text : row_text row ≡ 91 ∷ inside ++ 93 ∷ [] = ap row_text (where-valid (valid_at va i) (slots.list (seal items)) row at some) ∙ ap (λ ss. 91 ∷ joined ss ++ 93 ∷ []) (unseal-seal items) in
+    closed ∙ ap (λ l. l ++ 93 ∷ []) (filled ∙ ap (λ l. l ++ inside) opened ∙ append_assoc old (91 ∷ []) inside) ∙ append_assoc old (91 ∷ inside) (93 ∷ []) ∙ ap (λ l. old ++ l) (sym text)
 
 text-more : (rows : List Slot) (row : Slot) → text_of (rows ++ row ∷ []) ≡ text_of rows ++ (row_text row ++ 10 ∷ [])
 text-more [] row = flat_map-cons (λ r. row_text r ++ 10 ∷ []) row [] ∙ append-nil (row_text row ++ 10 ∷ [])

@@ -1,6 +1,7 @@
 //! A whole run: words and bytes in, bytes out.
-ghost use Rattle.std.specs.Prelude.{◌≡◌, ℕ, ◌↔◌, None, map, string_bytes, IfOk, OnOk, IfErr, IfSome, IsErrOf};
+ghost use Rattle.std.specs.Prelude.{◌≡◌, ℕ, ◌↔◌, None, map, length, string_bytes, IfOk, OnOk, IfErr, IfSome, IsErrOf};
 ghost use Rattle.std.specs.Io.KnownBytes.{IsAtEnd};
+ghost use Rattle.nest_model.specs.Meaning.{len, slots_of};
 ghost use Rattle.listcut.specs.Grammar.{window_of};
 ghost use Rattle.listcut.specs.Outcome.{answer_to, Answers, IsInputOrMemory};
 
@@ -8,6 +9,7 @@ use crate::fault::Fault;
 use crate::numbers::parse_window;
 use crate::reading::read_rows;
 use crate::writing::write_rows;
+use nest_array::ListArray;
 use std::alloc::Global;
 use std::io::{Read, Write};
 
@@ -27,6 +29,13 @@ fn read_input<R: Read>(alloc: Global, reader: &mut R) -> Result<Vec<u8>, Fault>
         }
     }
     Err(Fault::Input)
+}
+
+fn count_rows(rows: &ListArray) -> u64
+    ensures slots { result ≡ length (slots_of rows.now) }
+    ensures len { result ≡ len rows.now }
+{
+    rows.len() as u64
 }
 
 /// Reads rows, and writes those of the window that the words give: `OFFSET LENGTH`, each `0` or a nonzero digit
@@ -58,10 +67,13 @@ pub fn run<R: Read, W: Write>(
     let input = read_input(alloc, reader)?;
     let mut rows = read_rows(alloc, &input)?;
     drop(input);
-    let count = rows.len() as u64;
+    let count = count_rows(&rows);
     if offset > count || len > count - offset {
+        drop(rows);
         return Err(Fault::Range);
     }
     rows.slice(offset as usize, len as usize);
-    write_rows(alloc, &rows, writer)
+    let written = write_rows(alloc, &rows, writer);
+    drop(rows);
+    written
 }

@@ -47,11 +47,13 @@ fn push_row(alloc: Global, out: &mut Vec<u8>, rows: &ListArray, i: usize) -> Res
     if rows.is_null(i) {
         return out.extend_from_slice(b"null");
     }
+    out.push(b'[')?;
     let Ok(items) = rows.value(alloc, i) else {
         return Err(AllocError);
     };
-    out.push(b'[')?;
-    push_items(out, &items)?;
+    let pushed = push_items(out, &items);
+    drop(items);
+    pushed?;
     out.push(b']')?;
     Ok(())
 }
