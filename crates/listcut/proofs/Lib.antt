@@ -1,0 +1,12 @@
+pub mod Digits
+pub mod Pieces
+pub mod Items
+pub mod Lines
+pub mod Sealed
+pub mod Again
+pub mod Spelled
+pub mod Faulty
+pub mod Unended
+pub mod Written
+pub mod Texts
+pub mod Counted

@@ -1,0 +1,5 @@
+pub mod Rows
+pub mod Grammar
+pub mod Spelling
+pub mod Outcome
+pub mod SeenRow

@@ -1,0 +1,31 @@
+-- The program's rows, each as its slot: Null, or a List of Null and whole numbers.
+use Rattle.std.specs.Prelude.{ℕ, ◌^◌, ◌<◌, List, [], ◌∷◌, length, sum_by, FitsSigned}
+use Rattle.std.specs.Int.{w64}
+use Rattle.std.specs.List.{AllByRecursion}
+use Rattle.nest_model.specs.Slot as slots
+use Rattle.nest_model.specs.Slot.{Slot, unseal}
+
+-- how many items a row has
+abbrev pub row_len : Slot → ℕ
+row_len (slots.list items) = length (unseal items)
+row_len other = 0
+
+-- how many items the rows have together
+abbrev pub item_count : List Slot → ℕ
+item_count rows = sum_by row_len rows
+
+-- ---- which slots are rows of the program
+
+abbrev pub IsItem : Slot → Type 0
+IsItem slots.null = Unit {0}
+IsItem (slots.number (number ∷ [])) = FitsSigned w64 number
+IsItem other = ⊥
+
+abbrev pub IsRow : Slot → Type 0
+IsRow slots.null = Unit {0}
+IsRow (slots.list items) = AllByRecursion IsItem (unseal items)
+IsRow other = ⊥
+
+-- each is null or a list of nulls and numbers of 64 bits, and they have fewer than 2^31 items
+abbrev pub AreRows : List Slot → Type 0
+AreRows rows = AllByRecursion IsRow rows × (item_count rows < 2 ^ 31)

@@ -1,0 +1,132 @@
+//! Rows from bytes.
+ghost use Rattle.std.specs.Prelude.{◌≡◌, ℕ, ◌+◌, ◌<◌, ◌∷◌, ◌++◌, ◌==◌, false, All, MatchOption, option_map, map, IfOk, IfErr, Ok, length};
+ghost use Rattle.std.specs.Bool.{then_some};
+ghost use Rattle.nest_array.specs.Items.{item_slot};
+ghost use Rattle.listcut.specs.SeenRow.{seen_row};
+ghost use Rattle.nest_memory.specs.TypeTree as types;
+ghost use Rattle.nest_model.specs.Layout.{layout_type};
+ghost use Rattle.nest_model.specs.Meaning.{slots_of};
+ghost use Rattle.nest_array.specs.Types.{default_list_type};
+ghost use Rattle.listcut.specs.Outcome.{ReadFault};
+ghost use Rattle.listcut.specs.Grammar.{item_of, items_of, row_of, lines_of, rows_of};
+
+use crate::fault::Fault;
+use crate::numbers::parse_number;
+use nest_array::{ListArray, MutableListArray};
+use nest_memory::error::Error;
+use std::alloc::{AllocError, Global};
+
+/// The items of a row, or nothing where it is null.
+type Row<'a> = Option<&'a [Option<i64>]>;
+
+/// What stands before the first `separator`, and what follows it, if it is there.
+fn split_at_byte(bytes: &[u8], separator: u8) -> (&[u8], Option<&[u8]>)
+    ensures before { All (λ b. (b == separator) ≡ false) result.0.now }
+    ensures whole { MatchOption result.1 (bytes.now ≡ result.0.now) (λ rest. bytes.now ≡ result.0.now ++ separator ∷ rest.now) }
+{
+    match bytes.iter().position(|b| *b == separator) {
+        Some(i) => (&bytes[..i], Some(&bytes[i + 1..])),
+        None => (bytes, None),
+    }
+}
+
+fn parse_item(bytes: &[u8]) -> Option<Option<i64>>
+    ensures { option_map item_slot result ≡ item_of bytes.now }
+{
+    if bytes == b"null".as_slice() {
+        Some(None)
+    } else {
+        Some(Some(parse_number(bytes)?))
+    }
+}
+
+/// Puts the items that the bytes spell in place of those in `items`. False where they spell none.
+fn parse_items(bytes: &[u8], items: &mut Vec<Option<i64>>) -> Result<bool, AllocError>
+    ensures { IfOk result (λ whole. then_some whole (map item_slot items.new.items) ≡ items_of bytes.now) }
+{
+    items.clear();
+    if bytes.is_empty() {
+        return Ok(true);
+    }
+    let mut rest = Some(bytes);
+    'items: while let Some(text) = rest {
+        let (first, after) = split_at_byte(text, b',');
+        let Some(item) = parse_item(first) else {
+            return Ok(false);
+        };
+        items.push(item)?;
+        rest = after;
+    }
+    Ok(true)
+}
+
+/// The row that the line spells, if it spells one. Its items are put in place of those in `items`.
+fn parse_row<'a>(
+    line: &[u8],
+    items: &'a mut Vec<Option<i64>>,
+) -> Result<Option<Row<'a>>, AllocError>
+    ensures { IfOk result (λ found. option_map seen_row found ≡ row_of line.now) }
+{
+    if line == b"null".as_slice() {
+        return Ok(Some(None));
+    }
+    match line {
+        [b'[', inside @ .., b']'] => {
+            if parse_items(inside, items)? {
+                Ok(Some(Some(items.as_slice())))
+            } else {
+                Ok(None)
+            }
+        }
+        _ => Ok(None),
+    }
+}
+
+/// The first line, and what follows it.
+fn next_line(bytes: &[u8]) -> (&[u8], &[u8])
+    requires { 0 < length bytes.now }
+    ensures line { lines_of bytes.now ≡ result.0.now ∷ lines_of result.1.now }
+    ensures less { length result.1.now < length bytes.now }
+{
+    let (line, after) = split_at_byte(bytes, b'\n');
+    match after {
+        Some(rest) => (line, rest),
+        None => (line, &[]),
+    }
+}
+
+/// The array that the bytes spell, of type `List(Int64)`. Lines end with a line feed, which the last may lack.
+/// A line is `null` or `[`, items with `,` between them, `]`; an item is `null` or a whole number of 64 bits.
+///
+/// # Errors
+/// `Line(k)` where line k, from 1, is the first that is no row, or with which there are 2^31 items or more.
+/// `Memory`.
+pub fn read_rows(alloc: Global, bytes: &[u8]) -> Result<ListArray, Fault>
+    ensures rows { IfOk result (λ a. rows_of bytes.now ≡ Ok (slots_of a)) }
+    ensures same_type { IfOk result (λ a. layout_type a ≡ default_list_type types.int64) }
+    ensures fault { IfErr result (λ fault. ReadFault fault (rows_of bytes.now)) }
+{
+    let Ok(mut rows) = MutableListArray::new(alloc) else {
+        return Err(Fault::Memory);
+    };
+    let mut items = Vec::new(alloc);
+    let mut above = 0u64;
+    let mut rest = bytes;
+    'lines: while !rest.is_empty() {
+        let (line, after) = next_line(rest);
+        let Some(row) = parse_row(line, &mut items)? else {
+            return Err(Fault::Line(above + 1));
+        };
+        match rows.try_push(row) {
+            Ok(()) => {}
+            Err(Error::Overflow) => return Err(Fault::Line(above + 1)),
+            Err(_) => return Err(Fault::Memory),
+        }
+        above += 1;
+        rest = after;
+    }
+    match rows.freeze() {
+        Ok(rows) => Ok(rows),
+        Err(_) => Err(Fault::Memory),
+    }
+}

@@ -1,0 +1,79 @@
+//! A whole run: words and bytes in, bytes out.
+ghost use Rattle.std.specs.Prelude.{◌≡◌, ℕ, ◌↔◌, None, map, length, string_bytes, IfOk, OnOk, IfErr, IfSome, IsErrOf};
+ghost use Rattle.std.specs.Io.KnownBytes.{IsAtEnd};
+ghost use Rattle.nest_model.specs.Meaning.{len, slots_of};
+ghost use Rattle.listcut.specs.Grammar.{window_of};
+ghost use Rattle.listcut.specs.Outcome.{answer_to, Answers, IsInputOrMemory};
+
+use crate::fault::Fault;
+use crate::numbers::parse_window;
+use crate::reading::read_rows;
+use crate::writing::write_rows;
+use nest_array::ListArray;
+use std::alloc::Global;
+use std::io::{Read, Write};
+
+/// All that the reader has left.
+fn read_input<R: Read>(alloc: Global, reader: &mut R) -> Result<Vec<u8>, Fault>
+    ensures bytes { IfOk result (λ input. IfSome (R.remaining reader.old) (λ bytes. input.items ≡ bytes)) }
+    ensures end { OnOk result (IsAtEnd (R.remaining reader.new)) }
+    ensures err { IfErr result IsInputOrMemory }
+{
+    let mut input = Vec::new(alloc);
+    let mut buffer = [0u8; 4096];
+    'reads: for _turn in 0..u64::MAX {
+        match reader.read(&mut buffer) {
+            Ok(0) => return Ok(input),
+            Ok(n) => input.extend_from_slice(&buffer[..n])?,
+            Err(_) => return Err(Fault::Input),
+        }
+    }
+    Err(Fault::Input)
+}
+
+fn count_rows(rows: &ListArray) -> u64
+    ensures slots { result ≡ length (slots_of rows.now) }
+    ensures len { result ≡ len rows.now }
+{
+    rows.len() as u64
+}
+
+/// Reads rows, and writes those of the window that the words give: `OFFSET LENGTH`, each `0` or a nonzero digit
+/// with further digits, below 2^64.
+///
+/// # Errors
+/// The first of these, in this order; with any but `Output` nothing was written:
+/// - `Arguments` where the words are no window; the reader is not touched.
+/// - `Input` where a read fails. The whole input is read first.
+/// - `Line(k)` where line k, from 1, is the first that is no row, or with which there are 2^31 items or more.
+/// - `Range` where the window goes past the rows.
+/// - `Output` where a write or the flush fails, or a write takes no byte.
+///
+/// `Memory` may come in place of any but `Arguments`.
+pub fn run<R: Read, W: Write>(
+    alloc: Global,
+    words: &[String],
+    reader: &mut R,
+    writer: &mut W,
+) -> Result<(), Fault>
+    ensures answers { IfSome (R.remaining reader.old) (λ input. Answers result (answer_to (map string_bytes words.now) input) (W.contents writer.old) (W.contents writer.new)) }
+    ensures whole { OnOk result (IsAtEnd (R.remaining reader.new)) }
+    ensures arguments { IsErrOf result Fault.Arguments ↔ (window_of (map string_bytes words.now) ≡ None) }
+    ensures unread { window_of (map string_bytes words.now) ≡ None → R.remaining reader.new ≡ R.remaining reader.old }
+{
+    let Some((offset, len)) = parse_window(words) else {
+        return Err(Fault::Arguments);
+    };
+    let input = read_input(alloc, reader)?;
+    let mut rows = read_rows(alloc, &input)?;
+    drop(input);
+    let count = count_rows(&rows);
+    if offset > count || len > count - offset {
+        drop(rows);
+        return Err(Fault::Range);
+    }
+    rows.slice(offset as usize, len as usize);
+    let written = write_rows(alloc, &rows, writer);
+    drop(rows);
+    written
+}
