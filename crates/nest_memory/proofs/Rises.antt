@@ -326,23 +326,4 @@ ends_more before ls i l n h g =
     let e = last_before before ns a n refl in
     append_assoc before ns _ ∙ ap (λ k. before ++ (ns ++ (k + l) ∷ [])) e ∙ ap (λ ms. before ++ ms) (sym (ends_step a ls i l h g))
 
-module _ {A : Type 0} where
-  -- a cut begins with its first item
-  pub cut-first : (xs : List A) (f b : ℕ) (x : A) → slice_get xs f ≡ Some x → f < b → cut xs f (b - f) ≡ x ∷ cut xs (f + 1) (b - (f + 1))
-  cut-first xs f b x e h =
-      let p = read xs f x e in
-      let s : b - f ≡ suc (b - (f + 1)) = omega arith in
-      ap (take (b - f)) (turn_drop xs f x p.0 p.1) ∙ ap (λ m. take m (x ∷ drop (f + 1) xs)) s
-
-  -- and ends with its last
-  pub cut-last : (xs : List A) (f b : ℕ) (x : A) → slice_get xs (b - 1) ≡ Some x → f < b → cut xs f (b - f) ≡ cut xs f (b - 1 - f) ++ x ∷ []
-  cut-last xs f b x e h =
-      let p = read xs (b - 1) x e in
-      let s : b - f ≡ b - 1 - f + 1 = omega arith in
-      let at : f + (b - 1 - f) ≡ b - 1 = omega arith in
-      let lt : b - 1 - f < length (drop f xs) = omega (arith, length-drop f xs, p.0) in
-      ap (λ m. take m (drop f xs)) s
-      ∙ take_more (drop f xs) (b - 1 - f) x lt
-      ∙ ap (λ y. take (b - 1 - f) (drop f xs) ++ y ∷ []) (get_or-drop f xs (b - 1 - f) x ∙ ap (λ k. get_or xs k x) at ∙ sym p.1)
-
 pub ruleset rising = (numbers_len, numbers_cut, offsets_some)

@@ -1,5 +1,6 @@
 pub mod Bits
 pub mod Cut
+pub mod CutLaws
 pub mod Native
 pub mod NativeStructs
 pub mod Physical

@@ -1,4 +1,4 @@
--- What a native value is: the list of its whole numbers.
+-- What a native value is: the list of its whole numbers, high half or longest unit first.
 use Rattle.std.specs.Prelude.{◌≡◌, ◌==◌, ◌&&◌, ℕ, ℤ, pos, List, [], ◌∷◌, Bool, true, length, refl}
 use Rattle.std.specs.Bool.{Decides}
 use Rattle.std.specs.Ordering.{int_eq}
@@ -15,19 +15,21 @@ parts_of DaysMs = 2
 parts_of MonthDayNano = 3
 parts_of _ = 1
 
--- The numbers of a signed value, and of an unsigned one.
+-- "Fixed-size Primitive Layout": an integer is one number.
 abbrev pub signed : ℤ → List ℤ
 signed n = n ∷ []
 
 abbrev pub unsigned : ℕ → List ℤ
 unsigned n = pos n ∷ []
 
+-- Values with the same number are the same.
 pub signed-one : (a b : ℤ) → signed a ≡ signed b → a ≡ b
 signed-one a b h = cc
 
 pub unsigned-one : (a b : ℕ) → unsigned a ≡ unsigned b → a ≡ b
 unsigned-one a b h = cc
 
+-- `==` says whether the numbers are the same.
 pub signed-decides : (a b : ℤ) → Decides (int_eq a b) (signed a ≡ signed b)
 signed-decides a b = Decides-like (int_eq a b) (ap signed) (signed-one a b) (Decides-int_eq a b)
 

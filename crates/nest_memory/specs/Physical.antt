@@ -11,12 +11,13 @@ use Rattle.nest_memory.specs.declared.datatypes.physical_type.PhysicalType.TheVa
 use Rattle.nest_memory.specs.declared.datatypes.physical_type.PrimitiveType.{PrimitiveType}
 use Rattle.nest_memory.specs.declared.datatypes.physical_type.PrimitiveType.TheVariants as primitive
 
+-- The widths of `IntervalUnit` of `Schema.fbs`.
 abbrev interval_type : IntervalUnit → PrimitiveType
 interval_type YearMonth = primitive.Int32
 interval_type DayTime = primitive.DaysMs
 interval_type MonthDayNano = primitive.MonthDayNano
 
--- the physical type of the logical type
+-- "Physical Memory Layout": how the values of the logical type lie in memory.
 abbrev pub physical_type : TypeTree → PhysicalType
 physical_type types.null = physical.Null
 physical_type types.boolean = physical.Boolean
@@ -54,7 +55,7 @@ physical_type (types.decimal p s) = physical.Primitive primitive.Int128
 physical_type (types.decimal256 p s) = physical.Primitive primitive.Int256
 physical_type (types.extension n t m) = physical_type t
 
--- the two widths of one physical type: 32 bits, or 64 where it is large
+-- "Variable-size List Layout", "Variable-size Binary Layout": offsets have 32 bits, or 64 where it is large.
 abbrev pub list_of_width : Bool → PhysicalType
 list_of_width large = if large then physical.LargeList else physical.List
 
@@ -64,7 +65,7 @@ binary_of_width large = if large then physical.LargeBinary else physical.Binary
 abbrev pub text_of_width : Bool → PhysicalType
 text_of_width large = if large then physical.LargeUtf8 else physical.Utf8
 
--- Of this project, as arrow2 does: the data type of keys, and of an array that names only its native type.
+-- Of this project, as arrow2 has it: the data type of a dictionary's keys, and of an array that names only its native type.
 abbrev pub integer_tree : IntegerType → TypeTree
 integer_tree integers.Int8 = types.int8
 integer_tree integers.Int16 = types.int16
@@ -92,7 +93,7 @@ primitive_tree primitive.Float64 = types.float64
 primitive_tree primitive.DaysMs = types.interval DayTime
 primitive_tree primitive.MonthDayNano = types.interval MonthDayNano
 
--- that data type has that native type
+-- An array of that data type has that native type.
 pub physical_type-primitive_tree : (p : PrimitiveType) → physical_type (primitive_tree p) ≡ physical.Primitive p
 physical_type-primitive_tree primitive.Int8 = refl
 physical_type-primitive_tree primitive.Int16 = refl

@@ -1,4 +1,4 @@
--- The tree that a data type stands for.
+-- Of this project: the tree that a data type of the program stands for.
 use Rattle.std.specs.Prelude.{◌≡◌, suc, length, nat_eq, List, [], ◌∷◌, map, String, string_bytes, ℕ, ℤ, Option, None, Some}
 use Rattle.std.specs.Option.{option_map}
 use Rattle.std.proofs.Common.{refl, ap, sym, arith}
@@ -10,18 +10,21 @@ use Rattle.nest_memory.specs.declared.datatypes.DataType.{DataType, fold-DataTyp
 use Rattle.nest_memory.specs.declared.datatypes.field.Field.{Field, fold-Field}
 use Rattle.nest_memory.specs.declared.datatypes.DataType.TheOpen.{DataType-F, Field-F}
 
+-- A text that may be absent, as its bytes.
 abbrev pub text_of : Option (String Global) → Option Letters
 text_of None = None
 text_of (Some s) = Some (string_bytes s)
 
+-- A map from texts to texts, as the pairs of their bytes.
 abbrev pub entries_of : List (String Global × String Global) → Entries
 entries_of es = map (λ e. (string_bytes e.0, string_bytes e.1)) es
 
+-- A list of fields.
 abbrev pub field_trees : List FieldTree → FieldTrees
 field_trees [] = no_fields
 field_trees (f ∷ fs) = more_fields f (field_trees fs)
 
--- one level, with each part inside already seen
+-- One level of a data type, whose inner types are trees already.
 abbrev pub type_step : DataType-F TypeTree FieldTree → TypeTree
 type_step DataType-F.Null = types.null
 type_step DataType-F.Boolean = types.boolean
@@ -59,25 +62,27 @@ type_step (DataType-F.Decimal precision scale) = types.decimal precision scale
 type_step (DataType-F.Decimal256 precision scale) = types.decimal256 precision scale
 type_step (DataType-F.Extension name inner metadata) = types.extension (string_bytes name) inner.value (text_of metadata)
 
+-- One level of a field.
 abbrev pub field_step : Field-F TypeTree FieldTree → FieldTree
 field_step f = field (string_bytes f.name) f.data_type f.is_nullable (entries_of f.metadata.entries)
 
+-- The tree of a data type, and of a field.
 abbrev pub type_of : DataType → TypeTree
 type_of = fold-DataType TypeTree FieldTree type_step field_step
 
 abbrev pub field_of : Field → FieldTree
 field_of = fold-Field TypeTree FieldTree type_step field_step
 
--- the fields of a struct or a union
+-- The trees of a struct's or a union's fields.
 abbrev pub field_list_of : List Field → FieldTrees
 field_list_of fs = field_trees (map field_of fs)
 
--- as many fields in the tree as there are
+-- The tree has as many fields as the list.
 pub count_fields-field_list_of : (fs : List Field) → count_fields (field_list_of fs) ≡ length fs
 count_fields-field_list_of [] = refl
 count_fields-field_list_of (f ∷ fs) = ap suc (count_fields-field_list_of fs)
 
--- they are two exactly where there are two
+-- They are two exactly where the list has two.
 pub are_two-field_list_of : (fs : List Field) → are_two (field_list_of fs) ≡ nat_eq (length fs) 2
 are_two-field_list_of [] = refl
 are_two-field_list_of (f ∷ []) = refl

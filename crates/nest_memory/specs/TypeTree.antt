@@ -1,4 +1,5 @@
--- What a data type is, without memory: the tree that contracts compare.
+-- What a data type is, without memory: the tree that contracts compare. It restates `Field` and the union `Type` of `Schema.fbs`
+-- of the Arrow columnar format, with its "Extension Types" as a type of their own.
 use Rattle.std.specs.Prelude.{ℕ, suc, ℤ, Bool, true, false, List, Option, Some, None}
 use Rattle.nest_memory.specs.declared.datatypes.TimeUnit.{TimeUnit}
 use Rattle.nest_memory.specs.declared.datatypes.IntervalUnit.{IntervalUnit}
@@ -6,11 +7,11 @@ use Rattle.nest_memory.specs.declared.datatypes.IntegerType.{IntegerType}
 use Rattle.nest_memory.specs.declared.datatypes.UnionMode.{UnionMode}
 use Rattle.nest_memory.specs.declared.datatypes.UnionMode.TheVariants.{Dense, Sparse}
 
--- the bytes of a text
+-- Of this project: a text as the list of its bytes.
 abbrev pub Letters : Type 0
 Letters = List ℕ
 
--- the entries of a field's metadata, by rising key
+-- "Custom Application Metadata": a field's pairs of key and value, in rising order of keys.
 abbrev pub Entries : Type 0
 Entries = List (Letters × Letters)
 
@@ -45,12 +46,13 @@ mutual
     fixed_size_list : FieldTree → ℕ → TypeTree
     large_list : FieldTree → TypeTree
     struct : FieldTrees → TypeTree
-    -- its fields, their ids, its mode
+    -- its fields, their type ids where it has some, its mode
     union : FieldTrees → Option (List ℤ) → UnionMode → TypeTree
-    -- its entries, whether their keys are sorted
+    -- the field of its entries, whether their keys are sorted
     map : FieldTree → Bool → TypeTree
-    -- the keys' type, the values' type, whether the values are ordered
+    -- the type of its keys, the type of its values, whether the values are ordered
     dictionary : IntegerType → TypeTree → Bool → TypeTree
+    -- the digits in all, those after the point
     decimal : ℕ → ℕ → TypeTree
     decimal256 : ℕ → ℕ → TypeTree
     -- its name, the type that it extends, its metadata
@@ -64,19 +66,21 @@ mutual
     no_fields : FieldTrees
     more_fields : FieldTree → FieldTrees → FieldTrees
 
--- the type without its outer extensions
+-- "Extension Types": the type that stores it, without its outer extensions.
 abbrev pub logical_type : TypeTree → TypeTree
 logical_type (extension n t m) = logical_type t
 logical_type t = t
 
+-- `Field.type` of `Schema.fbs`.
 abbrev pub field_type : FieldTree → TypeTree
 field_type (field n t b es) = t
 
+-- The number of fields.
 abbrev pub count_fields : FieldTrees → ℕ
 count_fields no_fields = 0
 count_fields (more_fields f fs) = suc (count_fields fs)
 
--- the field of the items of a list of any kind, or of a map's entries
+-- "Variable-size List Layout", "Fixed-Size List Layout": the field of the items, or of a map's entries.
 abbrev pub item_field : TypeTree → Option FieldTree
 item_field (list f) = Some f
 item_field (fixed_size_list f s) = Some f
@@ -85,7 +89,7 @@ item_field (map f b) = Some f
 item_field (extension n t m) = item_field t
 item_field t = None
 
--- the item type of a list of any kind, the entries' type of a map
+-- The type of that field.
 abbrev pub item_type : TypeTree → Option TypeTree
 item_type (list f) = Some (field_type f)
 item_type (fixed_size_list f s) = Some (field_type f)
@@ -94,83 +98,86 @@ item_type (map f b) = Some (field_type f)
 item_type (extension n t m) = item_type t
 item_type t = None
 
--- the size of each slot of a fixed size
+-- "Fixed-Size List Layout": how many bytes or items each slot of a fixed size has; 0 of any other type.
 abbrev pub size_of : TypeTree → ℕ
 size_of (fixed_size_binary s) = s
 size_of (fixed_size_list f s) = s
 size_of (extension n t m) = size_of t
 size_of t = 0
 
--- the same, where it has one
+-- The same, where there is one.
 abbrev pub fixed_size : TypeTree → Option ℕ
 fixed_size (fixed_size_binary s) = Some s
 fixed_size (fixed_size_list f s) = Some s
 fixed_size (extension n t m) = fixed_size t
 fixed_size t = None
 
--- the fields of a struct or a union
+-- "Struct Layout", "Union Layout": the fields; none of any other type.
 abbrev pub fields_of : TypeTree → FieldTrees
 fields_of (struct fs) = fs
 fields_of (union fs ids mode) = fs
 fields_of (extension n t m) = fields_of t
 fields_of t = no_fields
 
--- the same, where it is a struct or a union
+-- The same, where it is a struct or a union.
 abbrev pub own_fields : TypeTree → Option FieldTrees
 own_fields (struct fs) = Some fs
 own_fields (union fs ids mode) = Some fs
 own_fields (extension n t m) = own_fields t
 own_fields t = None
 
--- the ids of a union, where it has some
+-- "Union Layout": the type ids of a union's fields, where it has some.
 abbrev pub ids_of : TypeTree → Option (List ℤ)
 ids_of (union fs ids mode) = ids
 ids_of (extension n t m) = ids_of t
 ids_of t = None
 
--- the mode of a union
+-- "Union Layout": dense or sparse.
 abbrev pub mode_of : TypeTree → Option UnionMode
 mode_of (union fs ids mode) = Some mode
 mode_of (extension n t m) = mode_of t
 mode_of t = None
 
+-- "Dense Union": whether slots are found by offsets.
 abbrev pub is_dense_mode : UnionMode → Bool
 is_dense_mode Dense = true
 is_dense_mode Sparse = false
 
--- whether it is a dense union
+-- The same of a type; false of any but a union.
 abbrev pub is_dense : TypeTree → Bool
 is_dense (union fs ids mode) = is_dense_mode mode
 is_dense (extension n t m) = is_dense t
 is_dense t = false
 
+-- "Dictionary-encoded Layout": the type of the keys.
 abbrev pub key_type : TypeTree → Option IntegerType
 key_type (dictionary k t b) = Some k
 key_type (extension n t m) = key_type t
 key_type t = None
 
--- the type of a dictionary's values
+-- "Dictionary-encoded Layout": the type of the values.
 abbrev pub value_type : TypeTree → Option TypeTree
 value_type (dictionary k t b) = Some t
 value_type (extension n t m) = value_type t
 value_type t = None
 
--- whether it is a dictionary whose values are ordered
+-- `DictionaryEncoding.isOrdered` of `Schema.fbs`; false of any but a dictionary.
 abbrev pub is_ordered : TypeTree → Bool
 is_ordered (dictionary k t b) = b
 is_ordered (extension n t m) = is_ordered t
 is_ordered t = false
 
+-- Whether there are exactly two fields.
 abbrev pub are_two : FieldTrees → Bool
 are_two (more_fields a (more_fields b no_fields)) = true
 are_two fs = false
 
--- whether it is a struct, no extension of one, of two fields
+-- Whether it is a struct, no extension of one, of two fields.
 abbrev pub is_pair : TypeTree → Bool
 is_pair (struct fs) = are_two fs
 is_pair t = false
 
--- whether a map's entries are pairs
+-- `Map` of `Schema.fbs`: whether the entries are a struct of a key and a value.
 abbrev pub has_pairs : TypeTree → Bool
 has_pairs (map f b) = is_pair (field_type f)
 has_pairs (extension n t m) = has_pairs t

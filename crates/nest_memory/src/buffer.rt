@@ -1,4 +1,4 @@
-// A window of a vector that several buffers share.
+//! A window of a vector that several buffers share.
 ghost use Rattle.std.specs.Prelude.{◌≡◌, ◌+◌, ◌≤◌, ◌<◌, IfOk, IsTrue, ◌↔◌, length, [], slice_get, Some, IsOkUnless, alloc_error};
 ghost use Rattle.nest_memory.specs.declared.error.Error.TheVariants.{Memory};
 ghost use Rattle.nest_memory.specs.Cut.{cut};
@@ -8,6 +8,9 @@ use std::alloc::{AllocError, Global};
 use std::marker::Model;
 use std::rc::Rc;
 
+/// Values that never change, in memory that its clones and cuts share. arrow2's `Buffer`.
+///
+/// The values lie one after another, as in a `Vec` ("Buffer listing for each layout" of the Arrow columnar format).
 #[derive(Drop)]
 pub struct Buffer<T> {
     data: Rc<Vec<T>>,
@@ -27,6 +30,7 @@ impl<T> Model for Buffer<T> {
 }
 
 impl<T: Copy> Buffer<T> {
+    /// The values of a vector, whose memory it takes over.
     pub fn from_vec(alloc: Global, items: Vec<T>) -> Result<Buffer<T>, Error>
         ensures ok { IfOk result (λ b. b ≡ items.items) }
         ensures err { IsOkUnless result (Memory alloc_error) }
@@ -40,6 +44,7 @@ impl<T: Copy> Buffer<T> {
         })
     }
 
+    /// No value.
     pub fn new(alloc: Global) -> Result<Buffer<T>, Error>
         ensures ok { IfOk result (λ b. b ≡ []) }
         ensures err { IsOkUnless result (Memory alloc_error) }
@@ -47,18 +52,21 @@ impl<T: Copy> Buffer<T> {
         Buffer::from_vec(alloc, Vec::new(alloc))
     }
 
+    /// The number of values.
     pub fn len(&self) -> usize
         ensures { result ≡ length self.now }
     {
         self.len
     }
 
+    /// Whether there is no value.
     pub fn is_empty(&self) -> bool
         ensures { IsTrue result ↔ (self.now ≡ []) }
     {
         self.len == 0
     }
 
+    /// The values themselves.
     pub fn as_slice(&self) -> &[T]
         ensures { result.now ≡ self.now }
     {
@@ -66,6 +74,7 @@ impl<T: Copy> Buffer<T> {
         &self.data.as_slice()[self.start..end]
     }
 
+    /// Value `i`.
     pub fn get(&self, i: usize) -> T
         requires { i < length self.now }
         ensures { slice_get self.now i ≡ Some result }
@@ -73,6 +82,7 @@ impl<T: Copy> Buffer<T> {
         self.data[self.start + i]
     }
 
+    /// Keeps the `len` values from place `offset`; nothing moves.
     pub fn slice(&mut self, offset: usize, len: usize)
         requires { offset + len ≤ length self.old }
         ensures { self.new ≡ cut self.old offset len }
@@ -81,6 +91,7 @@ impl<T: Copy> Buffer<T> {
         self.len = len;
     }
 
+    /// The `len` values from place `offset`; nothing moves.
     pub fn sliced(self, offset: usize, len: usize) -> Buffer<T>
         requires { offset + len ≤ length self }
         ensures { result ≡ cut self offset len }
@@ -90,6 +101,7 @@ impl<T: Copy> Buffer<T> {
         cut
     }
 
+    /// Another owner of the same values; none is copied. `Err` where the owners can't be counted.
     pub fn clone(&self) -> Result<Buffer<T>, AllocError>
         ensures { IfOk result (λ b. b ≡ self.now) }
     {

@@ -1,4 +1,8 @@
 pub mod Slot
+pub mod SlotCode
+pub mod SlotLaws
+pub mod Chosen
+pub mod ChosenLaws
 pub mod Layout
 pub mod Accessors
 pub mod Part
@@ -8,9 +12,17 @@ pub mod Checks
 pub mod Fits
 pub mod Array
 pub mod Nulls
+pub mod NullLayout
+pub mod NullLaws
 pub mod Reads
 pub mod Runs
 pub mod CutLaws
+pub mod SameArray
+pub mod TextLaws
+pub mod Nullness
+pub mod NullnessLaws
+pub mod FlatReads
+pub mod ValidityLaws
 pub mod FitsLaws
 pub mod Decide
 pub mod DecideType

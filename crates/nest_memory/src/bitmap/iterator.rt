@@ -1,5 +1,8 @@
 //! The bits of a bitmap in order, from both ends.
 ghost use Rattle.std.specs.Prelude.{◌≡◌, ◌+◌, ◌*◌, ◌^◌, ◌<◌, ◌≤◌, length};
+ghost use Rattle.std.specs.Prelude.{Some, IfSome};
+ghost use Rattle.std.specs.Iterator.{at_most, UpTo};
+ghost use Rattle.std.specs.Iterator.SizeHint.{IsWithinCount};
 ghost use Rattle.nest_memory.specs.Bits.{bits_from};
 
 use crate::bitmap::bits;
@@ -58,7 +61,11 @@ impl<'a> Iterator for BitmapIter<'a> {
         Some(bit)
     }
 
-    fn size_hint(&self) -> (usize, Option<usize>) {
+    fn size_hint(&self) -> (usize, Option<usize>)
+        ensures lower { IsWithinCount result.0 (at_most (length self.now)) }
+        ensures upper { IfSome result.1 (UpTo (at_most (length self.now))) }
+        ensures exact { result ≡ (length self.now, Some (length self.now)) }
+    {
         let len = self.back - self.front;
         (len, Some(len))
     }

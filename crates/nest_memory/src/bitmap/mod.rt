@@ -4,3 +4,7 @@ mod bits;
 pub mod immutable;
 pub mod iterator;
 pub mod mutable;
+
+pub use immutable::Bitmap;
+pub use iterator::BitmapIter;
+pub use mutable::MutableBitmap;

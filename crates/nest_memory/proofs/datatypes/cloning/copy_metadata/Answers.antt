@@ -1,4 +1,3 @@
-use Rattle.std.proofs.Common.{rules, ◌≡◌}
 use Rattle.nest_memory.proofs.Copied.{map-copied}
 use Rattle.nest_memory.proofs.datatypes.cloning.copy_metadata.Goals as goal
 

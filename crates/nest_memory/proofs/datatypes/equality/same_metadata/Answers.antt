@@ -1,9 +1,8 @@
-use Rattle.std.proofs.Common.{◌≡◌, Bool, true, List, ℕ, ◌∙◌, sym, string_bytes}
+use Rattle.std.proofs.Common.{◌≡◌, List, ℕ, string_bytes}
 use Rattle.std.specs.Bool.{Decides}
 use Rattle.std.specs.Cmp.{first_so, second_so}
 use Rattle.std.specs.Cmp.Lexicographic.{pointwise, bytes_decides}
-use Rattle.std.specs.Prelude.{◌&&◌, nat_eq, String}
-use Rattle.std.specs.declared.alloc.Global.{Global}
+use Rattle.std.specs.Prelude.{◌&&◌, nat_eq}
 use Rattle.nest_memory.proofs.Alike.{map-decides}
 use Rattle.nest_memory.proofs.datatypes.equality.same_metadata.Goals as goal
 
