@@ -1,3 +1,4 @@
+pub mod Comparing
 pub mod Grown
 pub mod Lists
 pub mod Pushed

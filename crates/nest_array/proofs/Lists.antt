@@ -9,7 +9,7 @@ use Rattle.nest_model.specs.Part.{Validity, cut_validity, begin, extent}
 use Rattle.nest_model.specs.Slot as slots
 use Rattle.nest_model.specs.Slot.{seal}
 use Rattle.nest_model.specs.Layout.{Layout}
-use Rattle.nest_model.specs.Meaning.{len, slot, slots_of}
+use Rattle.nest_model.specs.Meaning.{run, len, slot, slots_of}
 use Rattle.nest_model.specs.Cut.{cut_layout}
 use Rattle.nest_model.specs.CutLaws.{slots-cut}
 use Rattle.nest_model.specs.Array.{TopFits}
@@ -74,3 +74,10 @@ slot-items t os c va a d i h fits k e =
     ∙ ap (λ ss. where_valid va i (slots.list (seal ss)))
     (sym (slots-cut c (begin os i) (extent os i) (extent-fits os (len c) i fits.0 fits.1.0 l)) ∙ ap slots_of (sym g)))
     k e
+
+pub window-slot : (t : TypeTree) (os : List ℕ) (c : Layout) (va : Validity) (a : Layout) (i b n : ℕ) → list_parts t os c va ≡ a → b ≡ begin (offsets_of a) i → n ≡ extent (offsets_of a) i
+    → slot a i ≡ where_valid (validity_of a) i (slots.list (seal (run (slot (child_of a)) b n)))
+window-slot t os c va a i b n h e f =
+    subst (λ (x : Layout). b ≡ begin (offsets_of x) i → n ≡ extent (offsets_of x) i → slot x i ≡ where_valid (validity_of x) i (slots.list (seal (run (slot (child_of x)) b n)))) h
+    (λ p q. let r : run (slot c) (begin os i) (extent os i) ≡ run (slot c) b n = (λ j. run (slot c) (sym p j) (sym q j)) in ap (λ ss. where_valid va i (slots.list (seal ss))) r)
+    e f

@@ -9,7 +9,7 @@ ghost use Rattle.nest_model.specs.Slot as slots;
 ghost use Rattle.nest_model.specs.Slot.{null, seal};
 ghost use Rattle.nest_model.specs.Part.{begin, extent, rows, last_offset};
 ghost use Rattle.nest_model.specs.Layout.{layout_type};
-ghost use Rattle.nest_model.specs.Meaning.{len, slot, slots_of};
+ghost use Rattle.nest_model.specs.Meaning.{run, len, slot, slots_of};
 ghost use Rattle.nest_model.specs.Reads.{where_valid};
 ghost use Rattle.nest_model.specs.Cut.{cut_layout};
 ghost use Rattle.nest_model.specs.Fits.{Fits, FirstFault};
@@ -18,8 +18,11 @@ ghost use Rattle.nest_array.specs.Parts.{list_parts};
 ghost use Rattle.nest_array.specs.Types.{default_list_type};
 ghost use Rattle.nest_model.specs.Accessors.{offsets_of, child_of, validity_of};
 
+mod equality;
 mod mutable;
 mod rows;
+#[cfg(test)]
+mod tests;
 
 pub use mutable::MutableListArray;
 pub use rows::ListRows;
@@ -158,6 +161,7 @@ impl ListArray {
         ensures start { result.0 ≡ begin (offsets_of self.now) i }
         ensures count { result.1 ≡ extent (offsets_of self.now) i }
         ensures within { result.0 + result.1 ≤ len (child_of self.now) }
+        ensures slot { slot self.now i ≡ where_valid (validity_of self.now) i (slots.list (seal (run (slot (child_of self.now)) result.0 result.1))) }
     {
         let _rows = self.offsets.len_proxy();
         self.known();

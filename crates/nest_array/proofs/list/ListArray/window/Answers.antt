@@ -1,4 +1,4 @@
-use Rattle.nest_array.proofs.Lists.{window-start, window-count, window-within}
+use Rattle.nest_array.proofs.Lists.{window-start, window-count, window-within, window-slot}
 use Rattle.nest_array.proofs.list.ListArray.window.Goals as goal
 
 pub returns-clause-start : goal.returns-clause-start
@@ -9,3 +9,8 @@ returns-clause-count c = window-count _ _ _ _ _ _ _ _ c.self.view_is c.start_end
 
 pub returns-clause-within : goal.returns-clause-within
 returns-clause-within c = window-within _ _ _ _ _ _ _ _ c.self.view_is c.self.invariant c.requires c.start_end-start.ensures.first c.start_end-start.ensures.second
+
+pub returns-clause-slot : goal.returns-clause-slot
+returns-clause-slot c =
+    window-slot _ _ _ _ _ _ _ _ c.self.view_is (window-start _ _ _ _ _ _ _ c.self.view_is c.start_end-start.ensures.first)
+    (window-count _ _ _ _ _ _ _ _ c.self.view_is c.start_end-start.ensures.first c.start_end-start.ensures.second)
