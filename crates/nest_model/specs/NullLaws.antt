@@ -488,11 +488,11 @@ mutual
   null-array (types.large_list f) n d p h = list-null true (types.large_list f) (field_type f) n d (null_item f 0 0) p refl refl refl (null-item f 0 0 (λ z. z) (refused-none _ _ _ h).1)
   null-array (types.fixed_size_list f s) n d p h =
       let a = refused-none (nat_eq s 0) _ _ h in
-      let b = refused-none (is_past (n * s)) _ _ a.1 in
+      let b = refused-none _ _ _ a.1 in
       sized-null f s n d (null_item f (n * s) d) p (positive s a.0) (null-item f (n * s) d (λ z. p (product-positive n s z)) b.1)
   null-array (types.map f b) n d p h =
       let a = refused-none (not (is_pair (field_type f))) _ _ h in
-      let c = refused-none (is_past (n + 1)) _ _ a.1 in
+      let c = refused-none _ _ _ a.1 in
       map-null f b n d (null_item f 0 0) p (not-false (is_pair (field_type f)) a.0) (null-item f 0 0 (λ z. z) c.1)
   null-array (types.struct fs) n d p h =
       let a = refused-none (nat_eq (count_fields fs) 0) _ _ h in
@@ -502,7 +502,7 @@ mutual
       let b = refused-none (ids_count_differs ids (count_fields fs)) _ _ a.1 in
       let c = refused-none (has_bad_id ids) _ _ b.1 in
       let e = refused-none (nat_eq (count_fields fs) 0 && nat_lt 0 n) _ _ c.1 in
-      let g = refused-none (is_dense_mode mode && nat_lt (2 ^ 31) n) _ _ e.1 in
+      let g = refused-none _ _ _ e.1 in
       union-null fs ids mode n (null_children fs n d) a.0 b.0 c.0 e.0 (null-children fs n d p g.1)
   null-array (types.dictionary k t b) n d p h = dictionary-null k t b n d (null_array t d d) p (null-array t d d (λ z. z) h)
   null-array (types.extension x t m) n d p h = extension-null x t m n (null_array t n d) (null-array t n d p h)
