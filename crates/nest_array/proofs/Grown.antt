@@ -83,7 +83,7 @@ numbers-last t zs z va b h =
     let p = map_push (λ x. x ∷ []) zs z in
     let l = length-map zs (λ x. x ∷ []) in
     let e : get_or (map (λ x. x ∷ []) (zs ++ z ∷ [])) (length zs) [] ≡ z ∷ [] =
-        ap (λ vs. get_or vs (length zs) []) p ∙ ap (λ k. get_or (map (λ x. x ∷ []) zs ++ (z ∷ []) ∷ []) k []) (sym l) ∙ get_or-append_seam (map (λ x. x ∷ []) zs) (z ∷ []) [] [] in
+    ap (λ vs. get_or vs (length zs) []) p ∙ ap (λ k. get_or (map (λ x. x ∷ []) zs ++ (z ∷ []) ∷ []) k []) (sym l) ∙ get_or-append_seam (map (λ x. x ∷ []) zs) (z ∷ []) [] [] in
     cc
 
 -- a number or a null more

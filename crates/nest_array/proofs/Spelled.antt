@@ -82,7 +82,7 @@ module _ (os : List ℕ) (va : Validity) (rs : List Row) (s : Spells os va rs) w
       let q = stops i k in
       let cuts = items-cut c (begin os i) (extent os i) (extent-fits os (len c) i s.offsets l n) in
       let same : cut (slots_of c) (begin os i) (extent os i) ≡ cut (slots_of c) (start 0 rs i) ((at rs i).end - start 0 rs i) =
-          λ j. cut (slots_of c) (p j) (q j - p j) in
+      λ j. cut (slots_of c) (p j) (q j - p j) in
       where-valid (at rs i).valid (valid_at va i) (slots.list (seal (run (slot c) (begin os i) (extent os i)))) (slots.list (seal (cut (slots_of c) (start 0 rs i) ((at rs i).end - start 0 rs i))))
       (valids i k) (ap (λ ss. slots.list (seal ss)) (cuts ∙ same))
 

@@ -1,9 +1,9 @@
 //! Arrays of lists in the Arrow format, and their builder.
 #![tactic(auto)]
 
+mod growth;
 pub mod list;
 pub mod primitive;
-mod growth;
 
 pub use list::{ListArray, MutableListArray};
 pub use primitive::MutablePrimitiveArray;

@@ -25,8 +25,6 @@ mod rows;
 mod tests;
 
 pub use mutable::MutableListArray;
-pub use rows::ListRows;
-
 use nest_flat::primitive::PrimitiveArray;
 use nest_flat::validity;
 use nest_memory::bitmap::immutable::Bitmap;
@@ -35,6 +33,7 @@ use nest_memory::datatypes::field::Field;
 use nest_memory::datatypes::physical_type::PhysicalType;
 use nest_memory::error::{Error, Spec};
 use nest_memory::offsets::OffsetsBuffer;
+pub use rows::ListRows;
 use std::alloc::Global;
 use std::marker::Model;
 

@@ -86,7 +86,12 @@ fn offsets_tell_the_rows(rt: HostRuntime) -> Result<(), Fail> {
         let array = array_of(rt.alloc(), ONE_TO_FIVE.as_slice(), offsets, None)?;
         assert_eq!(rt; shown(rt.alloc(), &array)?.as_str(), text);
     }
-    let array = array_of(rt.alloc(), ONE_TO_FIVE.as_slice(), [0i32, 2, 2, 3, 5].as_slice(), None)?;
+    let array = array_of(
+        rt.alloc(),
+        ONE_TO_FIVE.as_slice(),
+        [0i32, 2, 2, 3, 5].as_slice(),
+        None,
+    )?;
     assert_eq!(rt; array.len(), 4);
     let mut cut = array.sliced(1, 3);
     assert_eq!(rt; cut.len(), 3);
@@ -138,7 +143,10 @@ fn items_wait_for_their_row(rt: HostRuntime) -> Result<(), Fail> {
     assert_eq!(rt; refusal(rows.freeze()), unfinished);
     rows.try_push_valid()?;
     rows.mut_values().truncate(0);
-    assert_eq!(rt; rows.try_push_valid(), Err(Error::InvalidArgumentError(Argument::Unfinished)));
+    assert_eq!(rt;
+        rows.try_push_valid(),
+        Err(Error::InvalidArgumentError(Argument::Unfinished))
+    );
     rows.mut_values().try_push(None)?;
     let array = rows.freeze()?;
     assert_eq!(rt; shown(rt.alloc(), &array)?.as_str(), "[ null ] ");
@@ -156,7 +164,11 @@ fn refused_rows_change_nothing(rt: HostRuntime) -> Result<(), Fail> {
     let row = [Some(1), None, Some(3)];
     for turn in 0..12u32 {
         assert!(rt; rows.is_whole());
-        let told = if turn % 3 == 2 { None } else { Some(row.as_slice()) };
+        let told = if turn % 3 == 2 {
+            None
+        } else {
+            Some(row.as_slice())
+        };
         match rows.try_push(told) {
             Ok(()) => accepted = accepted.saturating_add(1),
             Err(error) => assert_eq!(rt; error, Error::Memory(AllocError)),

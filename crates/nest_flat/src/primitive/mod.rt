@@ -54,7 +54,11 @@ impl<T: NativeType> Model for PrimitiveArray<T> {
 impl<T: NativeType> PrimitiveArray<T> {
     /// The array of these parts. Refused, in this order, where the validity has another length
     /// (`ValidityLength`) and where the data type is no type of such values (`WrongType`).
-    pub fn try_new(data_type: DataType, values: Buffer<T>, validity: Option<Bitmap>) -> Result<PrimitiveArray<T>, Error>
+    pub fn try_new(
+        data_type: DataType,
+        values: Buffer<T>,
+        validity: Option<Bitmap>,
+    ) -> Result<PrimitiveArray<T>, Error>
         ensures { let parts = layouts.primitive T.PRIMITIVE (type_of data_type) (map T.numbers values) validity in
             MatchResult result (λ a. Fits parts × (a ≡ parts)) (λ e. FirstFault e parts) }
     {
@@ -194,7 +198,10 @@ impl<T: NativeType> PrimitiveArray<T> {
     }
 
     /// The array under a new validity, or as it was beside the refusal.
-    pub fn with_validity(self, validity: Option<Bitmap>) -> Result<PrimitiveArray<T>, (PrimitiveArray<T>, Error)>
+    pub fn with_validity(
+        self,
+        validity: Option<Bitmap>,
+    ) -> Result<PrimitiveArray<T>, (PrimitiveArray<T>, Error)>
         ensures { MatchResult result
             (λ a. ValidityFits validity (len self) × (a ≡ with_validity self validity))
             (λ r. ValidityFault r.1 self validity × (r.0 ≡ self)) }

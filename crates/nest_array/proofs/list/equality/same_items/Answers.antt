@@ -8,7 +8,7 @@ returns-then-not-same_item c =
     let n : c.same_item.result ≡ false = search rules in (
       λ z. let u : false ≡ true = z in cc,
       λ e. sym n
-      ∙ c.same_item.ensures.1 (item-same c.get.result c.get-in-loop-k.result _ _ c.get.ensures c.get-in-loop-k.ensures (run-at (slot c.args.x.now) (slot c.args.y.now) c.args.o c.args.p c.loop-k.k c.args.n (omega arith) e)),
+          ∙ c.same_item.ensures.1 (item-same c.get.result c.get-in-loop-k.result _ _ c.get.ensures c.get-in-loop-k.ensures (run-at (slot c.args.x.now) (slot c.args.y.now) c.args.o c.args.p c.loop-k.k c.args.n (omega arith) e)),
     )
 
 pub loop-k-preserved : goal.loop-k-preserved
