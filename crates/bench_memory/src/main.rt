@@ -97,7 +97,13 @@ fn run<R: Clock + Print + AllocGlobal>(rt: &R, measured: bool) -> Result<()> {
     let n = if measured { OFFSETS } else { FEW };
     let begun = begin(rt, measured)?;
     let frozen = offsets(rt.alloc(), n)?;
-    tell(rt, "offsets pushed and frozen, the last", frozen.last(), begun, n)?;
+    tell(
+        rt,
+        "offsets pushed and frozen, the last",
+        frozen.last(),
+        begun,
+        n,
+    )?;
 
     let n = if measured { CUTS } else { FEW };
     let buffer = Buffer::from_vec(rt.alloc(), vec![in rt.alloc(); 7u64; n]?)?;
