@@ -1,8 +1,7 @@
 -- Unset bits, counted by whole bytes.
-use Rattle.std.proofs.Common.{◌≡◌, ℕ, zero, suc, ◌+◌, ◌-◌, ◌*◌, ◌/◌, ◌%◌, ◌^◌, ◌≤◌, ◌<◌, Bool, true, false, not, cond, List, [], ◌∷◌, ◌++◌, length, map, arith, ap, sym, ◌∙◌, refl, nat_eq, get_or, count_by, take, replicate, IsTrue}
+use Rattle.std.proofs.Common.{◌≡◌, ℕ, zero, suc, ◌+◌, ◌-◌, ◌*◌, ◌/◌, ◌%◌, ◌^◌, ◌≤◌, ◌<◌, Bool, true, false, not, cond, List, [], ◌∷◌, ◌++◌, map, arith, ap, sym, ◌∙◌, refl, nat_eq, get_or, count_by, take, replicate, IsTrue}
 use Rattle.std.specs.List.{range_with_len}
-use Rattle.std.specs.Int.{bit_at, w8, bit_not, count_zeros}
-use Rattle.std.specs.Prelude.{count_ones}
+use Rattle.std.specs.Int.{bit_at, w8, count_zeros}
 use lib.Count.{ones, ones_step, ones-le}
 use Rattle.std.proofs.lemmas.List.Sums.{sum_by-cons, sum_by-append, count_by-le-length}
 use Rattle.std.proofs.lemmas.Nat.Bits.{bit_at-suc, bit_at_not, bit_at-lt}

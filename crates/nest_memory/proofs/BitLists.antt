@@ -1,15 +1,12 @@
 -- Lists of bits of bytes: their length, their items and their cuts.
-use Rattle.std.proofs.Common.{◌≡◌, ◌≢◌, ℕ, zero, suc, ◌+◌, ◌-◌, ◌*◌, ◌/◌, ◌%◌, ◌≤◌, ◌<◌, Bool, true, false, List, [], ◌∷◌, take, drop, length, map, arith, ap, sym, ◌∙◌, refl, nat_eq, get_or, get_or-set_same, get_or-set_other}
-use Rattle.std.specs.Prelude.{Some, slice_get, slice_index, slice_set, ◌++◌}
+use Rattle.std.proofs.Common.{◌≡◌, ◌≢◌, ℕ, zero, suc, ◌+◌, ◌-◌, ◌*◌, ◌/◌, ◌%◌, ◌≤◌, ◌<◌, Bool, true, List, [], ◌∷◌, take, drop, length, map, arith, ap, sym, ◌∙◌, refl, nat_eq, get_or, get_or-set_same, get_or-set_other}
+use Rattle.std.specs.Prelude.{Some, slice_get, slice_set, ◌++◌}
 use Rattle.std.specs.List.{range_with_len}
-use Rattle.std.specs.Int.{bit_at, w8}
-use Rattle.std.specs.Prelude.{bit_or, bit_and, ◌^◌}
+use Rattle.std.specs.Int.{bit_at}
 use Rattle.std.proofs.Common.{inl, inr}
 use Rattle.std.proofs.lemmas.Bool.{cases_eq}
 use Rattle.std.proofs.lemmas.List.{get_or_read, ext_get_or, length-set, get_or_append_left}
-use Rattle.std.proofs.lemmas.Nat.Bits.{bit_at_set_same, bit_at_set_other, bit_at_clear_same, bit_at_clear_other}
 use Rattle.std.proofs.lemmas.List.FromFn.{get_or-map-range_with_len, length-map-range_with_len, take-map-range_with_len, map-range_with_len_more}
-use Rattle.std.proofs.lemmas.Option.{slice_get-get_or}
 use Rattle.nest_memory.specs.Bits.{bit, bits_from}
 use Rattle.nest_memory.specs.Cut.{cut}
 

@@ -1,12 +1,12 @@
 -- Offsets read by place, pushed many at a time, and joined.
-use Rattle.std.proofs.Common.{◌≡◌, ℕ, zero, suc, ◌+◌, ◌-◌, ◌≤◌, ◌<◌, Bool, true, false, List, [], ◌∷◌, ◌++◌, take, drop, length, map, replicate, sum, arith, ap, sym, ◌∙◌, refl, get_or, length-take, length-drop, subst, append_assoc}
+use Rattle.std.proofs.Common.{◌≡◌, ℕ, zero, suc, ◌+◌, ◌-◌, ◌≤◌, ◌<◌, true, false, List, [], ◌∷◌, ◌++◌, take, drop, length, map, replicate, sum, arith, ap, sym, ◌∙◌, refl, get_or, length-drop, subst, append_assoc}
 use Rattle.std.specs.Prelude.{ℤ, pos, negsuc, ◌&&◌, ◌==◌, slice_get, slice_index, Some}
 use Rattle.std.proofs.lemmas.List.{take_more, take_all, map-append, append-nil, get_or-drop}
-use Rattle.std.proofs.lemmas.List.Sums.{sum_by-cons, sum_by_more_le}
+use Rattle.std.proofs.lemmas.List.Sums.{sum_by-cons}
 use Rattle.std.specs.Cmp.{first_so, second_so}
 use Rattle.std.proofs.lemmas.Bool.{eqb-true}
 use Rattle.std.proofs.lemmas.Option.{slice_get-get_or, slice_get_within}
-use Rattle.nest_memory.specs.Rising.{numbers, are_offsets, are_offsets_from_zero, ends_from, rises_from, last_of, last_of-index, below_zero, to_nat, joined, NeverFalls}
+use Rattle.nest_memory.specs.Rising.{numbers, are_offsets, are_offsets_from_zero, ends_from, rises_from, last_of, last_of-index, below_zero, to_nat, NeverFalls}
 use Rattle.nest_memory.proofs.Rises.{offsets_at, offsets_order, offsets_some, numbers_get, numbers_push, numbers_last, start_push, Starts, last_more, last_before}
 
 module _ {A : Type 0} (v : A → ℤ) where

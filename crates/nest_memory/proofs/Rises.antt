@@ -1,9 +1,9 @@
 -- Offsets that never fall: their items, their cuts and one more of them.
-use Rattle.std.proofs.Common.{◌≡◌, ◌≢◌, ℕ, zero, suc, ◌+◌, ◌-◌, ◌≤◌, ◌<◌, Bool, true, false, List, [], ◌∷◌, ◌++◌, take, drop, length, map, arith, ap, sym, ◌∙◌, refl, get_or, length-take, length-drop, subst, add-one, append_assoc}
+use Rattle.std.proofs.Common.{◌≡◌, ℕ, zero, suc, ◌+◌, ◌-◌, ◌≤◌, ◌<◌, true, false, List, [], ◌∷◌, ◌++◌, take, drop, length, map, arith, ap, sym, ◌∙◌, refl, get_or, length-take, length-drop, subst, add-one, append_assoc}
 use Rattle.std.specs.Prelude.{ℤ, pos, negsuc, ◌&&◌, nat_le, slice_get, slice_index, Some}
 use Rattle.std.specs.Cmp.{first_so, second_so}
 use Rattle.std.proofs.lemmas.Bool.{leb-true, le-leb, lt-leb}
-use Rattle.std.proofs.lemmas.List.{take_more, length-map, take-map, get_or-map, get_or-drop, get_or-take}
+use Rattle.std.proofs.lemmas.List.{length-map, take-map, get_or-map}
 use Rattle.std.proofs.lemmas.Option.{slice_get-get_or, slice_get_within}
 use Rattle.std.specs.List.{drop-map}
 use Rattle.std.proofs.Math.Seq.{drop-cons}

@@ -10,6 +10,7 @@ use crate::error::{Error, Spec};
 use crate::offset::Offset;
 use std::alloc::{AllocError, Global};
 use std::marker::Model;
+use std::mem;
 
 // Whether there is an offset, none is negative, and they never fall.
 #[tactic(auto, using(crate::proofs::Rises::rising))]
@@ -423,7 +424,7 @@ impl<O: Offset> Offsets<O> {
         self.offsets.truncate(1);
     }
 
-    /// The offsets as an `OffsetsBuffer`, copied into shared memory. The one offset 0 is left, also where that
+    /// The offsets as an `OffsetsBuffer`, which takes the memory over. The one offset 0 is left, also where that
     /// answers `Err`.
     pub fn freeze(&mut self) -> Result<OffsetsBuffer<O>, Error>
         ensures ok { IfOk result (λ b. b ≡ self.old) }
@@ -431,10 +432,17 @@ impl<O: Offset> Offsets<O> {
         ensures emptied { self.new ≡ 0 ∷ [] }
     {
         let alloc = *self.offsets.allocator();
-        let copied = Vec::from_slice(alloc, self.offsets.as_slice());
-        self.clear();
-        let buffer = Buffer::from_vec(alloc, copied?)?;
-        Ok(OffsetsBuffer { buffer })
+        match Offsets::new(alloc) {
+            Ok(empty) => {
+                let Offsets { offsets } = mem::replace(self, empty);
+                let buffer = Buffer::from_vec(alloc, offsets)?;
+                Ok(OffsetsBuffer { buffer })
+            }
+            Err(e) => {
+                self.clear();
+                Err(e)
+            }
+        }
     }
 
     /// What holds of all offsets: there is one at least, the first is 0, they never fall, and none is past the largest.

@@ -1,4 +1,4 @@
-use Rattle.std.proofs.Common.{◌≡◌, ◌<◌, length, arith}
+use Rattle.std.proofs.Common.{arith}
 use Rattle.nest_memory.proofs.Rises.{starts_at}
 use Rattle.nest_memory.proofs.offsets.are_rising.Goals as goal
 

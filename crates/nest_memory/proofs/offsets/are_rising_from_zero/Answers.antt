@@ -1,4 +1,4 @@
-use Rattle.std.proofs.Common.{◌≡◌, ◌<◌, ◌∙◌, sym, arith, length}
+use Rattle.std.proofs.Common.{◌∙◌, sym, arith}
 use Rattle.nest_memory.proofs.Rises.{offsets_some}
 use Rattle.nest_memory.proofs.OffsetReads.{read_plain, no_rise, with_rise}
 use Rattle.nest_memory.proofs.offsets.are_rising_from_zero.Goals as goal

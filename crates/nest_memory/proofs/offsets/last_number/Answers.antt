@@ -1,4 +1,4 @@
-use Rattle.std.proofs.Common.{◌≡◌, ◌<◌, ◌-◌, ◌∙◌, ap, arith, length, get_or}
+use Rattle.std.proofs.Common.{◌<◌, ◌-◌, arith, length}
 use Rattle.nest_memory.proofs.Rises.{offsets_some, numbers_last}
 use Rattle.nest_memory.proofs.OffsetReads.{read_plain}
 use Rattle.nest_memory.proofs.offsets.last_number.Goals as goal

@@ -1,4 +1,3 @@
-use Rattle.std.proofs.Common.{◌<◌, ◌+◌, length, arith}
 use Rattle.nest_memory.proofs.OffsetReads.{read_plain, read_number, read_order}
 use Rattle.nest_memory.proofs.offsets.pair_at.Goals as goal
 

@@ -1,7 +1,6 @@
-use Rattle.std.proofs.Common.{◌≡◌, ◌≤◌, ◌<◌, ◌+◌, ◌-◌, ◌*◌, ◌/◌, ◌%◌, ap, ◌∙◌, sym, arith, ℕ, inl, inr, refl}
+use Rattle.std.proofs.Common.{◌≤◌, ◌<◌, ◌+◌, ◌/◌, ◌%◌, ◌∙◌, arith, inl, inr, refl}
 use Rattle.std.proofs.lemmas.Bool.{cases_lt}
 use Rattle.std.specs.Prelude.{vec_len}
-use Rattle.nest_memory.specs.Bits.{bit}
 use Rattle.nest_memory.proofs.BitCounts.{bit_take, bit_of_byte, bit_same_byte}
 use Rattle.nest_memory.proofs.bitmap.bits.extend_constant.Goals as goal
 

@@ -1,4 +1,4 @@
-use Rattle.std.proofs.Common.{◌≡◌, ap, ◌∙◌, sym, nat_eq}
+use Rattle.std.proofs.Common.{ap, ◌∙◌, sym, nat_eq}
 use Rattle.std.proofs.lemmas.Nat.Bits.{bit_at_ones, bit_at-zero}
 use Rattle.nest_memory.proofs.bitmap.bits.filled_byte.Goals as goal
 

@@ -1,4 +1,4 @@
-use Rattle.std.proofs.Common.{◌≡◌, ap, ◌∙◌, arith}
+use Rattle.std.proofs.Common.{ap, ◌∙◌, arith}
 use Rattle.nest_memory.specs.Bits.{bit}
 use Rattle.nest_memory.proofs.BitLists.{bit_appended}
 use Rattle.nest_memory.proofs.bitmap.bits.make_room.Goals as goal

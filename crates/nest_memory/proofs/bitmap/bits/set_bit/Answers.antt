@@ -1,4 +1,4 @@
-use Rattle.std.proofs.Common.{◌≡◌, ap, ◌∙◌, sym, arith, refl}
+use Rattle.std.proofs.Common.{◌∙◌, arith, refl}
 use Rattle.nest_memory.proofs.BitLists.{bit_written, bit_put_other}
 use Rattle.nest_memory.proofs.bitmap.bits.set_bit.Goals as goal
 

@@ -1,4 +1,4 @@
-use Rattle.std.proofs.Common.{◌≡◌, ◌≤◌, ◌<◌, ◌+◌, ◌-◌, ◌*◌, ◌%◌, ◌/◌, arith, ap, count_by, not}
+use Rattle.std.proofs.Common.{◌≡◌, ◌<◌, ◌+◌, ◌-◌, ◌*◌, ◌%◌, ◌/◌, arith, ap, count_by, not}
 use Rattle.nest_memory.specs.Bits.{bits_from}
 use Rattle.nest_memory.proofs.BitCounts.{unset_parts, unset_le}
 use Rattle.nest_memory.proofs.bitmap.bits.unset_bits.Goals as goal

@@ -1,4 +1,4 @@
-use Rattle.std.proofs.Common.{◌≡◌, ◌≤◌, ◌<◌, ◌+◌, get_or, ap, ◌∙◌, sym, arith, refl}
+use Rattle.std.proofs.Common.{◌<◌, ◌+◌, get_or, sym, arith, refl}
 use Rattle.nest_memory.proofs.BitCounts.{unset_none, unset_byte_more}
 use Rattle.nest_memory.proofs.bitmap.bits.unset_in_bytes.Goals as goal
 

@@ -1,4 +1,4 @@
-use Rattle.std.proofs.Common.{◌≡◌, ◌≤◌, ◌+◌, ap, ◌∙◌, sym, arith, not}
+use Rattle.std.proofs.Common.{◌+◌, ap, ◌∙◌, sym, arith, not}
 use Rattle.nest_memory.proofs.BitCounts.{unset_none, unset_more_yes, unset_more_no}
 use Rattle.nest_memory.proofs.bitmap.bits.unset_one_by_one.Goals as goal
 use Rattle.nest_memory.proofs.bitmap.bits.unset_one_by_one.Goals.{then-not-get_bit, else-not-get_bit}

@@ -1,4 +1,4 @@
-use Rattle.std.proofs.Common.{◌≡◌, ap, ◌∙◌, sym, nat_eq}
+use Rattle.std.proofs.Common.{ap, ◌∙◌, sym, nat_eq}
 use Rattle.std.specs.Int.{w8}
 use Rattle.std.proofs.lemmas.Nat.Bits.{bit_at_set_same, bit_at_set_other, bit_at_clear_same, bit_at_clear_other}
 use Rattle.nest_memory.proofs.bitmap.bits.with_bit.Goals as goal

@@ -1,6 +1,5 @@
-use Rattle.std.proofs.Common.{◌≡◌, ◌+◌, ◌-◌, ◌≤◌, ◌<◌, ap, ◌∙◌, sym, arith, length, refl, [], ◌∷◌, ◌++◌, get_or, true, map, take}
-use Rattle.std.specs.Prelude.{slice_index}
-use Rattle.nest_memory.specs.Rising.{below_zero, last_of, numbers, are_offsets}
+use Rattle.std.proofs.Common.{◌+◌, ◌≤◌, ap, ◌∙◌, arith, length, refl, [], ◌∷◌, ◌++◌, get_or, take}
+use Rattle.nest_memory.specs.Rising.{last_of}
 use Rattle.std.proofs.Common.{sum}
 use Rattle.std.proofs.lemmas.List.Sums.{sum_by_more_le}
 use Rattle.nest_memory.proofs.OffsetReads.{last_ends}

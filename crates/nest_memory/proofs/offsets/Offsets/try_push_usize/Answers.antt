@@ -1,6 +1,5 @@
-use Rattle.std.proofs.Common.{◌≡◌, ◌+◌, ◌-◌, ◌≤◌, ◌<◌, ap, ◌∙◌, sym, arith, length, refl, [], ◌∷◌, ◌++◌, get_or, true, map, take}
-use Rattle.std.specs.Prelude.{slice_index}
-use Rattle.nest_memory.specs.Rising.{below_zero, last_of, numbers, are_offsets}
+use Rattle.std.proofs.Common.{◌≡◌, ◌+◌, ◌≤◌, ap, ◌∙◌, sym, arith, [], ◌∷◌, ◌++◌}
+use Rattle.nest_memory.specs.Rising.{last_of, numbers}
 use Rattle.nest_memory.proofs.Rises.{start_push, numbers_push}
 use Rattle.nest_memory.proofs.offsets.Offsets.try_push_usize.Goals as goal
 

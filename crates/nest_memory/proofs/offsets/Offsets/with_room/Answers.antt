@@ -1,6 +1,4 @@
-use Rattle.std.proofs.Common.{◌≡◌, ◌+◌, ◌-◌, ◌≤◌, ◌<◌, ap, ◌∙◌, sym, arith, length, refl, [], ◌∷◌, ◌++◌, get_or, true, map, take}
-use Rattle.std.specs.Prelude.{slice_index}
-use Rattle.nest_memory.specs.Rising.{below_zero, last_of, numbers, are_offsets}
+use Rattle.std.proofs.Common.{ap, ◌∙◌, [], ◌∷◌, ◌++◌}
 use Rattle.nest_memory.proofs.Rises.{start_one, numbers_one}
 use Rattle.nest_memory.proofs.offsets.Offsets.with_room.Goals as goal
 

@@ -1,6 +1,5 @@
-use Rattle.std.proofs.Common.{◌≡◌, ◌+◌, ◌≤◌, length, arith, ap, ◌∙◌, map}
+use Rattle.std.proofs.Common.{◌+◌, ◌≤◌, length, arith, ap, ◌∙◌, map}
 use Rattle.nest_memory.specs.Rising.{are_offsets}
-use Rattle.nest_memory.specs.Cut.{cut}
 use Rattle.nest_memory.proofs.Rises.{offsets_cut, numbers_len}
 use Rattle.nest_memory.proofs.offsets.OffsetsBuffer.slice.Goals as goal
 

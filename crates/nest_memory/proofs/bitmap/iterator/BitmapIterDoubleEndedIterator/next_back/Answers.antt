@@ -1,4 +1,4 @@
-use Rattle.std.proofs.Common.{◌≡◌, ◌<◌, ◌-◌, [], ◌∷◌, ◌++◌, ◌∙◌, ap, sym, arith}
+use Rattle.std.proofs.Common.{◌<◌, ◌-◌, [], ◌∷◌, ◌++◌, ◌∙◌, ap, sym, arith}
 use Rattle.nest_memory.specs.Bits.{bits_from}
 use Rattle.nest_memory.proofs.BitCounts.{bits_last, bits_gone}
 use Rattle.nest_memory.proofs.bitmap.iterator.BitmapIterDoubleEndedIterator.next_back.Goals as goal

@@ -1,4 +1,4 @@
-use Rattle.std.proofs.Common.{◌≡◌, ◌<◌, ◌+◌, ◌-◌, ◌∷◌, ◌∙◌, ap, sym, arith}
+use Rattle.std.proofs.Common.{◌<◌, ◌+◌, ◌-◌, ◌∷◌, ◌∙◌, ap, sym, arith}
 use Rattle.nest_memory.specs.Bits.{bits_from}
 use Rattle.nest_memory.proofs.BitCounts.{bits_first, bits_gone}
 use Rattle.nest_memory.proofs.bitmap.iterator.BitmapIterIterator.next.Goals as goal

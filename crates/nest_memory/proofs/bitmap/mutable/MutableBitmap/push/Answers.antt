@@ -1,4 +1,4 @@
-use Rattle.std.proofs.Common.{◌≡◌, ◌<◌, ◌++◌, [], ◌∷◌, ap, ◌∙◌, sym, arith, length}
+use Rattle.std.proofs.Common.{◌++◌, [], ◌∷◌, ap, ◌∙◌, arith}
 use Rattle.nest_memory.proofs.BitLists.{bits_pushed}
 use Rattle.nest_memory.proofs.bitmap.mutable.MutableBitmap.push.Goals as goal
 

@@ -1,4 +1,4 @@
-use Rattle.std.proofs.Common.{◌≡◌, ◌<◌, ap, ◌∙◌, sym, arith, length}
+use Rattle.std.proofs.Common.{◌<◌, ap, ◌∙◌, arith, length}
 use Rattle.std.specs.Prelude.{slice_set}
 use Rattle.nest_memory.proofs.BitLists.{bits_written, bits_len}
 use Rattle.nest_memory.proofs.bitmap.mutable.MutableBitmap.set.Goals as goal
