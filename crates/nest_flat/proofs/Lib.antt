@@ -1,1 +1,4 @@
 pub mod Cutting
+pub mod NullCounts
+pub mod SlotRuns
+pub mod TextParts

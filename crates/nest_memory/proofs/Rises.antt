@@ -7,7 +7,8 @@ use Rattle.std.proofs.lemmas.List.{take_more, length-map, take-map, get_or-map, 
 use Rattle.std.proofs.lemmas.Option.{slice_get-get_or, slice_get_within}
 use Rattle.std.specs.List.{drop-map}
 use Rattle.std.proofs.Math.Seq.{drop-cons}
-use Rattle.nest_memory.specs.Rising.{numbers, are_offsets, ends_from, rises_from, last_of, below_zero, to_nat}
+use Rattle.nest_memory.specs.Rising.{numbers, are_offsets, ends_from, rises_from, last_of, below_zero, to_nat, NeverFalls}
+use Rattle.nest_memory.specs.Rising.{last_of-index as last_at}
 use Rattle.nest_memory.specs.Cut.{cut}
 
 -- ---- numbers that rise from a number
@@ -40,6 +41,14 @@ in_order low [] i d e r h = absurd (omega arith)
 in_order low (pos m ∷ zs) zero d e r h = at_least m zs zero e (second_so (nat_le low m) (rises_from m zs) r) (omega arith)
 in_order low (pos m ∷ zs) (suc i) d e r h = rw add-one (rw (← add-one) (in_order m zs i d e (second_so (nat_le low m) (rises_from m zs) r) (omega arith)))
 in_order low (negsuc m ∷ zs) i d e r h = cc
+
+pub between : (low : ℕ) (zs : List ℤ) (i j : ℕ) (d e : ℤ) → rises_from low zs ≡ true → i ≤ j → j < length zs → to_nat (get_or zs i d) ≤ to_nat (get_or zs j e)
+between low [] i j d e r l h = absurd (omega arith)
+between low (pos m ∷ zs) zero zero d e r l h = omega arith
+between low (pos m ∷ zs) zero (suc j) d e r l h = at_least m zs j e (second_so (nat_le low m) (rises_from m zs) r) (omega arith)
+between low (pos m ∷ zs) (suc i) zero d e r l h = absurd (omega arith)
+between low (pos m ∷ zs) (suc i) (suc j) d e r l h = between m zs i j d e (second_so (nat_le low m) (rises_from m zs) r) (omega arith) (omega arith)
+between low (negsuc m ∷ zs) i j d e r l h = cc
 
 rises_drop : (low : ℕ) (zs : List ℤ) (o : ℕ) → rises_from low zs ≡ true → rises_from low (drop o zs) ≡ true
 rises_drop low zs zero r = r
@@ -172,15 +181,6 @@ module _ {A : Type 0} where
   unfolding numbers
   numbers_take v xs n = sym (take-map _ n xs)
 
-last_at : (ns : List ℕ) (d : ℕ) → 0 < length ns → last_of ns ≡ get_or ns (length ns - 1) d
-unfolding last_of
-last_at [] d h = absurd (omega arith)
-last_at (a ∷ []) d h = refl
-last_at (a ∷ (b ∷ bs)) d h =
-    let p : length (b ∷ bs) - 1 ≡ length bs = omega arith in
-    let q : suc (length bs) ≡ length (a ∷ (b ∷ bs)) - 1 = omega arith in
-    last_at (b ∷ bs) d (omega arith) ∙ ap (λ k. get_or (b ∷ bs) k d) p ∙ ap (λ k. get_or (a ∷ (b ∷ bs)) k d) q
-
 pushed : (low : ℕ) (z : ℤ) (zs : List ℤ) (n : ℕ) → rises_from low (z ∷ zs) ≡ true → last_of (map to_nat (z ∷ zs)) ≤ n → rises_from low ((z ∷ zs) ++ pos n ∷ []) ≡ true
 unfolding last_of
 pushed low (pos m) [] n r h =
@@ -202,6 +202,11 @@ module _ {A : Type 0} where
       let a : to_nat (v (get_or xs (length xs - 1) x)) ≡ get_or (numbers v xs) (length xs - 1) 0 = cc in
       let b : n ≡ to_nat (v (get_or xs (length xs - 1) x)) = ap to_nat p ∙ ap (λ y. to_nat (v y)) e in
       b ∙ a ∙ sym (last_at (numbers v xs) 0 (omega arith) ∙ ap (λ k. get_or (numbers v xs) (k - 1) 0) l)
+
+  pub item_last : (v : A → ℤ) (ys : List A) (k n : ℕ) (x : A) → slice_get ys k ≡ Some x → k ≡ length ys - 1 → pos n ≡ v x → n ≡ last_of (numbers v ys)
+  item_last v ys k n x e l p =
+      let a = read ys k x e in
+      numbers_last v ys x n (omega (arith, a.0)) (a.1 ∙ ap (λ m. get_or ys m x) l) p
 
   numbers_twice : (v : A → ℤ) (xs : List A) → map to_nat (map v xs) ≡ numbers v xs
   unfolding numbers
@@ -248,6 +253,24 @@ module _ {A : Type 0} where
   unfolding numbers are_offsets
   take_one v [] r h = cc
   take_one v (x ∷ xs) r h = ap (λ n. n ∷ []) h
+
+module _ {A : Type 0} (v : A → ℤ) where
+  numbers_map : (xs : List A) → numbers v xs ≡ map to_nat (map v xs)
+  numbers_map xs = sym (numbers_twice v xs)
+
+  number_at : (xs : List A) (i : ℕ) → i < length xs → get_or (numbers v xs) i 0 ≡ to_nat (get_or (map v xs) i (pos 0))
+  number_at xs i h = ap (λ ns. get_or ns i 0) (numbers_map xs) ∙ get_or-map to_nat (map v xs) i (pos 0) 0 (omega (arith, length-map xs v))
+
+  pub numbers_never_fall : (xs : List A) → are_offsets (map v xs) ≡ true → NeverFalls (numbers v xs)
+  numbers_never_fall xs r i j l h =
+      let k : j < length xs = omega (arith, numbers_len v xs) in
+      let a = number_at xs i (omega arith) in
+      let b = number_at xs j k in
+      let o = between 0 (map v xs) i j (pos 0) (pos 0) (from_offsets (map v xs) r).0 l (omega (arith, length-map xs v)) in
+      omega arith
+
+  pub never_fall_as : (xs : List A) (ns : List ℕ) → numbers v xs ≡ ns → are_offsets (map v xs) ≡ true → NeverFalls ns
+  never_fall_as xs ns e r = subst NeverFalls e (numbers_never_fall xs r)
 
 module _ {A : Type 0} (v : A → ℤ) where
   abbrev Starts : List A → Type 0

@@ -1,11 +1,13 @@
 // The numbers that stand as offsets.
-ghost use Rattle.std.specs.Prelude.{◌≡◌, ◌<◌, ◌≤◌, ◌^◌, ℕ, ℤ, pos, false, MatchOption};
+ghost use Rattle.std.specs.Prelude.{◌≡◌, ◌<◌, ◌≤◌, ◌^◌, ℕ, ℤ, pos, Bool, true, false, MatchOption};
 ghost use Rattle.nest_memory.specs.Rising.{below_zero};
 
 pub trait Offset: Copy {
     ghost value: { Self → ℤ };
 
     ghost largest: { ℕ };
+
+    ghost IS_LARGE: { Bool };
 
     const IS_LARGE: bool;
 
@@ -26,6 +28,8 @@ impl Offset for i32 {
     ghost value = { λ x. x };
 
     ghost largest = { 2147483647 };
+
+    ghost IS_LARGE = { false };
 
     const IS_LARGE: bool = false;
 
@@ -50,6 +54,8 @@ impl Offset for i64 {
     ghost value = { λ x. x };
 
     ghost largest = { 9223372036854775807 };
+
+    ghost IS_LARGE = { true };
 
     const IS_LARGE: bool = true;
 

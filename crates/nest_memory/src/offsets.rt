@@ -1,6 +1,6 @@
 // Offsets that grow, and offsets that are shared.
-ghost use Rattle.std.specs.Prelude.{◌≡◌, ◌↔◌, ℕ, ◌+◌, ◌-◌, ◌<◌, ◌≤◌, List, [], ◌∷◌, ◌++◌, true, false, IfOk, OnOk, OnErr, IsErrOf, length, slice_get, Some, take, map, IsOkUnless, alloc_error};
-ghost use Rattle.nest_memory.specs.Rising.{numbers, are_offsets, last_of, ends_from};
+ghost use Rattle.std.specs.Prelude.{◌≡◌, ◌↔◌, ℕ, ◌+◌, ◌-◌, ◌<◌, ◌≤◌, List, [], ◌∷◌, ◌++◌, true, false, IfOk, OnOk, OnErr, IsErrOf, length, slice_get, Some, take, map, IsOkUnless, alloc_error, ◌^◌, slice_index};
+ghost use Rattle.nest_memory.specs.Rising.{numbers, are_offsets, last_of, ends_from, NeverFalls};
 ghost use Rattle.nest_memory.specs.Cut.{cut};
 ghost use Rattle.nest_memory.specs.declared.error.Error.TheVariants.{OutOfSpec, Overflow, Memory};
 ghost use Rattle.nest_memory.specs.declared.error.Spec.TheVariants.{Offsets as WrongOffsets};
@@ -102,6 +102,23 @@ impl<O: Offset> OffsetsBuffer<O> {
             buffer: self.buffer.clone()?,
         })
     }
+
+    /// What holds of all offsets: there is one at least, and they never fall.
+    pub fn known(&self)
+        ensures some { 0 < length self.now }
+        ensures rising { NeverFalls self.now }
+        ensures room { length self.now < 2 ^ 64 }
+    {
+        let _len = self.buffer.len();
+    }
+
+    /// The last offset.
+    pub fn last(&self) -> usize
+        ensures { result ≡ last_of self.now }
+    {
+        let last = self.buffer.get(self.buffer.len() - 1);
+        last.to_usize()
+    }
 }
 
 #[derive(Drop)]
@@ -200,5 +217,15 @@ impl<O: Offset> Offsets<O> {
         self.clear();
         let buffer = Buffer::from_vec(alloc, copied?)?;
         Ok(OffsetsBuffer { buffer })
+    }
+
+    /// What holds of all offsets: there is one at least, the first is 0, and they never fall.
+    pub fn known(&self)
+        ensures some { 0 < length self.now }
+        ensures first { slice_index self.now 0 ≡ 0 }
+        ensures rising { NeverFalls self.now }
+        ensures room { length self.now < 2 ^ 64 }
+    {
+        let _len = self.offsets.len();
     }
 }

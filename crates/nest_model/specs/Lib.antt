@@ -17,3 +17,7 @@ pub mod DecideType
 pub mod FitsDecide
 pub mod LayoutCode
 pub mod Examples
+pub mod SlotCode
+pub mod Nullness
+pub mod SameArray
+pub mod TextLaws

@@ -1,5 +1,5 @@
 //! Arrays of native values.
-ghost use Rattle.std.specs.Prelude.{◌≡◌, ◌+◌, ◌≤◌, ◌<◌, ◌↔◌, IsTrue, IfOk, IsOkUnless, MatchResult, Some, slice_get, map, alloc_error};
+ghost use Rattle.std.specs.Prelude.{◌≡◌, ◌+◌, ◌≤◌, ◌<◌, ◌↔◌, IsTrue, IfOk, IsOkUnless, MatchResult, Some, slice_get, option_map, map, alloc_error};
 ghost use Rattle.nest_memory.specs.declared.error.Error.TheVariants.{Memory};
 ghost use Rattle.nest_memory.specs.Cut.{cut};
 ghost use Rattle.nest_memory.specs.TypeOf.{type_of};
@@ -10,6 +10,7 @@ ghost use Rattle.nest_model.specs.Fits.{Fits, FirstFault, ValidityFits, Validity
 ghost use Rattle.nest_model.specs.Layout as layouts;
 ghost use Rattle.nest_model.specs.Layout.{layout_type};
 ghost use Rattle.nest_model.specs.Meaning.{len, slot, slots_of};
+ghost use Rattle.nest_model.specs.Nullness.{null_count};
 ghost use Rattle.nest_model.specs.Part.{valid_at};
 ghost use Rattle.nest_model.specs.Reads.{where_valid};
 ghost use Rattle.nest_model.specs.Slot as slots;
@@ -97,11 +98,11 @@ impl<T: NativeType> PrimitiveArray<T> {
         &self.data_type
     }
 
-    /// Which slots are valid.
-    pub fn validity(&self) -> &Option<Bitmap>
-        ensures { result.now ≡ validity_of self.now }
+    /// Which slots are valid, a bit a slot; without it all are.
+    pub fn validity(&self) -> Option<&Bitmap>
+        ensures { option_map (λ b. b.now) result ≡ validity_of self.now }
     {
-        &self.validity
+        self.validity.as_ref()
     }
 
     /// Its raw values, also those under nulls.
@@ -125,6 +126,13 @@ impl<T: NativeType> PrimitiveArray<T> {
         ensures { IsTrue result ↔ (slot self.now i ≡ slots.null) }
     {
         !validity::is_valid(&self.validity, i)
+    }
+
+    /// How many slots are null.
+    pub fn null_count(&self) -> usize
+        ensures { result ≡ null_count self.now }
+    {
+        validity::null_count(&self.validity)
     }
 
     /// The raw value of slot i, which means nothing where the slot is null.
@@ -178,8 +186,8 @@ impl<T: NativeType> PrimitiveArray<T> {
         cut
     }
 
-    /// Takes a new validity. Refused as `ValidityLength` where it has not a bit for each slot; the
-    /// array stays as it was then.
+    /// Takes a new validity. `ValidityLength` where it has not a bit for each slot; the array stays
+    /// as it was then.
     pub fn set_validity(&mut self, validity: Option<Bitmap>) -> Result<(), Error>
         ensures { MatchResult result
             (λ _. ValidityFits validity (len self.old) × (self.new ≡ with_validity self.old validity))

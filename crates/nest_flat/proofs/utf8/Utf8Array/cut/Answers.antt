@@ -1,0 +1,11 @@
+use Rattle.std.proofs.Common.{◌≡◌, ◌+◌, ◌≤◌, ap, arith}
+use Rattle.nest_model.specs.Part.{rows}
+use Rattle.nest_model.specs.Meaning.{len}
+use Rattle.nest_flat.proofs.TextParts.{text-cut}
+use Rattle.nest_flat.proofs.utf8.Utf8Array.cut.Goals as goal
+
+pub invariant_of-self : goal.invariant_of-self
+invariant_of-self g c =
+    let e = ap len c.self.view_is in
+    let within : c.args.o + c.args.n ≤ rows c.self.inside.offsets = omega (arith, e, c.requires) in
+    text-cut _ _ _ _ _ _ _ c.args.o c.args.n c.slice.ensures c.slice-2.ensures c.self.invariant within
