@@ -1,6 +1,7 @@
 pub mod Bits
 pub mod Cut
 pub mod Native
+pub mod NativeStructs
 pub mod Physical
 pub mod Rising
 pub mod TypeCode

@@ -1,17 +1,35 @@
--- Native values as lists of whole numbers.
-use Rattle.std.specs.Prelude.{◌≡◌, ℕ, ℤ, pos, List, [], ◌∷◌}
+-- What a native value is: the list of its whole numbers.
+use Rattle.std.specs.Prelude.{◌≡◌, ◌==◌, ◌&&◌, ℕ, ℤ, pos, List, [], ◌∷◌, Bool, true, length, refl}
+use Rattle.std.specs.Bool.{Decides}
+use Rattle.std.specs.Ordering.{int_eq}
+use Rattle.std.proofs.Common.{ap}
+use Rattle.std.proofs.lemmas.Bool.Decides.{Decides-eqb, Decides-int_eq, Decides-like, Decides-and}
+use Rattle.nest_memory.specs.declared.datatypes.physical_type.PrimitiveType.{PrimitiveType}
+use Rattle.nest_memory.specs.declared.datatypes.physical_type.PrimitiveType.TheVariants.{Int256, DaysMs, MonthDayNano}
 
--- every number is 0
-abbrev pub AllZero : List ℤ → Type 0
-AllZero [] = Unit {0}
-AllZero (z ∷ zs) = (z ≡ pos 0) × AllZero zs
+-- Of this project: how many whole numbers make a value of a primitive type.
+-- Two are the halves of 256 bits, or days and milliseconds; three are months, days and nanoseconds.
+abbrev pub parts_of : PrimitiveType → ℕ
+parts_of Int256 = 2
+parts_of DaysMs = 2
+parts_of MonthDayNano = 3
+parts_of _ = 1
 
--- lists are equal where their numbers are
-pub same_pair : (a b c d : ℤ) → a ∷ b ∷ [] ≡ c ∷ d ∷ [] → (a ≡ c) × (b ≡ d)
-same_pair a b c d h = (cc, cc)
+-- The numbers of a signed value, and of an unsigned one.
+abbrev pub signed : ℤ → List ℤ
+signed n = n ∷ []
 
-pub same_triple : (a b c d e f : ℤ) → a ∷ b ∷ c ∷ [] ≡ d ∷ e ∷ f ∷ [] → (a ≡ d) × ((b ≡ e) × (c ≡ f))
-same_triple a b c d e f h = (cc, (cc, cc))
+abbrev pub unsigned : ℕ → List ℤ
+unsigned n = pos n ∷ []
 
-pub same_nat : (m n : ℕ) → pos m ≡ pos n → m ≡ n
-same_nat m n h = cc
+pub signed-one : (a b : ℤ) → signed a ≡ signed b → a ≡ b
+signed-one a b h = cc
+
+pub unsigned-one : (a b : ℕ) → unsigned a ≡ unsigned b → a ≡ b
+unsigned-one a b h = cc
+
+pub signed-decides : (a b : ℤ) → Decides (int_eq a b) (signed a ≡ signed b)
+signed-decides a b = Decides-like (int_eq a b) (ap signed) (signed-one a b) (Decides-int_eq a b)
+
+pub unsigned-decides : (a b : ℕ) → Decides (a == b) (unsigned a ≡ unsigned b)
+unsigned-decides a b = Decides-like (a == b) (ap unsigned) (unsigned-one a b) (Decides-eqb a b)

@@ -1,7 +1,9 @@
--- How the values of each data type lie in memory.
-use Rattle.std.specs.Prelude.{Bool, if◌then◌else◌}
+-- How the values of each data type lie in memory: the Arrow columnar format, "Physical Memory Layout", with the widths of `Schema.fbs`.
+use Rattle.std.specs.Prelude.{◌≡◌, Bool, if◌then◌else◌, refl}
 use Rattle.nest_memory.specs.TypeTree as types
 use Rattle.nest_memory.specs.TypeTree.{TypeTree}
+use Rattle.nest_memory.specs.declared.datatypes.IntegerType.{IntegerType}
+use Rattle.nest_memory.specs.declared.datatypes.IntegerType.TheVariants as integers
 use Rattle.nest_memory.specs.declared.datatypes.IntervalUnit.{IntervalUnit}
 use Rattle.nest_memory.specs.declared.datatypes.IntervalUnit.TheVariants.{YearMonth, DayTime, MonthDayNano}
 use Rattle.nest_memory.specs.declared.datatypes.physical_type.PhysicalType.{PhysicalType}
@@ -61,3 +63,49 @@ binary_of_width large = if large then physical.LargeBinary else physical.Binary
 
 abbrev pub text_of_width : Bool → PhysicalType
 text_of_width large = if large then physical.LargeUtf8 else physical.Utf8
+
+-- Of this project, as arrow2 does: the data type of keys, and of an array that names only its native type.
+abbrev pub integer_tree : IntegerType → TypeTree
+integer_tree integers.Int8 = types.int8
+integer_tree integers.Int16 = types.int16
+integer_tree integers.Int32 = types.int32
+integer_tree integers.Int64 = types.int64
+integer_tree integers.UInt8 = types.uint8
+integer_tree integers.UInt16 = types.uint16
+integer_tree integers.UInt32 = types.uint32
+integer_tree integers.UInt64 = types.uint64
+
+abbrev pub primitive_tree : PrimitiveType → TypeTree
+primitive_tree primitive.Int8 = types.int8
+primitive_tree primitive.Int16 = types.int16
+primitive_tree primitive.Int32 = types.int32
+primitive_tree primitive.Int64 = types.int64
+primitive_tree primitive.Int128 = types.decimal 32 32
+primitive_tree primitive.Int256 = types.decimal256 32 32
+primitive_tree primitive.UInt8 = types.uint8
+primitive_tree primitive.UInt16 = types.uint16
+primitive_tree primitive.UInt32 = types.uint32
+primitive_tree primitive.UInt64 = types.uint64
+primitive_tree primitive.Float16 = types.float16
+primitive_tree primitive.Float32 = types.float32
+primitive_tree primitive.Float64 = types.float64
+primitive_tree primitive.DaysMs = types.interval DayTime
+primitive_tree primitive.MonthDayNano = types.interval MonthDayNano
+
+-- that data type has that native type
+pub physical_type-primitive_tree : (p : PrimitiveType) → physical_type (primitive_tree p) ≡ physical.Primitive p
+physical_type-primitive_tree primitive.Int8 = refl
+physical_type-primitive_tree primitive.Int16 = refl
+physical_type-primitive_tree primitive.Int32 = refl
+physical_type-primitive_tree primitive.Int64 = refl
+physical_type-primitive_tree primitive.Int128 = refl
+physical_type-primitive_tree primitive.Int256 = refl
+physical_type-primitive_tree primitive.UInt8 = refl
+physical_type-primitive_tree primitive.UInt16 = refl
+physical_type-primitive_tree primitive.UInt32 = refl
+physical_type-primitive_tree primitive.UInt64 = refl
+physical_type-primitive_tree primitive.Float16 = refl
+physical_type-primitive_tree primitive.Float32 = refl
+physical_type-primitive_tree primitive.Float64 = refl
+physical_type-primitive_tree primitive.DaysMs = refl
+physical_type-primitive_tree primitive.MonthDayNano = refl

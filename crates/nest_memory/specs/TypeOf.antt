@@ -1,9 +1,11 @@
 -- The tree that a data type stands for.
-use Rattle.std.specs.Prelude.{List, [], ◌∷◌, map, String, string_bytes, ℕ, ℤ, Option, None, Some}
+use Rattle.std.specs.Prelude.{◌≡◌, suc, length, nat_eq, List, [], ◌∷◌, map, String, string_bytes, ℕ, ℤ, Option, None, Some}
 use Rattle.std.specs.Option.{option_map}
+use Rattle.std.proofs.Common.{refl, ap, sym, arith}
+use Rattle.std.proofs.lemmas.Bool.{ne_eqb}
 use Rattle.std.specs.declared.alloc.Global.{Global}
 use Rattle.nest_memory.specs.TypeTree as types
-use Rattle.nest_memory.specs.TypeTree.{Letters, Entries, TypeTree, FieldTree, field, FieldTrees, no_fields, more_fields}
+use Rattle.nest_memory.specs.TypeTree.{Letters, Entries, TypeTree, FieldTree, field, FieldTrees, no_fields, more_fields, count_fields, are_two}
 use Rattle.nest_memory.specs.declared.datatypes.DataType.{DataType, fold-DataType}
 use Rattle.nest_memory.specs.declared.datatypes.field.Field.{Field, fold-Field}
 use Rattle.nest_memory.specs.declared.datatypes.DataType.TheOpen.{DataType-F, Field-F}
@@ -69,3 +71,15 @@ field_of = fold-Field TypeTree FieldTree type_step field_step
 -- the fields of a struct or a union
 abbrev pub field_list_of : List Field → FieldTrees
 field_list_of fs = field_trees (map field_of fs)
+
+-- as many fields in the tree as there are
+pub count_fields-field_list_of : (fs : List Field) → count_fields (field_list_of fs) ≡ length fs
+count_fields-field_list_of [] = refl
+count_fields-field_list_of (f ∷ fs) = ap suc (count_fields-field_list_of fs)
+
+-- they are two exactly where there are two
+pub are_two-field_list_of : (fs : List Field) → are_two (field_list_of fs) ≡ nat_eq (length fs) 2
+are_two-field_list_of [] = refl
+are_two-field_list_of (f ∷ []) = refl
+are_two-field_list_of (f ∷ g ∷ []) = refl
+are_two-field_list_of (f ∷ g ∷ h ∷ fs) = sym (ne_eqb (length (f ∷ g ∷ h ∷ fs)) 2 (λ e. omega arith))

@@ -101,6 +101,13 @@ size_of (fixed_size_list f s) = s
 size_of (extension n t m) = size_of t
 size_of t = 0
 
+-- the same, where it has one
+abbrev pub fixed_size : TypeTree → Option ℕ
+fixed_size (fixed_size_binary s) = Some s
+fixed_size (fixed_size_list f s) = Some s
+fixed_size (extension n t m) = fixed_size t
+fixed_size t = None
+
 -- the fields of a struct or a union
 abbrev pub fields_of : TypeTree → FieldTrees
 fields_of (struct fs) = fs
@@ -108,11 +115,24 @@ fields_of (union fs ids mode) = fs
 fields_of (extension n t m) = fields_of t
 fields_of t = no_fields
 
+-- the same, where it is a struct or a union
+abbrev pub own_fields : TypeTree → Option FieldTrees
+own_fields (struct fs) = Some fs
+own_fields (union fs ids mode) = Some fs
+own_fields (extension n t m) = own_fields t
+own_fields t = None
+
 -- the ids of a union, where it has some
 abbrev pub ids_of : TypeTree → Option (List ℤ)
 ids_of (union fs ids mode) = ids
 ids_of (extension n t m) = ids_of t
 ids_of t = None
+
+-- the mode of a union
+abbrev pub mode_of : TypeTree → Option UnionMode
+mode_of (union fs ids mode) = Some mode
+mode_of (extension n t m) = mode_of t
+mode_of t = None
 
 abbrev pub is_dense_mode : UnionMode → Bool
 is_dense_mode Dense = true
@@ -134,6 +154,12 @@ abbrev pub value_type : TypeTree → Option TypeTree
 value_type (dictionary k t b) = Some t
 value_type (extension n t m) = value_type t
 value_type t = None
+
+-- whether it is a dictionary whose values are ordered
+abbrev pub is_ordered : TypeTree → Bool
+is_ordered (dictionary k t b) = b
+is_ordered (extension n t m) = is_ordered t
+is_ordered t = false
 
 abbrev pub are_two : FieldTrees → Bool
 are_two (more_fields a (more_fields b no_fields)) = true

@@ -1,36 +1,84 @@
-//! The native values that flat arrays hold.
-ghost use Rattle.std.specs.Prelude.{◌≡◌, ◌↔◌, ℤ, pos, List, [], ◌∷◌, IsTrue};
-ghost use Rattle.nest_memory.specs.declared.datatypes.physical_type.PrimitiveType.{PrimitiveType as Primitive};
-ghost use Rattle.nest_memory.specs.Native.{AllZero};
-ghost use Rattle.nest_memory.specs.declared.datatypes.physical_type.PrimitiveType.TheVariants as primitives;
+//! The native types of primitive arrays, after `types` of arrow2.
+#[cfg(test)]
+mod tests;
+
+ghost use Rattle.std.specs.Prelude.{◌≡◌, ℕ, ℤ, pos, List, [], ◌∷◌, replicate, length};
+ghost use Rattle.std.specs.Bool.{Decides};
+ghost use Rattle.nest_memory.specs.Native.{parts_of};
+ghost use Rattle.nest_memory.specs.declared.datatypes.physical_type.PrimitiveType.{PrimitiveType};
 
 use crate::datatypes::physical_type::PrimitiveType;
 
-/// A value of a fixed width, seen as the list of its whole numbers, the high half first.
-pub trait NativeType: Copy {
-    /// Its whole numbers.
+/// A type whose values a primitive array holds, after arrow2's `NativeType`.
+///
+/// Contracts see a value as the list of its whole numbers: one for an integer, the high half first
+/// for [`i256`], the longest unit first for [`days_ms`] and [`months_days_ns`].
+pub trait NativeType: Copy + Eq {
     ghost numbers: { Self → List ℤ };
 
-    ghost PRIMITIVE: { Primitive };
+    ghost PRIMITIVE: { PrimitiveType };
 
-    /// The physical type of arrays of it.
+    /// The primitive type of arrays of these values.
     const PRIMITIVE: PrimitiveType;
 
     /// The value whose numbers are all 0.
     fn zero() -> Self
-        ensures { AllZero (numbers result) };
+        ensures { numbers result ≡ replicate (parts_of PRIMITIVE) (pos 0) };
 
-    /// Whether two values have the same numbers.
-    fn is_same(&self, other: &Self) -> bool
-        ensures { IsTrue result ↔ (numbers self.now ≡ numbers other.now) };
+    // Values with the same numbers are the same.
+    ghost injective: { (a b : Self) → numbers a ≡ numbers b → a ≡ b };
 
-    ghost told_by_numbers: { (x y : Self) → numbers x ≡ numbers y → x ≡ y };
+    // `==` says whether the numbers are the same.
+    ghost decides: { (a b : Self) → Decides (Self.eq a b) (numbers a ≡ numbers b) };
+
+    // Each value has as many numbers as its primitive type has parts.
+    ghost parts: { (a : Self) → length (numbers a) ≡ parts_of PRIMITIVE };
+}
+
+/// A signed number of 256 bits: `high * 2^128 + low`. There is no arithmetic on it.
+#[allow(non_camel_case_types)]
+#[derive(Clone, Copy, Debug, PartialEq, Eq, Hash)]
+pub struct i256 {
+    /// The upper half, with the sign.
+    pub high: i128,
+    /// The lower half.
+    pub low: u128,
+}
+
+impl i256 {
+    /// The number of those halves.
+    pub const fn from_words(high: i128, low: u128) -> i256
+        ensures { result ≡ record { high = high; low = low } }
+    {
+        i256 { high, low }
+    }
+}
+
+/// A span of days and of milliseconds.
+#[allow(non_camel_case_types)]
+#[derive(Clone, Copy, Debug, PartialEq, Eq, Hash)]
+pub struct days_ms {
+    pub days: i32,
+    pub milliseconds: i32,
+}
+
+/// A span of months, of days and of nanoseconds.
+#[allow(non_camel_case_types)]
+#[derive(Clone, Copy, Debug, PartialEq, Eq, Hash)]
+pub struct months_days_ns {
+    pub months: i32,
+    pub days: i32,
+    pub ns: i64,
 }
 
 impl NativeType for i8 {
-    ghost numbers = { λ x. x ∷ [] };
+    ghost use Rattle.std.proofs.Common.{refl};
+    ghost use Rattle.nest_memory.specs.Native.{signed, signed-one, signed-decides};
+    ghost use Rattle.nest_memory.specs.declared.datatypes.physical_type.PrimitiveType.TheVariants.{Int8};
 
-    ghost PRIMITIVE = { primitives.Int8 };
+    ghost numbers = { signed };
+
+    ghost PRIMITIVE = { Int8 };
 
     const PRIMITIVE: PrimitiveType = PrimitiveType::Int8;
 
@@ -38,17 +86,21 @@ impl NativeType for i8 {
         0
     }
 
-    fn is_same(&self, other: &i8) -> bool {
-        *self == *other
-    }
+    ghost injective = { signed-one };
 
-    ghost told_by_numbers = { λ x y h. Prim.cc };
+    ghost decides = { signed-decides };
+
+    ghost parts = { λ _. refl };
 }
 
 impl NativeType for i16 {
-    ghost numbers = { λ x. x ∷ [] };
+    ghost use Rattle.std.proofs.Common.{refl};
+    ghost use Rattle.nest_memory.specs.Native.{signed, signed-one, signed-decides};
+    ghost use Rattle.nest_memory.specs.declared.datatypes.physical_type.PrimitiveType.TheVariants.{Int16};
 
-    ghost PRIMITIVE = { primitives.Int16 };
+    ghost numbers = { signed };
+
+    ghost PRIMITIVE = { Int16 };
 
     const PRIMITIVE: PrimitiveType = PrimitiveType::Int16;
 
@@ -56,17 +108,21 @@ impl NativeType for i16 {
         0
     }
 
-    fn is_same(&self, other: &i16) -> bool {
-        *self == *other
-    }
+    ghost injective = { signed-one };
 
-    ghost told_by_numbers = { λ x y h. Prim.cc };
+    ghost decides = { signed-decides };
+
+    ghost parts = { λ _. refl };
 }
 
 impl NativeType for i32 {
-    ghost numbers = { λ x. x ∷ [] };
+    ghost use Rattle.std.proofs.Common.{refl};
+    ghost use Rattle.nest_memory.specs.Native.{signed, signed-one, signed-decides};
+    ghost use Rattle.nest_memory.specs.declared.datatypes.physical_type.PrimitiveType.TheVariants.{Int32};
 
-    ghost PRIMITIVE = { primitives.Int32 };
+    ghost numbers = { signed };
+
+    ghost PRIMITIVE = { Int32 };
 
     const PRIMITIVE: PrimitiveType = PrimitiveType::Int32;
 
@@ -74,17 +130,21 @@ impl NativeType for i32 {
         0
     }
 
-    fn is_same(&self, other: &i32) -> bool {
-        *self == *other
-    }
+    ghost injective = { signed-one };
 
-    ghost told_by_numbers = { λ x y h. Prim.cc };
+    ghost decides = { signed-decides };
+
+    ghost parts = { λ _. refl };
 }
 
 impl NativeType for i64 {
-    ghost numbers = { λ x. x ∷ [] };
+    ghost use Rattle.std.proofs.Common.{refl};
+    ghost use Rattle.nest_memory.specs.Native.{signed, signed-one, signed-decides};
+    ghost use Rattle.nest_memory.specs.declared.datatypes.physical_type.PrimitiveType.TheVariants.{Int64};
 
-    ghost PRIMITIVE = { primitives.Int64 };
+    ghost numbers = { signed };
+
+    ghost PRIMITIVE = { Int64 };
 
     const PRIMITIVE: PrimitiveType = PrimitiveType::Int64;
 
@@ -92,17 +152,21 @@ impl NativeType for i64 {
         0
     }
 
-    fn is_same(&self, other: &i64) -> bool {
-        *self == *other
-    }
+    ghost injective = { signed-one };
 
-    ghost told_by_numbers = { λ x y h. Prim.cc };
+    ghost decides = { signed-decides };
+
+    ghost parts = { λ _. refl };
 }
 
 impl NativeType for i128 {
-    ghost numbers = { λ x. x ∷ [] };
+    ghost use Rattle.std.proofs.Common.{refl};
+    ghost use Rattle.nest_memory.specs.Native.{signed, signed-one, signed-decides};
+    ghost use Rattle.nest_memory.specs.declared.datatypes.physical_type.PrimitiveType.TheVariants.{Int128};
 
-    ghost PRIMITIVE = { primitives.Int128 };
+    ghost numbers = { signed };
+
+    ghost PRIMITIVE = { Int128 };
 
     const PRIMITIVE: PrimitiveType = PrimitiveType::Int128;
 
@@ -110,17 +174,21 @@ impl NativeType for i128 {
         0
     }
 
-    fn is_same(&self, other: &i128) -> bool {
-        *self == *other
-    }
+    ghost injective = { signed-one };
 
-    ghost told_by_numbers = { λ x y h. Prim.cc };
+    ghost decides = { signed-decides };
+
+    ghost parts = { λ _. refl };
 }
 
 impl NativeType for u8 {
-    ghost numbers = { λ x. pos x ∷ [] };
+    ghost use Rattle.std.proofs.Common.{refl};
+    ghost use Rattle.nest_memory.specs.Native.{unsigned, unsigned-one, unsigned-decides};
+    ghost use Rattle.nest_memory.specs.declared.datatypes.physical_type.PrimitiveType.TheVariants.{UInt8};
 
-    ghost PRIMITIVE = { primitives.UInt8 };
+    ghost numbers = { unsigned };
+
+    ghost PRIMITIVE = { UInt8 };
 
     const PRIMITIVE: PrimitiveType = PrimitiveType::UInt8;
 
@@ -128,17 +196,21 @@ impl NativeType for u8 {
         0
     }
 
-    fn is_same(&self, other: &u8) -> bool {
-        *self == *other
-    }
+    ghost injective = { unsigned-one };
 
-    ghost told_by_numbers = { λ x y h. Prim.cc };
+    ghost decides = { unsigned-decides };
+
+    ghost parts = { λ _. refl };
 }
 
 impl NativeType for u16 {
-    ghost numbers = { λ x. pos x ∷ [] };
+    ghost use Rattle.std.proofs.Common.{refl};
+    ghost use Rattle.nest_memory.specs.Native.{unsigned, unsigned-one, unsigned-decides};
+    ghost use Rattle.nest_memory.specs.declared.datatypes.physical_type.PrimitiveType.TheVariants.{UInt16};
 
-    ghost PRIMITIVE = { primitives.UInt16 };
+    ghost numbers = { unsigned };
+
+    ghost PRIMITIVE = { UInt16 };
 
     const PRIMITIVE: PrimitiveType = PrimitiveType::UInt16;
 
@@ -146,17 +218,21 @@ impl NativeType for u16 {
         0
     }
 
-    fn is_same(&self, other: &u16) -> bool {
-        *self == *other
-    }
+    ghost injective = { unsigned-one };
 
-    ghost told_by_numbers = { λ x y h. Prim.cc };
+    ghost decides = { unsigned-decides };
+
+    ghost parts = { λ _. refl };
 }
 
 impl NativeType for u32 {
-    ghost numbers = { λ x. pos x ∷ [] };
+    ghost use Rattle.std.proofs.Common.{refl};
+    ghost use Rattle.nest_memory.specs.Native.{unsigned, unsigned-one, unsigned-decides};
+    ghost use Rattle.nest_memory.specs.declared.datatypes.physical_type.PrimitiveType.TheVariants.{UInt32};
 
-    ghost PRIMITIVE = { primitives.UInt32 };
+    ghost numbers = { unsigned };
+
+    ghost PRIMITIVE = { UInt32 };
 
     const PRIMITIVE: PrimitiveType = PrimitiveType::UInt32;
 
@@ -164,17 +240,21 @@ impl NativeType for u32 {
         0
     }
 
-    fn is_same(&self, other: &u32) -> bool {
-        *self == *other
-    }
+    ghost injective = { unsigned-one };
 
-    ghost told_by_numbers = { λ x y h. Prim.cc };
+    ghost decides = { unsigned-decides };
+
+    ghost parts = { λ _. refl };
 }
 
 impl NativeType for u64 {
-    ghost numbers = { λ x. pos x ∷ [] };
+    ghost use Rattle.std.proofs.Common.{refl};
+    ghost use Rattle.nest_memory.specs.Native.{unsigned, unsigned-one, unsigned-decides};
+    ghost use Rattle.nest_memory.specs.declared.datatypes.physical_type.PrimitiveType.TheVariants.{UInt64};
 
-    ghost PRIMITIVE = { primitives.UInt64 };
+    ghost numbers = { unsigned };
+
+    ghost PRIMITIVE = { UInt64 };
 
     const PRIMITIVE: PrimitiveType = PrimitiveType::UInt64;
 
@@ -182,24 +262,21 @@ impl NativeType for u64 {
         0
     }
 
-    fn is_same(&self, other: &u64) -> bool {
-        *self == *other
-    }
+    ghost injective = { unsigned-one };
 
-    ghost told_by_numbers = { λ x y h. Prim.cc };
-}
+    ghost decides = { unsigned-decides };
 
-/// A whole number of 256 bits: its signed high and its unsigned low half.
-#[derive(Clone, Copy, Debug, PartialEq, Eq)]
-pub struct i256 {
-    pub high: i128,
-    pub low: u128,
+    ghost parts = { λ _. refl };
 }
 
 impl NativeType for i256 {
-    ghost numbers = { λ x. x.high ∷ pos x.low ∷ [] };
+    ghost use Rattle.std.proofs.Common.{refl};
+    ghost use Rattle.nest_memory.specs.NativeStructs.{halves, halves-one, halves-decides};
+    ghost use Rattle.nest_memory.specs.declared.datatypes.physical_type.PrimitiveType.TheVariants.{Int256};
 
-    ghost PRIMITIVE = { primitives.Int256 };
+    ghost numbers = { halves };
+
+    ghost PRIMITIVE = { Int256 };
 
     const PRIMITIVE: PrimitiveType = PrimitiveType::Int256;
 
@@ -207,26 +284,21 @@ impl NativeType for i256 {
         i256 { high: 0, low: 0 }
     }
 
-    fn is_same(&self, other: &i256) -> bool {
-        self.high == other.high && self.low == other.low
-    }
+    ghost injective = { halves-one };
 
-    ghost use Rattle.nest_memory.specs.Native.{same_pair, same_nat};
+    ghost decides = { halves-decides };
 
-    ghost told_by_numbers = { λ x y h. let e = same_pair x.high (pos x.low) y.high (pos y.low) h in let p = same_nat x.low y.low e.1 in λ i. record { high = e.0 i; low = p i } };
-}
-
-/// An interval of days and milliseconds.
-#[derive(Clone, Copy, Debug, PartialEq, Eq)]
-pub struct days_ms {
-    pub days: i32,
-    pub milliseconds: i32,
+    ghost parts = { λ _. refl };
 }
 
 impl NativeType for days_ms {
-    ghost numbers = { λ x. x.days ∷ x.milliseconds ∷ [] };
+    ghost use Rattle.std.proofs.Common.{refl};
+    ghost use Rattle.nest_memory.specs.NativeStructs.{days_numbers, days-one, days-decides};
+    ghost use Rattle.nest_memory.specs.declared.datatypes.physical_type.PrimitiveType.TheVariants.{DaysMs};
 
-    ghost PRIMITIVE = { primitives.DaysMs };
+    ghost numbers = { days_numbers };
+
+    ghost PRIMITIVE = { DaysMs };
 
     const PRIMITIVE: PrimitiveType = PrimitiveType::DaysMs;
 
@@ -237,27 +309,21 @@ impl NativeType for days_ms {
         }
     }
 
-    fn is_same(&self, other: &days_ms) -> bool {
-        self.days == other.days && self.milliseconds == other.milliseconds
-    }
+    ghost injective = { days-one };
 
-    ghost use Rattle.nest_memory.specs.Native.{same_pair};
+    ghost decides = { days-decides };
 
-    ghost told_by_numbers = { λ x y h. let e = same_pair x.days x.milliseconds y.days y.milliseconds h in λ i. record { days = e.0 i; milliseconds = e.1 i } };
-}
-
-/// An interval of months, days and nanoseconds.
-#[derive(Clone, Copy, Debug, PartialEq, Eq)]
-pub struct months_days_ns {
-    pub months: i32,
-    pub days: i32,
-    pub ns: i64,
+    ghost parts = { λ _. refl };
 }
 
 impl NativeType for months_days_ns {
-    ghost numbers = { λ x. x.months ∷ x.days ∷ x.ns ∷ [] };
+    ghost use Rattle.std.proofs.Common.{refl};
+    ghost use Rattle.nest_memory.specs.NativeStructs.{months_numbers, months-one, months-decides};
+    ghost use Rattle.nest_memory.specs.declared.datatypes.physical_type.PrimitiveType.TheVariants.{MonthDayNano};
 
-    ghost PRIMITIVE = { primitives.MonthDayNano };
+    ghost numbers = { months_numbers };
+
+    ghost PRIMITIVE = { MonthDayNano };
 
     const PRIMITIVE: PrimitiveType = PrimitiveType::MonthDayNano;
 
@@ -269,11 +335,9 @@ impl NativeType for months_days_ns {
         }
     }
 
-    fn is_same(&self, other: &months_days_ns) -> bool {
-        self.months == other.months && self.days == other.days && self.ns == other.ns
-    }
+    ghost injective = { months-one };
 
-    ghost use Rattle.nest_memory.specs.Native.{same_triple};
+    ghost decides = { months-decides };
 
-    ghost told_by_numbers = { λ x y h. let e = same_triple x.months x.days x.ns y.months y.days y.ns h in λ i. record { months = e.0 i; days = e.1.0 i; ns = e.1.1 i } };
+    ghost parts = { λ _. refl };
 }

@@ -21,3 +21,15 @@ pub mod SlotCode
 pub mod Nullness
 pub mod SameArray
 pub mod TextLaws
+pub mod BuilderRow
+pub mod BuilderTree
+pub mod BuilderLevels
+pub mod BuilderWhole
+pub mod BuilderItem
+pub mod BuilderAppend
+pub mod BuilderCauses
+pub mod BuilderRowLaws
+pub mod BuilderLevelLaws
+pub mod BuilderCutLaws
+pub mod BuilderAppendLaws
+pub mod BuilderExamples

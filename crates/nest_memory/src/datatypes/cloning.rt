@@ -1,33 +1,38 @@
-// `clone`, written out since a derived one says nothing of a type that holds itself.
-ghost use Rattle.std.specs.Prelude.{◌≡◌, IfOk, option_map};
-ghost use Rattle.nest_memory.specs.TypeOf.{type_of, field_of, field_list_of, entries_of};
+//! Copies of data types and fields, written out since a derived `clone` says nothing of a type that holds itself.
+ghost use Rattle.std.specs.Prelude.{◌≡◌, IfOk, IsOkUnless, alloc_error, option_map};
+ghost use Rattle.nest_memory.specs.TypeOf.{type_of, field_of, field_list_of, entries_of, text_of};
+ghost use Rattle.nest_memory.specs.declared.error.Error.TheVariants.{Memory};
 
 use crate::datatypes::DataType;
-use crate::datatypes::field::Field;
-use std::alloc::AllocError;
-use std::collections::BTreeMap;
+use crate::datatypes::field::{Field, Metadata};
+use crate::error::Error;
+use std::alloc::{AllocError, Global};
 
-impl Clone for DataType {
-    ghost is_clone = { λ a b. type_of b ≡ type_of a };
-
-    fn clone(&self) -> Result<DataType, AllocError> {
-        copy(self)
+impl DataType {
+    /// An equal data type of its own. Refused with `Memory` alone.
+    pub fn clone(&self, alloc: Global) -> Result<DataType, Error>
+        ensures ok { IfOk result (λ t. type_of t ≡ type_of self.now) }
+        ensures err { IsOkUnless result (Memory alloc_error) }
+    {
+        Ok(copy(alloc, self)?)
     }
 }
 
-impl Clone for Field {
-    ghost is_clone = { λ a b. field_of b ≡ field_of a };
-
-    fn clone(&self) -> Result<Field, AllocError> {
-        copy_field(self)
+impl Field {
+    /// An equal field of its own. Refused with `Memory` alone.
+    pub fn clone(&self, alloc: Global) -> Result<Field, Error>
+        ensures ok { IfOk result (λ f. field_of f ≡ field_of self.now) }
+        ensures err { IsOkUnless result (Memory alloc_error) }
+    {
+        Ok(copy_field(alloc, self)?)
     }
 }
 
 #[cycle(cloning)]
-pub fn copy(value: &DataType) -> Result<DataType, AllocError>
-    ensures { IfOk result (λ t. type_of t ≡ type_of value.now) }
+fn copy(alloc: Global, source: &DataType) -> Result<DataType, AllocError>
+    ensures { IfOk result (λ t. type_of t ≡ type_of source.now) }
 {
-    match value {
+    match source {
         DataType::Null => Ok(DataType::Null),
         DataType::Boolean => Ok(DataType::Boolean),
         DataType::Int8 => Ok(DataType::Int8),
@@ -41,87 +46,99 @@ pub fn copy(value: &DataType) -> Result<DataType, AllocError>
         DataType::Float16 => Ok(DataType::Float16),
         DataType::Float32 => Ok(DataType::Float32),
         DataType::Float64 => Ok(DataType::Float64),
+        DataType::Timestamp(unit, zone) => Ok(DataType::Timestamp(*unit, copy_text(alloc, zone)?)),
         DataType::Date32 => Ok(DataType::Date32),
         DataType::Date64 => Ok(DataType::Date64),
-        DataType::Binary => Ok(DataType::Binary),
-        DataType::LargeBinary => Ok(DataType::LargeBinary),
-        DataType::Utf8 => Ok(DataType::Utf8),
-        DataType::LargeUtf8 => Ok(DataType::LargeUtf8),
-        DataType::Timestamp(unit, zone) => Ok(DataType::Timestamp(*unit, zone.clone()?)),
         DataType::Time32(unit) => Ok(DataType::Time32(*unit)),
         DataType::Time64(unit) => Ok(DataType::Time64(*unit)),
         DataType::Duration(unit) => Ok(DataType::Duration(*unit)),
         DataType::Interval(unit) => Ok(DataType::Interval(*unit)),
-        DataType::Decimal(precision, scale) => Ok(DataType::Decimal(*precision, *scale)),
-        DataType::Decimal256(precision, scale) => Ok(DataType::Decimal256(*precision, *scale)),
+        DataType::Binary => Ok(DataType::Binary),
         DataType::FixedSizeBinary(size) => Ok(DataType::FixedSizeBinary(*size)),
-        DataType::List(field) => Ok(DataType::List(copy_boxed(field)?)),
-        DataType::LargeList(field) => Ok(DataType::LargeList(copy_boxed(field)?)),
-        DataType::Map(field, sorted) => Ok(DataType::Map(copy_boxed(field)?, *sorted)),
+        DataType::LargeBinary => Ok(DataType::LargeBinary),
+        DataType::Utf8 => Ok(DataType::Utf8),
+        DataType::LargeUtf8 => Ok(DataType::LargeUtf8),
+        DataType::List(field) => Ok(DataType::List(copy_boxed(alloc, field)?)),
         DataType::FixedSizeList(field, size) => Ok(DataType::FixedSizeList(
-            copy_boxed(field)?,
+            copy_boxed(alloc, field)?,
             *size,
         )),
-        DataType::Struct(fields) => Ok(DataType::Struct(copy_fields(fields)?)),
+        DataType::LargeList(field) => Ok(DataType::LargeList(copy_boxed(alloc, field)?)),
+        DataType::Struct(fields) => Ok(DataType::Struct(copy_fields(alloc, fields)?)),
         DataType::Union(fields, ids, mode) => Ok(DataType::Union(
-            copy_fields(fields)?,
-            copy_ids(ids)?,
+            copy_fields(alloc, fields)?,
+            copy_ids(alloc, ids)?,
             *mode,
         )),
+        DataType::Map(entries, sorted) => Ok(DataType::Map(copy_boxed(alloc, entries)?, *sorted)),
         DataType::Dictionary(key, values, ordered) => {
-            let copied = Box::new(*Box::allocator(values), copy(values)?)?;
+            let copied = Box::new(alloc, copy(alloc, values)?)?;
             Ok(DataType::Dictionary(*key, copied, *ordered))
         }
+        DataType::Decimal(precision, scale) => Ok(DataType::Decimal(*precision, *scale)),
+        DataType::Decimal256(precision, scale) => Ok(DataType::Decimal256(*precision, *scale)),
         DataType::Extension(name, inner, metadata) => {
-            let copied = Box::new(*Box::allocator(inner), copy(inner)?)?;
-            Ok(DataType::Extension(name.clone()?, copied, metadata.clone()?))
+            let copied = Box::new(alloc, copy(alloc, inner)?)?;
+            Ok(DataType::Extension(
+                String::from_str(alloc, name.as_str())?,
+                copied,
+                copy_text(alloc, metadata)?,
+            ))
         }
     }
 }
 
 #[cycle(cloning)]
-fn copy_field(field: &Field) -> Result<Field, AllocError>
+fn copy_field(alloc: Global, field: &Field) -> Result<Field, AllocError>
     ensures { IfOk result (λ f. field_of f ≡ field_of field.now) }
 {
     Ok(Field {
-        name: field.name.clone()?,
-        data_type: copy(&field.data_type)?,
+        name: String::from_str(alloc, field.name.as_str())?,
+        data_type: copy(alloc, &field.data_type)?,
         is_nullable: field.is_nullable,
         metadata: copy_metadata(&field.metadata)?,
     })
 }
 
 #[cycle(cloning)]
-fn copy_boxed(field: &Box<Field>) -> Result<Box<Field>, AllocError>
+fn copy_boxed(alloc: Global, field: &Box<Field>) -> Result<Box<Field>, AllocError>
     ensures { IfOk result (λ f. field_of f.value ≡ field_of field.now.value) }
 {
-    let copied = copy_field(field)?;
-    Ok(Box::new(*Box::allocator(field), copied)?)
+    let copied = copy_field(alloc, field)?;
+    Ok(Box::new(alloc, copied)?)
 }
 
 #[cycle(cloning)]
-fn copy_fields(fields: &Vec<Field>) -> Result<Vec<Field>, AllocError>
+fn copy_fields(alloc: Global, fields: &Vec<Field>) -> Result<Vec<Field>, AllocError>
     ensures { IfOk result (λ v. field_list_of v.items ≡ field_list_of fields.now.items) }
 {
-    let mut copied = Vec::with_capacity(*fields.allocator(), fields.len())?;
+    let mut copied = Vec::with_capacity(alloc, fields.len())?;
     for field in fields {
-        copied.push(copy_field(field)?)?;
+        copied.push(copy_field(alloc, field)?)?;
     }
     Ok(copied)
 }
 
-fn copy_ids(ids: &Option<Vec<i32>>) -> Result<Option<Vec<i32>>, AllocError>
+fn copy_text(alloc: Global, text: &Option<String>) -> Result<Option<String>, AllocError>
+    ensures { IfOk result (λ t. text_of t ≡ text_of text.now) }
+{
+    match text {
+        None => Ok(None),
+        Some(text) => Ok(Some(String::from_str(alloc, text.as_str())?)),
+    }
+}
+
+fn copy_ids(alloc: Global, ids: &Option<Vec<i32>>) -> Result<Option<Vec<i32>>, AllocError>
     ensures { IfOk result (λ v. option_map (λ w. w.items) v ≡ option_map (λ w. w.items) ids.now) }
 {
     match ids {
         None => Ok(None),
-        Some(v) => Ok(Some(v.clone()?)),
+        Some(ids) => Ok(Some(Vec::from_slice(alloc, ids.as_slice())?)),
     }
 }
 
-fn copy_metadata(
-    metadata: &BTreeMap<String, String>,
-) -> Result<BTreeMap<String, String>, AllocError>
+// On the map's own allocator, which is `Global` too.
+fn copy_metadata(metadata: &Metadata) -> Result<Metadata, AllocError>
     ensures { IfOk result (λ m. entries_of m.entries ≡ entries_of metadata.now.entries) }
 {
     let copied = metadata.clone()?;

@@ -1,13 +1,12 @@
-// Equality of data types: every part is compared.
+//! Equality of data types and fields: every part is compared, up to the first that differs.
 ghost use Rattle.std.specs.Prelude.{◌≡◌, ◌↔◌, IsTrue, option_map};
 ghost use Rattle.nest_memory.specs.TypeOf.{type_of, field_of, field_list_of, entries_of, text_of};
 
 use crate::datatypes::DataType;
-use crate::datatypes::field::Field;
-use std::collections::BTreeMap;
+use crate::datatypes::field::{Field, Metadata};
 
 #[cycle(equality)]
-pub fn same(a: &DataType, b: &DataType) -> bool
+fn same(a: &DataType, b: &DataType) -> bool
     ensures { IsTrue result ↔ (type_of a.now ≡ type_of b.now) }
 {
     match a {
@@ -154,7 +153,7 @@ fn same_ids(a: &Option<Vec<i32>>, b: &Option<Vec<i32>>) -> bool
     }
 }
 
-fn same_metadata(a: &BTreeMap<String, String>, b: &BTreeMap<String, String>) -> bool
+fn same_metadata(a: &Metadata, b: &Metadata) -> bool
     ensures { IsTrue result ↔ (entries_of a.now.entries ≡ entries_of b.now.entries) }
 {
     *a == *b
@@ -187,4 +186,27 @@ impl Eq for DataType {
     ghost use Rattle.nest_memory.specs.TypeEq.{same_type-equiv};
 
     ghost laws = { on_equiv type_of same_type-equiv };
+}
+
+impl PartialEq for Field {
+    ghost use Rattle.std.specs.Cmp.{on_per, partial_equiv_from_equiv};
+    ghost use Rattle.nest_memory.specs.TypeEq.{same_field, same_field-equiv};
+
+    ghost eq = { λ a b. same_field (field_of a) (field_of b) };
+
+    ghost laws = { on_per field_of (partial_equiv_from_equiv same_field-equiv) };
+
+    fn eq(&self, other: &Field) -> bool
+        ensures computes { result ≡ same_field (field_of self.now) (field_of other.now) }
+        ensures decides { IsTrue result ↔ (field_of self.now ≡ field_of other.now) }
+    {
+        same_field(self, other)
+    }
+}
+
+impl Eq for Field {
+    ghost use Rattle.std.specs.Cmp.{on_equiv};
+    ghost use Rattle.nest_memory.specs.TypeEq.{same_field-equiv};
+
+    ghost laws = { on_equiv field_of same_field-equiv };
 }

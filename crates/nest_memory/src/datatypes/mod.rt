@@ -1,14 +1,18 @@
-//! Logical types, physical types and fields.
-
+//! Data types, after `datatypes` of arrow2: logical types, physical types and fields.
 mod cloning;
+mod conversion;
 mod equality;
 pub mod field;
+mod parts;
 pub mod physical_type;
+#[cfg(test)]
+mod tests;
 
-ghost use Rattle.std.specs.Prelude.{◌≡◌};
+ghost use Rattle.std.specs.Prelude.{◌≡◌, ◌↔◌, IsTrue};
+ghost use Rattle.nest_memory.specs.declared.datatypes.UnionMode.TheVariants.{Sparse};
 
-use field::Field;
-use physical_type::{PhysicalType, PrimitiveType};
+pub use field::{Field, Metadata};
+pub use physical_type::{PhysicalType, PrimitiveType};
 
 /// The unit of a time, of a duration or of a point in time.
 #[derive(Clone, Copy, Debug, PartialEq, Eq)]
@@ -22,8 +26,11 @@ pub enum TimeUnit {
 /// The unit of a calendar interval.
 #[derive(Clone, Copy, Debug, PartialEq, Eq)]
 pub enum IntervalUnit {
+    /// Whole months.
     YearMonth,
+    /// Days and milliseconds.
     DayTime,
+    /// Months, days and nanoseconds.
     MonthDayNano,
 }
 
@@ -40,19 +47,19 @@ pub enum IntegerType {
     UInt64,
 }
 
-/// The mode of a union.
+/// How a union finds a slot's value.
 #[derive(Clone, Copy, Debug, PartialEq, Eq)]
 pub enum UnionMode {
+    /// At an offset of the slot's own.
     Dense,
+    /// At the slot's own place.
     Sparse,
 }
 
 impl UnionMode {
-    ghost use Rattle.std.specs.Prelude.{not};
-    ghost use Rattle.nest_memory.specs.TypeTree.{is_dense_mode};
-
+    /// Whether the mode is `Sparse`.
     pub fn is_sparse(&self) -> bool
-        ensures { result ≡ not (is_dense_mode self.now) }
+        ensures { IsTrue result ↔ (self.now ≡ Sparse) }
     {
         match self {
             UnionMode::Dense => false,
@@ -61,128 +68,78 @@ impl UnionMode {
     }
 }
 
-/// The logical types of arrays, as `Schema.fbs` of the Arrow format names them.
+/// The logical types of arrays, after `Schema.fbs` of the Arrow format.
 #[cycle(types)]
 #[derive(Drop)]
 pub enum DataType {
+    /// Only nulls.
     Null,
+    /// Truths, of one bit.
     Boolean,
+    /// Signed numbers of 8 bits.
     Int8,
+    /// Signed numbers of 16 bits.
     Int16,
+    /// Signed numbers of 32 bits.
     Int32,
+    /// Signed numbers of 64 bits.
     Int64,
+    /// Unsigned numbers of 8 bits.
     UInt8,
+    /// Unsigned numbers of 16 bits.
     UInt16,
+    /// Unsigned numbers of 32 bits.
     UInt32,
+    /// Unsigned numbers of 64 bits.
     UInt64,
+    /// Floats of 16 bits; no array of them exists here.
     Float16,
+    /// Floats of 32 bits; no array of them exists here.
     Float32,
+    /// Floats of 64 bits; no array of them exists here.
     Float64,
+    /// A count of units since 1970 in 64 bits, with a time zone where it has one.
     Timestamp(TimeUnit, Option<String>),
+    /// Days since 1970, in 32 bits.
     Date32,
+    /// Milliseconds since 1970, in 64 bits.
     Date64,
+    /// A count of units since midnight, in 32 bits.
     Time32(TimeUnit),
+    /// A count of units since midnight, in 64 bits.
     Time64(TimeUnit),
+    /// A count of units, in 64 bits.
     Duration(TimeUnit),
+    /// A span of the calendar.
     Interval(IntervalUnit),
+    /// Bytes, by offsets of 32 bits.
     Binary,
+    /// So many bytes in each slot.
     FixedSizeBinary(usize),
+    /// Bytes, by offsets of 64 bits.
     LargeBinary,
+    /// UTF-8, by offsets of 32 bits.
     Utf8,
+    /// UTF-8, by offsets of 64 bits.
     LargeUtf8,
+    /// Lists of the field's values, by offsets of 32 bits.
     List(Box<Field>),
+    /// Lists of so many of the field's values.
     FixedSizeList(Box<Field>, usize),
+    /// Lists of the field's values, by offsets of 64 bits.
     LargeList(Box<Field>),
+    /// Records of one value a field.
     Struct(Vec<Field>),
+    /// One value of one of the fields. A slot names its field by an id, or by its position where there are no ids.
     Union(Vec<Field>, Option<Vec<i32>>, UnionMode),
+    /// Lists of entries, a struct of a key and a value, and whether the keys are sorted.
     Map(Box<Field>, bool),
+    /// Keys into values of a type, and whether the values are ordered.
     Dictionary(IntegerType, Box<DataType>, bool),
+    /// Decimal numbers of 128 bits: the digits in all, and those after the point.
     Decimal(usize, usize),
+    /// Decimal numbers of 256 bits: the digits in all, and those after the point.
     Decimal256(usize, usize),
+    /// A type of the user's: its name, the type that stores it, and its metadata.
     Extension(String, Box<DataType>, Option<String>),
-}
-
-impl DataType {
-    ghost use Rattle.nest_memory.specs.TypeOf.{type_of};
-    ghost use Rattle.nest_memory.specs.TypeTree.{logical_type};
-    ghost use Rattle.nest_memory.specs.Physical.{physical_type};
-
-    /// The type without its outer extensions.
-    pub fn to_logical_type(&self) -> &DataType
-        ensures { type_of result.now ≡ logical_type (type_of self.now) }
-    {
-        match self {
-            DataType::Extension(_, inner, _) => inner.to_logical_type(),
-            _ => self,
-        }
-    }
-
-    /// How the values of the logical type lie in memory.
-    pub fn to_physical_type(&self) -> PhysicalType
-        ensures { result ≡ physical_type (type_of self.now) }
-    {
-        match self {
-            DataType::Null => PhysicalType::Null,
-            DataType::Boolean => PhysicalType::Boolean,
-            DataType::Int8 => PhysicalType::Primitive(PrimitiveType::Int8),
-            DataType::Int16 => PhysicalType::Primitive(PrimitiveType::Int16),
-            DataType::Int32
-            | DataType::Date32
-            | DataType::Time32(_)
-            | DataType::Interval(IntervalUnit::YearMonth) => PhysicalType::Primitive(
-                PrimitiveType::Int32,
-            ),
-            DataType::Int64
-            | DataType::Date64
-            | DataType::Timestamp(_, _)
-            | DataType::Time64(_)
-            | DataType::Duration(_) => PhysicalType::Primitive(PrimitiveType::Int64),
-            DataType::Decimal(_, _) => PhysicalType::Primitive(PrimitiveType::Int128),
-            DataType::Decimal256(_, _) => PhysicalType::Primitive(PrimitiveType::Int256),
-            DataType::UInt8 => PhysicalType::Primitive(PrimitiveType::UInt8),
-            DataType::UInt16 => PhysicalType::Primitive(PrimitiveType::UInt16),
-            DataType::UInt32 => PhysicalType::Primitive(PrimitiveType::UInt32),
-            DataType::UInt64 => PhysicalType::Primitive(PrimitiveType::UInt64),
-            DataType::Float16 => PhysicalType::Primitive(PrimitiveType::Float16),
-            DataType::Float32 => PhysicalType::Primitive(PrimitiveType::Float32),
-            DataType::Float64 => PhysicalType::Primitive(PrimitiveType::Float64),
-            DataType::Interval(IntervalUnit::DayTime) => PhysicalType::Primitive(
-                PrimitiveType::DaysMs,
-            ),
-            DataType::Interval(IntervalUnit::MonthDayNano) => PhysicalType::Primitive(
-                PrimitiveType::MonthDayNano,
-            ),
-            DataType::Binary => PhysicalType::Binary,
-            DataType::FixedSizeBinary(_) => PhysicalType::FixedSizeBinary,
-            DataType::LargeBinary => PhysicalType::LargeBinary,
-            DataType::Utf8 => PhysicalType::Utf8,
-            DataType::LargeUtf8 => PhysicalType::LargeUtf8,
-            DataType::List(_) => PhysicalType::List,
-            DataType::FixedSizeList(_, _) => PhysicalType::FixedSizeList,
-            DataType::LargeList(_) => PhysicalType::LargeList,
-            DataType::Struct(_) => PhysicalType::Struct,
-            DataType::Union(_, _, _) => PhysicalType::Union,
-            DataType::Map(_, _) => PhysicalType::Map,
-            DataType::Dictionary(key, _, _) => PhysicalType::Dictionary(*key),
-            DataType::Extension(_, inner, _) => inner.to_physical_type(),
-        }
-    }
-
-    ghost use Rattle.std.specs.Prelude.{option_map};
-    ghost use Rattle.nest_memory.specs.TypeOf.{field_of};
-    ghost use Rattle.nest_memory.specs.TypeTree.{item_field};
-
-    /// The field of the items of a list of any kind, or of a map's entries.
-    pub fn item_field(&self) -> Option<&Field>
-        ensures { option_map (λ f. field_of f.now) result ≡ item_field (type_of self.now) }
-    {
-        match self {
-            DataType::List(field)
-            | DataType::LargeList(field)
-            | DataType::FixedSizeList(field, _)
-            | DataType::Map(field, _) => Some(field),
-            DataType::Extension(_, inner, _) => inner.item_field(),
-            _ => None,
-        }
-    }
 }

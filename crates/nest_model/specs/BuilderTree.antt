@@ -1,0 +1,80 @@
+-- A builder as a plain tree: its kind, its data type, the rows that it was told, its children.
+use Rattle.std.specs.Prelude.{ℕ, ◌-◌, ◌^◌, ◌<◌, Bool, List, [], ◌∷◌, length, Option, if◌then◌else◌}
+use Rattle.nest_memory.specs.TypeTree.{TypeTree, FieldTrees, no_fields, more_fields, field_type}
+use Rattle.nest_memory.specs.declared.datatypes.IntegerType.{IntegerType}
+use Rattle.nest_memory.specs.declared.datatypes.IntegerType.TheVariants as integers
+use Rattle.nest_model.specs.Slot.{Slot}
+use Rattle.nest_model.specs.BuilderRow.{Row}
+
+mutual
+  pub data BuilderTree : Type 0 where
+    -- a builder without children, of null, boolean, native, binary, text or fixed-size binary slots
+    flat : TypeTree → List Slot → BuilderTree
+    -- Variable-size List Layout: whether its offsets have 64 bits, its rows, its items
+    list : Bool → TypeTree → List Row → BuilderTree → BuilderTree
+    -- Fixed-Size List Layout: whether each row is valid, its items; the size stands in the type
+    fixed_size_list : TypeTree → List Bool → BuilderTree → BuilderTree
+    -- Dictionary-encoded Layout: the keys' type, a key or none for each row, the values
+    dictionary : IntegerType → TypeTree → List (Option ℕ) → BuilderTree → BuilderTree
+    -- Struct Layout: whether each row is valid, one child a field
+    struct : TypeTree → List Bool → BuilderTrees → BuilderTree
+
+  pub data BuilderTrees : Type 0 where
+    no_builders : BuilderTrees
+    more_builders : BuilderTree → BuilderTrees → BuilderTrees
+
+-- its data type
+abbrev pub builder_type : BuilderTree → TypeTree
+builder_type (flat t xs) = t
+builder_type (list large t rows c) = t
+builder_type (fixed_size_list t bits c) = t
+builder_type (dictionary k t keys c) = t
+builder_type (struct t bits cs) = t
+
+-- how many rows it was told
+abbrev pub builder_len : BuilderTree → ℕ
+builder_len (flat t xs) = length xs
+builder_len (list large t rows c) = length rows
+builder_len (fixed_size_list t bits c) = length bits
+builder_len (dictionary k t keys c) = length keys
+builder_len (struct t bits cs) = length bits
+
+-- children in order, and back
+abbrev pub join_builders : List BuilderTree → BuilderTrees
+join_builders [] = no_builders
+join_builders (c ∷ cs) = more_builders c (join_builders cs)
+
+abbrev pub split_builders : BuilderTrees → List BuilderTree
+split_builders no_builders = []
+split_builders (more_builders c cs) = c ∷ split_builders cs
+
+-- the children's data types, and those of fields
+abbrev pub builder_types : BuilderTrees → List TypeTree
+builder_types no_builders = []
+builder_types (more_builders c cs) = builder_type c ∷ builder_types cs
+
+abbrev pub field_types : FieldTrees → List TypeTree
+field_types no_fields = []
+field_types (more_fields f fs) = field_type f ∷ field_types fs
+
+-- the largest length, of this project: lengths have 64 bits
+abbrev pub largest_length : ℕ
+largest_length = 2 ^ 64 - 1
+
+abbrev pub IsPast : ℕ → Type 0
+IsPast n = largest_length < n
+
+-- Variable-size List Layout: offsets are signed numbers of 32 bits, or of 64
+abbrev pub largest_offset : Bool → ℕ
+largest_offset large = if large then 2 ^ 63 - 1 else 2 ^ 31 - 1
+
+-- Dictionary-encoded Layout: how many values the keys of a type can name
+abbrev pub key_count : IntegerType → ℕ
+key_count integers.Int8 = 2 ^ 7
+key_count integers.Int16 = 2 ^ 15
+key_count integers.Int32 = 2 ^ 31
+key_count integers.Int64 = 2 ^ 63
+key_count integers.UInt8 = 2 ^ 8
+key_count integers.UInt16 = 2 ^ 16
+key_count integers.UInt32 = 2 ^ 32
+key_count integers.UInt64 = 2 ^ 64

@@ -1,0 +1,66 @@
+-- Whole builders: no item waits for its row. Their first rows alone, and no rows at all.
+use Rattle.std.specs.Prelude.{◌≡◌, ℕ, ◌*◌, ◌<◌, List, [], take, length, get_or, Some}
+use Rattle.nest_memory.specs.TypeTree.{item_type, value_type, fields_of, size_of}
+use Rattle.nest_model.specs.Slot as slots
+use Rattle.nest_model.specs.Slot.{Slot}
+use Rattle.nest_model.specs.Fits.{IsLogically}
+use Rattle.nest_model.specs.BuilderRow.{end_from, RisesFrom, values_needed}
+use Rattle.nest_model.specs.BuilderTree.{BuilderTree, BuilderTrees, flat, list, fixed_size_list, dictionary, struct, no_builders, more_builders, builder_type, builder_len, builder_types, field_types}
+use Rattle.nest_model.specs.BuilderLevels.{own_slots}
+
+-- its children are whole, of their fields' types, and have just the rows that its own rows need; of a dictionary the logical types are compared
+abbrev mutual
+  pub IsWhole : BuilderTree → Type 0
+  IsWhole (flat t xs) = Unit {0}
+  IsWhole (list large t rows c) = IsWhole c × (item_type t ≡ Some (builder_type c)) × (builder_len c ≡ end_from 0 rows) × RisesFrom 0 rows
+  IsWhole (fixed_size_list t bits c) = IsWhole c × (item_type t ≡ Some (builder_type c)) × (builder_len c ≡ length bits * size_of t)
+  IsWhole (dictionary k t keys c) = IsWhole c × IsLogically (value_type t) (builder_type c) × (builder_len c ≡ values_needed keys)
+  IsWhole (struct t bits cs) = AreWhole cs (length bits) × (builder_types cs ≡ field_types (fields_of t))
+
+  -- each child is whole and has n rows
+  pub AreWhole : BuilderTrees → ℕ → Type 0
+  AreWhole no_builders n = Unit {0}
+  AreWhole (more_builders c cs) n = IsWhole c × (builder_len c ≡ n) × AreWhole cs n
+
+-- the first n rows, and below them what they need
+abbrev mutual
+  pub cut_builder : BuilderTree → ℕ → BuilderTree
+  cut_builder (flat t xs) n = flat t (take n xs)
+  cut_builder (list large t rows c) n = list large t (take n rows) (cut_builder c (end_from 0 (take n rows)))
+  cut_builder (fixed_size_list t bits c) n = fixed_size_list t (take n bits) (cut_builder c (n * size_of t))
+  cut_builder (dictionary k t keys c) n = dictionary k t (take n keys) (cut_builder c (values_needed (take n keys)))
+  cut_builder (struct t bits cs) n = struct t (take n bits) (cut_builders cs n)
+
+  pub cut_builders : BuilderTrees → ℕ → BuilderTrees
+  cut_builders no_builders n = no_builders
+  cut_builders (more_builders c cs) n = more_builders (cut_builder c n) (cut_builders cs n)
+
+-- no row at any level
+abbrev mutual
+  pub emptied : BuilderTree → BuilderTree
+  emptied (flat t xs) = flat t []
+  emptied (list large t rows c) = list large t [] (emptied c)
+  emptied (fixed_size_list t bits c) = fixed_size_list t [] (emptied c)
+  emptied (dictionary k t keys c) = dictionary k t [] (emptied c)
+  emptied (struct t bits cs) = struct t [] (emptied_each cs)
+
+  pub emptied_each : BuilderTrees → BuilderTrees
+  emptied_each no_builders = no_builders
+  emptied_each (more_builders c cs) = more_builders (emptied c) (emptied_each cs)
+
+-- no two places hold one slot
+abbrev pub AreDifferent : List Slot → Type 0
+AreDifferent xs = (i j : ℕ) → i < length xs → j < length xs → get_or xs i slots.null ≡ get_or xs j slots.null → i ≡ j
+
+-- Dictionary-encoded Layout, of this project: at every level the values of a dictionary are pairwise different
+abbrev mutual
+  pub ValuesDiffer : BuilderTree → Type 0
+  ValuesDiffer (flat t xs) = Unit {0}
+  ValuesDiffer (list large t rows c) = ValuesDiffer c
+  ValuesDiffer (fixed_size_list t bits c) = ValuesDiffer c
+  ValuesDiffer (dictionary k t keys c) = AreDifferent (own_slots c) × ValuesDiffer c
+  ValuesDiffer (struct t bits cs) = ValuesDifferEach cs
+
+  pub ValuesDifferEach : BuilderTrees → Type 0
+  ValuesDifferEach no_builders = Unit {0}
+  ValuesDifferEach (more_builders c cs) = ValuesDiffer c × ValuesDifferEach cs
