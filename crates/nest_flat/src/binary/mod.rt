@@ -26,6 +26,7 @@ use nest_memory::datatypes::physical_type::PhysicalType;
 use nest_memory::error::{Error, Spec};
 use nest_memory::offset::Offset;
 use nest_memory::offsets::OffsetsBuffer;
+use std::alloc::Global;
 use std::marker::Model;
 
 /// An array of byte strings: the Variable-size Binary Layout of the Arrow format.
@@ -264,12 +265,12 @@ impl<O: Offset> BinaryArray<O> {
     }
 
     /// The same array, on shared memory.
-    pub fn clone(&self) -> Result<BinaryArray<O>, Error>
+    pub fn clone(&self, alloc: Global) -> Result<BinaryArray<O>, Error>
         ensures ok { IfOk result (λ a. a ≡ self.now) }
         ensures err { IsOkUnless result (Memory alloc_error) }
     {
         Ok(BinaryArray {
-            data_type: self.data_type.clone()?,
+            data_type: self.data_type.clone(alloc)?,
             offsets: self.offsets.clone()?,
             values: self.values.clone()?,
             validity: validity::clone(&self.validity)?,

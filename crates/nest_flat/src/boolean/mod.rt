@@ -21,6 +21,7 @@ use nest_memory::bitmap::immutable::Bitmap;
 use nest_memory::datatypes::DataType;
 use nest_memory::datatypes::physical_type::PhysicalType;
 use nest_memory::error::{Error, Spec};
+use std::alloc::Global;
 use std::marker::Model;
 
 /// An array of booleans: the Fixed-Size Primitive Layout of the Arrow format, of bits.
@@ -210,12 +211,12 @@ impl BooleanArray {
     }
 
     /// The same array, on shared memory.
-    pub fn clone(&self) -> Result<BooleanArray, Error>
+    pub fn clone(&self, alloc: Global) -> Result<BooleanArray, Error>
         ensures ok { IfOk result (λ a. a ≡ self.now) }
         ensures err { IsOkUnless result (Memory alloc_error) }
     {
         Ok(BooleanArray {
-            data_type: self.data_type.clone()?,
+            data_type: self.data_type.clone(alloc)?,
             values: self.values.clone()?,
             validity: validity::clone(&self.validity)?,
         })

@@ -23,6 +23,7 @@ use nest_memory::datatypes::DataType;
 use nest_memory::datatypes::physical_type::PhysicalType;
 use nest_memory::error::{Error, Spec};
 use nest_memory::types::NativeType;
+use std::alloc::Global;
 use std::marker::Model;
 
 /// An array of native values of one kind: the Fixed-Size Primitive Layout of the Arrow format.
@@ -214,12 +215,12 @@ impl<T: NativeType> PrimitiveArray<T> {
     }
 
     /// The same array, on shared memory.
-    pub fn clone(&self) -> Result<PrimitiveArray<T>, Error>
+    pub fn clone(&self, alloc: Global) -> Result<PrimitiveArray<T>, Error>
         ensures ok { IfOk result (λ a. a ≡ self.now) }
         ensures err { IsOkUnless result (Memory alloc_error) }
     {
         Ok(PrimitiveArray {
-            data_type: self.data_type.clone()?,
+            data_type: self.data_type.clone(alloc)?,
             values: self.values.clone()?,
             validity: validity::clone(&self.validity)?,
         })

@@ -26,8 +26,8 @@ use nest_memory::datatypes::physical_type::PhysicalType;
 use nest_memory::error::{Error, Spec};
 use nest_memory::offset::Offset;
 use nest_memory::offsets::OffsetsBuffer;
+use std::alloc::Global;
 use std::marker::Model;
-use std::str;
 
 /// An array of texts: the Variable-size Binary Layout of the Arrow format, of UTF-8.
 #[derive(Drop)]
@@ -195,10 +195,7 @@ impl<O: Offset> Utf8Array<O> {
         ensures raw { result.now ≡ cut (bytes_of self.now) (begin (offsets_of self.now) i) (extent (offsets_of self.now) i) }
         ensures slot { slot self.now i ≡ where_valid (validity_of self.now) i (slots.text result.now) }
     {
-        match str::from_utf8(spans::span(&self.offsets, &self.values, i)) {
-            Ok(text) => text,
-            Err(_) => unreachable!(),
-        }
+        spans::text_of(spans::span(&self.offsets, &self.values, i))
     }
 
     /// The value of slot i, `None` where it is null.
@@ -272,12 +269,12 @@ impl<O: Offset> Utf8Array<O> {
     }
 
     /// The same array, on shared memory.
-    pub fn clone(&self) -> Result<Utf8Array<O>, Error>
+    pub fn clone(&self, alloc: Global) -> Result<Utf8Array<O>, Error>
         ensures ok { IfOk result (λ a. a ≡ self.now) }
         ensures err { IsOkUnless result (Memory alloc_error) }
     {
         Ok(Utf8Array {
-            data_type: self.data_type.clone()?,
+            data_type: self.data_type.clone(alloc)?,
             offsets: self.offsets.clone()?,
             values: self.values.clone()?,
             validity: validity::clone(&self.validity)?,
