@@ -18,24 +18,6 @@ use Rattle.nest_model.specs.Reads.{where_valid, list-slot, extent-fits}
 use Rattle.nest_array.specs.Parts.{list_parts}
 use Rattle.nest_model.specs.Accessors.{offsets_of, child_of, validity_of}
 
--- the type of the items is that of their field
-pub item_type-field : (t : TypeTree) → item_type t ≡ option_map field_type (item_field t)
-item_type-field (types.list f) = refl
-item_type-field (types.fixed_size_list f s) = refl
-item_type-field (types.large_list f) = refl
-item_type-field (types.map f b) = refl
-item_type-field (types.extension n t m) = item_type-field t
-item_type-field t = refl
-
-pub no-items : {X : Type 0} (f : X → FieldTree) (r : Option X) (t u : TypeTree) → option_map f r ≡ item_field t → r ≡ None → item_type t ≡ Some u → ⊥
-no-items f r t u e h k =
-    let a : item_type t ≡ None = item_type-field t ∙ ap (option_map field_type) (sym e ∙ ap (option_map f) h) in
-    let b : None ≡ Some u = sym a ∙ k in
-    cc
-
-pub some-items : {X : Type 0} (f : X → FieldTree) (r : Option X) (x : X) (t : TypeTree) → option_map f r ≡ item_field t → r ≡ Some x → item_type t ≡ Some (field_type (f x))
-some-items f r x t e h = item_type-field t ∙ ap (option_map field_type) (sym e ∙ ap (option_map f) h)
-
 some-one : (t u : TypeTree) → Some t ≡ Some u → t ≡ u
 some-one t u e = cc
 

@@ -1,9 +1,6 @@
-//! Arrays of whole numbers and arrays of lists of them, in the Arrow format.
+//! Arrays of lists in the Arrow format, and their builder.
 #![tactic(auto)]
 
 pub mod list;
-pub mod primitive;
-mod validity;
 
 pub use list::ListArray;
-pub use primitive::PrimitiveArray;

@@ -273,7 +273,7 @@ module _ {A : Type 0} (v : A → ℤ) where
   never_fall_as xs ns e r = subst NeverFalls e (numbers_never_fall xs r)
 
 module _ {A : Type 0} (v : A → ℤ) where
-  abbrev Starts : List A → Type 0
+  abbrev pub Starts : List A → Type 0
   Starts xs = (are_offsets (map v xs) ≡ true) × (slice_index (numbers v xs) 0 ≡ 0)
 
   pub start_one : (ys : List A) (y : A) → ys ≡ y ∷ [] → v y ≡ pos 0 → Starts ys
@@ -290,7 +290,7 @@ module _ {A : Type 0} (v : A → ℤ) where
   pub start_push : (xs ys : List A) (y : A) (n : ℕ) → ys ≡ xs ++ y ∷ [] → Starts xs → last_of (numbers v xs) ≤ n → v y ≡ pos n → Starts ys
   start_push xs ys y n e h l k = subst Starts (sym e) (offsets_push v xs y n h.0 l (sym k), first_push v xs y h.0 h.1)
 
-last_more : (before : List ℕ) (x : ℕ) → last_of (before ++ x ∷ []) ≡ x
+pub last_more : (before : List ℕ) (x : ℕ) → last_of (before ++ x ∷ []) ≡ x
 unfolding last_of
 last_more [] x = refl
 last_more (a ∷ []) x = refl
@@ -311,7 +311,7 @@ ends_step a (m ∷ ls) (suc i) l h g =
     let s : suc i + 1 ≡ suc (i + 1) = omega arith in
     ap (λ k. ends_from a (take k (m ∷ ls))) s ∙ ap (λ ns. (a + m) ∷ ns) (ends_step (a + m) ls i l (omega arith) g)
 
-last_before : (before ns : List ℕ) (a : ℕ) → 1 ≤ length before → last_of before ≡ a → last_of (before ++ ns) ≡ last_of (a ∷ ns)
+pub last_before : (before ns : List ℕ) (a : ℕ) → 1 ≤ length before → last_of before ≡ a → last_of (before ++ ns) ≡ last_of (a ∷ ns)
 unfolding last_of
 last_before [] ns a h e = absurd (omega arith)
 last_before (b ∷ []) [] a h e = e

@@ -1,7 +1,9 @@
-// The numbers that stand as offsets.
+//! The numbers that stand as offsets.
 ghost use Rattle.std.specs.Prelude.{◌≡◌, ◌<◌, ◌≤◌, ◌^◌, ℕ, ℤ, pos, Bool, true, false, MatchOption};
 ghost use Rattle.nest_memory.specs.Rising.{below_zero};
 
+/// An integer type of offsets: `i32` in the small layouts, `i64` in the large ones
+/// ("Variable-size Binary Layout" and "Variable-size List Layout" of the Arrow columnar format). arrow2's `Offset`.
 pub trait Offset: Copy {
     ghost value: { Self → ℤ };
 
@@ -9,15 +11,20 @@ pub trait Offset: Copy {
 
     ghost IS_LARGE: { Bool };
 
+    /// Whether an offset has 64 bits.
     const IS_LARGE: bool;
 
+    /// Whether the offset is below 0.
     fn is_negative(&self) -> bool
         ensures { result ≡ below_zero (value self.now) };
 
+    /// The offset as a place.
     fn to_usize(&self) -> usize
         requires { below_zero (value self.now) ≡ false }
-        ensures { pos result ≡ value self.now };
+        ensures value { pos result ≡ value self.now }
+        ensures fits { result ≤ largest };
 
+    /// The offset of this value; `None` where it is past the largest one.
     fn from_usize(n: usize) -> Option<Self>
         ensures { MatchOption result (largest < n) (λ o. (value o ≡ pos n) × (n ≤ largest)) };
 

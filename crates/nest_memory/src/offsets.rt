@@ -1,6 +1,6 @@
-// Offsets that grow, and offsets that are shared.
-ghost use Rattle.std.specs.Prelude.{◌≡◌, ◌↔◌, ℕ, ◌+◌, ◌-◌, ◌<◌, ◌≤◌, List, [], ◌∷◌, ◌++◌, true, false, IfOk, OnOk, OnErr, IsErrOf, length, slice_get, Some, take, map, IsOkUnless, alloc_error, ◌^◌, slice_index};
-ghost use Rattle.nest_memory.specs.Rising.{numbers, are_offsets, last_of, ends_from, NeverFalls};
+//! Offsets that grow, and offsets that are shared.
+ghost use Rattle.std.specs.Prelude.{◌≡◌, ◌↔◌, ◌⊎◌, ℕ, ◌+◌, ◌-◌, ◌<◌, ◌≤◌, ◌^◌, List, [], ◌∷◌, ◌++◌, true, false, IfOk, IfErr, OnOk, OnErr, IsErrOf, IsOkUnless, IsTrue, length, slice_get, slice_index, Some, take, drop, map, sum, replicate, alloc_error};
+ghost use Rattle.nest_memory.specs.Rising.{numbers, are_offsets, are_offsets_from_zero, last_of, ends_from, joined, NeverFalls};
 ghost use Rattle.nest_memory.specs.Cut.{cut};
 ghost use Rattle.nest_memory.specs.declared.error.Error.TheVariants.{OutOfSpec, Overflow, Memory};
 ghost use Rattle.nest_memory.specs.declared.error.Spec.TheVariants.{Offsets as WrongOffsets};
@@ -33,6 +33,65 @@ fn are_rising<O: Offset>(offsets: &[O]) -> bool
     true
 }
 
+// Whether they are offsets whose first is 0.
+fn are_rising_from_zero<O: Offset>(offsets: &[O]) -> bool
+    ensures { result ≡ are_offsets_from_zero (map O.value offsets.now) }
+{
+    if !are_rising(offsets) {
+        return false;
+    }
+    offsets[0].to_usize() == 0
+}
+
+// The first and the last of some offsets.
+fn first_of<O: Offset>(offsets: &[O]) -> usize
+    requires { are_offsets (map O.value offsets.now) ≡ true }
+    ensures { slice_get (numbers O.value offsets.now) 0 ≡ Some result }
+{
+    offsets[0].to_usize()
+}
+
+#[tactic(auto, using(crate::proofs::Rises::rising))]
+fn last_number<O: Offset>(offsets: &[O]) -> usize
+    requires { are_offsets (map O.value offsets.now) ≡ true }
+    ensures value { result ≡ last_of (numbers O.value offsets.now) }
+    ensures fits { result ≤ O.largest }
+{
+    offsets[offsets.len() - 1].to_usize()
+}
+
+// Where slot `i` starts and where it ends.
+fn pair_at<O: Offset>(offsets: &[O], i: usize) -> (usize, usize)
+    requires offsets { are_offsets (map O.value offsets.now) ≡ true }
+    requires in_bounds { i + 1 < length offsets.now }
+    ensures first { slice_get (numbers O.value offsets.now) i ≡ Some result.0 }
+    ensures second { slice_get (numbers O.value offsets.now) (i + 1) ≡ Some result.1 }
+    ensures ordered { result.0 ≤ result.1 }
+{
+    let len = offsets.len();
+    prove!(i < len);
+    (offsets[i].to_usize(), offsets[i + 1].to_usize())
+}
+
+// Whether an offset can stand for the end of items of these lengths that begin at `start`.
+fn end_fits<O: Offset>(start: usize, lengths: &[usize]) -> bool
+    ensures { IsTrue result ↔ (start + sum lengths.now ≤ O.largest) }
+{
+    let mut end = start;
+    for length in lengths {
+        let Some(next) = end.checked_add(*length) else {
+            return false;
+        };
+        end = next;
+    }
+    O::from_usize(end).is_some()
+}
+
+/// Offsets that never change, in memory that their clones and cuts share: at least one, none negative, never
+/// falling. arrow2's `OffsetsBuffer`.
+///
+/// Slot i has the items from offset i up to offset i + 1 ("Variable-size List Layout" of the Arrow columnar format),
+/// so there is one slot less than there are offsets.
 #[derive(Drop)]
 pub struct OffsetsBuffer<O: Offset> {
     buffer: Buffer<O>,
@@ -51,9 +110,11 @@ impl<O: Offset> Model for OffsetsBuffer<O> {
 
 #[tactic(auto, using(crate::proofs::Rises::rising))]
 impl<O: Offset> OffsetsBuffer<O> {
+    /// These offsets. `OutOfSpec(Offsets)` where there is none, one is negative, or one is below that before it.
     pub fn try_new(alloc: Global, offsets: Vec<O>) -> Result<OffsetsBuffer<O>, Error>
         ensures ok { IfOk result (λ b. b ≡ numbers O.value offsets.items) }
         ensures wrong { IsErrOf result (OutOfSpec WrongOffsets) ↔ (are_offsets (map O.value offsets.items) ≡ false) }
+        ensures errors { IfErr result (λ e. (e ≡ OutOfSpec WrongOffsets) ⊎ (e ≡ Memory alloc_error)) }
     {
         if !are_rising(offsets.as_slice()) {
             return Err(Error::OutOfSpec(Spec::Offsets));
@@ -62,31 +123,62 @@ impl<O: Offset> OffsetsBuffer<O> {
         Ok(OffsetsBuffer { buffer })
     }
 
+    /// The one offset 0, of no slot.
+    pub fn new(alloc: Global) -> Result<OffsetsBuffer<O>, Error>
+        ensures ok { IfOk result (λ b. b ≡ 0 ∷ []) }
+        ensures err { IsOkUnless result (Memory alloc_error) }
+    {
+        let mut offsets = Offsets::new(alloc)?;
+        offsets.freeze()
+    }
+
+    /// The number of offsets.
     pub fn len(&self) -> usize
         ensures { result ≡ length self.now }
     {
         self.buffer.len()
     }
 
+    /// The number of slots, one less than the offsets.
     pub fn len_proxy(&self) -> usize
         ensures { result + 1 ≡ length self.now }
     {
         self.buffer.len() - 1
     }
 
+    /// The offsets themselves.
+    pub fn as_slice(&self) -> &[O]
+        ensures shown { numbers O.value result.now ≡ self.now }
+        ensures offsets { are_offsets (map O.value result.now) ≡ true }
+    {
+        self.buffer.as_slice()
+    }
+
+    /// The first offset.
+    pub fn first(&self) -> usize
+        ensures { slice_get self.now 0 ≡ Some result }
+    {
+        first_of(self.buffer.as_slice())
+    }
+
+    /// The last offset.
+    pub fn last(&self) -> usize
+        ensures { result ≡ last_of self.now }
+    {
+        last_number(self.buffer.as_slice())
+    }
+
+    /// Where slot `i` starts and where it ends.
     pub fn start_end(&self, i: usize) -> (usize, usize)
         requires { i + 1 < length self.now }
         ensures first { slice_get self.now i ≡ Some result.0 }
         ensures second { slice_get self.now (i + 1) ≡ Some result.1 }
         ensures ordered { result.0 ≤ result.1 }
     {
-        let len = self.buffer.len();
-        prove!(i < len);
-        let first = self.buffer.get(i);
-        let second = self.buffer.get(i + 1);
-        (first.to_usize(), second.to_usize())
+        pair_at(self.buffer.as_slice(), i)
     }
 
+    /// Keeps the `len` offsets from place `offset`, so one slot less; nothing moves.
     pub fn slice(&mut self, offset: usize, len: usize)
         requires in_bounds { offset + len ≤ length self.old }
         requires some { 1 ≤ len }
@@ -95,6 +187,18 @@ impl<O: Offset> OffsetsBuffer<O> {
         self.buffer.slice(offset, len);
     }
 
+    /// The `len` offsets from place `offset`; nothing moves.
+    pub fn sliced(self, offset: usize, len: usize) -> OffsetsBuffer<O>
+        requires in_bounds { offset + len ≤ length self }
+        requires some { 1 ≤ len }
+        ensures { result ≡ cut self offset len }
+    {
+        let mut cut = self;
+        cut.slice(offset, len);
+        cut
+    }
+
+    /// Another owner of the same offsets; none is copied. `Err` where the owners can't be counted.
     pub fn clone(&self) -> Result<OffsetsBuffer<O>, AllocError>
         ensures { IfOk result (λ b. b ≡ self.now) }
     {
@@ -103,24 +207,22 @@ impl<O: Offset> OffsetsBuffer<O> {
         })
     }
 
-    /// What holds of all offsets: there is one at least, and they never fall.
+    /// What holds of all offsets: there is one at least, they never fall, and none is past the largest.
     pub fn known(&self)
         ensures some { 0 < length self.now }
         ensures rising { NeverFalls self.now }
         ensures room { length self.now < 2 ^ 64 }
+        ensures fits { last_of self.now ≤ O.largest }
     {
         let _len = self.buffer.len();
-    }
-
-    /// The last offset.
-    pub fn last(&self) -> usize
-        ensures { result ≡ last_of self.now }
-    {
-        let last = self.buffer.get(self.buffer.len() - 1);
-        last.to_usize()
+        let _last = last_number(self.buffer.as_slice());
     }
 }
 
+/// Offsets that are pushed and cut off, and then frozen into an `OffsetsBuffer`: the first is 0, and they never fall.
+/// arrow2's `Offsets`.
+///
+/// A call that answers `Err` changes no offset, but for `freeze`, which leaves the one offset 0 either way.
 #[derive(Drop)]
 pub struct Offsets<O: Offset> {
     offsets: Vec<O>,
@@ -139,35 +241,88 @@ impl<O: Offset> Model for Offsets<O> {
 
 #[tactic(auto, using(crate::proofs::Rises::rising))]
 impl<O: Offset> Offsets<O> {
+    /// The one offset 0, of no slot.
     pub fn new(alloc: Global) -> Result<Offsets<O>, Error>
+        ensures ok { IfOk result (λ b. b ≡ 0 ∷ []) }
+        ensures err { IsOkUnless result (Memory alloc_error) }
+    {
+        Offsets::with_room(alloc, 1)
+    }
+
+    /// The one offset 0, with room for `capacity` slots. `Overflow` where so many offsets pass a `usize`.
+    pub fn with_capacity(alloc: Global, capacity: usize) -> Result<Offsets<O>, Error>
+        ensures ok { IfOk result (λ b. b ≡ 0 ∷ []) }
+        ensures overflow { IsErrOf result Overflow ↔ (2 ^ 64 ≤ capacity + 1) }
+        ensures errors { IfErr result (λ e. (e ≡ Overflow) ⊎ (e ≡ Memory alloc_error)) }
+    {
+        let Some(room) = capacity.checked_add(1) else {
+            return Err(Error::Overflow);
+        };
+        Offsets::with_room(alloc, room)
+    }
+
+    // The one offset 0, with room for so many offsets.
+    fn with_room(alloc: Global, room: usize) -> Result<Offsets<O>, Error>
         ensures ok { IfOk result (λ b. b ≡ 0 ∷ []) }
         ensures err { IsOkUnless result (Memory alloc_error) }
     {
         let Some(zero) = O::from_usize(0) else {
             unreachable!()
         };
-        let mut offsets = Vec::new(alloc);
+        let mut offsets = Vec::with_capacity(alloc, room)?;
         offsets.push(zero)?;
         Ok(Offsets { offsets })
     }
 
+    /// These offsets. `OutOfSpec(Offsets)` where the first isn't 0, or one is below that before it.
+    pub fn try_new(offsets: Vec<O>) -> Result<Offsets<O>, Error>
+        ensures ok { IfOk result (λ b. b ≡ numbers O.value offsets.items) }
+        ensures wrong { IsErrOf result (OutOfSpec WrongOffsets) ↔ (are_offsets_from_zero (map O.value offsets.items) ≡ false) }
+        ensures err { IsOkUnless result (OutOfSpec WrongOffsets) }
+    {
+        if !are_rising_from_zero(offsets.as_slice()) {
+            return Err(Error::OutOfSpec(Spec::Offsets));
+        }
+        Ok(Offsets { offsets })
+    }
+
+    /// The number of slots, one less than the offsets.
     pub fn len_proxy(&self) -> usize
         ensures { result + 1 ≡ length self.now }
     {
         self.offsets.len() - 1
     }
 
+    /// How many offsets have room.
+    pub fn capacity(&self) -> usize
+        ensures { length self.now ≤ result }
+    {
+        self.offsets.capacity()
+    }
+
+    /// The last offset.
     pub fn last(&self) -> usize
         ensures { result ≡ last_of self.now }
     {
-        let last = self.offsets[self.offsets.len() - 1];
-        last.to_usize()
+        last_number(self.offsets.as_slice())
     }
 
+    /// Where slot `i` starts and where it ends.
+    pub fn start_end(&self, i: usize) -> (usize, usize)
+        requires { i + 1 < length self.now }
+        ensures first { slice_get self.now i ≡ Some result.0 }
+        ensures second { slice_get self.now (i + 1) ≡ Some result.1 }
+        ensures ordered { result.0 ≤ result.1 }
+    {
+        pair_at(self.offsets.as_slice(), i)
+    }
+
+    /// One slot more, of `length` items. `Overflow` where no offset can stand for its end.
     pub fn try_push_usize(&mut self, length: usize) -> Result<(), Error>
         ensures ok { OnOk result (self.new ≡ self.old ++ (last_of self.old + length) ∷ []) }
         ensures err { OnErr result (self.new ≡ self.old) }
         ensures overflow { IsErrOf result Overflow ↔ (O.largest < last_of self.old + length) }
+        ensures errors { IfErr result (λ e. (e ≡ Overflow) ⊎ (e ≡ Memory alloc_error)) }
     {
         let last = self.last();
         let Some(next) = last.checked_add(length) else {
@@ -180,17 +335,32 @@ impl<O: Offset> Offsets<O> {
         Ok(())
     }
 
-    pub fn truncate(&mut self, n: usize)
-        requires { n < length self.old }
-        ensures { self.new ≡ take (n + 1) self.old }
+    /// `additional` slots more, of no item each. `Overflow` where so many offsets pass a `usize`.
+    pub fn extend_constant(&mut self, additional: usize) -> Result<(), Error>
+        ensures ok { OnOk result (self.new ≡ self.old ++ replicate additional (last_of self.old)) }
+        ensures err { OnErr result (self.new ≡ self.old) }
+        ensures overflow { IsErrOf result Overflow ↔ (2 ^ 64 ≤ length self.old + additional) }
+        ensures errors { IfErr result (λ e. (e ≡ Overflow) ⊎ (e ≡ Memory alloc_error)) }
     {
-        self.offsets.truncate(n + 1);
+        let len = self.offsets.len();
+        let Some(room) = len.checked_add(additional) else {
+            return Err(Error::Overflow);
+        };
+        let last = self.offsets[len - 1];
+        self.offsets.resize(room, last)?;
+        Ok(())
     }
 
+    /// One slot more for each length. `Overflow` where no offset can stand for the end of the last one.
     pub fn try_extend_from_lengths(&mut self, lengths: &[usize]) -> Result<(), Error>
         ensures ok { OnOk result (self.new ≡ self.old ++ ends_from (last_of self.old) lengths.now) }
         ensures err { OnErr result (self.new ≡ self.old) }
+        ensures overflow { IsErrOf result Overflow ↔ (O.largest < last_of self.old + sum lengths.now) }
+        ensures errors { IfErr result (λ e. (e ≡ Overflow) ⊎ (e ≡ Memory alloc_error)) }
     {
+        if !end_fits::<O>(self.last(), lengths) {
+            return Err(Error::Overflow);
+        }
         let before = self.len_proxy();
         for length in lengths {
             if let Err(e) = self.try_push_usize(*length) {
@@ -201,12 +371,60 @@ impl<O: Offset> Offsets<O> {
         Ok(())
     }
 
+    /// The slots of `other` after these. `Overflow` where no offset can stand for the end of the last one.
+    pub fn try_extend_from_self(&mut self, other: &Offsets<O>) -> Result<(), Error>
+        ensures ok { OnOk result (self.new ≡ joined self.old other.now) }
+        ensures err { OnErr result (self.new ≡ self.old) }
+        ensures overflow { IsErrOf result Overflow ↔ (O.largest < last_of self.old + last_of other.now) }
+        ensures errors { IfErr result (λ e. (e ≡ Overflow) ⊎ (e ≡ Memory alloc_error)) }
+    {
+        other.known();
+        if !end_fits::<O>(self.last(), &[other.last()]) {
+            return Err(Error::Overflow);
+        }
+        let before = self.len_proxy();
+        for i in 0..other.len_proxy() {
+            let (start, end) = other.start_end(i);
+            if let Err(e) = self.try_push_usize(end - start) {
+                self.truncate(before);
+                return Err(e);
+            }
+        }
+        Ok(())
+    }
+
+    /// Keeps the first `n` slots, so `n + 1` offsets.
+    pub fn truncate(&mut self, n: usize)
+        requires { n < length self.old }
+        ensures { self.new ≡ take (n + 1) self.old }
+    {
+        self.offsets.truncate(n + 1);
+    }
+
+    /// Room for `additional` slots more.
+    pub fn reserve(&mut self, additional: usize) -> Result<(), Error>
+        ensures same { self.new ≡ self.old }
+        ensures err { IsOkUnless result (Memory alloc_error) }
+    {
+        self.offsets.reserve(additional)?;
+        Ok(())
+    }
+
+    /// Gives back memory that holds no offset, where a smaller block is there.
+    pub fn shrink_to_fit(&mut self)
+        ensures { self.new ≡ self.old }
+    {
+        self.offsets.shrink_to_fit();
+    }
+
     fn clear(&mut self)
         ensures { self.new ≡ 0 ∷ [] }
     {
         self.offsets.truncate(1);
     }
 
+    /// The offsets as an `OffsetsBuffer`, copied into shared memory. The one offset 0 is left, also where that
+    /// answers `Err`.
     pub fn freeze(&mut self) -> Result<OffsetsBuffer<O>, Error>
         ensures ok { IfOk result (λ b. b ≡ self.old) }
         ensures err { IsOkUnless result (Memory alloc_error) }
@@ -219,13 +437,15 @@ impl<O: Offset> Offsets<O> {
         Ok(OffsetsBuffer { buffer })
     }
 
-    /// What holds of all offsets: there is one at least, the first is 0, and they never fall.
+    /// What holds of all offsets: there is one at least, the first is 0, they never fall, and none is past the largest.
     pub fn known(&self)
         ensures some { 0 < length self.now }
         ensures first { slice_index self.now 0 ≡ 0 }
         ensures rising { NeverFalls self.now }
         ensures room { length self.now < 2 ^ 64 }
+        ensures fits { last_of self.now ≤ O.largest }
     {
         let _len = self.offsets.len();
+        let _last = last_number(self.offsets.as_slice());
     }
 }

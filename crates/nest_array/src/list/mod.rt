@@ -18,8 +18,8 @@ ghost use Rattle.nest_array.specs.Parts.{list_parts};
 ghost use Rattle.nest_array.specs.Types.{default_list_type};
 ghost use Rattle.nest_model.specs.Accessors.{offsets_of, child_of, validity_of};
 
-use crate::primitive::PrimitiveArray;
-use crate::validity;
+use nest_flat::primitive::PrimitiveArray;
+use nest_flat::validity;
 use nest_memory::bitmap::immutable::Bitmap;
 use nest_memory::datatypes::DataType;
 use nest_memory::datatypes::field::Field;
@@ -34,7 +34,7 @@ use std::marker::Model;
 pub struct ListArray {
     data_type: DataType,
     offsets: OffsetsBuffer<i32>,
-    values: PrimitiveArray,
+    values: PrimitiveArray<i64>,
     validity: Option<Bitmap>,
 }
 
@@ -64,7 +64,7 @@ impl ListArray {
     pub fn try_new(
         data_type: DataType,
         offsets: OffsetsBuffer<i32>,
-        values: PrimitiveArray,
+        values: PrimitiveArray<i64>,
         validity: Option<Bitmap>,
     ) -> Result<ListArray, Error>
         ensures { let parts = list_parts (type_of data_type) offsets values validity in
@@ -108,7 +108,7 @@ impl ListArray {
     }
 
     /// The items of all slots.
-    pub fn values(&self) -> &PrimitiveArray
+    pub fn values(&self) -> &PrimitiveArray<i64>
         ensures { result.now ≡ child_of self.now }
     {
         &self.values
@@ -141,14 +141,14 @@ impl ListArray {
     }
 
     /// The items of slot i, also under a null.
-    pub fn value(&self, i: usize) -> Result<PrimitiveArray, Error>
+    pub fn value(&self, alloc: Global, i: usize) -> Result<PrimitiveArray<i64>, Error>
         requires { i < len self.now }
         ensures parts { IfOk result (λ a. a ≡ cut_layout (child_of self.now) (begin (offsets_of self.now) i) (extent (offsets_of self.now) i)) }
         ensures items { IfOk result (λ a. slot self.now i ≡ where_valid (validity_of self.now) i (slots.list (seal (slots_of a)))) }
         ensures err { IsOkUnless result (Memory alloc_error) }
     {
         let (start, count) = self.window(i);
-        let mut items = self.values.clone()?;
+        let mut items = self.values.clone(alloc)?;
         items.slice(start, count);
         Ok(items)
     }
@@ -188,8 +188,7 @@ impl ListArray {
         ensures ok { IfOk result (λ t. type_of t ≡ default_list_type (type_of data_type)) }
         ensures err { IsOkUnless result (Memory alloc_error) }
     {
-        let name = String::from_str(alloc, "item")?;
-        let field = Field::new(alloc, name, data_type, true);
+        let field = Field::new(alloc, "item", data_type, true)?;
         Ok(DataType::List(Box::new(alloc, field)?))
     }
 }
@@ -198,7 +197,7 @@ impl ListArray {
 fn fault(
     data_type: &DataType,
     offsets: &OffsetsBuffer<i32>,
-    values: &PrimitiveArray,
+    values: &PrimitiveArray<i64>,
     validity: &Option<Bitmap>,
 ) -> Option<Error>
     ensures { let parts = list_parts (type_of data_type.now) offsets.now values.now validity.now in
@@ -238,8 +237,8 @@ fn count_rows(offsets: &OffsetsBuffer<i32>) -> usize
 fn has_items(list: &DataType, items: &DataType) -> bool
     ensures { IsTrue result ↔ (item_type (type_of list.now) ≡ Some (type_of items.now)) }
 {
-    match list.item_field() {
+    match list.item_type() {
         None => false,
-        Some(field) => field.data_type() == items,
+        Some(item) => item == items,
     }
 }

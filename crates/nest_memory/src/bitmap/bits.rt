@@ -1,9 +1,9 @@
-// One bit of many.
-ghost use Rattle.std.specs.Prelude.{◌≡◌, ◌≢◌, ℕ, ◌*◌, ◌<◌, ◌≤◌, length, nat_eq, OnOk, OnErr};
+//! Single bits of bytes, and runs of them. Bit k is bit k % 8 of byte k / 8, the least significant first.
+ghost use Rattle.std.specs.Prelude.{◌≡◌, ◌≢◌, ℕ, ◌+◌, ◌*◌, ◌^◌, ◌<◌, ◌≤◌, length, nat_eq, OnOk, OnErr, count_by, not, IsOkUnless, alloc_error};
 ghost use Rattle.std.specs.Int.{bit_at};
-ghost use Rattle.nest_memory.specs.Bits.{bit};
+ghost use Rattle.nest_memory.specs.Bits.{bit, bits_from};
 
-use crate::error::Error;
+use std::alloc::AllocError;
 
 #[tactic(auto, unfolding(crate::specs::Bits::bit))]
 pub(crate) fn get_bit(bytes: &[u8], k: usize) -> bool
@@ -35,7 +35,7 @@ pub(crate) fn set_bit(bytes: &mut Vec<u8>, k: usize, value: bool)
 }
 
 // Room for one bit more than n, which keeps the first n.
-pub(crate) fn make_room(bytes: &mut Vec<u8>, n: usize) -> Result<(), Error>
+pub(crate) fn make_room(bytes: &mut Vec<u8>, n: usize) -> Result<(), AllocError>
     requires { n ≤ 8 * length bytes.old.items }
     ensures room { OnOk result (n < 8 * length bytes.new.items) }
     ensures keeps { (j : ℕ) → j < n → bit bytes.new.items j ≡ bit bytes.old.items j }
@@ -46,4 +46,102 @@ pub(crate) fn make_room(bytes: &mut Vec<u8>, n: usize) -> Result<(), Error>
     }
     bytes.push(0)?;
     Ok(())
+}
+
+// How many bytes hold n bits.
+pub(crate) fn byte_count(n: usize) -> usize
+    ensures enough { n ≤ 8 * result }
+    ensures tight { 8 * result < n + 8 }
+{
+    if n % 8 == 0 { n / 8 } else { n / 8 + 1 }
+}
+
+// The byte whose bits are all `value`.
+fn filled_byte(value: bool) -> u8
+    ensures { (i : ℕ) → i < 8 → nat_eq (bit_at result i) 1 ≡ value }
+{
+    if value {
+        return 255;
+    }
+    0
+}
+
+// Writes `value` into the bits from place `start`, at most seven.
+fn set_bits(bytes: &mut Vec<u8>, start: usize, count: usize, value: bool)
+    requires fits { start + count < 2 ^ 64 }
+    requires within { start + count ≤ 8 * length bytes.old.items }
+    ensures set { (j : ℕ) → start ≤ j → j < start + count → bit bytes.new.items j ≡ value }
+    ensures before { (j : ℕ) → j < start → bit bytes.new.items j ≡ bit bytes.old.items j }
+    ensures after { (j : ℕ) → start + count ≤ j → bit bytes.new.items j ≡ bit bytes.old.items j }
+    ensures len { length bytes.new.items ≡ length bytes.old.items }
+{
+    for k in start..start + count {
+        set_bit(bytes, k, value);
+    }
+}
+
+// Appends bits of one value to the first n, whole bytes at a time.
+pub(crate) fn extend_constant(
+    bytes: &mut Vec<u8>,
+    n: usize,
+    additional: usize,
+    value: bool,
+) -> Result<(), AllocError>
+    requires fits { n + additional < 2 ^ 64 }
+    requires within { n ≤ 8 * length bytes.old.items }
+    ensures room { OnOk result (n + additional ≤ 8 * length bytes.new.items) }
+    ensures filled { OnOk result ((j : ℕ) → n ≤ j → j < n + additional → bit bytes.new.items j ≡ value) }
+    ensures keeps { (j : ℕ) → j < n → bit bytes.new.items j ≡ bit bytes.old.items j }
+    ensures err { OnErr result (n ≤ 8 * length bytes.new.items) }
+{
+    let used = byte_count(n);
+    bytes.truncate(used);
+    bytes.resize(byte_count(n + additional), filled_byte(value))?;
+    let begun = additional.min(8 * (used - n / 8) - n % 8);
+    set_bits(bytes, n, begun, value);
+    Ok(())
+}
+
+// How many of the bits from place `start` are 0, one by one.
+fn unset_one_by_one(bytes: &[u8], start: usize, count: usize) -> usize
+    requires fits { start + count < 2 ^ 64 }
+    requires within { start + count ≤ 8 * length bytes.now }
+    ensures { result ≡ count_by not (bits_from bytes.now start count) }
+{
+    let mut unset = 0;
+    for i in 0..count {
+        if !get_bit(bytes, start + i) {
+            unset += 1;
+        }
+    }
+    unset
+}
+
+// The same of whole bytes.
+fn unset_in_bytes(bytes: &[u8], first: usize, count: usize) -> usize
+    requires fits { 8 * count < 2 ^ 64 }
+    requires within { first + count ≤ length bytes.now }
+    ensures { result ≡ count_by not (bits_from bytes.now (8 * first) (8 * count)) }
+{
+    let mut unset = 0;
+    for i in 0..count {
+        unset += bytes[first + i].count_zeros() as usize;
+    }
+    unset
+}
+
+// How many of `count` bits from place `start` are 0: whole bytes, and at either end the bits of a part of one.
+pub(crate) fn unset_bits(bytes: &[u8], start: usize, count: usize) -> usize
+    requires fits { start + count < 2 ^ 64 }
+    requires within { start + count ≤ 8 * length bytes.now }
+    ensures { result ≡ count_by not (bits_from bytes.now start count) }
+{
+    let head = count.min((8 - start % 8) % 8);
+    let whole = (count - head) / 8;
+    let tail = count - head - 8 * whole;
+    let middle = start + head;
+    let before = unset_one_by_one(bytes, start, head);
+    let inside = unset_in_bytes(bytes, middle / 8, whole);
+    let after = unset_one_by_one(bytes, middle + 8 * whole, tail);
+    before + inside + after
 }

@@ -1,16 +1,21 @@
-// A window of bits that several bitmaps share.
-ghost use Rattle.std.specs.Prelude.{◌≡◌, ℕ, ◌+◌, ◌*◌, ◌<◌, ◌≤◌, ◌↔◌, List, IfOk, IsErrOf, IsTrue, length, slice_get, Some, count_by, not, vec_len};
+//! A window of bits that several bitmaps share.
+ghost use Rattle.std.specs.Prelude.{◌≡◌, ℕ, ◌+◌, ◌*◌, ◌<◌, ◌≤◌, ◌↔◌, ◌⊎◌, List, [], IfOk, IfErr, IsErrOf, IsOkUnless, IsTrue, length, slice_get, Some, count_by, not, vec_len, alloc_error};
 ghost use Rattle.nest_memory.specs.Bits.{bits_from};
 ghost use Rattle.nest_memory.specs.Cut.{cut};
-ghost use Rattle.nest_memory.specs.declared.error.Error.TheVariants.{OutOfSpec};
+ghost use Rattle.nest_memory.specs.declared.error.Error.TheVariants.{OutOfSpec, Memory};
 ghost use Rattle.nest_memory.specs.declared.error.Spec.TheVariants.{ValidityLength};
 
 use crate::bitmap::bits;
+use crate::bitmap::iterator::BitmapIter;
+use crate::bitmap::mutable::MutableBitmap;
 use crate::error::{Error, Spec};
 use std::alloc::{AllocError, Global};
 use std::marker::Model;
 use std::rc::Rc;
 
+/// Bits that never change, in memory that its clones and cuts share. arrow2's `Bitmap`.
+///
+/// Bit i is bit i % 8 of byte i / 8, the least significant first ("Validity bitmaps" of the Arrow columnar format).
 #[derive(Drop)]
 pub struct Bitmap {
     bytes: Rc<Vec<u8>>,
@@ -31,9 +36,11 @@ impl Model for Bitmap {
 
 #[tactic(auto, using(crate::proofs::BitLists::bit_lists))]
 impl Bitmap {
+    /// The first `length` bits of `bytes`. `OutOfSpec(ValidityLength)` where the bytes have fewer.
     pub fn try_new(alloc: Global, bytes: Vec<u8>, length: usize) -> Result<Bitmap, Error>
         ensures ok { IfOk result (λ b. b ≡ bits_from bytes.items 0 length) }
         ensures short { IsErrOf result (OutOfSpec ValidityLength) ↔ (8 * vec_len bytes < length) }
+        ensures errors { IfErr result (λ e. (e ≡ OutOfSpec ValidityLength) ⊎ (e ≡ Memory alloc_error)) }
     {
         if bytes.len().saturating_mul(8) < length {
             return Err(Error::OutOfSpec(Spec::ValidityLength));
@@ -46,12 +53,33 @@ impl Bitmap {
         })
     }
 
+    /// One bit for each truth.
+    pub fn from_bools(alloc: Global, bools: &[bool]) -> Result<Bitmap, Error>
+        ensures ok { IfOk result (λ b. b ≡ bools.now) }
+        ensures err { IsOkUnless result (Memory alloc_error) }
+    {
+        let mut bitmap = MutableBitmap::with_capacity(alloc, bools.len())?;
+        for bit in bools {
+            bitmap.push(*bit)?;
+        }
+        bitmap.freeze()
+    }
+
+    /// The number of bits.
     pub fn len(&self) -> usize
         ensures { result ≡ length self.now }
     {
         self.len
     }
 
+    /// Whether there is no bit.
+    pub fn is_empty(&self) -> bool
+        ensures { IsTrue result ↔ (self.now ≡ []) }
+    {
+        self.len == 0
+    }
+
+    /// Bit `i`.
     pub fn get_bit(&self, i: usize) -> bool
         requires { i < length self.now }
         ensures { slice_get self.now i ≡ Some result }
@@ -59,6 +87,14 @@ impl Bitmap {
         bits::get_bit(self.bytes.as_slice(), self.offset + i)
     }
 
+    /// How many bits are 0, counted by whole bytes.
+    pub fn unset_bits(&self) -> usize
+        ensures { result ≡ count_by not self.now }
+    {
+        bits::unset_bits(self.bytes.as_slice(), self.offset, self.len)
+    }
+
+    /// Keeps the `len` bits from place `offset`; no bit moves.
     pub fn slice(&mut self, offset: usize, len: usize)
         requires { offset + len ≤ length self.old }
         ensures { self.new ≡ cut self.old offset len }
@@ -67,6 +103,7 @@ impl Bitmap {
         self.len = len;
     }
 
+    /// The `len` bits from place `offset`; no bit moves.
     pub fn sliced(self, offset: usize, len: usize) -> Bitmap
         requires { offset + len ≤ length self }
         ensures { result ≡ cut self offset len }
@@ -76,6 +113,14 @@ impl Bitmap {
         cut
     }
 
+    /// The bits in order, from both ends.
+    pub fn iter(&self) -> BitmapIter<'_>
+        ensures { result ≡ self.now }
+    {
+        BitmapIter::new(self.bytes.as_slice(), self.offset, self.len)
+    }
+
+    /// Another owner of the same bits; no bit is copied. `Err` where the owners can't be counted.
     pub fn clone(&self) -> Result<Bitmap, AllocError>
         ensures { IfOk result (λ b. b ≡ self.now) }
     {
@@ -84,17 +129,5 @@ impl Bitmap {
             offset: self.offset,
             len: self.len,
         })
-    }
-
-    pub fn unset_bits(&self) -> usize
-        ensures { result ≡ count_by not self.now }
-    {
-        let mut count = 0;
-        for i in 0..self.len() {
-            if !self.get_bit(i) {
-                count += 1;
-            }
-        }
-        count
     }
 }

@@ -1,63 +1,88 @@
-// The bits of a bitmap in order, from both ends.
-ghost use Rattle.std.specs.Prelude.{◌≡◌, ◌-◌, ◌≤◌, length};
-ghost use Rattle.nest_memory.specs.Cut.{cut};
+//! The bits of a bitmap in order, from both ends.
+ghost use Rattle.std.specs.Prelude.{◌≡◌, ◌+◌, ◌*◌, ◌^◌, ◌<◌, ◌≤◌, length};
+ghost use Rattle.nest_memory.specs.Bits.{bits_from};
 
-use crate::bitmap::immutable::Bitmap;
+use crate::bitmap::bits;
+use std::marker::Model;
 
+/// The bits of a bitmap that are still to come. arrow2's `BitmapIter`; it ends for good, and `len` is exact.
 #[derive(Drop)]
 pub struct BitmapIter<'a> {
-    bitmap: &'a Bitmap,
+    bytes: &'a [u8],
     front: usize,
     back: usize,
-    ghost rising: { front ≤ back },
-    ghost within: { back ≤ length bitmap.now },
+}
+
+impl<'a> Model for BitmapIter<'a> {
+    ghost use Rattle.std.specs.Prelude.{List, Bool, ◌-◌, ◌*◌, ◌≤◌, length};
+    ghost use Rattle.nest_memory.specs.Bits.{bits_from};
+
+    ghost Value = { List Bool };
+
+    ghost view = { λ s. bits_from s.bytes.now s.front (s.back - s.front) };
+
+    ghost invariant = { λ s. (s.front ≤ s.back) × (s.back ≤ 8 * length s.bytes.now) };
 }
 
 impl<'a> BitmapIter<'a> {
-    pub fn new(bitmap: &'a Bitmap) -> BitmapIter<'a>
-        ensures { cut result.bitmap.now result.front (result.back - result.front) ≡ bitmap.now }
+    /// The `len` bits of `bytes` from place `offset`.
+    pub fn new(bytes: &'a [u8], offset: usize, len: usize) -> BitmapIter<'a>
+        requires fits { offset + len < 2 ^ 64 }
+        requires within { offset + len ≤ 8 * length bytes.now }
+        ensures { result ≡ bits_from bytes.now offset len }
     {
         BitmapIter {
-            bitmap,
-            front: 0,
-            back: bitmap.len(),
+            bytes,
+            front: offset,
+            back: offset + len,
         }
     }
 }
 
+#[tactic(auto, using(crate::proofs::BitLists::bit_lists))]
 impl<'a> Iterator for BitmapIter<'a> {
     type Item = bool;
 
-    ghost use Rattle.std.specs.Prelude.{◌-◌};
     ghost use Rattle.std.specs.Iterator.{YieldsFirst, item_count};
-    ghost use Rattle.nest_memory.specs.Cut.{cut};
 
-    ghost next_gives = { YieldsFirst (λ s. cut s.bitmap.now s.front (s.back - s.front)) };
+    ghost next_gives = { YieldsFirst (λ s. s) };
 
-    ghost remaining = { item_count (λ s. cut s.bitmap.now s.front (s.back - s.front)) };
+    ghost remaining = { item_count (λ s. s) };
 
     fn next(&mut self) -> Option<bool> {
         if self.front == self.back {
             return None;
         }
-        let bit = self.bitmap.get_bit(self.front);
+        let bit = bits::get_bit(self.bytes, self.front);
         self.front += 1;
         Some(bit)
     }
+
+    fn size_hint(&self) -> (usize, Option<usize>) {
+        let len = self.back - self.front;
+        (len, Some(len))
+    }
 }
 
+#[tactic(auto, using(crate::proofs::BitLists::bit_lists))]
 impl<'a> DoubleEndedIterator for BitmapIter<'a> {
-    ghost use Rattle.std.specs.Prelude.{◌-◌};
     ghost use Rattle.std.specs.Iterator.{YieldsLast};
-    ghost use Rattle.nest_memory.specs.Cut.{cut};
 
-    ghost next_back_gives = { YieldsLast (λ s. cut s.bitmap.now s.front (s.back - s.front)) };
+    ghost next_back_gives = { YieldsLast (λ s. s) };
 
     fn next_back(&mut self) -> Option<bool> {
         if self.front == self.back {
             return None;
         }
+        let bit = bits::get_bit(self.bytes, self.back - 1);
         self.back -= 1;
-        Some(self.bitmap.get_bit(self.back))
+        Some(bit)
+    }
+}
+
+#[tactic(auto, using(crate::proofs::BitLists::bit_lists))]
+impl<'a> ExactSizeIterator for BitmapIter<'a> {
+    fn len(&self) -> usize {
+        self.back - self.front
     }
 }

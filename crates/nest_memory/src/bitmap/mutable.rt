@@ -1,14 +1,20 @@
-// A bitmap that grows.
-ghost use Rattle.std.specs.Prelude.{◌≡◌, ℕ, ◌+◌, ◌<◌, ◌≤◌, List, [], ◌∷◌, ◌++◌, IfOk, OnOk, OnErr, length, slice_get, slice_set, Some, take, replicate};
+//! A bitmap that grows.
+ghost use Rattle.std.specs.Prelude.{◌≡◌, ℕ, ◌+◌, ◌^◌, ◌<◌, ◌≤◌, ◌↔◌, ◌⊎◌, List, [], ◌∷◌, ◌++◌, IfOk, IfErr, OnOk, OnErr, IsErrOf, IsOkUnless, IsTrue, length, slice_get, slice_set, Some, take, replicate, count_by, not, alloc_error};
 ghost use Rattle.nest_memory.specs.Bits.{bits_from};
+ghost use Rattle.nest_memory.specs.declared.error.Error.TheVariants.{Overflow, Memory};
 
 use crate::bitmap::bits;
 use crate::bitmap::immutable::Bitmap;
+use crate::bitmap::iterator::BitmapIter;
 use crate::error::Error;
 use std::alloc::Global;
 use std::marker::Model;
 use std::mem;
 
+/// Bits that are set, pushed and cut off, and then frozen into a `Bitmap`. arrow2's `MutableBitmap`.
+///
+/// Bit i is bit i % 8 of byte i / 8, the least significant first. A call that answers `Err` changes no bit,
+/// but for `freeze`, which empties the bitmap either way.
 #[derive(Drop)]
 pub struct MutableBitmap {
     bytes: Vec<u8>,
@@ -28,6 +34,7 @@ impl Model for MutableBitmap {
 
 #[tactic(auto, using(crate::proofs::BitLists::bit_lists))]
 impl MutableBitmap {
+    /// No bit, and no memory taken.
     pub fn new(alloc: Global) -> MutableBitmap
         ensures { result ≡ [] }
     {
@@ -37,12 +44,30 @@ impl MutableBitmap {
         }
     }
 
+    /// No bit, with room for `capacity` of them.
+    pub fn with_capacity(alloc: Global, capacity: usize) -> Result<MutableBitmap, Error>
+        ensures ok { IfOk result (λ b. b ≡ []) }
+        ensures err { IsOkUnless result (Memory alloc_error) }
+    {
+        let bytes = Vec::with_capacity(alloc, bits::byte_count(capacity))?;
+        Ok(MutableBitmap { bytes, len: 0 })
+    }
+
+    /// The number of bits.
     pub fn len(&self) -> usize
         ensures { result ≡ length self.now }
     {
         self.len
     }
 
+    /// Whether there is no bit.
+    pub fn is_empty(&self) -> bool
+        ensures { IsTrue result ↔ (self.now ≡ []) }
+    {
+        self.len == 0
+    }
+
+    /// Bit `i`.
     pub fn get(&self, i: usize) -> bool
         requires { i < length self.now }
         ensures { slice_get self.now i ≡ Some result }
@@ -50,6 +75,7 @@ impl MutableBitmap {
         bits::get_bit(self.bytes.as_slice(), i)
     }
 
+    /// Writes bit `i`.
     pub fn set(&mut self, i: usize, value: bool)
         requires { i < length self.old }
         ensures { self.new ≡ slice_set self.old i value }
@@ -57,9 +83,12 @@ impl MutableBitmap {
         bits::set_bit(&mut self.bytes, i, value);
     }
 
+    /// One bit more. `Overflow` where the length would pass a `usize`.
     pub fn push(&mut self, value: bool) -> Result<(), Error>
         ensures ok { OnOk result (self.new ≡ self.old ++ value ∷ []) }
         ensures err { OnErr result (self.new ≡ self.old) }
+        ensures overflow { IsErrOf result Overflow ↔ (2 ^ 64 ≤ length self.old + 1) }
+        ensures errors { IfErr result (λ e. (e ≡ Overflow) ⊎ (e ≡ Memory alloc_error)) }
     {
         if self.len == usize::MAX {
             return Err(Error::Overflow);
@@ -70,6 +99,29 @@ impl MutableBitmap {
         Ok(())
     }
 
+    /// `additional` bits of one value more, written by whole bytes. `Overflow` where the length would pass a `usize`.
+    pub fn extend_constant(&mut self, additional: usize, value: bool) -> Result<(), Error>
+        ensures ok { OnOk result (self.new ≡ self.old ++ replicate additional value) }
+        ensures err { OnErr result (self.new ≡ self.old) }
+        ensures overflow { IsErrOf result Overflow ↔ (2 ^ 64 ≤ length self.old + additional) }
+        ensures errors { IfErr result (λ e. (e ≡ Overflow) ⊎ (e ≡ Memory alloc_error)) }
+    {
+        let Some(len) = self.len.checked_add(additional) else {
+            return Err(Error::Overflow);
+        };
+        bits::extend_constant(&mut self.bytes, self.len, additional, value)?;
+        self.len = len;
+        Ok(())
+    }
+
+    /// How many bits are 0, counted by whole bytes.
+    pub fn unset_bits(&self) -> usize
+        ensures { result ≡ count_by not self.now }
+    {
+        bits::unset_bits(self.bytes.as_slice(), 0, self.len)
+    }
+
+    /// Keeps the first `len` bits.
     pub fn truncate(&mut self, len: usize)
         requires { len ≤ length self.old }
         ensures { self.new ≡ take len self.old }
@@ -77,23 +129,36 @@ impl MutableBitmap {
         self.len = len;
     }
 
-    pub fn extend_constant(&mut self, additional: usize, value: bool) -> Result<(), Error>
-        ensures ok { OnOk result (self.new ≡ self.old ++ replicate additional value) }
-        ensures err { OnErr result (self.new ≡ self.old) }
+    /// Room for `additional` bits more.
+    pub fn reserve(&mut self, additional: usize) -> Result<(), Error>
+        ensures same { self.new ≡ self.old }
+        ensures err { IsOkUnless result (Memory alloc_error) }
     {
-        let before = self.len();
-        for _i in 0..additional {
-            if let Err(e) = self.push(value) {
-                self.truncate(before);
-                return Err(e);
-            }
-        }
+        self.bytes.reserve(bits::byte_count(additional))?;
         Ok(())
     }
 
+    /// Gives back memory that holds no bit, where a smaller block is there.
+    pub fn shrink_to_fit(&mut self)
+        ensures { self.new ≡ self.old }
+    {
+        self.bytes.truncate(bits::byte_count(self.len));
+        self.bytes.shrink_to_fit();
+    }
+
+    /// The bits in order, from both ends.
+    pub fn iter(&self) -> BitmapIter<'_>
+        ensures { result ≡ self.now }
+    {
+        BitmapIter::new(self.bytes.as_slice(), 0, self.len)
+    }
+
+    /// The bits as a `Bitmap`, which takes the memory over. The bitmap is empty afterwards, also where that
+    /// answers `Err`.
     pub fn freeze(&mut self) -> Result<Bitmap, Error>
         ensures ok { IfOk result (λ b. b ≡ self.old) }
         ensures emptied { self.new ≡ [] }
+        ensures err { IsOkUnless result (Memory alloc_error) }
     {
         let alloc = *self.bytes.allocator();
         let bytes = mem::replace(&mut self.bytes, Vec::new(alloc));
