@@ -1,7 +1,8 @@
 -- A cut of an array is an array.
 use Rattle.std.specs.Prelude.{Option, Some, None, get_or}
 use Rattle.std.proofs.Common.{◌≡◌, ℕ, suc, ◌+◌, ◌-◌, ◌*◌, ◌%◌, ◌<◌, ◌≤◌, ℤ, pos, Bool, List, length, take, drop, refl, ap, sym, ◌∙◌, subst, arith}
-use Rattle.std.proofs.lemmas.List.Elements.{All-take, All-drop}
+use Rattle.std.proofs.lemmas.List.Elements.{All-get_or, All-take, All-drop}
+use Rattle.std.proofs.lemmas.List.{length-map}
 use Rattle.std.specs.Str.{IsUtf8}
 use Rattle.nest_memory.specs.TypeTree.{FieldTrees, no_fields, more_fields, size_of, ids_of, fields_of, is_dense}
 use Rattle.nest_memory.specs.Cut.{cut}
@@ -221,6 +222,26 @@ fits-cut (union t ks cs os start) o n h f k =
       ),
     )
 fits-cut (dictionary t ks c) o n h f k = (f.0, (f.1.0 ∙ sym (key_type-cut ks o n), (f.1.1.0, (keys-cut ks (len c) o n h k f.1.1.1.0, tt))))
+
+-- what fits keeps what an array keeps
+raw_keys-length : (ks : Layout) → AreKeys ks → length (raw_keys ks) ≡ len ks
+raw_keys-length (primitive p t vs va) h = length-map vs whole
+raw_keys-length ks h = absurd h
+
+pub fits-keeps : (a : Layout) → PartsHold a → Fits a → Keeps a
+fits-keeps (dictionary t ks c) h f = (
+  f.0,
+  (
+    f.1.0,
+    (
+      f.1.1.0,
+      λ i k v.
+          let l = raw_keys-length ks h in
+          All-get_or (λ z. Names z (len c)) (raw_keys ks) i (pos 0) (omega arith) (f.1.1.1.0 (i, k, v)),
+    ),
+  ),
+)
+fits-keeps a h f = f
 
 -- what an array keeps, its cut keeps
 pub keeps-cut : (a : Layout) (o n : ℕ) → TopFits a → o + n ≤ len a → Keeps (cut_layout a o n)

@@ -1,8 +1,8 @@
 -- Which places of an array are null, and how many (Validity bitmaps, Null count).
-use Rattle.std.specs.Prelude.{ℕ, true, Bool, not, Some, None}
+use Rattle.std.specs.Prelude.{ℕ, Bool, true, false, not}
 use Rattle.std.specs.List.{count_by, range_with_len}
 use Rattle.nest_model.specs.Part.{valid_at}
-use Rattle.nest_model.specs.Layout.{Layout, null}
+use Rattle.nest_model.specs.Layout.{Layout, null, dictionary}
 use Rattle.nest_model.specs.Accessors.{validity_of}
 use Rattle.nest_model.specs.Meaning.{len}
 
@@ -13,3 +13,8 @@ is_null_at a i = not (valid_at (validity_of a) i)
 
 abbrev pub null_count : Layout → ℕ
 null_count a = count_by (is_null_at a) (range_with_len 0 (len a))
+
+-- whether its slots are looked up by keys
+abbrev pub has_keys : Layout → Bool
+has_keys (dictionary t ks c) = true
+has_keys a = false

@@ -5,7 +5,8 @@ ghost use Rattle.nest_model.specs.Layout.{Layout, layout_type};
 ghost use Rattle.nest_model.specs.Meaning.{len, slots_of};
 ghost use Rattle.nest_model.specs.Cut.{cut_layout};
 ghost use Rattle.nest_memory.specs.Cut.{cut};
-ghost use Rattle.nest_model.specs.Array.{IsArray, TopFits};
+ghost use Rattle.nest_model.specs.Array.{PartsHold, TopFits, IsArray};
+ghost use Rattle.nest_model.specs.Fits.{Fits};
 
 /// A cut stands for the cut of the slots.
 pub fn cut_slots()
@@ -27,9 +28,10 @@ pub fn cut_keeps_type()
     ensures { (a : Layout) (o n : ℕ) → layout_type (cut_layout a o n) ≡ layout_type a }
 {}
 
-/// A cut of parts that fit fits.
+/// A cut of parts that fit fits, and a cut of an array keeps what an array keeps.
 pub fn cut_fits()
-    ensures { (a : Layout) (o n : ℕ) → TopFits a → o + n ≤ len a → TopFits (cut_layout a o n) }
+    ensures fits { (a : Layout) (o n : ℕ) → PartsHold a → Fits a → o + n ≤ len a → Fits (cut_layout a o n) }
+    ensures keeps { (a : Layout) (o n : ℕ) → TopFits a → o + n ≤ len a → TopFits (cut_layout a o n) }
 {}
 
 /// A cut of an array is an array.

@@ -1,6 +1,7 @@
 //! What a slot of each nested kind is, in the children's lists of slots.
 
-ghost use Rattle.std.specs.Prelude.{◌≡◌, ℕ, ◌+◌, ◌*◌, ◌<◌, ℤ, pos, Bool, List, length, get_or, Option, Some};
+ghost use Rattle.std.specs.Prelude.{◌≡◌, ℕ, ◌+◌, ◌*◌, ◌<◌, ℤ, pos, Bool, List, map, length, get_or, Option, Some};
+ghost use Rattle.nest_memory.specs.declared.datatypes.physical_type.PrimitiveType.{PrimitiveType};
 ghost use Rattle.nest_memory.specs.TypeTree.{TypeTree, size_of};
 ghost use Rattle.nest_memory.specs.Cut.{cut};
 ghost use Rattle.nest_model.specs.Part.{Validity, begin, extent, rows, place};
@@ -11,11 +12,28 @@ ghost use Rattle.nest_model.specs.Slot as slots;
 ghost use Rattle.nest_model.specs.Slot.{Slot, seal};
 ghost use Rattle.nest_model.specs.Meaning.{len, first_len, slot, slots_of};
 ghost use Rattle.nest_model.specs.Array.{TopFits};
+ghost use Rattle.nest_model.specs.FlatReads.{masked};
 ghost use Rattle.nest_model.specs.Reads.{where_valid, row, IsPick};
 
 /// The list of slots has at each place the slot there.
 pub fn slot_at_place()
     ensures { (a : Layout) (i : ℕ) (d : Slot) → i < len a → get_or (slots_of a) i d ≡ slot a i }
+{}
+
+/// The slots of a primitive and of a boolean array are its values, but Null where the validity says so.
+pub fn flat_slots()
+    ensures natives { (k : PrimitiveType) (t : TypeTree) (vs : List (List ℤ)) (va : Validity) → slots_of (layouts.primitive k t vs va) ≡ masked va (map slots.number vs) }
+    ensures bits { (t : TypeTree) (bs : List Bool) (va : Validity) → slots_of (layouts.boolean t bs va) ≡ masked va (map slots.truth bs) }
+{}
+
+/// The slot of a binary, a text or a fixed-size binary array is null or the bytes that it covers.
+pub fn bytes_slots()
+    ensures binary { (large : Bool) (t : TypeTree) (os bs : List ℕ) (va : Validity) (i : ℕ)
+        → slot (layouts.binary large t os bs va) i ≡ where_valid va i (slots.bytes (cut bs (begin os i) (extent os i))) }
+    ensures text { (large : Bool) (t : TypeTree) (os bs : List ℕ) (va : Validity) (i : ℕ)
+        → slot (layouts.text large t os bs va) i ≡ where_valid va i (slots.text (cut bs (begin os i) (extent os i))) }
+    ensures fixed { (t : TypeTree) (bs : List ℕ) (va : Validity) (i : ℕ)
+        → slot (layouts.fixed_size_binary t bs va) i ≡ where_valid va i (slots.bytes (cut bs (i * size_of t) (size_of t))) }
 {}
 
 /// A list's slot is null or the list of the items that it covers.

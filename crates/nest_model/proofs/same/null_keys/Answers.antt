@@ -1,0 +1,5 @@
+use Rattle.nest_model.specs.SameArray.{null_keys-null_values}
+use Rattle.nest_model.proofs.same.null_keys.Goals as goal
+
+pub returns : goal.returns
+returns c = null_keys-null_values

@@ -1,0 +1,5 @@
+use Rattle.nest_model.specs.SameArray.{same-cut}
+use Rattle.nest_model.proofs.same.same_cuts.Goals as goal
+
+pub returns : goal.returns
+returns c = same-cut

@@ -1,0 +1,103 @@
+-- The array of n null slots of a data type, and the empty one, part by part (of this project).
+use Rattle.std.specs.Prelude.{ℕ, zero, suc, ◌*◌, ℤ, pos, true, false, List, [], ◌∷◌, map, replicate, Option, Some, None}
+use Rattle.std.specs.List.{range_with_len}
+use Rattle.nest_memory.specs.declared.datatypes.IntegerType.{IntegerType}
+use Rattle.nest_memory.specs.declared.datatypes.IntegerType.TheVariants as integers
+use Rattle.nest_memory.specs.declared.datatypes.UnionMode.{UnionMode}
+use Rattle.nest_memory.specs.declared.datatypes.UnionMode.TheVariants as modes
+use Rattle.nest_memory.specs.declared.datatypes.physical_type.PhysicalType.{PhysicalType}
+use Rattle.nest_memory.specs.declared.datatypes.physical_type.PhysicalType.TheVariants as physical
+use Rattle.nest_memory.specs.declared.datatypes.physical_type.PrimitiveType.{PrimitiveType}
+use Rattle.nest_memory.specs.declared.datatypes.physical_type.PrimitiveType.TheVariants as primitives
+use Rattle.nest_memory.specs.TypeTree as types
+use Rattle.nest_memory.specs.TypeTree.{TypeTree, FieldTree, field, FieldTrees, no_fields, more_fields}
+use Rattle.nest_memory.specs.Physical.{physical_type}
+use Rattle.nest_model.specs.Part.{Validity}
+use Rattle.nest_model.specs.Layout as layouts
+use Rattle.nest_model.specs.Layout.{Layout, Layouts, no_layouts, more_layouts}
+use Rattle.nest_model.specs.Accessors.{with_type}
+
+-- the native value of this kind whose whole numbers are zeros
+abbrev pub zero_value : PrimitiveType → List ℤ
+zero_value primitives.Int256 = pos 0 ∷ pos 0 ∷ []
+zero_value primitives.DaysMs = pos 0 ∷ pos 0 ∷ []
+zero_value primitives.MonthDayNano = pos 0 ∷ pos 0 ∷ pos 0 ∷ []
+zero_value k = pos 0 ∷ []
+
+-- native values and data type of keys of this type
+abbrev pub native_of_key : IntegerType → PrimitiveType
+native_of_key integers.Int8 = primitives.Int8
+native_of_key integers.Int16 = primitives.Int16
+native_of_key integers.Int32 = primitives.Int32
+native_of_key integers.Int64 = primitives.Int64
+native_of_key integers.UInt8 = primitives.UInt8
+native_of_key integers.UInt16 = primitives.UInt16
+native_of_key integers.UInt32 = primitives.UInt32
+native_of_key integers.UInt64 = primitives.UInt64
+
+abbrev pub type_of_key : IntegerType → TypeTree
+type_of_key integers.Int8 = types.int8
+type_of_key integers.Int16 = types.int16
+type_of_key integers.Int32 = types.int32
+type_of_key integers.Int64 = types.int64
+type_of_key integers.UInt8 = types.uint8
+type_of_key integers.UInt16 = types.uint16
+type_of_key integers.UInt32 = types.uint32
+type_of_key integers.UInt64 = types.uint64
+
+-- no place of n is valid; an empty array, below whose dictionaries lie no values, has no validity
+abbrev pub none_valid : ℕ → ℕ → Validity
+none_valid zero n = None
+none_valid (suc d) n = Some (replicate n false)
+
+-- n nulls of a primitive type
+abbrev pub native_nulls : PrimitiveType → TypeTree → ℕ → ℕ → Layout
+native_nulls k t n d = layouts.primitive k t (replicate n (zero_value k)) (none_valid d n)
+
+abbrev pub flat_nulls : PhysicalType → TypeTree → ℕ → ℕ → Layout
+flat_nulls physical.Boolean t n d = layouts.boolean t (replicate n false) (none_valid d n)
+flat_nulls (physical.Primitive k) t n d = native_nulls k t n d
+flat_nulls p t n d = layouts.null t n
+
+-- the type of each slot of a union: its first id, without ids that of the first field
+abbrev pub null_type : Option (List ℤ) → ℤ
+null_type None = pos 0
+null_type (Some []) = pos 0
+null_type (Some (z ∷ zs)) = z
+
+-- a dense union's slots lie one after another
+abbrev pub null_offsets : UnionMode → ℕ → Option (List ℤ)
+null_offsets modes.Dense n = Some (map (λ i. pos i) (range_with_len 0 n))
+null_offsets modes.Sparse n = None
+
+-- n null slots. Below a dictionary lie d values: one in a null array, none in an empty one. Below a list or a map lies an empty array.
+abbrev mutual
+  pub null_array : TypeTree → ℕ → ℕ → Layout
+  null_array types.binary n d = layouts.binary false types.binary (replicate (suc n) 0) [] (none_valid d n)
+  null_array types.large_binary n d = layouts.binary true types.large_binary (replicate (suc n) 0) [] (none_valid d n)
+  null_array types.utf8 n d = layouts.text false types.utf8 (replicate (suc n) 0) [] (none_valid d n)
+  null_array types.large_utf8 n d = layouts.text true types.large_utf8 (replicate (suc n) 0) [] (none_valid d n)
+  null_array (types.fixed_size_binary s) n d = layouts.fixed_size_binary (types.fixed_size_binary s) (replicate (n * s) 0) (none_valid d n)
+  null_array (types.list f) n d = layouts.list false (types.list f) (replicate (suc n) 0) (null_item f 0 0) (none_valid d n)
+  null_array (types.large_list f) n d = layouts.list true (types.large_list f) (replicate (suc n) 0) (null_item f 0 0) (none_valid d n)
+  null_array (types.fixed_size_list f s) n d = layouts.fixed_size_list (types.fixed_size_list f s) (null_item f (n * s) d) (none_valid d n)
+  null_array (types.map f b) n d = layouts.map (types.map f b) (replicate (suc n) 0) (null_item f 0 0) (none_valid d n)
+  null_array (types.struct fs) n d = layouts.struct (types.struct fs) (null_children fs n d) (none_valid d n)
+  null_array (types.union fs ids mode) n d = layouts.union (types.union fs ids mode) (replicate n (null_type ids)) (null_children fs n d) (null_offsets mode n) 0
+  null_array (types.dictionary k t b) n d = layouts.dictionary (types.dictionary k t b) (native_nulls (native_of_key k) (type_of_key k) n d) (null_array t d d)
+  null_array (types.extension x t m) n d = with_type (null_array t n d) (types.extension x t m)
+  null_array t n d = flat_nulls (physical_type t) t n d
+
+  pub null_item : FieldTree → ℕ → ℕ → Layout
+  null_item (field x t b es) n d = null_array t n d
+
+  pub null_children : FieldTrees → ℕ → ℕ → Layouts
+  null_children no_fields n d = no_layouts
+  null_children (more_fields f fs) n d = more_layouts (null_item f n d) (null_children fs n d)
+
+-- the array of n null slots, and the empty array
+abbrev pub null_layout : TypeTree → ℕ → Layout
+null_layout t n = null_array t n 1
+
+abbrev pub empty_layout : TypeTree → Layout
+empty_layout t = null_array t 0 0

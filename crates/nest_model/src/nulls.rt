@@ -1,0 +1,27 @@
+//! Laws of null and empty arrays.
+
+ghost use Rattle.std.specs.Prelude.{◌≡◌, ℕ, [], None};
+ghost use Rattle.nest_memory.specs.TypeTree.{TypeTree};
+ghost use Rattle.nest_model.specs.Layout.{layout_type};
+ghost use Rattle.nest_model.specs.Meaning.{len, slots_of};
+ghost use Rattle.nest_model.specs.Fits.{Fits};
+ghost use Rattle.nest_model.specs.Array.{IsArray};
+ghost use Rattle.nest_model.specs.Nulls.{null_slots, type_fault, empty_fault};
+ghost use Rattle.nest_model.specs.NullLayout.{null_layout, empty_layout};
+
+/// Where the data type and the length are not refused there is an array of that many null slots.
+pub fn null_arrays()
+    ensures data_type { (t : TypeTree) (n : ℕ) → type_fault t n ≡ None → layout_type (null_layout t n) ≡ t }
+    ensures length { (t : TypeTree) (n : ℕ) → type_fault t n ≡ None → len (null_layout t n) ≡ n }
+    ensures slots { (t : TypeTree) (n : ℕ) → type_fault t n ≡ None → slots_of (null_layout t n) ≡ null_slots t n }
+    ensures fits { (t : TypeTree) (n : ℕ) → type_fault t n ≡ None → Fits (null_layout t n) }
+    ensures array { (t : TypeTree) (n : ℕ) → type_fault t n ≡ None → IsArray (null_layout t n) }
+{}
+
+/// Where the data type is not refused there is an array of no slots.
+pub fn empty_arrays()
+    ensures data_type { (t : TypeTree) → empty_fault t ≡ None → layout_type (empty_layout t) ≡ t }
+    ensures slots { (t : TypeTree) → empty_fault t ≡ None → slots_of (empty_layout t) ≡ [] }
+    ensures fits { (t : TypeTree) → empty_fault t ≡ None → Fits (empty_layout t) }
+    ensures array { (t : TypeTree) → empty_fault t ≡ None → IsArray (empty_layout t) }
+{}

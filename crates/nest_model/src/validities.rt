@@ -1,0 +1,43 @@
+//! Laws of validities: a new one, which places are null, how many.
+
+ghost use Rattle.std.specs.Prelude.{◌≡◌, ℕ, ◌<◌, Bool, true, false, not, List, length, Some, None};
+ghost use Rattle.std.specs.List.{count_by};
+ghost use Rattle.nest_model.specs.Part.{Validity, valid_at};
+ghost use Rattle.nest_model.specs.Slot as slots;
+ghost use Rattle.nest_model.specs.Layout.{Layout, layout_type};
+ghost use Rattle.nest_model.specs.Accessors.{validity_of, with_validity};
+ghost use Rattle.nest_model.specs.Meaning.{len, slot};
+ghost use Rattle.nest_model.specs.Checks.{Pass};
+ghost use Rattle.nest_model.specs.Fits.{validity_checks};
+ghost use Rattle.nest_model.specs.Array.{PartsHold, TopFits, IsArray};
+ghost use Rattle.nest_model.specs.Nullness.{is_null_at, null_count, has_keys};
+
+/// An array under a validity that it takes is an array of the same length and type, with that validity.
+pub fn new_validity()
+    ensures length { (a : Layout) (va : Validity) → len (with_validity a va) ≡ len a }
+    ensures data_type { (a : Layout) (va : Validity) → layout_type (with_validity a va) ≡ layout_type a }
+    ensures validity { (a : Layout) (va : Validity) → PartsHold a → Pass (validity_checks a va) → validity_of (with_validity a va) ≡ va }
+    ensures fits { (a : Layout) (va : Validity) → TopFits a → Pass (validity_checks a va) → TopFits (with_validity a va) }
+    ensures array { (a : Layout) (va : Validity) → IsArray a → Pass (validity_checks a va) → IsArray (with_validity a va) }
+{}
+
+/// Under it a slot is Null where it says so, and stays where it and the old one say valid.
+pub fn new_slots()
+    ensures nulls { (a : Layout) (va : Validity) (i : ℕ) → PartsHold a → Pass (validity_checks a va) → valid_at va i ≡ false
+        → slot (with_validity a va) i ≡ slots.null }
+    ensures others { (a : Layout) (va : Validity) (i : ℕ) → PartsHold a → Pass (validity_checks a va) → valid_at va i ≡ true
+        → valid_at (validity_of a) i ≡ true → slot (with_validity a va) i ≡ slot a i }
+{}
+
+/// A null place has the slot Null; so has no other place of an array, but of a dictionary, whose key may name a null value.
+pub fn null_places()
+    ensures null_there { (a : Layout) (i : ℕ) → is_null_at a i ≡ true → slot a i ≡ slots.null }
+    ensures back { (a : Layout) (i : ℕ) → TopFits a → i < len a → has_keys a ≡ false → slot a i ≡ slots.null → is_null_at a i ≡ true }
+{}
+
+/// The null count is the number of unset bits; without a validity it is 0, but of a null array its length.
+pub fn null_counts()
+    ensures of_bits { (a : Layout) (bits : List Bool) → validity_of a ≡ Some bits → length bits ≡ len a → null_count a ≡ count_by not bits }
+    ensures of_none { (a : Layout) → is_null_at a 0 ≡ false → validity_of a ≡ None → null_count a ≡ 0 }
+    ensures of_nulls { (a : Layout) → is_null_at a 0 ≡ true → validity_of a ≡ None → null_count a ≡ len a }
+{}
