@@ -1,8 +1,11 @@
 //! Flat arrays in the Arrow format: each slot is null or a boolean, a native value, bytes or a text.
 #![tactic(auto)]
 
+pub mod any_primitive;
 pub mod binary;
 pub mod boolean;
+mod equality;
+pub mod flat_array;
 pub mod iterator;
 pub mod primitive;
 mod spans;

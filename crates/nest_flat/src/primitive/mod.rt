@@ -1,5 +1,7 @@
 //! Arrays of native values.
-ghost use Rattle.std.specs.Prelude.{◌≡◌, ◌+◌, ◌≤◌, ◌<◌, ◌↔◌, IsTrue, IfOk, IsOkUnless, MatchResult, Some, slice_get, option_map, map, alloc_error};
+pub mod iterator;
+
+ghost use Rattle.std.specs.Prelude.{◌≡◌, ◌+◌, ◌≤◌, ◌<◌, ◌↔◌, IsTrue, IfOk, IsOkUnless, MatchResult, None, Some, slice_get, option_map, map, alloc_error};
 ghost use Rattle.nest_memory.specs.declared.error.Error.TheVariants.{Memory};
 ghost use Rattle.nest_memory.specs.Cut.{cut};
 ghost use Rattle.nest_memory.specs.TypeOf.{type_of};
@@ -10,7 +12,7 @@ ghost use Rattle.nest_model.specs.Fits.{Fits, FirstFault, ValidityFits, Validity
 ghost use Rattle.nest_model.specs.Layout as layouts;
 ghost use Rattle.nest_model.specs.Layout.{layout_type};
 ghost use Rattle.nest_model.specs.Meaning.{len, slot, slots_of};
-ghost use Rattle.nest_model.specs.Nullness.{null_count};
+ghost use Rattle.nest_model.specs.Nullness.{is_null_at, null_count};
 ghost use Rattle.nest_model.specs.Part.{valid_at};
 ghost use Rattle.nest_model.specs.Reads.{where_valid};
 ghost use Rattle.nest_model.specs.Slot as slots;
@@ -124,7 +126,8 @@ impl<T: NativeType> PrimitiveArray<T> {
     /// Whether slot i is null.
     pub fn is_null(&self, i: usize) -> bool
         requires { i < len self.now }
-        ensures { IsTrue result ↔ (slot self.now i ≡ slots.null) }
+        ensures slot { IsTrue result ↔ (slot self.now i ≡ slots.null) }
+        ensures place { result ≡ is_null_at self.now i }
     {
         !validity::is_valid(&self.validity, i)
     }
@@ -141,6 +144,7 @@ impl<T: NativeType> PrimitiveArray<T> {
         requires { i < len self.now }
         ensures raw { slice_get (natives_of self.now) i ≡ Some (T.numbers result) }
         ensures slot { slot self.now i ≡ where_valid (validity_of self.now) i (slots.number (T.numbers result)) }
+        ensures unmasked { slot (with_validity self.now None) i ≡ slots.number (T.numbers result) }
     {
         self.values.get(i)
     }

@@ -1,5 +1,7 @@
 //! Arrays of texts.
-ghost use Rattle.std.specs.Prelude.{◌≡◌, ◌+◌, ◌≤◌, ◌<◌, ◌↔◌, IsTrue, IfOk, IsOkUnless, MatchResult, MatchOption, option_map, alloc_error};
+pub mod iterator;
+
+ghost use Rattle.std.specs.Prelude.{◌≡◌, ◌+◌, ◌≤◌, ◌<◌, ◌↔◌, IsTrue, IfOk, IsOkUnless, MatchResult, MatchOption, None, option_map, alloc_error};
 ghost use Rattle.nest_memory.specs.declared.error.Error.TheVariants.{Memory};
 ghost use Rattle.nest_memory.specs.Cut.{cut};
 ghost use Rattle.nest_memory.specs.Physical.{text_of_width};
@@ -11,7 +13,7 @@ ghost use Rattle.nest_model.specs.Fits.{Fits, FirstFault, ValidityFits, Validity
 ghost use Rattle.nest_model.specs.Layout as layouts;
 ghost use Rattle.nest_model.specs.Layout.{layout_type};
 ghost use Rattle.nest_model.specs.Meaning.{len, slot, slots_of};
-ghost use Rattle.nest_model.specs.Nullness.{null_count};
+ghost use Rattle.nest_model.specs.Nullness.{is_null_at, null_count};
 ghost use Rattle.nest_model.specs.Part.{valid_at, begin, extent};
 ghost use Rattle.nest_model.specs.Reads.{where_valid};
 ghost use Rattle.nest_model.specs.Slot as slots;
@@ -177,7 +179,8 @@ impl<O: Offset> Utf8Array<O> {
     /// Whether slot i is null.
     pub fn is_null(&self, i: usize) -> bool
         requires { i < len self.now }
-        ensures { IsTrue result ↔ (slot self.now i ≡ slots.null) }
+        ensures slot { IsTrue result ↔ (slot self.now i ≡ slots.null) }
+        ensures place { result ≡ is_null_at self.now i }
     {
         !validity::is_valid(&self.validity, i)
     }
@@ -194,8 +197,17 @@ impl<O: Offset> Utf8Array<O> {
         requires { i < len self.now }
         ensures raw { result.now ≡ cut (bytes_of self.now) (begin (offsets_of self.now) i) (extent (offsets_of self.now) i) }
         ensures slot { slot self.now i ≡ where_valid (validity_of self.now) i (slots.text result.now) }
+        ensures unmasked { slot (with_validity self.now None) i ≡ slots.text result.now }
     {
         spans::text_of(spans::span(&self.offsets, &self.values, i))
+    }
+
+    // The bytes of slot i.
+    pub(crate) fn bytes_at(&self, i: usize) -> &[u8]
+        requires { i < len self.now }
+        ensures { slot (with_validity self.now None) i ≡ slots.text result.now }
+    {
+        spans::span(&self.offsets, &self.values, i)
     }
 
     /// The value of slot i, `None` where it is null.
