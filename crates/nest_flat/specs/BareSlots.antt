@@ -18,6 +18,9 @@ use Rattle.nest_model.specs.Reads.{slot-place}
 abbrev pub bare : Layout → Layout
 bare a = with_validity a None
 
+pub len_bare : (a : Layout) → len (bare a) ≡ len a
+len_bare a = len-with_validity a None
+
 valid-bare : (a : Layout) (i : ℕ) → valid_at (validity_of (bare a)) i ≡ true
 valid-bare (dictionary t ks c) i = valid-bare ks i
 valid-bare a i = refl
@@ -56,16 +59,19 @@ valid-unless a i h = true-unless (valid_at (validity_of a) i) h
 pub slot-shown : (a : Layout) (i : ℕ) (r : Bool) → r ≡ is_null_at a i → r ≡ false → slot (bare a) i ≡ slot a i
 slot-shown a i r e f = slot-bare a i (valid-unless a i (sym e ∙ f))
 
+counted-head : (b : Bool) (m : ℕ) → cond b 1 0 + m ≡ 0 → (b ≡ false) × (m ≡ 0)
+counted-head true m h = absurd (omega arith)
+counted-head false m h = (refl, omega arith)
+
 none-counted : (p : ℕ → Bool) (o n i : ℕ) → count_by p (range_with_len o n) ≡ 0 → i < n → p (o + i) ≡ false
 none-counted p o zero i h k = absurd (omega arith)
-none-counted p o (suc n) i h k =
+none-counted p o (suc n) zero h k =
     let s = sum_by-cons (λ j. cond (p j) 1 0) o (range_with_len (o + 1) n) in
-    here (p o) refl i k (sym s ∙ h)
-  where
-    here : (b : Bool) → p o ≡ b → (i : ℕ) → i < suc n → cond b 1 0 + count_by p (range_with_len (o + 1) n) ≡ 0 → p (o + i) ≡ false
-    here true e i k h = absurd (omega arith)
-    here false e zero k h = ap p (let z : o + 0 ≡ o = omega arith in z) ∙ e
-    here false e (suc i) k h = ap p (let z : o + suc i ≡ o + 1 + i = omega arith in z) ∙ none-counted p (o + 1) n i (omega arith) (omega arith)
+    ap p (let z : o + 0 ≡ o = omega arith in z) ∙ (counted-head (p o) (count_by p (range_with_len (o + 1) n)) (sym s ∙ h)).0
+none-counted p o (suc n) (suc i) h k =
+    let s = sum_by-cons (λ j. cond (p j) 1 0) o (range_with_len (o + 1) n) in
+    let rest = (counted-head (p o) (count_by p (range_with_len (o + 1) n)) (sym s ∙ h)).1 in
+    ap p (let z : o + suc i ≡ o + 1 + i = omega arith in z) ∙ none-counted p (o + 1) n i rest (omega arith)
 
 -- an array without nulls has its raw values as slots
 pub slots-bare : (a : Layout) → null_count a ≡ 0 → slots_of (bare a) ≡ slots_of a

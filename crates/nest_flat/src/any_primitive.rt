@@ -6,7 +6,7 @@ ghost use Rattle.nest_memory.specs.TypeOf.{type_of};
 ghost use Rattle.nest_model.specs.Accessors.{validity_of};
 ghost use Rattle.nest_model.specs.Array.{TopFits};
 ghost use Rattle.nest_model.specs.Cut.{cut_layout};
-ghost use Rattle.nest_model.specs.Layout.{layout_type};
+ghost use Rattle.nest_model.specs.Layout.{Layout, layout_type};
 ghost use Rattle.nest_model.specs.Meaning.{len, slot, slots_of};
 ghost use Rattle.nest_model.specs.Nullness.{is_null_at, null_count};
 ghost use Rattle.nest_model.specs.Slot as slots;
@@ -38,78 +38,131 @@ pub enum AnyPrimitive {
 
 /// The twelve native types.
 pub trait Native: NativeType {
+    /// `PrimitiveArray<Self>`.
+    type Array;
+
+    ghost layout_of_array: { Self.Array → Layout };
+
     /// The same array in the variant of its kind.
-    fn wrap(array: PrimitiveArray<Self>) -> AnyPrimitive
-        ensures { primitive_layout result ≡ array };
+    fn wrap(array: Self::Array) -> AnyPrimitive
+        ensures { primitive_layout result ≡ layout_of_array array };
 }
 
 impl Native for i8 {
+    type Array = PrimitiveArray<i8>;
+
+    ghost layout_of_array = { λ a. a };
+
     fn wrap(array: PrimitiveArray<i8>) -> AnyPrimitive {
         AnyPrimitive::Int8(array)
     }
 }
 
 impl Native for i16 {
+    type Array = PrimitiveArray<i16>;
+
+    ghost layout_of_array = { λ a. a };
+
     fn wrap(array: PrimitiveArray<i16>) -> AnyPrimitive {
         AnyPrimitive::Int16(array)
     }
 }
 
 impl Native for i32 {
+    type Array = PrimitiveArray<i32>;
+
+    ghost layout_of_array = { λ a. a };
+
     fn wrap(array: PrimitiveArray<i32>) -> AnyPrimitive {
         AnyPrimitive::Int32(array)
     }
 }
 
 impl Native for i64 {
+    type Array = PrimitiveArray<i64>;
+
+    ghost layout_of_array = { λ a. a };
+
     fn wrap(array: PrimitiveArray<i64>) -> AnyPrimitive {
         AnyPrimitive::Int64(array)
     }
 }
 
 impl Native for i128 {
+    type Array = PrimitiveArray<i128>;
+
+    ghost layout_of_array = { λ a. a };
+
     fn wrap(array: PrimitiveArray<i128>) -> AnyPrimitive {
         AnyPrimitive::Int128(array)
     }
 }
 
 impl Native for i256 {
+    type Array = PrimitiveArray<i256>;
+
+    ghost layout_of_array = { λ a. a };
+
     fn wrap(array: PrimitiveArray<i256>) -> AnyPrimitive {
         AnyPrimitive::Int256(array)
     }
 }
 
 impl Native for u8 {
+    type Array = PrimitiveArray<u8>;
+
+    ghost layout_of_array = { λ a. a };
+
     fn wrap(array: PrimitiveArray<u8>) -> AnyPrimitive {
         AnyPrimitive::UInt8(array)
     }
 }
 
 impl Native for u16 {
+    type Array = PrimitiveArray<u16>;
+
+    ghost layout_of_array = { λ a. a };
+
     fn wrap(array: PrimitiveArray<u16>) -> AnyPrimitive {
         AnyPrimitive::UInt16(array)
     }
 }
 
 impl Native for u32 {
+    type Array = PrimitiveArray<u32>;
+
+    ghost layout_of_array = { λ a. a };
+
     fn wrap(array: PrimitiveArray<u32>) -> AnyPrimitive {
         AnyPrimitive::UInt32(array)
     }
 }
 
 impl Native for u64 {
+    type Array = PrimitiveArray<u64>;
+
+    ghost layout_of_array = { λ a. a };
+
     fn wrap(array: PrimitiveArray<u64>) -> AnyPrimitive {
         AnyPrimitive::UInt64(array)
     }
 }
 
 impl Native for days_ms {
+    type Array = PrimitiveArray<days_ms>;
+
+    ghost layout_of_array = { λ a. a };
+
     fn wrap(array: PrimitiveArray<days_ms>) -> AnyPrimitive {
         AnyPrimitive::DaysMs(array)
     }
 }
 
 impl Native for months_days_ns {
+    type Array = PrimitiveArray<months_days_ns>;
+
+    ghost layout_of_array = { λ a. a };
+
     fn wrap(array: PrimitiveArray<months_days_ns>) -> AnyPrimitive {
         AnyPrimitive::MonthDayNano(array)
     }
@@ -195,12 +248,19 @@ impl AnyPrimitive {
         ensures ok { IfOk result (λ a. primitive_layout a ≡ primitive_layout self.now) }
         ensures err { IsOkUnless result (Memory alloc_error) }
     {
-        each_kind!(self, array => Ok(wrap(array.clone(alloc)?)))
+        match self {
+            AnyPrimitive::Int8(array) => Ok(AnyPrimitive::Int8(array.clone(alloc)?)),
+            AnyPrimitive::Int16(array) => Ok(AnyPrimitive::Int16(array.clone(alloc)?)),
+            AnyPrimitive::Int32(array) => Ok(AnyPrimitive::Int32(array.clone(alloc)?)),
+            AnyPrimitive::Int64(array) => Ok(AnyPrimitive::Int64(array.clone(alloc)?)),
+            AnyPrimitive::Int128(array) => Ok(AnyPrimitive::Int128(array.clone(alloc)?)),
+            AnyPrimitive::Int256(array) => Ok(AnyPrimitive::Int256(array.clone(alloc)?)),
+            AnyPrimitive::UInt8(array) => Ok(AnyPrimitive::UInt8(array.clone(alloc)?)),
+            AnyPrimitive::UInt16(array) => Ok(AnyPrimitive::UInt16(array.clone(alloc)?)),
+            AnyPrimitive::UInt32(array) => Ok(AnyPrimitive::UInt32(array.clone(alloc)?)),
+            AnyPrimitive::UInt64(array) => Ok(AnyPrimitive::UInt64(array.clone(alloc)?)),
+            AnyPrimitive::DaysMs(array) => Ok(AnyPrimitive::DaysMs(array.clone(alloc)?)),
+            AnyPrimitive::MonthDayNano(array) => Ok(AnyPrimitive::MonthDayNano(array.clone(alloc)?)),
+        }
     }
-}
-
-fn wrap<T: Native>(array: PrimitiveArray<T>) -> AnyPrimitive
-    ensures { primitive_layout result ≡ array }
-{
-    T::wrap(array)
 }

@@ -3,10 +3,12 @@ ghost use Rattle.std.specs.Prelude.{◌≡◌, ◌↔◌, IsTrue};
 ghost use Rattle.nest_model.specs.SameArray.{IsSameArray, same_array};
 
 use crate::binary::BinaryArray;
+use crate::binary::iterator::BytesOf;
 use crate::boolean::BooleanArray;
 use crate::flat_array;
 use crate::primitive::PrimitiveArray;
 use crate::utf8::Utf8Array;
+use crate::utf8::iterator::TextsOf;
 use nest_memory::offset::Offset;
 use nest_memory::types::NativeType;
 
@@ -23,9 +25,7 @@ impl PartialEq for BooleanArray {
         ensures computes { result ≡ same_array self.now other.now }
         ensures decides { IsTrue result ↔ IsSameArray self.now other.now }
     {
-        *self.data_type() == *other.data_type()
-            && self.len() == other.len()
-            && flat_array::same_slots(self, other)
+        flat_array::same_arrays(self, other)
     }
 }
 
@@ -48,9 +48,7 @@ impl<T: NativeType> PartialEq for PrimitiveArray<T> {
         ensures computes { result ≡ same_array self.now other.now }
         ensures decides { IsTrue result ↔ IsSameArray self.now other.now }
     {
-        *self.data_type() == *other.data_type()
-            && self.len() == other.len()
-            && flat_array::same_slots(self, other)
+        flat_array::same_arrays(self, other)
     }
 }
 
@@ -73,9 +71,7 @@ impl<O: Offset> PartialEq for BinaryArray<O> {
         ensures computes { result ≡ same_array self.now other.now }
         ensures decides { IsTrue result ↔ IsSameArray self.now other.now }
     {
-        *self.data_type() == *other.data_type()
-            && self.len() == other.len()
-            && flat_array::same_slots(self, other)
+        flat_array::same_arrays(BytesOf(self), BytesOf(other))
     }
 }
 
@@ -98,9 +94,7 @@ impl<O: Offset> PartialEq for Utf8Array<O> {
         ensures computes { result ≡ same_array self.now other.now }
         ensures decides { IsTrue result ↔ IsSameArray self.now other.now }
     {
-        *self.data_type() == *other.data_type()
-            && self.len() == other.len()
-            && flat_array::same_slots(self, other)
+        flat_array::same_arrays(TextsOf(self), TextsOf(other))
     }
 }
 

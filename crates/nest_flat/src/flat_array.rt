@@ -1,14 +1,17 @@
 //! What the flat arrays have in common: a raw value and a bit of validity for each slot.
 ghost use Rattle.std.specs.Prelude.{◌≡◌, ◌↔◌, ◌<◌, IsTrue, None};
+ghost use Rattle.nest_memory.specs.TypeOf.{type_of};
 ghost use Rattle.nest_model.specs.Accessors.{with_validity};
-ghost use Rattle.nest_model.specs.Layout.{Layout};
+ghost use Rattle.nest_model.specs.Layout.{Layout, layout_type};
 ghost use Rattle.nest_model.specs.Meaning.{len, slot, slots_of};
 ghost use Rattle.nest_model.specs.Nullness.{is_null_at, null_count};
+ghost use Rattle.nest_model.specs.SameArray.{IsSameArray};
 ghost use Rattle.nest_model.specs.Slot as slots;
 ghost use Rattle.nest_model.specs.Slot.{Slot};
 ghost use Rattle.nest_flat.specs.FlatParts.{optional};
 
 use crate::iterator::SlotItems;
+use nest_memory::datatypes::DataType;
 
 /// A reference to a flat array.
 pub trait FlatArray: Copy {
@@ -20,6 +23,10 @@ pub trait FlatArray: Copy {
 
     /// The slot that a value is.
     ghost slot_of_value: { Self.Value → Slot };
+
+    /// Its data type.
+    fn type_of_slots(&self) -> &DataType
+        ensures { type_of result.now ≡ layout_type (layout self.now) };
 
     /// How many slots it has.
     fn count(&self) -> usize
@@ -75,7 +82,10 @@ impl<A: FlatArray> SlotItems for Slots<A> {
         if other.0.is_null_slot(i) {
             return null;
         }
-        !null && self.0.is_same_value(&other.0, i)
+        if null {
+            return false;
+        }
+        self.0.is_same_value(&other.0, i)
     }
 }
 
@@ -83,6 +93,7 @@ impl<A: FlatArray> SlotItems for Slots<A> {
 #[derive(Clone, Copy)]
 pub struct Values<A: FlatArray>(pub(crate) A);
 
+#[tactic(auto, using(crate::specs::BareSlots::len_bare))]
 impl<A: FlatArray> SlotItems for Values<A> {
     type Item = A::Value;
 
@@ -119,8 +130,9 @@ fn same_items<S: SlotItems>(a: &S, b: &S) -> bool
     true
 }
 
-/// Whether two arrays of one length have the same slots. Where neither has a null, raw values alone are compared.
-pub(crate) fn same_slots<A: FlatArray>(a: A, b: A) -> bool
+// Whether arrays of one length have the same slots. Where neither has a null, raw values alone are compared.
+#[tactic(auto, using(crate::specs::BareSlots::len_bare))]
+fn same_slots<A: FlatArray>(a: A, b: A) -> bool
     requires { len (A.layout a) ≡ len (A.layout b) }
     ensures { IsTrue result ↔ (slots_of (A.layout a) ≡ slots_of (A.layout b)) }
 {
@@ -128,4 +140,18 @@ pub(crate) fn same_slots<A: FlatArray>(a: A, b: A) -> bool
         return same_items(&Values(a), &Values(b));
     }
     same_items(&Slots(a), &Slots(b))
+}
+
+/// Whether two arrays have the same data type and the same slots.
+pub(crate) fn same_arrays<A: FlatArray>(a: A, b: A) -> bool
+    ensures { IsTrue result ↔ IsSameArray (A.layout a) (A.layout b) }
+{
+    let same_type = *a.type_of_slots() == *b.type_of_slots();
+    if !same_type {
+        return false;
+    }
+    if a.count() != b.count() {
+        return false;
+    }
+    same_slots(a, b)
 }

@@ -7,6 +7,7 @@ ghost use Rattle.nest_model.specs.Slot as slots;
 use crate::flat_array::{FlatArray, Slots, Values};
 use crate::iterator::SlotsIter;
 use crate::boolean::BooleanArray;
+use nest_memory::datatypes::DataType;
 
 /// The items of an array's slots, `None` where one is null.
 pub type BooleanIter<'a> = SlotsIter<Slots<&'a BooleanArray>>;
@@ -20,6 +21,10 @@ impl<'a> FlatArray for &'a BooleanArray {
     ghost layout = { λ s. s.now };
 
     ghost slot_of_value = { slots.truth };
+
+    fn type_of_slots(&self) -> &DataType {
+        self.data_type()
+    }
 
     fn count(&self) -> usize {
         self.len()

@@ -7,6 +7,7 @@ ghost use Rattle.nest_model.specs.Slot as slots;
 use crate::flat_array::{FlatArray, Slots, Values};
 use crate::iterator::SlotsIter;
 use crate::primitive::PrimitiveArray;
+use nest_memory::datatypes::DataType;
 use nest_memory::types::NativeType;
 
 /// The items of an array's slots, `None` where one is null.
@@ -21,6 +22,10 @@ impl<'a, T: NativeType> FlatArray for &'a PrimitiveArray<T> {
     ghost layout = { λ s. s.now };
 
     ghost slot_of_value = { λ x. slots.number (T.numbers x) };
+
+    fn type_of_slots(&self) -> &DataType {
+        self.data_type()
+    }
 
     fn count(&self) -> usize {
         self.len()

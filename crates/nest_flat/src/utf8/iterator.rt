@@ -3,44 +3,101 @@ ghost use Rattle.std.specs.Prelude.{◌≡◌, None};
 ghost use Rattle.nest_model.specs.Accessors.{with_validity};
 ghost use Rattle.nest_model.specs.Meaning.{slots_of};
 ghost use Rattle.nest_model.specs.Slot as slots;
+ghost use Rattle.nest_flat.specs.FlatParts.{optional};
 
 use crate::flat_array::{FlatArray, Slots, Values};
-use crate::iterator::SlotsIter;
+use crate::iterator::{SlotItems, SlotsIter};
 use crate::utf8::Utf8Array;
+use nest_memory::datatypes::DataType;
 use nest_memory::offset::Offset;
 
 /// The items of an array's slots, `None` where one is null.
-pub type Utf8Iter<'a, O> = SlotsIter<Slots<&'a Utf8Array<O>>>;
+pub type Utf8Iter<'a, O> = SlotsIter<Utf8Slots<'a, O>>;
 
 /// The raw values of an array, also those under nulls.
-pub type Utf8ValuesIter<'a, O> = SlotsIter<Values<&'a Utf8Array<O>>>;
+pub type Utf8ValuesIter<'a, O> = SlotsIter<Utf8Values<'a, O>>;
 
-impl<'a, O: Offset> FlatArray for &'a Utf8Array<O> {
+/// A reference to an array of texts.
+#[derive(Clone, Copy)]
+pub struct TextsOf<'a, O: Offset>(pub(crate) &'a Utf8Array<O>);
+
+impl<'a, O: Offset> FlatArray for TextsOf<'a, O> {
     type Value = &'a str;
 
-    ghost layout = { λ s. s.now };
+    ghost layout = { λ s. s.0.now };
 
     ghost slot_of_value = { λ x. slots.text x.now };
 
+    fn type_of_slots(&self) -> &DataType {
+        self.0.data_type()
+    }
+
     fn count(&self) -> usize {
-        self.len()
+        self.0.len()
     }
 
     fn nulls(&self) -> usize {
-        self.null_count()
+        self.0.null_count()
     }
 
     fn is_null_slot(&self, i: usize) -> bool {
-        self.is_null(i)
+        self.0.is_null(i)
     }
 
     fn value_at(&self, i: usize) -> &'a str {
-        let array: &'a Utf8Array<O> = self;
-        array.value(i)
+        self.0.value(i)
     }
 
-    fn is_same_value(&self, other: &&'a Utf8Array<O>, i: usize) -> bool {
-        self.bytes_at(i) == other.bytes_at(i)
+    fn is_same_value(&self, other: &TextsOf<'a, O>, i: usize) -> bool {
+        self.0.bytes_at(i) == other.0.bytes_at(i)
+    }
+}
+
+/// The slots of an array of texts, `None` where one is null.
+#[derive(Clone, Copy)]
+pub struct Utf8Slots<'a, O: Offset>(TextsOf<'a, O>);
+
+impl<'a, O: Offset> SlotItems for Utf8Slots<'a, O> {
+    type Item = Option<&'a str>;
+
+    ghost array = { λ s. s.0.0.now };
+
+    ghost slot_of_item = { optional (λ x. slots.text x.now) };
+
+    fn count(&self) -> usize {
+        Slots(self.0).count()
+    }
+
+    fn item(&self, i: usize) -> Option<&'a str> {
+        Slots(self.0).item(i)
+    }
+
+    fn is_same_item(&self, other: &Utf8Slots<'a, O>, i: usize) -> bool {
+        Slots(self.0).is_same_item(&Slots(other.0), i)
+    }
+}
+
+/// The raw values of an array of texts, also those under nulls.
+#[derive(Clone, Copy)]
+pub struct Utf8Values<'a, O: Offset>(TextsOf<'a, O>);
+
+impl<'a, O: Offset> SlotItems for Utf8Values<'a, O> {
+    type Item = &'a str;
+
+    ghost array = { λ s. with_validity s.0.0.now None };
+
+    ghost slot_of_item = { λ x. slots.text x.now };
+
+    fn count(&self) -> usize {
+        Values(self.0).count()
+    }
+
+    fn item(&self, i: usize) -> &'a str {
+        Values(self.0).item(i)
+    }
+
+    fn is_same_item(&self, other: &Utf8Values<'a, O>, i: usize) -> bool {
+        Values(self.0).is_same_item(&Values(other.0), i)
     }
 }
 
@@ -49,13 +106,13 @@ impl<O: Offset> Utf8Array<O> {
     pub fn iter(&self) -> Utf8Iter<'_, O>
         ensures { result ≡ slots_of self.now }
     {
-        SlotsIter::new(Slots(self))
+        SlotsIter::new(Utf8Slots(TextsOf(self)))
     }
 
     /// Its raw values, from both ends.
     pub fn values_iter(&self) -> Utf8ValuesIter<'_, O>
         ensures { result ≡ slots_of (with_validity self.now None) }
     {
-        SlotsIter::new(Values(self))
+        SlotsIter::new(Utf8Values(TextsOf(self)))
     }
 }
