@@ -1,1 +1,5 @@
 pub mod Cutting
+pub mod NullCounts
+pub mod SlotRuns
+pub mod TextParts
+pub mod Alike

@@ -1,5 +1,5 @@
 -- What every flat array checks, and what its slots are, of this project.
-use Rattle.std.specs.Prelude.{◌≡◌, ℕ, ◌≤◌, List, length, Option, Some, None}
+use Rattle.std.specs.Prelude.{◌≡◌, ℕ, ◌≤◌, not, List, length, count_by, Option, Some, None}
 use Rattle.nest_memory.specs.TypeTree.{TypeTree}
 use Rattle.nest_memory.specs.Physical.{physical_type}
 use Rattle.nest_memory.specs.declared.datatypes.physical_type.PhysicalType.{PhysicalType}
@@ -15,6 +15,11 @@ use Rattle.nest_model.specs.Slot.{Slot}
 abbrev pub ValidityCovers : Validity → ℕ → Type 0
 ValidityCovers None n = Unit {0}
 ValidityCovers (Some bits) n = n ≤ length bits
+
+-- how many of its bits are 0
+abbrev pub unset_count : Validity → ℕ
+unset_count None = 0
+unset_count (Some bits) = count_by not bits
 
 -- the checks that all flat arrays of n slots end with
 abbrev pub flat_checks : Validity → ℕ → TypeTree → PhysicalType → Checks

@@ -1,2 +1,5 @@
+pub mod AnyPrimitive
+pub mod BareSlots
 pub mod FlatParts
 pub mod NullSlots
+pub mod SameFlat

@@ -1,5 +1,13 @@
 //! Flat arrays in the Arrow format: each slot is null or a boolean, a native value, bytes or a text.
 #![tactic(auto)]
 
+pub mod any_primitive;
+pub mod binary;
+pub mod boolean;
+mod equality;
+pub mod flat_array;
+pub mod iterator;
 pub mod primitive;
+mod spans;
+pub mod utf8;
 pub mod validity;

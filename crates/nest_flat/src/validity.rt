@@ -5,7 +5,7 @@ ghost use Rattle.nest_memory.specs.TypeOf.{type_of};
 ghost use Rattle.nest_model.specs.Checks.{Pass, FailFirst};
 ghost use Rattle.nest_model.specs.Fits.{ValidityFits};
 ghost use Rattle.nest_model.specs.Part.{cut_validity, valid_at};
-ghost use Rattle.nest_flat.specs.FlatParts.{ValidityCovers, flat_checks};
+ghost use Rattle.nest_flat.specs.FlatParts.{ValidityCovers, unset_count, flat_checks};
 
 use nest_memory::bitmap::immutable::Bitmap;
 use nest_memory::datatypes::DataType;
@@ -40,6 +40,16 @@ pub fn is_valid(validity: &Option<Bitmap>, i: usize) -> bool
     match validity {
         None => true,
         Some(bits) => bits.get_bit(i),
+    }
+}
+
+/// How many slots are null.
+pub fn null_count(validity: &Option<Bitmap>) -> usize
+    ensures { result ≡ unset_count validity.now }
+{
+    match validity {
+        None => 0,
+        Some(bits) => bits.unset_bits(),
     }
 }
 

@@ -1,5 +1,5 @@
 //! The numbers that stand as offsets.
-ghost use Rattle.std.specs.Prelude.{◌≡◌, ◌<◌, ◌≤◌, ◌^◌, ℕ, ℤ, pos, false, MatchOption};
+ghost use Rattle.std.specs.Prelude.{◌≡◌, ◌<◌, ◌≤◌, ◌^◌, ℕ, ℤ, pos, Bool, true, false, MatchOption};
 ghost use Rattle.nest_memory.specs.Rising.{below_zero};
 
 /// An integer type of offsets: `i32` in the small layouts, `i64` in the large ones
@@ -8,6 +8,8 @@ pub trait Offset: Copy {
     ghost value: { Self → ℤ };
 
     ghost largest: { ℕ };
+
+    ghost IS_LARGE: { Bool };
 
     /// Whether an offset has 64 bits.
     const IS_LARGE: bool;
@@ -34,6 +36,8 @@ impl Offset for i32 {
 
     ghost largest = { 2147483647 };
 
+    ghost IS_LARGE = { false };
+
     const IS_LARGE: bool = false;
 
     ghost use Rattle.std.proofs.Common.{lit<};
@@ -57,6 +61,8 @@ impl Offset for i64 {
     ghost value = { λ x. x };
 
     ghost largest = { 9223372036854775807 };
+
+    ghost IS_LARGE = { true };
 
     const IS_LARGE: bool = true;
 

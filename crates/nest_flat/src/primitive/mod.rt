@@ -1,5 +1,7 @@
 //! Arrays of native values.
-ghost use Rattle.std.specs.Prelude.{◌≡◌, ◌+◌, ◌≤◌, ◌<◌, ◌↔◌, IsTrue, IfOk, IsOkUnless, MatchResult, Some, slice_get, map, alloc_error};
+pub mod iterator;
+
+ghost use Rattle.std.specs.Prelude.{◌≡◌, ◌+◌, ◌≤◌, ◌<◌, ◌↔◌, IsTrue, IfOk, IsOkUnless, MatchResult, None, Some, slice_get, option_map, map, alloc_error};
 ghost use Rattle.nest_memory.specs.declared.error.Error.TheVariants.{Memory};
 ghost use Rattle.nest_memory.specs.Cut.{cut};
 ghost use Rattle.nest_memory.specs.TypeOf.{type_of};
@@ -10,6 +12,7 @@ ghost use Rattle.nest_model.specs.Fits.{Fits, FirstFault, ValidityFits, Validity
 ghost use Rattle.nest_model.specs.Layout as layouts;
 ghost use Rattle.nest_model.specs.Layout.{layout_type};
 ghost use Rattle.nest_model.specs.Meaning.{len, slot, slots_of};
+ghost use Rattle.nest_model.specs.Nullness.{is_null_at, null_count};
 ghost use Rattle.nest_model.specs.Part.{valid_at};
 ghost use Rattle.nest_model.specs.Reads.{where_valid};
 ghost use Rattle.nest_model.specs.Slot as slots;
@@ -102,11 +105,11 @@ impl<T: NativeType> PrimitiveArray<T> {
         &self.data_type
     }
 
-    /// Which slots are valid.
-    pub fn validity(&self) -> &Option<Bitmap>
-        ensures { result.now ≡ validity_of self.now }
+    /// Which slots are valid, a bit a slot; without it all are.
+    pub fn validity(&self) -> Option<&Bitmap>
+        ensures { option_map (λ b. b.now) result ≡ validity_of self.now }
     {
-        &self.validity
+        self.validity.as_ref()
     }
 
     /// Its raw values, also those under nulls.
@@ -127,9 +130,17 @@ impl<T: NativeType> PrimitiveArray<T> {
     /// Whether slot i is null.
     pub fn is_null(&self, i: usize) -> bool
         requires { i < len self.now }
-        ensures { IsTrue result ↔ (slot self.now i ≡ slots.null) }
+        ensures slot { IsTrue result ↔ (slot self.now i ≡ slots.null) }
+        ensures place { result ≡ is_null_at self.now i }
     {
         !validity::is_valid(&self.validity, i)
+    }
+
+    /// How many slots are null.
+    pub fn null_count(&self) -> usize
+        ensures { result ≡ null_count self.now }
+    {
+        validity::null_count(&self.validity)
     }
 
     /// The raw value of slot i, which means nothing where the slot is null.
@@ -137,6 +148,7 @@ impl<T: NativeType> PrimitiveArray<T> {
         requires { i < len self.now }
         ensures raw { slice_get (natives_of self.now) i ≡ Some (T.numbers result) }
         ensures slot { slot self.now i ≡ where_valid (validity_of self.now) i (slots.number (T.numbers result)) }
+        ensures unmasked { slot (with_validity self.now None) i ≡ slots.number (T.numbers result) }
     {
         self.values.get(i)
     }
@@ -183,8 +195,8 @@ impl<T: NativeType> PrimitiveArray<T> {
         cut
     }
 
-    /// Takes a new validity. Refused as `ValidityLength` where it has not a bit for each slot; the
-    /// array stays as it was then.
+    /// Takes a new validity. `ValidityLength` where it has not a bit for each slot; the array stays
+    /// as it was then.
     pub fn set_validity(&mut self, validity: Option<Bitmap>) -> Result<(), Error>
         ensures { MatchResult result
             (λ _. ValidityFits validity (len self.old) × (self.new ≡ with_validity self.old validity))

@@ -1,0 +1,266 @@
+//! Arrays of native values of any kind.
+ghost use Rattle.std.specs.Prelude.{◌≡◌, ◌+◌, ◌≤◌, ◌<◌, ◌↔◌, IsTrue, IfOk, IsOkUnless, option_map, alloc_error};
+ghost use Rattle.nest_memory.specs.declared.error.Error.TheVariants.{Memory};
+ghost use Rattle.nest_memory.specs.Cut.{cut};
+ghost use Rattle.nest_memory.specs.TypeOf.{type_of};
+ghost use Rattle.nest_model.specs.Accessors.{validity_of};
+ghost use Rattle.nest_model.specs.Array.{TopFits};
+ghost use Rattle.nest_model.specs.Cut.{cut_layout};
+ghost use Rattle.nest_model.specs.Layout.{Layout, layout_type};
+ghost use Rattle.nest_model.specs.Meaning.{len, slot, slots_of};
+ghost use Rattle.nest_model.specs.Nullness.{is_null_at, null_count};
+ghost use Rattle.nest_model.specs.Slot as slots;
+ghost use Rattle.nest_flat.specs.AnyPrimitive.{primitive_layout};
+
+use crate::primitive::PrimitiveArray;
+use nest_memory::bitmap::immutable::Bitmap;
+use nest_memory::datatypes::DataType;
+use nest_memory::error::Error;
+use nest_memory::types::{NativeType, days_ms, i256, months_days_ns};
+use std::alloc::Global;
+
+/// An array of native values, in the variant of its kind.
+#[derive(Drop)]
+pub enum AnyPrimitive {
+    Int8(PrimitiveArray<i8>),
+    Int16(PrimitiveArray<i16>),
+    Int32(PrimitiveArray<i32>),
+    Int64(PrimitiveArray<i64>),
+    Int128(PrimitiveArray<i128>),
+    Int256(PrimitiveArray<i256>),
+    UInt8(PrimitiveArray<u8>),
+    UInt16(PrimitiveArray<u16>),
+    UInt32(PrimitiveArray<u32>),
+    UInt64(PrimitiveArray<u64>),
+    DaysMs(PrimitiveArray<days_ms>),
+    MonthDayNano(PrimitiveArray<months_days_ns>),
+}
+
+/// The twelve native types.
+pub trait Native: NativeType {
+    /// `PrimitiveArray<Self>`.
+    type Array;
+
+    ghost layout_of_array: { Self.Array → Layout };
+
+    /// The same array in the variant of its kind.
+    fn wrap(array: Self::Array) -> AnyPrimitive
+        ensures { primitive_layout result ≡ layout_of_array array };
+}
+
+impl Native for i8 {
+    type Array = PrimitiveArray<i8>;
+
+    ghost layout_of_array = { λ a. a };
+
+    fn wrap(array: PrimitiveArray<i8>) -> AnyPrimitive {
+        AnyPrimitive::Int8(array)
+    }
+}
+
+impl Native for i16 {
+    type Array = PrimitiveArray<i16>;
+
+    ghost layout_of_array = { λ a. a };
+
+    fn wrap(array: PrimitiveArray<i16>) -> AnyPrimitive {
+        AnyPrimitive::Int16(array)
+    }
+}
+
+impl Native for i32 {
+    type Array = PrimitiveArray<i32>;
+
+    ghost layout_of_array = { λ a. a };
+
+    fn wrap(array: PrimitiveArray<i32>) -> AnyPrimitive {
+        AnyPrimitive::Int32(array)
+    }
+}
+
+impl Native for i64 {
+    type Array = PrimitiveArray<i64>;
+
+    ghost layout_of_array = { λ a. a };
+
+    fn wrap(array: PrimitiveArray<i64>) -> AnyPrimitive {
+        AnyPrimitive::Int64(array)
+    }
+}
+
+impl Native for i128 {
+    type Array = PrimitiveArray<i128>;
+
+    ghost layout_of_array = { λ a. a };
+
+    fn wrap(array: PrimitiveArray<i128>) -> AnyPrimitive {
+        AnyPrimitive::Int128(array)
+    }
+}
+
+impl Native for i256 {
+    type Array = PrimitiveArray<i256>;
+
+    ghost layout_of_array = { λ a. a };
+
+    fn wrap(array: PrimitiveArray<i256>) -> AnyPrimitive {
+        AnyPrimitive::Int256(array)
+    }
+}
+
+impl Native for u8 {
+    type Array = PrimitiveArray<u8>;
+
+    ghost layout_of_array = { λ a. a };
+
+    fn wrap(array: PrimitiveArray<u8>) -> AnyPrimitive {
+        AnyPrimitive::UInt8(array)
+    }
+}
+
+impl Native for u16 {
+    type Array = PrimitiveArray<u16>;
+
+    ghost layout_of_array = { λ a. a };
+
+    fn wrap(array: PrimitiveArray<u16>) -> AnyPrimitive {
+        AnyPrimitive::UInt16(array)
+    }
+}
+
+impl Native for u32 {
+    type Array = PrimitiveArray<u32>;
+
+    ghost layout_of_array = { λ a. a };
+
+    fn wrap(array: PrimitiveArray<u32>) -> AnyPrimitive {
+        AnyPrimitive::UInt32(array)
+    }
+}
+
+impl Native for u64 {
+    type Array = PrimitiveArray<u64>;
+
+    ghost layout_of_array = { λ a. a };
+
+    fn wrap(array: PrimitiveArray<u64>) -> AnyPrimitive {
+        AnyPrimitive::UInt64(array)
+    }
+}
+
+impl Native for days_ms {
+    type Array = PrimitiveArray<days_ms>;
+
+    ghost layout_of_array = { λ a. a };
+
+    fn wrap(array: PrimitiveArray<days_ms>) -> AnyPrimitive {
+        AnyPrimitive::DaysMs(array)
+    }
+}
+
+impl Native for months_days_ns {
+    type Array = PrimitiveArray<months_days_ns>;
+
+    ghost layout_of_array = { λ a. a };
+
+    fn wrap(array: PrimitiveArray<months_days_ns>) -> AnyPrimitive {
+        AnyPrimitive::MonthDayNano(array)
+    }
+}
+
+// What is the same for each kind.
+macro_rules! each_kind {
+    ($any:expr, $array:ident => $body:expr) => {
+        match $any {
+            AnyPrimitive::Int8($array) => $body,
+            AnyPrimitive::Int16($array) => $body,
+            AnyPrimitive::Int32($array) => $body,
+            AnyPrimitive::Int64($array) => $body,
+            AnyPrimitive::Int128($array) => $body,
+            AnyPrimitive::Int256($array) => $body,
+            AnyPrimitive::UInt8($array) => $body,
+            AnyPrimitive::UInt16($array) => $body,
+            AnyPrimitive::UInt32($array) => $body,
+            AnyPrimitive::UInt64($array) => $body,
+            AnyPrimitive::DaysMs($array) => $body,
+            AnyPrimitive::MonthDayNano($array) => $body,
+        }
+    };
+}
+
+impl AnyPrimitive {
+    /// What holds of every such array.
+    pub fn known(&self)
+        ensures { TopFits (primitive_layout self.now) }
+    {
+        each_kind!(self, array => array.known())
+    }
+
+    /// How many slots it has.
+    pub fn len(&self) -> usize
+        ensures { result ≡ len (primitive_layout self.now) }
+    {
+        each_kind!(self, array => array.len())
+    }
+
+    /// Its data type.
+    pub fn data_type(&self) -> &DataType
+        ensures { type_of result.now ≡ layout_type (primitive_layout self.now) }
+    {
+        each_kind!(self, array => array.data_type())
+    }
+
+    /// Which slots are valid, a bit a slot; without it all are.
+    pub fn validity(&self) -> Option<&Bitmap>
+        ensures { option_map (λ b. b.now) result ≡ validity_of (primitive_layout self.now) }
+    {
+        each_kind!(self, array => array.validity())
+    }
+
+    /// Whether slot i is null.
+    pub fn is_null(&self, i: usize) -> bool
+        requires { i < len (primitive_layout self.now) }
+        ensures slot { IsTrue result ↔ (slot (primitive_layout self.now) i ≡ slots.null) }
+        ensures place { result ≡ is_null_at (primitive_layout self.now) i }
+    {
+        each_kind!(self, array => array.is_null(i))
+    }
+
+    /// How many slots are null.
+    pub fn null_count(&self) -> usize
+        ensures { result ≡ null_count (primitive_layout self.now) }
+    {
+        each_kind!(self, array => array.null_count())
+    }
+
+    /// Keeps the n slots from place o.
+    pub fn slice(&mut self, o: usize, n: usize)
+        requires { o + n ≤ len (primitive_layout self.old) }
+        ensures parts { primitive_layout self.new ≡ cut_layout (primitive_layout self.old) o n }
+        ensures slots { slots_of (primitive_layout self.new) ≡ cut (slots_of (primitive_layout self.old)) o n }
+        ensures same_type { layout_type (primitive_layout self.new) ≡ layout_type (primitive_layout self.old) }
+    {
+        each_kind!(self, array => array.slice(o, n))
+    }
+
+    /// The same array, on shared memory.
+    pub fn clone(&self, alloc: Global) -> Result<AnyPrimitive, Error>
+        ensures ok { IfOk result (λ a. primitive_layout a ≡ primitive_layout self.now) }
+        ensures err { IsOkUnless result (Memory alloc_error) }
+    {
+        match self {
+            AnyPrimitive::Int8(array) => Ok(AnyPrimitive::Int8(array.clone(alloc)?)),
+            AnyPrimitive::Int16(array) => Ok(AnyPrimitive::Int16(array.clone(alloc)?)),
+            AnyPrimitive::Int32(array) => Ok(AnyPrimitive::Int32(array.clone(alloc)?)),
+            AnyPrimitive::Int64(array) => Ok(AnyPrimitive::Int64(array.clone(alloc)?)),
+            AnyPrimitive::Int128(array) => Ok(AnyPrimitive::Int128(array.clone(alloc)?)),
+            AnyPrimitive::Int256(array) => Ok(AnyPrimitive::Int256(array.clone(alloc)?)),
+            AnyPrimitive::UInt8(array) => Ok(AnyPrimitive::UInt8(array.clone(alloc)?)),
+            AnyPrimitive::UInt16(array) => Ok(AnyPrimitive::UInt16(array.clone(alloc)?)),
+            AnyPrimitive::UInt32(array) => Ok(AnyPrimitive::UInt32(array.clone(alloc)?)),
+            AnyPrimitive::UInt64(array) => Ok(AnyPrimitive::UInt64(array.clone(alloc)?)),
+            AnyPrimitive::DaysMs(array) => Ok(AnyPrimitive::DaysMs(array.clone(alloc)?)),
+            AnyPrimitive::MonthDayNano(array) => Ok(AnyPrimitive::MonthDayNano(array.clone(alloc)?)),
+        }
+    }
+}

@@ -1,0 +1,118 @@
+//! The slots and the raw values of an array of bytes, from both ends.
+ghost use Rattle.std.specs.Prelude.{◌≡◌, None};
+ghost use Rattle.nest_model.specs.Accessors.{with_validity};
+ghost use Rattle.nest_model.specs.Meaning.{slots_of};
+ghost use Rattle.nest_model.specs.Slot as slots;
+ghost use Rattle.nest_flat.specs.FlatParts.{optional};
+
+use crate::flat_array::{FlatArray, Slots, Values};
+use crate::iterator::{SlotItems, SlotsIter};
+use crate::binary::BinaryArray;
+use nest_memory::datatypes::DataType;
+use nest_memory::offset::Offset;
+
+/// The items of an array's slots, `None` where one is null.
+pub type BinaryIter<'a, O> = SlotsIter<BinarySlots<'a, O>>;
+
+/// The raw values of an array, also those under nulls.
+pub type BinaryValuesIter<'a, O> = SlotsIter<BinaryValues<'a, O>>;
+
+/// A reference to an array of bytes.
+#[derive(Clone, Copy)]
+pub struct BytesOf<'a, O: Offset>(pub(crate) &'a BinaryArray<O>);
+
+impl<'a, O: Offset> FlatArray for BytesOf<'a, O> {
+    type Value = &'a [u8];
+
+    ghost layout = { λ s. s.0.now };
+
+    ghost slot_of_value = { λ x. slots.bytes x.now };
+
+    fn type_of_slots(&self) -> &DataType {
+        self.0.data_type()
+    }
+
+    fn count(&self) -> usize {
+        self.0.len()
+    }
+
+    fn nulls(&self) -> usize {
+        self.0.null_count()
+    }
+
+    fn is_null_slot(&self, i: usize) -> bool {
+        self.0.is_null(i)
+    }
+
+    fn value_at(&self, i: usize) -> &'a [u8] {
+        self.0.value(i)
+    }
+
+    fn is_same_value(&self, other: &BytesOf<'a, O>, i: usize) -> bool {
+        self.0.value(i) == other.0.value(i)
+    }
+}
+
+/// The slots of an array of bytes, `None` where one is null.
+#[derive(Clone, Copy)]
+pub struct BinarySlots<'a, O: Offset>(BytesOf<'a, O>);
+
+impl<'a, O: Offset> SlotItems for BinarySlots<'a, O> {
+    type Item = Option<&'a [u8]>;
+
+    ghost array = { λ s. s.0.0.now };
+
+    ghost slot_of_item = { optional (λ x. slots.bytes x.now) };
+
+    fn count(&self) -> usize {
+        Slots(self.0).count()
+    }
+
+    fn item(&self, i: usize) -> Option<&'a [u8]> {
+        Slots(self.0).item(i)
+    }
+
+    fn is_same_item(&self, other: &BinarySlots<'a, O>, i: usize) -> bool {
+        Slots(self.0).is_same_item(&Slots(other.0), i)
+    }
+}
+
+/// The raw values of an array of bytes, also those under nulls.
+#[derive(Clone, Copy)]
+pub struct BinaryValues<'a, O: Offset>(BytesOf<'a, O>);
+
+impl<'a, O: Offset> SlotItems for BinaryValues<'a, O> {
+    type Item = &'a [u8];
+
+    ghost array = { λ s. with_validity s.0.0.now None };
+
+    ghost slot_of_item = { λ x. slots.bytes x.now };
+
+    fn count(&self) -> usize {
+        Values(self.0).count()
+    }
+
+    fn item(&self, i: usize) -> &'a [u8] {
+        Values(self.0).item(i)
+    }
+
+    fn is_same_item(&self, other: &BinaryValues<'a, O>, i: usize) -> bool {
+        Values(self.0).is_same_item(&Values(other.0), i)
+    }
+}
+
+impl<O: Offset> BinaryArray<O> {
+    /// The items of its slots, from both ends.
+    pub fn iter(&self) -> BinaryIter<'_, O>
+        ensures { result ≡ slots_of self.now }
+    {
+        SlotsIter::new(BinarySlots(BytesOf(self)))
+    }
+
+    /// Its raw values, from both ends.
+    pub fn values_iter(&self) -> BinaryValuesIter<'_, O>
+        ensures { result ≡ slots_of (with_validity self.now None) }
+    {
+        SlotsIter::new(BinaryValues(BytesOf(self)))
+    }
+}

@@ -1,0 +1,283 @@
+//! Arrays of bytes.
+pub mod iterator;
+
+ghost use Rattle.std.specs.Prelude.{◌≡◌, ◌+◌, ◌≤◌, ◌<◌, ◌↔◌, IsTrue, IfOk, IsOkUnless, MatchResult, MatchOption, None, option_map, alloc_error};
+ghost use Rattle.nest_memory.specs.declared.error.Error.TheVariants.{Memory};
+ghost use Rattle.nest_memory.specs.Cut.{cut};
+ghost use Rattle.nest_memory.specs.Physical.{binary_of_width};
+ghost use Rattle.nest_memory.specs.TypeOf.{type_of};
+ghost use Rattle.nest_model.specs.Accessors.{validity_of, offsets_of, bytes_of, with_validity};
+ghost use Rattle.nest_model.specs.Array.{TopFits};
+ghost use Rattle.nest_model.specs.Cut.{cut_layout};
+ghost use Rattle.nest_model.specs.Fits.{Fits, FirstFault, ValidityFits, ValidityFault};
+ghost use Rattle.nest_model.specs.Layout as layouts;
+ghost use Rattle.nest_model.specs.Layout.{layout_type};
+ghost use Rattle.nest_model.specs.Meaning.{len, slot, slots_of};
+ghost use Rattle.nest_model.specs.Nullness.{is_null_at, null_count};
+ghost use Rattle.nest_model.specs.Part.{valid_at, begin, extent};
+ghost use Rattle.nest_model.specs.Reads.{where_valid};
+ghost use Rattle.nest_model.specs.Slot as slots;
+ghost use Rattle.nest_flat.specs.FlatParts.{optional};
+
+use crate::spans;
+use crate::validity;
+use nest_memory::bitmap::immutable::Bitmap;
+use nest_memory::buffer::Buffer;
+use nest_memory::datatypes::DataType;
+use nest_memory::datatypes::physical_type::PhysicalType;
+use nest_memory::error::{Error, Spec};
+use nest_memory::offset::Offset;
+use nest_memory::offsets::OffsetsBuffer;
+use std::alloc::Global;
+use std::marker::Model;
+
+/// An array of byte strings: the Variable-size Binary Layout of the Arrow format.
+#[derive(Drop)]
+pub struct BinaryArray<O: Offset> {
+    data_type: DataType,
+    offsets: OffsetsBuffer<O>,
+    values: Buffer<u8>,
+    validity: Option<Bitmap>,
+}
+
+impl<O: Offset> Model for BinaryArray<O> {
+    ghost use Rattle.nest_model.specs.Layout as layouts;
+    ghost use Rattle.nest_model.specs.Layout.{Layout};
+    ghost use Rattle.nest_model.specs.LayoutCode.{coded_layout};
+
+    ghost Value = { Layout };
+
+    ghost coded = { coded_layout };
+
+    ghost use Rattle.nest_memory.specs.TypeOf.{type_of};
+    ghost use Rattle.nest_model.specs.Array.{TopFits};
+
+    ghost view = { λ a. layouts.binary O.IS_LARGE (type_of a.data_type) a.offsets a.values a.validity };
+
+    ghost invariant = { λ a. TopFits (layouts.binary O.IS_LARGE (type_of a.data_type) a.offsets a.values a.validity) };
+}
+
+// The first check that fails.
+fn fault<O: Offset>(
+    data_type: &DataType,
+    offsets: &OffsetsBuffer<O>,
+    values: &Buffer<u8>,
+    validity: &Option<Bitmap>,
+) -> Option<Error>
+    ensures { let parts = layouts.binary O.IS_LARGE (type_of data_type.now) offsets.now values.now validity.now in
+        MatchOption result (TopFits parts) (λ e. FirstFault e parts) }
+{
+    if spans::last(offsets) > values.len() {
+        return Some(Error::OutOfSpec(Spec::OffsetPastChild));
+    }
+    if !validity::fits(validity, offsets.len_proxy()) {
+        return Some(Error::OutOfSpec(Spec::ValidityLength));
+    }
+    if data_type.to_physical_type() != physical::<O>() {
+        return Some(Error::OutOfSpec(Spec::WrongType));
+    }
+    None
+}
+
+// The physical type of such arrays by the width of their offsets.
+fn physical<O: Offset>() -> PhysicalType
+    ensures { result ≡ binary_of_width O.IS_LARGE }
+{
+    if O::IS_LARGE {
+        PhysicalType::LargeBinary
+    } else {
+        PhysicalType::Binary
+    }
+}
+
+impl<O: Offset> BinaryArray<O> {
+    /// The array of these parts. Refused, in this order, where an offset is past the bytes
+    /// (`OffsetPastChild`), where the validity has another length (`ValidityLength`) and where the data
+    /// type is none of bytes with such offsets (`WrongType`).
+    pub fn try_new(
+        data_type: DataType,
+        offsets: OffsetsBuffer<O>,
+        values: Buffer<u8>,
+        validity: Option<Bitmap>,
+    ) -> Result<BinaryArray<O>, Error>
+        ensures { let parts = layouts.binary O.IS_LARGE (type_of data_type) offsets values validity in
+            MatchResult result (λ a. Fits parts × (a ≡ parts)) (λ e. FirstFault e parts) }
+    {
+        if let Some(e) = fault(&data_type, &offsets, &values, &validity) {
+            return Err(e);
+        }
+        Ok(BinaryArray {
+            data_type,
+            offsets,
+            values,
+            validity,
+        })
+    }
+
+    /// What holds of every such array.
+    pub fn known(&self)
+        ensures fits { TopFits self.now }
+        ensures kind { self.now ≡ layouts.binary O.IS_LARGE (layout_type self.now) (offsets_of self.now) (bytes_of self.now) (validity_of self.now) }
+    {
+        let _ = &self.data_type;
+    }
+
+    /// How many slots it has.
+    pub fn len(&self) -> usize
+        ensures { result ≡ len self.now }
+    {
+        self.offsets.len_proxy()
+    }
+
+    /// Whether it has no slot.
+    pub fn is_empty(&self) -> bool
+        ensures { IsTrue result ↔ (len self.now ≡ 0) }
+    {
+        self.len() == 0
+    }
+
+    /// Its data type.
+    pub fn data_type(&self) -> &DataType
+        ensures { type_of result.now ≡ layout_type self.now }
+    {
+        &self.data_type
+    }
+
+    /// Which slots are valid, a bit a slot; without it all are.
+    pub fn validity(&self) -> Option<&Bitmap>
+        ensures { option_map (λ b. b.now) result ≡ validity_of self.now }
+    {
+        self.validity.as_ref()
+    }
+
+    /// Where the bytes of each slot begin and end.
+    pub fn offsets(&self) -> &OffsetsBuffer<O>
+        ensures { result.now ≡ offsets_of self.now }
+    {
+        &self.offsets
+    }
+
+    /// Its bytes, also those of no slot.
+    pub fn values(&self) -> &Buffer<u8>
+        ensures { result.now ≡ bytes_of self.now }
+    {
+        &self.values
+    }
+
+    /// Whether slot i is not null.
+    pub fn is_valid(&self, i: usize) -> bool
+        requires { i < len self.now }
+        ensures { result ≡ valid_at (validity_of self.now) i }
+    {
+        validity::is_valid(&self.validity, i)
+    }
+
+    /// Whether slot i is null.
+    pub fn is_null(&self, i: usize) -> bool
+        requires { i < len self.now }
+        ensures slot { IsTrue result ↔ (slot self.now i ≡ slots.null) }
+        ensures place { result ≡ is_null_at self.now i }
+    {
+        !validity::is_valid(&self.validity, i)
+    }
+
+    /// How many slots are null.
+    pub fn null_count(&self) -> usize
+        ensures { result ≡ null_count self.now }
+    {
+        validity::null_count(&self.validity)
+    }
+
+    /// The raw value of slot i, which means nothing where the slot is null.
+    pub fn value(&self, i: usize) -> &[u8]
+        requires { i < len self.now }
+        ensures raw { result.now ≡ cut (bytes_of self.now) (begin (offsets_of self.now) i) (extent (offsets_of self.now) i) }
+        ensures slot { slot self.now i ≡ where_valid (validity_of self.now) i (slots.bytes result.now) }
+        ensures unmasked { slot (with_validity self.now None) i ≡ slots.bytes result.now }
+    {
+        spans::span(&self.offsets, &self.values, i)
+    }
+
+    /// The value of slot i, `None` where it is null.
+    pub fn get(&self, i: usize) -> Option<&[u8]>
+        requires { i < len self.now }
+        ensures { optional (λ x. slots.bytes x.now) result ≡ slot self.now i }
+    {
+        if self.is_valid(i) {
+            Some(self.value(i))
+        } else {
+            None
+        }
+    }
+
+    /// Keeps the n slots from place o.
+    pub fn slice(&mut self, o: usize, n: usize)
+        requires { o + n ≤ len self.old }
+        ensures parts { self.new ≡ cut_layout self.old o n }
+        ensures slots { slots_of self.new ≡ cut (slots_of self.old) o n }
+        ensures same_type { layout_type self.new ≡ layout_type self.old }
+    {
+        self.cut(o, n);
+    }
+
+    fn cut(&mut self, o: usize, n: usize)
+        requires { o + n ≤ len self.old }
+        ensures { self.new ≡ cut_layout self.old o n }
+    {
+        self.offsets.known();
+        self.offsets.slice(o, n + 1);
+        validity::slice(&mut self.validity, o, n);
+    }
+
+    /// The n slots from place o.
+    pub fn sliced(self, o: usize, n: usize) -> BinaryArray<O>
+        requires { o + n ≤ len self }
+        ensures parts { result ≡ cut_layout self o n }
+        ensures slots { slots_of result ≡ cut (slots_of self) o n }
+        ensures same_type { layout_type result ≡ layout_type self }
+    {
+        let mut cut = self;
+        cut.slice(o, n);
+        cut
+    }
+
+    /// Takes a new validity. `ValidityLength` where it has not a bit for each slot; the array stays
+    /// as it was then.
+    pub fn set_validity(&mut self, validity: Option<Bitmap>) -> Result<(), Error>
+        ensures { MatchResult result
+            (λ _. ValidityFits validity (len self.old) × (self.new ≡ with_validity self.old validity))
+            (λ e. ValidityFault e self.old validity × (self.new ≡ self.old)) }
+    {
+        if !validity::fits(&validity, self.len()) {
+            return Err(Error::OutOfSpec(Spec::ValidityLength));
+        }
+        self.validity = validity;
+        Ok(())
+    }
+
+    /// The array under a new validity, or as it was beside the refusal.
+    pub fn with_validity(self, validity: Option<Bitmap>) -> Result<BinaryArray<O>, (BinaryArray<O>, Error)>
+        ensures { MatchResult result
+            (λ a. ValidityFits validity (len self) × (a ≡ with_validity self validity))
+            (λ r. ValidityFault r.1 self validity × (r.0 ≡ self)) }
+    {
+        let mut array = self;
+        match array.set_validity(validity) {
+            Ok(()) => Ok(array),
+            Err(e) => Err((array, e)),
+        }
+    }
+
+    /// The same array, on shared memory.
+    pub fn clone(&self, alloc: Global) -> Result<BinaryArray<O>, Error>
+        ensures ok { IfOk result (λ a. a ≡ self.now) }
+        ensures err { IsOkUnless result (Memory alloc_error) }
+    {
+        Ok(BinaryArray {
+            data_type: self.data_type.clone(alloc)?,
+            offsets: self.offsets.clone()?,
+            values: self.values.clone()?,
+            validity: validity::clone(&self.validity)?,
+        })
+    }
+}

@@ -1,0 +1,105 @@
+//! Equality of flat arrays: equal data types and equal slots.
+ghost use Rattle.std.specs.Prelude.{◌≡◌, ◌↔◌, IsTrue};
+ghost use Rattle.nest_model.specs.SameArray.{IsSameArray, same_array};
+
+use crate::binary::BinaryArray;
+use crate::binary::iterator::BytesOf;
+use crate::boolean::BooleanArray;
+use crate::flat_array;
+use crate::primitive::PrimitiveArray;
+use crate::utf8::Utf8Array;
+use crate::utf8::iterator::TextsOf;
+use nest_memory::offset::Offset;
+use nest_memory::types::NativeType;
+
+impl PartialEq for BooleanArray {
+    ghost use Rattle.std.specs.Cmp.{partial_equiv_from_equiv};
+    ghost use Rattle.nest_model.specs.SameArray.{same_array};
+    ghost use Rattle.nest_flat.specs.SameFlat.{same_array-equiv};
+
+    ghost eq = { same_array };
+
+    ghost laws = { partial_equiv_from_equiv same_array-equiv };
+
+    fn eq(&self, other: &BooleanArray) -> bool
+        ensures computes { result ≡ same_array self.now other.now }
+        ensures decides { IsTrue result ↔ IsSameArray self.now other.now }
+    {
+        flat_array::same_arrays(self, other)
+    }
+}
+
+impl Eq for BooleanArray {
+    ghost use Rattle.nest_flat.specs.SameFlat.{same_array-equiv};
+
+    ghost laws = { same_array-equiv };
+}
+
+impl<T: NativeType> PartialEq for PrimitiveArray<T> {
+    ghost use Rattle.std.specs.Cmp.{partial_equiv_from_equiv};
+    ghost use Rattle.nest_model.specs.SameArray.{same_array};
+    ghost use Rattle.nest_flat.specs.SameFlat.{same_array-equiv};
+
+    ghost eq = { same_array };
+
+    ghost laws = { partial_equiv_from_equiv same_array-equiv };
+
+    fn eq(&self, other: &PrimitiveArray<T>) -> bool
+        ensures computes { result ≡ same_array self.now other.now }
+        ensures decides { IsTrue result ↔ IsSameArray self.now other.now }
+    {
+        flat_array::same_arrays(self, other)
+    }
+}
+
+impl<T: NativeType> Eq for PrimitiveArray<T> {
+    ghost use Rattle.nest_flat.specs.SameFlat.{same_array-equiv};
+
+    ghost laws = { same_array-equiv };
+}
+
+impl<O: Offset> PartialEq for BinaryArray<O> {
+    ghost use Rattle.std.specs.Cmp.{partial_equiv_from_equiv};
+    ghost use Rattle.nest_model.specs.SameArray.{same_array};
+    ghost use Rattle.nest_flat.specs.SameFlat.{same_array-equiv};
+
+    ghost eq = { same_array };
+
+    ghost laws = { partial_equiv_from_equiv same_array-equiv };
+
+    fn eq(&self, other: &BinaryArray<O>) -> bool
+        ensures computes { result ≡ same_array self.now other.now }
+        ensures decides { IsTrue result ↔ IsSameArray self.now other.now }
+    {
+        flat_array::same_arrays(BytesOf(self), BytesOf(other))
+    }
+}
+
+impl<O: Offset> Eq for BinaryArray<O> {
+    ghost use Rattle.nest_flat.specs.SameFlat.{same_array-equiv};
+
+    ghost laws = { same_array-equiv };
+}
+
+impl<O: Offset> PartialEq for Utf8Array<O> {
+    ghost use Rattle.std.specs.Cmp.{partial_equiv_from_equiv};
+    ghost use Rattle.nest_model.specs.SameArray.{same_array};
+    ghost use Rattle.nest_flat.specs.SameFlat.{same_array-equiv};
+
+    ghost eq = { same_array };
+
+    ghost laws = { partial_equiv_from_equiv same_array-equiv };
+
+    fn eq(&self, other: &Utf8Array<O>) -> bool
+        ensures computes { result ≡ same_array self.now other.now }
+        ensures decides { IsTrue result ↔ IsSameArray self.now other.now }
+    {
+        flat_array::same_arrays(TextsOf(self), TextsOf(other))
+    }
+}
+
+impl<O: Offset> Eq for Utf8Array<O> {
+    ghost use Rattle.nest_flat.specs.SameFlat.{same_array-equiv};
+
+    ghost laws = { same_array-equiv };
+}

@@ -1,0 +1,157 @@
+//! What the flat arrays have in common: a raw value and a bit of validity for each slot.
+ghost use Rattle.std.specs.Prelude.{◌≡◌, ◌↔◌, ◌<◌, IsTrue, None};
+ghost use Rattle.nest_memory.specs.TypeOf.{type_of};
+ghost use Rattle.nest_model.specs.Accessors.{with_validity};
+ghost use Rattle.nest_model.specs.Layout.{Layout, layout_type};
+ghost use Rattle.nest_model.specs.Meaning.{len, slot, slots_of};
+ghost use Rattle.nest_model.specs.Nullness.{is_null_at, null_count};
+ghost use Rattle.nest_model.specs.SameArray.{IsSameArray};
+ghost use Rattle.nest_model.specs.Slot as slots;
+ghost use Rattle.nest_model.specs.Slot.{Slot};
+ghost use Rattle.nest_flat.specs.FlatParts.{optional};
+
+use crate::iterator::SlotItems;
+use nest_memory::datatypes::DataType;
+
+/// A reference to a flat array.
+pub trait FlatArray: Copy {
+    /// The raw value of a slot.
+    type Value;
+
+    /// The array.
+    ghost layout: { Self → Layout };
+
+    /// The slot that a value is.
+    ghost slot_of_value: { Self.Value → Slot };
+
+    /// Its data type.
+    fn type_of_slots(&self) -> &DataType
+        ensures { type_of result.now ≡ layout_type (layout self.now) };
+
+    /// How many slots it has.
+    fn count(&self) -> usize
+        ensures { result ≡ len (layout self.now) };
+
+    /// How many of them are null.
+    fn nulls(&self) -> usize
+        ensures { result ≡ null_count (layout self.now) };
+
+    /// Whether slot i is null.
+    fn is_null_slot(&self, i: usize) -> bool
+        requires { i < len (layout self.now) }
+        ensures slot { IsTrue result ↔ (slot (layout self.now) i ≡ slots.null) }
+        ensures bit { result ≡ is_null_at (layout self.now) i };
+
+    /// The raw value of slot i.
+    fn value_at(&self, i: usize) -> Self::Value
+        requires { i < len (layout self.now) }
+        ensures { slot_of_value result ≡ slot (with_validity (layout self.now) None) i };
+
+    /// Whether slot i of both arrays has the same raw value.
+    fn is_same_value(&self, other: &Self, i: usize) -> bool
+        requires within { i < len (layout self.now) }
+        requires other_within { i < len (layout other.now) }
+        ensures { IsTrue result
+            ↔ (slot (with_validity (layout self.now) None) i ≡ slot (with_validity (layout other.now) None) i) };
+}
+
+/// The slots of an array, `None` where one is null.
+#[derive(Clone, Copy)]
+pub struct Slots<A: FlatArray>(pub(crate) A);
+
+impl<A: FlatArray> SlotItems for Slots<A> {
+    type Item = Option<A::Value>;
+
+    ghost array = { λ s. A.layout s.0 };
+
+    ghost slot_of_item = { optional A.slot_of_value };
+
+    fn count(&self) -> usize {
+        self.0.count()
+    }
+
+    fn item(&self, i: usize) -> Option<A::Value> {
+        if self.0.is_null_slot(i) {
+            return None;
+        }
+        Some(self.0.value_at(i))
+    }
+
+    fn is_same_item(&self, other: &Slots<A>, i: usize) -> bool {
+        let null = self.0.is_null_slot(i);
+        if other.0.is_null_slot(i) {
+            return null;
+        }
+        if null {
+            return false;
+        }
+        self.0.is_same_value(&other.0, i)
+    }
+}
+
+/// The raw values of an array, also those under nulls.
+#[derive(Clone, Copy)]
+pub struct Values<A: FlatArray>(pub(crate) A);
+
+#[tactic(auto, using(crate::specs::BareSlots::len_bare))]
+impl<A: FlatArray> SlotItems for Values<A> {
+    type Item = A::Value;
+
+    ghost use Rattle.nest_model.specs.Accessors.{with_validity};
+    ghost use Rattle.std.specs.Prelude.{None};
+
+    ghost array = { λ s. with_validity (A.layout s.0) None };
+
+    ghost slot_of_item = { A.slot_of_value };
+
+    fn count(&self) -> usize {
+        self.0.count()
+    }
+
+    fn item(&self, i: usize) -> A::Value {
+        self.0.value_at(i)
+    }
+
+    fn is_same_item(&self, other: &Values<A>, i: usize) -> bool {
+        self.0.is_same_value(&other.0, i)
+    }
+}
+
+// Whether items of one number are the same slots.
+fn same_items<S: SlotItems>(a: &S, b: &S) -> bool
+    requires { len (S.array a.now) ≡ len (S.array b.now) }
+    ensures { IsTrue result ↔ (slots_of (S.array a.now) ≡ slots_of (S.array b.now)) }
+{
+    for i in 0..a.count() {
+        if !a.is_same_item(b, i) {
+            return false;
+        }
+    }
+    true
+}
+
+// Whether arrays of one length have the same slots. Where neither has a null, raw values alone are compared.
+#[tactic(auto, using(crate::specs::BareSlots::len_bare))]
+fn same_slots<A: FlatArray>(a: A, b: A) -> bool
+    requires { len (A.layout a) ≡ len (A.layout b) }
+    ensures { IsTrue result ↔ (slots_of (A.layout a) ≡ slots_of (A.layout b)) }
+{
+    if a.nulls() == 0 && b.nulls() == 0 {
+        return same_items(&Values(a), &Values(b));
+    }
+    same_items(&Slots(a), &Slots(b))
+}
+
+/// Whether two arrays have the same data type and the same slots.
+pub(crate) fn same_arrays<A: FlatArray>(a: A, b: A) -> bool
+    ensures { IsTrue result ↔ IsSameArray (A.layout a) (A.layout b) }
+{
+    let same_type = *a.type_of_slots() == *b.type_of_slots();
+    if !same_type {
+        return false;
+    }
+    if a.count() != b.count() {
+        return false;
+    }
+    same_slots(a, b)
+}

@@ -1,0 +1,120 @@
+//! The slots of a flat array one after another, from both ends.
+ghost use Rattle.std.specs.Prelude.{◌≡◌, ◌↔◌, ◌<◌, IsTrue};
+ghost use Rattle.nest_model.specs.Layout.{Layout};
+ghost use Rattle.nest_model.specs.Slot.{Slot};
+ghost use Rattle.nest_model.specs.Meaning.{len, slot, slots_of};
+
+use std::marker::Model;
+
+/// What has an item for each slot of an array.
+pub trait SlotItems: Copy {
+    type Item;
+
+    /// The array.
+    ghost array: { Self → Layout };
+
+    /// The slot that an item is.
+    ghost slot_of_item: { Self.Item → Slot };
+
+    /// How many slots there are.
+    fn count(&self) -> usize
+        ensures { result ≡ len (array self.now) };
+
+    /// The item of slot i.
+    fn item(&self, i: usize) -> Self::Item
+        requires { i < len (array self.now) }
+        ensures { slot_of_item result ≡ slot (array self.now) i };
+
+    /// Whether slot i of both arrays is the same.
+    fn is_same_item(&self, other: &Self, i: usize) -> bool
+        requires within { i < len (array self.now) }
+        requires other_within { i < len (array other.now) }
+        ensures { IsTrue result ↔ (slot (array self.now) i ≡ slot (array other.now) i) };
+}
+
+/// The items of the slots that are still to come, from both ends; contracts see the list of these slots.
+#[derive(Drop)]
+pub struct SlotsIter<S: SlotItems> {
+    source: S,
+    front: usize,
+    back: usize,
+}
+
+impl<S: SlotItems> Model for SlotsIter<S> {
+    ghost use Rattle.std.specs.Prelude.{List, ◌-◌, ◌≤◌};
+    ghost use Rattle.std.specs.Coded.{coded_list};
+    ghost use Rattle.nest_model.specs.Slot.{Slot};
+    ghost use Rattle.nest_model.specs.SlotCode.{coded_slot};
+
+    ghost Value = { List Slot };
+
+    ghost coded = { coded_list coded_slot };
+
+    ghost use Rattle.nest_model.specs.Meaning.{run, len, slot};
+
+    ghost view = { λ s. run (slot (S.array s.source)) s.front (s.back - s.front) };
+
+    ghost invariant = { λ s. (s.front ≤ s.back) × (s.back ≤ len (S.array s.source)) };
+}
+
+impl<S: SlotItems> SlotsIter<S> {
+    /// All slots.
+    pub fn new(source: S) -> SlotsIter<S>
+        ensures { result ≡ slots_of (S.array source) }
+    {
+        let back = source.count();
+        SlotsIter {
+            source,
+            front: 0,
+            back,
+        }
+    }
+}
+
+#[tactic(auto, using(crate::proofs::SlotRuns::run_length))]
+impl<S: SlotItems> Iterator for SlotsIter<S> {
+    type Item = S::Item;
+
+    ghost use Rattle.std.specs.Iterator.{YieldsFirstBy, item_count};
+
+    ghost next_gives = { YieldsFirstBy S.slot_of_item (λ s. s) };
+
+    ghost remaining = { item_count (λ s. s) };
+
+    fn next(&mut self) -> Option<S::Item> {
+        if self.front == self.back {
+            return None;
+        }
+        let item = self.source.item(self.front);
+        self.front += 1;
+        Some(item)
+    }
+
+    fn size_hint(&self) -> (usize, Option<usize>) {
+        let left = self.back - self.front;
+        (left, Some(left))
+    }
+}
+
+#[tactic(auto, using(crate::proofs::SlotRuns::run_length))]
+impl<S: SlotItems> DoubleEndedIterator for SlotsIter<S> {
+    ghost use Rattle.std.specs.Iterator.{YieldsLastBy};
+
+    ghost next_back_gives = { YieldsLastBy S.slot_of_item (λ s. s) };
+
+    fn next_back(&mut self) -> Option<S::Item> {
+        if self.front == self.back {
+            return None;
+        }
+        let item = self.source.item(self.back - 1);
+        self.back -= 1;
+        Some(item)
+    }
+}
+
+#[tactic(auto, using(crate::proofs::SlotRuns::run_length))]
+impl<S: SlotItems> ExactSizeIterator for SlotsIter<S> {
+    fn len(&self) -> usize {
+        self.back - self.front
+    }
+}

@@ -1,0 +1,67 @@
+//! Offsets over bytes: what arrays of bytes and of texts share.
+ghost use Rattle.std.specs.Prelude.{◌≡◌, ◌↔◌, ◌≤◌, ◌<◌, IsTrue, IsUtf8, length};
+ghost use Rattle.nest_memory.specs.Cut.{cut};
+ghost use Rattle.nest_model.specs.Part.{begin, extent, rows, last_offset};
+ghost use Rattle.nest_model.specs.Array.{AreOffsets};
+ghost use Rattle.nest_model.specs.Fits.{EachText};
+
+use nest_memory::buffer::Buffer;
+use nest_memory::offset::Offset;
+use nest_memory::offsets::OffsetsBuffer;
+use std::str;
+
+/// The last offset.
+pub(crate) fn last<O: Offset>(offsets: &OffsetsBuffer<O>) -> usize
+    ensures last { result ≡ last_offset offsets.now }
+    ensures known { AreOffsets offsets.now }
+{
+    offsets.known();
+    offsets.last()
+}
+
+/// The bytes of slot i, those between offsets i and i + 1.
+pub(crate) fn span<'a, O: Offset>(
+    offsets: &OffsetsBuffer<O>,
+    bytes: &'a Buffer<u8>,
+    i: usize,
+) -> &'a [u8]
+    requires fits { last_offset offsets.now ≤ length bytes.now }
+    requires within { i < rows offsets.now }
+    ensures { result.now ≡ cut bytes.now (begin offsets.now i) (extent offsets.now i) }
+{
+    offsets.known();
+    let (start, end) = offsets.start_end(i);
+    &bytes.as_slice()[start..end]
+}
+
+/// Whether bytes are UTF-8.
+fn is_text(bytes: &[u8]) -> bool
+    ensures { IsTrue result ↔ IsUtf8 bytes.now }
+{
+    str::from_utf8(bytes).is_ok()
+}
+
+/// The text that UTF-8 bytes are.
+pub(crate) fn text_of(bytes: &[u8]) -> &str
+    requires { IsUtf8 bytes.now }
+    ensures { result.now ≡ bytes.now }
+{
+    match str::from_utf8(bytes) {
+        Ok(text) => text,
+        Err(_) => unreachable!(),
+    }
+}
+
+/// Whether the bytes of each slot are UTF-8.
+pub(crate) fn are_texts<O: Offset>(offsets: &OffsetsBuffer<O>, bytes: &Buffer<u8>) -> bool
+    requires { last_offset offsets.now ≤ length bytes.now }
+    ensures { IsTrue result ↔ EachText offsets.now bytes.now }
+{
+    for i in 0..offsets.len_proxy() {
+        let text = is_text(span(offsets, bytes, i));
+        if !text {
+            return false;
+        }
+    }
+    true
+}
