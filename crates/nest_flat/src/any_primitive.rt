@@ -260,7 +260,9 @@ impl AnyPrimitive {
             AnyPrimitive::UInt32(array) => Ok(AnyPrimitive::UInt32(array.clone(alloc)?)),
             AnyPrimitive::UInt64(array) => Ok(AnyPrimitive::UInt64(array.clone(alloc)?)),
             AnyPrimitive::DaysMs(array) => Ok(AnyPrimitive::DaysMs(array.clone(alloc)?)),
-            AnyPrimitive::MonthDayNano(array) => Ok(AnyPrimitive::MonthDayNano(array.clone(alloc)?)),
+            AnyPrimitive::MonthDayNano(array) => Ok(AnyPrimitive::MonthDayNano(array.clone(
+                alloc,
+            )?)),
         }
     }
 }

@@ -5,9 +5,9 @@ ghost use Rattle.nest_model.specs.Meaning.{slots_of};
 ghost use Rattle.nest_model.specs.Slot as slots;
 ghost use Rattle.nest_flat.specs.FlatParts.{optional};
 
+use crate::binary::BinaryArray;
 use crate::flat_array::{FlatArray, Slots, Values};
 use crate::iterator::{SlotItems, SlotsIter};
-use crate::binary::BinaryArray;
 use nest_memory::datatypes::DataType;
 use nest_memory::offset::Offset;
 

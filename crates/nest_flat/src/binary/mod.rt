@@ -19,8 +19,7 @@ ghost use Rattle.nest_model.specs.Reads.{where_valid};
 ghost use Rattle.nest_model.specs.Slot as slots;
 ghost use Rattle.nest_flat.specs.FlatParts.{optional};
 
-use crate::spans;
-use crate::validity;
+use crate::{spans, validity};
 use nest_memory::bitmap::immutable::Bitmap;
 use nest_memory::buffer::Buffer;
 use nest_memory::datatypes::DataType;
@@ -256,7 +255,10 @@ impl<O: Offset> BinaryArray<O> {
     }
 
     /// The array under a new validity, or as it was beside the refusal.
-    pub fn with_validity(self, validity: Option<Bitmap>) -> Result<BinaryArray<O>, (BinaryArray<O>, Error)>
+    pub fn with_validity(
+        self,
+        validity: Option<Bitmap>,
+    ) -> Result<BinaryArray<O>, (BinaryArray<O>, Error)>
         ensures { MatchResult result
             (λ a. ValidityFits validity (len self) × (a ≡ with_validity self validity))
             (λ r. ValidityFault r.1 self validity × (r.0 ≡ self)) }

@@ -4,9 +4,9 @@ ghost use Rattle.nest_model.specs.Accessors.{with_validity};
 ghost use Rattle.nest_model.specs.Meaning.{slots_of};
 ghost use Rattle.nest_model.specs.Slot as slots;
 
+use crate::boolean::BooleanArray;
 use crate::flat_array::{FlatArray, Slots, Values};
 use crate::iterator::SlotsIter;
-use crate::boolean::BooleanArray;
 use nest_memory::datatypes::DataType;
 
 /// The items of an array's slots, `None` where one is null.

@@ -54,11 +54,20 @@ impl Model for BooleanArray {
 impl BooleanArray {
     /// The array of these parts. Refused, in this order, where the validity has another length
     /// (`ValidityLength`) and where the data type is none of booleans (`WrongType`).
-    pub fn try_new(data_type: DataType, values: Bitmap, validity: Option<Bitmap>) -> Result<BooleanArray, Error>
+    pub fn try_new(
+        data_type: DataType,
+        values: Bitmap,
+        validity: Option<Bitmap>,
+    ) -> Result<BooleanArray, Error>
         ensures { let parts = layouts.boolean (type_of data_type) values validity in
             MatchResult result (λ a. Fits parts × (a ≡ parts)) (λ e. FirstFault e parts) }
     {
-        if let Some(e) = validity::fault(&validity, values.len(), &data_type, PhysicalType::Boolean) {
+        if let Some(e) = validity::fault(
+            &validity,
+            values.len(),
+            &data_type,
+            PhysicalType::Boolean,
+        ) {
             return Err(e);
         }
         Ok(BooleanArray {
@@ -202,7 +211,10 @@ impl BooleanArray {
     }
 
     /// The array under a new validity, or as it was beside the refusal.
-    pub fn with_validity(self, validity: Option<Bitmap>) -> Result<BooleanArray, (BooleanArray, Error)>
+    pub fn with_validity(
+        self,
+        validity: Option<Bitmap>,
+    ) -> Result<BooleanArray, (BooleanArray, Error)>
         ensures { MatchResult result
             (λ a. ValidityFits validity (len self) × (a ≡ with_validity self validity))
             (λ r. ValidityFault r.1 self validity × (r.0 ≡ self)) }
