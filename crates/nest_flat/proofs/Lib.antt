@@ -1,5 +1,4 @@
 pub mod Cutting
-pub mod NullCounts
 pub mod SlotRuns
 pub mod TextParts
 pub mod Alike
