@@ -85,17 +85,12 @@ impl FixedSizeListArray {
             MatchResult result (λ a. Fits parts × (a ≡ parts)) (λ e. RefusesOrMemory e parts) }
     {
         if let Some(error) = fault(&data_type, &values, &validity) {
+            drop(validity);
+            drop(values);
+            drop(data_type);
             return Err(error);
         }
-        let size = data_type.size().unwrap_or(0);
-        let count = values.len() / size;
-        Ok(FixedSizeListArray {
-            data_type,
-            size,
-            count,
-            values: Box::new(alloc, values)?,
-            validity,
-        })
+        FixedSizeListArray::of(alloc, data_type, values, validity)
     }
 
     /// The array of parts that fit. `Memory` alone is refused.
@@ -109,15 +104,36 @@ impl FixedSizeListArray {
         ensures ok { IfOk result (λ a. a ≡ layouts.fixed_size_list (type_of data_type) (layout_of values) validity) }
         ensures err { IsOkUnless result (Memory alloc_error) }
     {
+        FixedSizeListArray::of(alloc, data_type, values, validity)
+    }
+
+    // The array of parts that were checked.
+    fn of(
+        alloc: Global,
+        data_type: DataType,
+        values: AnyArray,
+        validity: Option<Bitmap>,
+    ) -> Result<FixedSizeListArray, Error>
+        requires { TopFits (layouts.fixed_size_list (type_of data_type) (layout_of values) validity) }
+        ensures ok { IfOk result (λ a. a ≡ layouts.fixed_size_list (type_of data_type) (layout_of values) validity) }
+        ensures err { IsOkUnless result (Memory alloc_error) }
+    {
         let size = data_type.size().unwrap_or(0);
         let count = values.len() / size;
-        Ok(FixedSizeListArray {
-            data_type,
-            size,
-            count,
-            values: Box::new(alloc, values)?,
-            validity,
-        })
+        match Box::new(alloc, values) {
+            Ok(values) => Ok(FixedSizeListArray {
+                data_type,
+                size,
+                count,
+                values,
+                validity,
+            }),
+            Err(error) => {
+                drop(validity);
+                drop(data_type);
+                Err(error.into())
+            }
+        }
     }
 
     /// What holds of every such array.
@@ -289,13 +305,35 @@ impl FixedSizeListArray {
     {
         let values: &AnyArray = &self.values;
         let values = values.clone(alloc)?;
-        Ok(FixedSizeListArray {
-            data_type: self.data_type.clone(alloc)?,
-            size: self.size,
-            count: self.count,
-            values: Box::new(alloc, values)?,
-            validity: validity::clone(&self.validity)?,
-        })
+        FixedSizeListArray::again(alloc, &self.data_type, values, &self.validity)
+    }
+
+    // The array of a type and a validity that are shared, and of items.
+    fn again(
+        alloc: Global,
+        data_type: &DataType,
+        values: AnyArray,
+        validity: &Option<Bitmap>,
+    ) -> Result<FixedSizeListArray, Error>
+        requires { TopFits (layouts.fixed_size_list (type_of data_type.now) (layout_of values) validity.now) }
+        ensures ok { IfOk result (λ a. a ≡ layouts.fixed_size_list (type_of data_type.now) (layout_of values) validity.now) }
+        ensures err { IsOkUnless result (Memory alloc_error) }
+    {
+        let validity = match validity::clone(validity) {
+            Ok(validity) => validity,
+            Err(error) => {
+                drop(values);
+                return Err(error);
+            }
+        };
+        match data_type.clone(alloc) {
+            Ok(data_type) => FixedSizeListArray::of(alloc, data_type, values, validity),
+            Err(error) => {
+                drop(validity);
+                drop(values);
+                Err(error)
+            }
+        }
     }
 
     /// The same array in its variant.

@@ -85,11 +85,7 @@ impl LargeListArray {
             drop(data_type);
             return Err(error);
         }
-        Ok(LargeListArray {
-            data_type,
-            ranges,
-            values: Box::new(alloc, values)?,
-        })
+        LargeListArray::of(alloc, data_type, ranges, values)
     }
 
     /// The array of parts that fit. `Memory` alone is refused.
@@ -105,11 +101,32 @@ impl LargeListArray {
         ensures err { IsOkUnless result (Memory alloc_error) }
     {
         offsets.known();
-        Ok(LargeListArray {
-            data_type,
-            ranges: Ranges { offsets, validity },
-            values: Box::new(alloc, values)?,
-        })
+        LargeListArray::of(alloc, data_type, Ranges { offsets, validity }, values)
+    }
+
+    // The array of parts that were checked.
+    fn of(
+        alloc: Global,
+        data_type: DataType,
+        ranges: Ranges<i64>,
+        values: AnyArray,
+    ) -> Result<LargeListArray, Error>
+        requires { TopFits (layouts.list true (type_of data_type) ranges.offsets (layout_of values) ranges.validity) }
+        ensures ok { IfOk result (λ a. a ≡ layouts.list true (type_of data_type) ranges.offsets (layout_of values) ranges.validity) }
+        ensures err { IsOkUnless result (Memory alloc_error) }
+    {
+        match Box::new(alloc, values) {
+            Ok(values) => Ok(LargeListArray {
+                data_type,
+                ranges,
+                values,
+            }),
+            Err(error) => {
+                drop(ranges);
+                drop(data_type);
+                Err(error.into())
+            }
+        }
     }
 
     /// What holds of every such array.
@@ -276,11 +293,40 @@ impl LargeListArray {
     {
         let values: &AnyArray = &self.values;
         let values = values.clone(alloc)?;
-        Ok(LargeListArray {
-            data_type: self.data_type.clone(alloc)?,
-            ranges: self.ranges.clone()?,
-            values: Box::new(alloc, values)?,
-        })
+        LargeListArray::again(alloc, &self.data_type, &self.ranges, values)
+    }
+
+    // The array of a type and ranges that are shared, and of items.
+    fn again(
+        alloc: Global,
+        data_type: &DataType,
+        ranges: &Ranges<i64>,
+        values: AnyArray,
+    ) -> Result<LargeListArray, Error>
+        requires { TopFits (layouts.list true (type_of data_type.now) ranges.now.offsets (layout_of values) ranges.now.validity) }
+        ensures ok { IfOk result (λ a. a ≡ layouts.list true (type_of data_type.now) ranges.now.offsets (layout_of values) ranges.now.validity) }
+        ensures err { IsOkUnless result (Memory alloc_error) }
+    {
+        let values = Box::new(alloc, values)?;
+        let ranges = match ranges.clone() {
+            Ok(ranges) => ranges,
+            Err(error) => {
+                drop(values);
+                return Err(error);
+            }
+        };
+        match data_type.clone(alloc) {
+            Ok(data_type) => Ok(LargeListArray {
+                data_type,
+                ranges,
+                values,
+            }),
+            Err(error) => {
+                drop(ranges);
+                drop(values);
+                Err(error)
+            }
+        }
     }
 
     /// The same array in its variant.

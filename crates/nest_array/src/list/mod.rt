@@ -87,11 +87,7 @@ impl ListArray {
             drop(data_type);
             return Err(error);
         }
-        Ok(ListArray {
-            data_type,
-            ranges,
-            values: Box::new(alloc, values)?,
-        })
+        ListArray::of(alloc, data_type, ranges, values)
     }
 
     /// The array of parts that fit. `Memory` alone is refused.
@@ -107,11 +103,32 @@ impl ListArray {
         ensures err { IsOkUnless result (Memory alloc_error) }
     {
         offsets.known();
-        Ok(ListArray {
-            data_type,
-            ranges: Ranges { offsets, validity },
-            values: Box::new(alloc, values)?,
-        })
+        ListArray::of(alloc, data_type, Ranges { offsets, validity }, values)
+    }
+
+    // The array of parts that were checked.
+    fn of(
+        alloc: Global,
+        data_type: DataType,
+        ranges: Ranges<i32>,
+        values: AnyArray,
+    ) -> Result<ListArray, Error>
+        requires { TopFits (layouts.list false (type_of data_type) ranges.offsets (layout_of values) ranges.validity) }
+        ensures ok { IfOk result (λ a. a ≡ layouts.list false (type_of data_type) ranges.offsets (layout_of values) ranges.validity) }
+        ensures err { IsOkUnless result (Memory alloc_error) }
+    {
+        match Box::new(alloc, values) {
+            Ok(values) => Ok(ListArray {
+                data_type,
+                ranges,
+                values,
+            }),
+            Err(error) => {
+                drop(ranges);
+                drop(data_type);
+                Err(error.into())
+            }
+        }
     }
 
     /// What holds of every such array.
@@ -255,10 +272,7 @@ impl ListArray {
     }
 
     /// The array under a new validity, or as it was beside the refusal.
-    pub fn with_validity(
-        self,
-        validity: Option<Bitmap>,
-    ) -> Result<ListArray, (ListArray, Error)>
+    pub fn with_validity(self, validity: Option<Bitmap>) -> Result<ListArray, (ListArray, Error)>
         ensures { MatchResult result
             (λ a. ValidityFits validity (len self) × (a ≡ with_validity self validity))
             (λ r. ValidityFault r.1 self validity × (r.0 ≡ self)) }
@@ -278,11 +292,40 @@ impl ListArray {
     {
         let values: &AnyArray = &self.values;
         let values = values.clone(alloc)?;
-        Ok(ListArray {
-            data_type: self.data_type.clone(alloc)?,
-            ranges: self.ranges.clone()?,
-            values: Box::new(alloc, values)?,
-        })
+        ListArray::again(alloc, &self.data_type, &self.ranges, values)
+    }
+
+    // The array of a type and ranges that are shared, and of items.
+    fn again(
+        alloc: Global,
+        data_type: &DataType,
+        ranges: &Ranges<i32>,
+        values: AnyArray,
+    ) -> Result<ListArray, Error>
+        requires { TopFits (layouts.list false (type_of data_type.now) ranges.now.offsets (layout_of values) ranges.now.validity) }
+        ensures ok { IfOk result (λ a. a ≡ layouts.list false (type_of data_type.now) ranges.now.offsets (layout_of values) ranges.now.validity) }
+        ensures err { IsOkUnless result (Memory alloc_error) }
+    {
+        let values = Box::new(alloc, values)?;
+        let ranges = match ranges.clone() {
+            Ok(ranges) => ranges,
+            Err(error) => {
+                drop(values);
+                return Err(error);
+            }
+        };
+        match data_type.clone(alloc) {
+            Ok(data_type) => Ok(ListArray {
+                data_type,
+                ranges,
+                values,
+            }),
+            Err(error) => {
+                drop(ranges);
+                drop(values);
+                Err(error)
+            }
+        }
     }
 
     /// The same array in its variant.

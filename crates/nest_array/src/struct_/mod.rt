@@ -79,6 +79,9 @@ impl StructArray {
             MatchResult result (λ a. Fits parts × (a ≡ parts)) (λ e. FirstFault e parts) }
     {
         if let Some(error) = fault(&data_type, &values, &validity) {
+            drop(validity);
+            drop(values);
+            drop(data_type);
             return Err(error);
         }
         let count = first_count(&values);
@@ -91,11 +94,7 @@ impl StructArray {
     }
 
     /// The array of parts that fit.
-    pub fn new(
-        data_type: DataType,
-        values: Vec<AnyArray>,
-        validity: Option<Bitmap>,
-    ) -> StructArray
+    pub fn new(data_type: DataType, values: Vec<AnyArray>, validity: Option<Bitmap>) -> StructArray
         requires { Fits (layouts.struct (type_of data_type) (layouts_of values.items) validity) }
         ensures { result ≡ layouts.struct (type_of data_type) (layouts_of values.items) validity }
     {
@@ -251,12 +250,35 @@ impl StructArray {
         ensures err { IsOkUnless result (Memory alloc_error) }
     {
         let values = clone_all(alloc, &self.values)?;
-        Ok(StructArray {
-            data_type: self.data_type.clone(alloc)?,
-            count: self.count,
-            values,
-            validity: validity::clone(&self.validity)?,
-        })
+        StructArray::again(alloc, &self.data_type, values, &self.validity)
+    }
+
+    // The array of a type and a validity that are shared, and of children.
+    fn again(
+        alloc: Global,
+        data_type: &DataType,
+        values: Vec<AnyArray>,
+        validity: &Option<Bitmap>,
+    ) -> Result<StructArray, Error>
+        requires { TopFits (layouts.struct (type_of data_type.now) (layouts_of values.items) validity.now) }
+        ensures ok { IfOk result (λ a. a ≡ layouts.struct (type_of data_type.now) (layouts_of values.items) validity.now) }
+        ensures err { IsOkUnless result (Memory alloc_error) }
+    {
+        let validity = match validity::clone(validity) {
+            Ok(validity) => validity,
+            Err(error) => {
+                drop(values);
+                return Err(error);
+            }
+        };
+        match data_type.clone(alloc) {
+            Ok(data_type) => Ok(StructArray::new(data_type, values, validity)),
+            Err(error) => {
+                drop(validity);
+                drop(values);
+                Err(error)
+            }
+        }
     }
 
     /// The same array in its variant.
