@@ -5,13 +5,11 @@ mod rows;
 mod tests;
 
 ghost use Rattle.std.specs.Prelude.{◌≡◌, ◌+◌, ◌*◌, ◌≤◌, ◌<◌, ◌↔◌, IsTrue, IfOk, IsOkUnless, MatchResult, MatchOption, None, option_map, alloc_error};
-ghost use Rattle.nest_memory.specs.declared.datatypes.physical_type.PhysicalType.TheVariants as physical;
 ghost use Rattle.nest_memory.specs.declared.error.Error.TheVariants.{Memory};
 ghost use Rattle.nest_memory.specs.Cut.{cut};
-ghost use Rattle.nest_memory.specs.Physical.{physical_type};
 ghost use Rattle.nest_memory.specs.TypeOf.{type_of};
 ghost use Rattle.nest_memory.specs.TypeTree.{size_of};
-ghost use Rattle.nest_model.specs.Accessors.{validity_of, bytes_of, with_validity, with_type};
+ghost use Rattle.nest_model.specs.Accessors.{validity_of, bytes_of, with_validity};
 ghost use Rattle.nest_model.specs.Array.{TopFits};
 ghost use Rattle.nest_model.specs.Cut.{cut_layout};
 ghost use Rattle.nest_model.specs.Fits.{Fits, FirstFault, ValidityFits, ValidityFault};
@@ -258,29 +256,6 @@ impl FixedSizeBinaryArray {
         match array.set_validity(validity) {
             Ok(()) => Ok(array),
             Err(e) => Err((array, e)),
-        }
-    }
-
-    /// The same slots under another data type, a fixed-size binary of the same size or an extension of one.
-    pub fn to(self, data_type: DataType) -> FixedSizeBinaryArray
-        requires kind { physical_type (type_of data_type) ≡ physical.FixedSizeBinary }
-        requires same_size { size_of (type_of data_type) ≡ size_of (layout_type self) }
-        ensures parts { result ≡ with_type self (type_of data_type) }
-        ensures new_type { layout_type result ≡ type_of data_type }
-        ensures same_slots { slots_of result ≡ slots_of self }
-    {
-        let FixedSizeBinaryArray {
-            size,
-            data_type: old_type,
-            values,
-            validity,
-        } = self;
-        drop(old_type);
-        FixedSizeBinaryArray {
-            size,
-            data_type,
-            values,
-            validity,
         }
     }
 

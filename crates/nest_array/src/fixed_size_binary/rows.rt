@@ -1,10 +1,15 @@
-//! Arrays of byte strings of one size from rows.
+//! Arrays of byte strings of one size from rows, and under other data types.
 ghost use Rattle.std.specs.Prelude.{◌≡◌, ◌⊎◌, ◌↔◌, ◌*◌, ◌≤◌, ◌<◌, ◌^◌, IfOk, IfErr, IsErrOf, IsOkUnless, None, length, map, alloc_error};
 ghost use Rattle.std.specs.List.{concat, All};
+ghost use Rattle.nest_memory.specs.declared.datatypes.physical_type.PhysicalType.TheVariants as physical;
 ghost use Rattle.nest_memory.specs.declared.error.Error.TheVariants.{Overflow, Memory};
+ghost use Rattle.nest_memory.specs.Physical.{physical_type};
 ghost use Rattle.nest_memory.specs.TypeOf.{type_of};
 ghost use Rattle.nest_memory.specs.TypeTree as types;
+ghost use Rattle.nest_memory.specs.TypeTree.{size_of};
+ghost use Rattle.nest_model.specs.Accessors.{with_type};
 ghost use Rattle.nest_model.specs.Layout as layouts;
+ghost use Rattle.nest_model.specs.Layout.{layout_type};
 ghost use Rattle.nest_model.specs.Meaning.{slots_of};
 ghost use Rattle.nest_model.specs.Slot as slots;
 
@@ -42,6 +47,29 @@ impl FixedSizeBinaryArray {
         let values = joined(alloc, rows)?;
         let data_type = FixedSizeBinaryArray::default_data_type(N);
         Ok(FixedSizeBinaryArray::new(data_type, values, None))
+    }
+
+    /// The same slots under another data type, a fixed-size binary of the same size or an extension of one.
+    pub fn to(self, data_type: DataType) -> FixedSizeBinaryArray
+        requires kind { physical_type (type_of data_type) ≡ physical.FixedSizeBinary }
+        requires same_size { size_of (type_of data_type) ≡ size_of (layout_type self) }
+        ensures parts { result ≡ with_type self (type_of data_type) }
+        ensures new_type { layout_type result ≡ type_of data_type }
+        ensures same_slots { slots_of result ≡ slots_of self }
+    {
+        let FixedSizeBinaryArray {
+            size,
+            data_type: old_type,
+            values,
+            validity,
+        } = self;
+        drop(old_type);
+        FixedSizeBinaryArray {
+            size,
+            data_type,
+            values,
+            validity,
+        }
     }
 }
 
