@@ -5,10 +5,15 @@ use nest_flat::binary::BinaryArray;
 use nest_memory::bitmap::immutable::Bitmap;
 use nest_memory::buffer::Buffer;
 use nest_memory::datatypes::DataType;
+use nest_memory::datatypes::physical_type::PhysicalType;
 use nest_memory::error::{Error, Spec};
 use nest_memory::offsets::OffsetsBuffer;
 use std::alloc::Global;
 use std::test::Fail;
+
+const ROWS: [[u8; 2]; 3] = [*b"ab", *b"cd", *b"ef"];
+
+const OTHER_ROWS: [[u8; 2]; 3] = [*b"ab", *b"xy", *b"ef"];
 
 fn bits_of(alloc: Global, bits: Option<&[bool]>) -> Result<Option<Bitmap>, Error> {
     match bits {
@@ -64,10 +69,10 @@ fn the_first_failed_check_answers(rt: HostRuntime) -> Result<(), Fail> {
     Ok(())
 }
 
-/// The rows ab, cd, ef, of which those with a bit that is 0 are null.
-fn pairs(alloc: Global, bits: &[bool]) -> Result<FixedSizeBinaryArray, Error> {
+/// The rows, of which those with a bit that is 0 are null.
+fn pairs(alloc: Global, rows: &[[u8; 2]], bits: &[bool]) -> Result<FixedSizeBinaryArray, Error> {
     let validity = bits_of(alloc, Some(bits))?;
-    let mut array = FixedSizeBinaryArray::from_slice(alloc, [*b"ab", *b"cd", *b"ef"].as_slice())?;
+    let mut array = FixedSizeBinaryArray::from_slice(alloc, rows)?;
     match array.set_validity(validity) {
         Ok(()) => Ok(array),
         Err(error) => {
@@ -102,14 +107,72 @@ fn holds_the_rest(array: FixedSizeBinaryArray) -> bool {
 
 #[test]
 fn rows_are_the_slots(rt: HostRuntime) -> Result<(), Fail> {
-    let array = pairs(rt.alloc(), [true, false, true].as_slice())?;
+    let array = pairs(rt.alloc(), ROWS.as_slice(), [true, false, true].as_slice())?;
     assert!(rt; has(&array, 0, b"ab"));
     assert!(rt; holds_the_rest(array));
-    let short = pairs(rt.alloc(), [true, false].as_slice());
+    let short = pairs(rt.alloc(), ROWS.as_slice(), [true, false].as_slice());
     assert_eq!(rt;
         refusal(short),
         Some(Error::OutOfSpec(Spec::ValidityLength))
     );
+    Ok(())
+}
+
+/// A type of the user's over byte strings of two bytes.
+fn extension(alloc: Global) -> Result<DataType, Error> {
+    let name = String::from_str(alloc, "pair")?;
+    let inner = FixedSizeBinaryArray::default_data_type(2);
+    Ok(DataType::Extension(name, Box::new(alloc, inner)?, None))
+}
+
+/// The array under another type, where that is one of the same size.
+fn retyped(array: FixedSizeBinaryArray, data_type: DataType) -> FixedSizeBinaryArray {
+    let same_kind = data_type.to_physical_type() == PhysicalType::FixedSizeBinary;
+    if same_kind && data_type.size().unwrap_or(0) == array.size() {
+        return array.to(data_type);
+    }
+    drop(data_type);
+    array
+}
+
+/// A clone under a type of the user's.
+fn extended(alloc: Global, array: &FixedSizeBinaryArray) -> Result<FixedSizeBinaryArray, Error> {
+    let data_type = extension(alloc)?;
+    match array.clone(alloc) {
+        Ok(copy) => Ok(retyped(copy, data_type)),
+        Err(error) => {
+            drop(data_type);
+            Err(error)
+        }
+    }
+}
+
+/// Whether the other array is equal, and then let go.
+fn is_same(array: &FixedSizeBinaryArray, other: Result<FixedSizeBinaryArray, Error>) -> bool {
+    match other {
+        Err(_) => false,
+        Ok(other) => {
+            let same = *array == other;
+            drop(other);
+            same
+        }
+    }
+}
+
+#[test]
+fn nulls_and_types_tell_arrays_apart(rt: HostRuntime) -> Result<(), Fail> {
+    let bits = [true, false, true].as_slice();
+    let array = pairs(rt.alloc(), ROWS.as_slice(), bits)?;
+    assert!(rt; is_same(&array, array.clone(rt.alloc())));
+    assert!(rt; is_same(&array, pairs(rt.alloc(), OTHER_ROWS.as_slice(), bits)));
+    assert!(rt;
+        !is_same(
+            &array,
+            pairs(rt.alloc(), ROWS.as_slice(), [true, true, true].as_slice())
+        )
+    );
+    assert!(rt; !is_same(&array, extended(rt.alloc(), &array)));
+    drop(array);
     Ok(())
 }
 
