@@ -1,4 +1,6 @@
 pub mod Children
+pub mod FixedSizeBinaries
 pub mod FixedSizes
 pub mod Lists
+pub mod NullArrays
 pub mod Windows

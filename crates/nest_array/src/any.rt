@@ -12,9 +12,11 @@ ghost use Rattle.nest_model.specs.Nullness.{is_null_at, null_count};
 ghost use Rattle.nest_model.specs.Slot as slots;
 ghost use Rattle.nest_array.specs.Seen.{layout_of};
 
+use crate::fixed_size_binary::FixedSizeBinaryArray;
 use crate::fixed_size_list::FixedSizeListArray;
 use crate::list::ListArray;
 use crate::list::large::LargeListArray;
+use crate::null::NullArray;
 use crate::struct_::StructArray;
 use nest_flat::any_primitive::AnyPrimitive;
 use nest_flat::binary::BinaryArray;
@@ -29,12 +31,14 @@ use std::alloc::Global;
 #[cycle(array)]
 #[derive(Drop)]
 pub enum AnyArray {
+    Null(NullArray),
     Boolean(BooleanArray),
     Primitive(AnyPrimitive),
     Binary(BinaryArray<i32>),
     LargeBinary(BinaryArray<i64>),
     Utf8(Utf8Array<i32>),
     LargeUtf8(Utf8Array<i64>),
+    FixedSizeBinary(FixedSizeBinaryArray),
     FixedSizeList(FixedSizeListArray),
     List(ListArray),
     LargeList(LargeListArray),
@@ -45,12 +49,14 @@ pub enum AnyArray {
 macro_rules! each_array {
     ($any:expr, $array:ident => $body:expr) => {
         match $any {
+            AnyArray::Null($array) => $body,
             AnyArray::Boolean($array) => $body,
             AnyArray::Primitive($array) => $body,
             AnyArray::Binary($array) => $body,
             AnyArray::LargeBinary($array) => $body,
             AnyArray::Utf8($array) => $body,
             AnyArray::LargeUtf8($array) => $body,
+            AnyArray::FixedSizeBinary($array) => $body,
             AnyArray::FixedSizeList($array) => $body,
             AnyArray::List($array) => $body,
             AnyArray::LargeList($array) => $body,
@@ -139,12 +145,14 @@ impl AnyArray {
         ensures { layout_of self.new ≡ cut_layout (layout_of self.old) o n }
     {
         match self {
+            AnyArray::Null(array) => array.slice(o, n),
             AnyArray::Boolean(array) => array.slice(o, n),
             AnyArray::Primitive(array) => array.slice(o, n),
             AnyArray::Binary(array) => array.slice(o, n),
             AnyArray::LargeBinary(array) => array.slice(o, n),
             AnyArray::Utf8(array) => array.slice(o, n),
             AnyArray::LargeUtf8(array) => array.slice(o, n),
+            AnyArray::FixedSizeBinary(array) => array.slice(o, n),
             AnyArray::FixedSizeList(array) => array.cut(o, n),
             AnyArray::List(array) => array.slice(o, n),
             AnyArray::LargeList(array) => array.slice(o, n),
@@ -159,12 +167,14 @@ impl AnyArray {
         ensures err { IsOkUnless result (Memory alloc_error) }
     {
         match self {
+            AnyArray::Null(array) => Ok(AnyArray::Null(array.clone(alloc)?)),
             AnyArray::Boolean(array) => Ok(AnyArray::Boolean(array.clone(alloc)?)),
             AnyArray::Primitive(array) => Ok(AnyArray::Primitive(array.clone(alloc)?)),
             AnyArray::Binary(array) => Ok(AnyArray::Binary(array.clone(alloc)?)),
             AnyArray::LargeBinary(array) => Ok(AnyArray::LargeBinary(array.clone(alloc)?)),
             AnyArray::Utf8(array) => Ok(AnyArray::Utf8(array.clone(alloc)?)),
             AnyArray::LargeUtf8(array) => Ok(AnyArray::LargeUtf8(array.clone(alloc)?)),
+            AnyArray::FixedSizeBinary(array) => Ok(AnyArray::FixedSizeBinary(array.clone(alloc)?)),
             AnyArray::FixedSizeList(array) => Ok(AnyArray::FixedSizeList(array.clone(alloc)?)),
             AnyArray::List(array) => Ok(AnyArray::List(array.clone(alloc)?)),
             AnyArray::LargeList(array) => Ok(AnyArray::LargeList(array.clone(alloc)?)),
