@@ -1,3 +1,4 @@
+pub mod ChildTypes
 pub mod Children
 pub mod FixedSizeBinaries
 pub mod FixedSizes

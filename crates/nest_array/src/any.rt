@@ -1,11 +1,13 @@
 //! An array of any kind.
-ghost use Rattle.std.specs.Prelude.{◌≡◌, ◌+◌, ◌≤◌, ◌<◌, ◌↔◌, IsTrue, IfOk, IsOkUnless, option_map, alloc_error};
+ghost use Rattle.std.specs.Prelude.{◌≡◌, ◌+◌, ◌≤◌, ◌<◌, ◌↔◌, IsTrue, IfOk, IsOkUnless, MatchResult, not, option_map, alloc_error};
 ghost use Rattle.nest_memory.specs.declared.error.Error.TheVariants.{Memory};
 ghost use Rattle.nest_memory.specs.Cut.{cut};
 ghost use Rattle.nest_memory.specs.TypeOf.{type_of};
-ghost use Rattle.nest_model.specs.Accessors.{validity_of};
+ghost use Rattle.nest_model.specs.Accessors.{validity_of, with_validity};
 ghost use Rattle.nest_model.specs.Array.{TopFits};
+ghost use Rattle.nest_model.specs.Checks.{Pass};
 ghost use Rattle.nest_model.specs.Cut.{cut_layout};
+ghost use Rattle.nest_model.specs.Fits.{validity_checks, ValidityFault};
 ghost use Rattle.nest_model.specs.Layout.{layout_type};
 ghost use Rattle.nest_model.specs.Meaning.{len, slot, slots_of};
 ghost use Rattle.nest_model.specs.Nullness.{is_null_at, null_count};
@@ -24,7 +26,7 @@ use nest_flat::boolean::BooleanArray;
 use nest_flat::utf8::Utf8Array;
 use nest_memory::bitmap::immutable::Bitmap;
 use nest_memory::datatypes::DataType;
-use nest_memory::error::Error;
+use nest_memory::error::{Argument, Error};
 use std::alloc::Global;
 
 /// An array, in the variant of its data type's physical type. It stands in the place of arrow2's `Box<dyn Array>`.
@@ -63,6 +65,14 @@ macro_rules! each_array {
             AnyArray::Struct($array) => $body,
         }
     };
+}
+
+// A new validity for an array whose kind its layout shows.
+macro_rules! with_known {
+    ($array:ident, $validity:ident) => {{
+        $array.known();
+        $array.set_validity($validity)
+    }};
 }
 
 impl AnyArray {
@@ -110,6 +120,14 @@ impl AnyArray {
         each_array!(self, array => array.is_null(i))
     }
 
+    /// Whether slot i is not null.
+    pub fn is_valid(&self, i: usize) -> bool
+        requires { i < len (layout_of self.now) }
+        ensures { result ≡ not (is_null_at (layout_of self.now) i) }
+    {
+        !self.is_null(i)
+    }
+
     /// How many slots are null.
     pub fn null_count(&self) -> usize
         ensures { result ≡ null_count (layout_of self.now) }
@@ -137,6 +155,33 @@ impl AnyArray {
         let mut cut = self;
         cut.slice(o, n);
         cut
+    }
+
+    /// Takes a new validity. `NoValidity` for a null array, `ValidityLength` where it has not a bit for each slot;
+    /// the array stays as it was then.
+    pub fn set_validity(&mut self, validity: Option<Bitmap>) -> Result<(), Error>
+        ensures { MatchResult result
+            (λ _. Pass (validity_checks (layout_of self.old) validity) × (layout_of self.new ≡ with_validity (layout_of self.old) validity))
+            (λ e. ValidityFault e (layout_of self.old) validity × (layout_of self.new ≡ layout_of self.old)) }
+    {
+        match self {
+            AnyArray::Null(array) => {
+                array.known();
+                drop(validity);
+                Err(Error::InvalidArgumentError(Argument::NoValidity))
+            }
+            AnyArray::Boolean(array) => with_known!(array, validity),
+            AnyArray::Primitive(array) => with_known!(array, validity),
+            AnyArray::Binary(array) => with_known!(array, validity),
+            AnyArray::LargeBinary(array) => with_known!(array, validity),
+            AnyArray::Utf8(array) => with_known!(array, validity),
+            AnyArray::LargeUtf8(array) => with_known!(array, validity),
+            AnyArray::FixedSizeBinary(array) => with_known!(array, validity),
+            AnyArray::FixedSizeList(array) => with_known!(array, validity),
+            AnyArray::List(array) => with_known!(array, validity),
+            AnyArray::LargeList(array) => with_known!(array, validity),
+            AnyArray::Struct(array) => with_known!(array, validity),
+        }
     }
 
     #[cycle(cut)]

@@ -2,6 +2,7 @@
 #![tactic(auto)]
 
 pub mod any;
+pub mod array;
 pub mod fixed_size_binary;
 pub mod fixed_size_list;
 pub mod generic_binary;
@@ -12,6 +13,7 @@ mod types;
 pub mod window;
 
 pub use any::AnyArray;
+pub use array::Array;
 pub use fixed_size_binary::FixedSizeBinaryArray;
 pub use fixed_size_list::FixedSizeListArray;
 pub use generic_binary::{FixedSizeBinaryValues, GenericBinaryArray};

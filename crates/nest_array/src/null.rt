@@ -17,12 +17,16 @@ ghost use Rattle.nest_model.specs.Slot as slots;
 #[cfg(test)]
 mod tests;
 
+ghost use Rattle.nest_array.specs.Seen.{layout_of};
+
+use crate::any::AnyArray;
 use nest_memory::bitmap::immutable::Bitmap;
 use nest_memory::datatypes::DataType;
 use nest_memory::datatypes::physical_type::PhysicalType;
 use nest_memory::error::{Error, Spec};
 use std::alloc::Global;
 use std::marker::Model;
+use std::rc::Rc;
 
 /// An array whose every slot is null: the Null Layout of the Arrow format. It has no buffer.
 #[derive(Drop)]
@@ -159,6 +163,21 @@ impl NullArray {
             data_type: self.data_type.clone(alloc)?,
             count: self.count,
         })
+    }
+
+    /// The same array in its variant.
+    pub fn boxed(self) -> AnyArray
+        ensures { layout_of result ≡ self }
+    {
+        AnyArray::Null(self)
+    }
+
+    /// The same array, owned by what shares it.
+    pub fn arced(self, alloc: Global) -> Result<Rc<AnyArray>, Error>
+        ensures ok { IfOk result (λ r. layout_of r.value ≡ self) }
+        ensures err { IsOkUnless result (Memory alloc_error) }
+    {
+        Ok(Rc::new(alloc, self.boxed())?)
     }
 }
 

@@ -1,11 +1,12 @@
 //! Arrays of native values of any kind.
-ghost use Rattle.std.specs.Prelude.{◌≡◌, ◌+◌, ◌≤◌, ◌<◌, ◌↔◌, IsTrue, IfOk, IsOkUnless, option_map, alloc_error};
+ghost use Rattle.std.specs.Prelude.{◌≡◌, ◌+◌, ◌≤◌, ◌<◌, ◌↔◌, IsTrue, IfOk, IsOkUnless, MatchResult, option_map, alloc_error};
 ghost use Rattle.nest_memory.specs.declared.error.Error.TheVariants.{Memory};
 ghost use Rattle.nest_memory.specs.Cut.{cut};
 ghost use Rattle.nest_memory.specs.TypeOf.{type_of};
-ghost use Rattle.nest_model.specs.Accessors.{validity_of};
+ghost use Rattle.nest_model.specs.Accessors.{validity_of, with_validity};
 ghost use Rattle.nest_model.specs.Array.{TopFits};
 ghost use Rattle.nest_model.specs.Cut.{cut_layout};
+ghost use Rattle.nest_model.specs.Fits.{ValidityFits, ValidityFault};
 ghost use Rattle.nest_model.specs.Layout.{Layout, layout_type};
 ghost use Rattle.nest_model.specs.Meaning.{len, slot, slots_of};
 ghost use Rattle.nest_model.specs.Nullness.{is_null_at, null_count};
@@ -241,6 +242,16 @@ impl AnyPrimitive {
         ensures same_type { layout_type (primitive_layout self.new) ≡ layout_type (primitive_layout self.old) }
     {
         each_kind!(self, array => array.slice(o, n))
+    }
+
+    /// Takes a new validity. `ValidityLength` where it has not a bit for each slot; the array stays
+    /// as it was then.
+    pub fn set_validity(&mut self, validity: Option<Bitmap>) -> Result<(), Error>
+        ensures { MatchResult result
+            (λ _. ValidityFits validity (len (primitive_layout self.old)) × (primitive_layout self.new ≡ with_validity (primitive_layout self.old) validity))
+            (λ e. ValidityFault e (primitive_layout self.old) validity × (primitive_layout self.new ≡ primitive_layout self.old)) }
+    {
+        each_kind!(self, array => array.set_validity(validity))
     }
 
     /// The same array, on shared memory.

@@ -21,7 +21,9 @@ ghost use Rattle.nest_model.specs.Part.{valid_at};
 ghost use Rattle.nest_model.specs.Reads.{where_valid};
 ghost use Rattle.nest_model.specs.Slot as slots;
 ghost use Rattle.nest_flat.specs.FlatParts.{optional};
+ghost use Rattle.nest_array.specs.Seen.{layout_of};
 
+use crate::any::AnyArray;
 use nest_flat::validity;
 use nest_memory::bitmap::immutable::Bitmap;
 use nest_memory::buffer::Buffer;
@@ -30,6 +32,7 @@ use nest_memory::datatypes::physical_type::PhysicalType;
 use nest_memory::error::{Error, Spec};
 use std::alloc::Global;
 use std::marker::Model;
+use std::rc::Rc;
 
 /// An array of byte strings of one size, at least 1: the Fixed-Size Primitive Layout of the Arrow format, of so many
 /// bytes a slot.
@@ -270,6 +273,21 @@ impl FixedSizeBinaryArray {
             values: self.values.clone()?,
             validity: validity::clone(&self.validity)?,
         })
+    }
+
+    /// The same array in its variant.
+    pub fn boxed(self) -> AnyArray
+        ensures { layout_of result ≡ self }
+    {
+        AnyArray::FixedSizeBinary(self)
+    }
+
+    /// The same array, owned by what shares it.
+    pub fn arced(self, alloc: Global) -> Result<Rc<AnyArray>, Error>
+        ensures ok { IfOk result (λ r. layout_of r.value ≡ self) }
+        ensures err { IsOkUnless result (Memory alloc_error) }
+    {
+        Ok(Rc::new(alloc, self.boxed())?)
     }
 }
 
