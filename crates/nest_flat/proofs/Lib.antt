@@ -1,5 +1,6 @@
 pub mod Cutting
 pub mod NullCounts
+pub mod RawValues
 pub mod SlotRuns
 pub mod TextParts
 pub mod Alike

@@ -95,5 +95,5 @@ not-null y m e f h = let t = e.1 h in cc
 pub null-same : (x y : Slot) (m n : Bool) → (IsTrue m ↔ (x ≡ slots.null)) → (IsTrue n ↔ (y ≡ slots.null)) → n ≡ true → IsTrue m ↔ (x ≡ y)
 null-same x y m n e f h = let z = f.0 h in (λ t. e.0 t ∙ sym z, λ p. e.1 (p ∙ z))
 
-pub same-along : (x y x' y' : Slot) (r : Bool) → x ≡ x' → y ≡ y' → (IsTrue r ↔ (x ≡ y)) → IsTrue r ↔ (x' ≡ y')
+pub same-along : {A : Type 0} (x y x' y' : A) (r : Bool) → x ≡ x' → y ≡ y' → (IsTrue r ↔ (x ≡ y)) → IsTrue r ↔ (x' ≡ y')
 same-along x y x' y' r p q e = (λ h. sym p ∙ e.0 h ∙ q, λ h. e.1 (p ∙ h ∙ sym q))

@@ -3,3 +3,4 @@ pub mod BareSlots
 pub mod FlatParts
 pub mod NullSlots
 pub mod SameFlat
+pub mod SameRuns

@@ -44,12 +44,16 @@ impl<'a, O: Offset> FlatArray for BytesOf<'a, O> {
         self.0.is_null(i)
     }
 
+    fn has_validity(&self) -> bool {
+        self.0.validity().is_some()
+    }
+
     fn value_at(&self, i: usize) -> &'a [u8] {
         self.0.value(i)
     }
 
-    fn is_same_value(&self, other: &BytesOf<'a, O>, i: usize) -> bool {
-        self.0.value(i) == other.0.value(i)
+    fn is_same_value(&self, i: usize, other: &BytesOf<'a, O>, j: usize) -> bool {
+        self.0.value(i) == other.0.value(j)
     }
 }
 

@@ -44,12 +44,16 @@ impl<'a, O: Offset> FlatArray for TextsOf<'a, O> {
         self.0.is_null(i)
     }
 
+    fn has_validity(&self) -> bool {
+        self.0.validity().is_some()
+    }
+
     fn value_at(&self, i: usize) -> &'a str {
         self.0.value(i)
     }
 
-    fn is_same_value(&self, other: &TextsOf<'a, O>, i: usize) -> bool {
-        self.0.bytes_at(i) == other.0.bytes_at(i)
+    fn is_same_value(&self, i: usize, other: &TextsOf<'a, O>, j: usize) -> bool {
+        self.0.bytes_at(i) == other.0.bytes_at(j)
     }
 }
 
