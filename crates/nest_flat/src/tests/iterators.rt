@@ -1,0 +1,63 @@
+//! Slots and raw values from both ends, and how many are left.
+use super::{binaries, numbers, texts, truths};
+use nest_memory::datatypes::DataType;
+
+#[test]
+fn numbers_from_both_ends(rt: HostRuntime) {
+    let bits = Some([true, false, true].as_slice());
+    let array = numbers(rt.alloc(), DataType::Int32, &[1, 2, 3], bits).expect(&rt, "three slots");
+    let mut slots = array.iter();
+    assert_eq!(rt; slots.len(), 3);
+    assert_eq!(rt; slots.next_back(), Some(Some(3)));
+    assert_eq!(rt; slots.next(), Some(Some(1)));
+    assert_eq!(rt; slots.len(), 1);
+    assert_eq!(rt; slots.next_back(), Some(None));
+    assert_eq!(rt; slots.next(), None);
+    assert_eq!(rt; slots.next_back(), None);
+    let mut values = array.values_iter();
+    assert_eq!(rt; values.next_back(), Some(3));
+    assert_eq!(rt; values.next_back(), Some(2));
+    assert_eq!(rt; values.len(), 1);
+    drop(array);
+}
+
+#[test]
+fn truths_from_both_ends(rt: HostRuntime) {
+    let bits = Some([false, true].as_slice());
+    let array = truths(rt.alloc(), &[true, false], bits).expect(&rt, "two slots");
+    let mut slots = array.iter();
+    assert_eq!(rt; slots.next_back(), Some(Some(false)));
+    assert_eq!(rt; slots.len(), 1);
+    assert_eq!(rt; slots.next(), Some(None));
+    assert_eq!(rt; slots.next(), None);
+    assert_eq!(rt; array.values_iter().next(), Some(true));
+    drop(array);
+}
+
+#[test]
+fn bytes_from_both_ends(rt: HostRuntime) {
+    let bits = Some([false, true].as_slice());
+    let array = binaries(rt.alloc(), &[4, 5, 6], &[0, 1, 3], bits).expect(&rt, "two slots");
+    let mut slots = array.iter();
+    assert_eq!(rt; slots.len(), 2);
+    assert_eq!(rt; slots.next_back(), Some(Some([5, 6].as_slice())));
+    assert_eq!(rt; slots.next(), Some(None));
+    assert_eq!(rt; slots.len(), 0);
+    assert_eq!(rt; slots.next(), None);
+    assert_eq!(rt; array.values_iter().next(), Some([4].as_slice()));
+    drop(array);
+}
+
+#[test]
+fn texts_from_both_ends(rt: HostRuntime) {
+    let bits = Some([false, true].as_slice());
+    let array = texts(rt.alloc(), b"onetwo", &[0, 3, 6], bits).expect(&rt, "two slots");
+    let mut slots = array.iter();
+    assert_eq!(rt; slots.len(), 2);
+    assert_eq!(rt; slots.next_back(), Some(Some("two")));
+    assert_eq!(rt; slots.next(), Some(None));
+    assert_eq!(rt; slots.len(), 0);
+    assert_eq!(rt; slots.next_back(), None);
+    assert_eq!(rt; array.values_iter().next(), Some("one"));
+    drop(array);
+}
