@@ -49,6 +49,8 @@ impl<'a, O: Offset> FlatArray for &'a BinaryArray<O> {
     }
 }
 
+// Types of their own, since no proof covers an iterator over `Slots` whose values are references.
+
 /// The slots of an array of bytes, `None` where one is null.
 #[derive(Clone, Copy)]
 pub struct BinarySlots<'a, O: Offset>(pub &'a BinaryArray<O>);

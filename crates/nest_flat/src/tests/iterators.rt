@@ -34,17 +34,30 @@ fn truths_from_both_ends(rt: HostRuntime) {
     drop(array);
 }
 
+/// Whether the item is a slot of these bytes.
+fn holds(item: Option<Option<&[u8]>>, bytes: &[u8]) -> bool {
+    match item {
+        Some(Some(item)) => item == bytes,
+        _ => false,
+    }
+}
+
+fn is_null(item: Option<Option<&[u8]>>) -> bool {
+    matches!(item, Some(None))
+}
+
 #[test]
 fn bytes_from_both_ends(rt: HostRuntime) {
     let bits = Some([false, true].as_slice());
-    let array = binaries(rt.alloc(), &[4, 5, 6], &[0, 1, 3], bits).expect(&rt, "two slots");
+    let array = binaries(rt.alloc(), b"def", &[0, 1, 3], bits).expect(&rt, "two slots");
     let mut slots = array.iter();
     assert_eq!(rt; slots.len(), 2);
-    assert_eq!(rt; slots.next_back(), Some(Some([5, 6].as_slice())));
-    assert_eq!(rt; slots.next(), Some(None));
+    assert!(rt; holds(slots.next_back(), b"ef"));
+    assert!(rt; is_null(slots.next()));
     assert_eq!(rt; slots.len(), 0);
-    assert_eq!(rt; slots.next(), None);
-    assert_eq!(rt; array.values_iter().next(), Some([4].as_slice()));
+    assert!(rt; slots.next().is_none());
+    let first = array.values_iter().next();
+    assert!(rt; holds(Some(first), b"d"));
     drop(array);
 }
 

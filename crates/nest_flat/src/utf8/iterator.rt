@@ -49,6 +49,8 @@ impl<'a, O: Offset> FlatArray for &'a Utf8Array<O> {
     }
 }
 
+// Types of their own, since no proof covers an iterator over `Slots` whose values are references.
+
 /// The slots of an array of texts, `None` where one is null.
 #[derive(Clone, Copy)]
 pub struct Utf8Slots<'a, O: Offset>(pub &'a Utf8Array<O>);
