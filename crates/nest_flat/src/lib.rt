@@ -9,5 +9,7 @@ pub mod flat_array;
 pub mod iterator;
 pub mod primitive;
 mod spans;
+#[cfg(test)]
+mod tests;
 pub mod utf8;
 pub mod validity;

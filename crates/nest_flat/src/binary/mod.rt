@@ -69,13 +69,7 @@ fn fault<O: Offset>(
     if spans::last(offsets) > values.len() {
         return Some(Error::OutOfSpec(Spec::OffsetPastChild));
     }
-    if !validity::fits(validity, offsets.len_proxy()) {
-        return Some(Error::OutOfSpec(Spec::ValidityLength));
-    }
-    if data_type.to_physical_type() != physical::<O>() {
-        return Some(Error::OutOfSpec(Spec::WrongType));
-    }
-    None
+    validity::fault(validity, offsets.len_proxy(), data_type, physical::<O>())
 }
 
 // The physical type of such arrays by the width of their offsets.
