@@ -1,0 +1,2 @@
+//! What the builders of flat arrays share.
+pub mod validity;
