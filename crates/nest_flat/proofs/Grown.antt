@@ -226,3 +226,7 @@ pub native-item : {T : Type 0} (num : T → List ℤ) (item : Option T) (v : T) 
     → (if b then slots.number (num v) else slots.null) ≡ optional (λ x. slots.number (num x)) item
 native-item num None v d b e h = rw e refl
 native-item num (Some x) v d b e h = rw e (ap slots.number h)
+
+pub truth-item : (item : Option Bool) (b : Bool) → b ≡ is_some item → (if b then slots.truth (unwrap_or item false) else slots.null) ≡ optional slots.truth item
+truth-item None b e = rw e refl
+truth-item (Some x) b e = rw e refl

@@ -1,5 +1,5 @@
 //! The builder of arrays of booleans.
-ghost use Rattle.std.specs.Prelude.{◌≡◌, ◌≢◌, ◌+◌, ◌≤◌, ◌<◌, ◌↔◌, ◌⊎◌, ◌++◌, ◌∷◌, [], List, Option, Bool, IsTrue, IfOk, IfErr, OnOk, OnErr, IsOkUnless, IsErrOf, None, Some, option_map, alloc_error};
+ghost use Rattle.std.specs.Prelude.{◌≡◌, ◌≢◌, ◌+◌, ◌^◌, ◌≤◌, ◌<◌, ◌↔◌, ◌⊎◌, ◌++◌, ◌∷◌, [], List, Option, Bool, IsTrue, IfOk, IfErr, OnOk, OnErr, IsOkUnless, IsErrOf, None, Some, option_map, alloc_error};
 ghost use Rattle.nest_memory.specs.Cut.{cut};
 ghost use Rattle.nest_memory.specs.Physical.{physical_type};
 ghost use Rattle.nest_memory.specs.TypeOf.{type_of};
@@ -21,9 +21,8 @@ ghost use Rattle.nest_flat.specs.FlatParts.{optional};
 ghost use Rattle.nest_flat.specs.Growth.{BeginningPasses, CanDrain, Extended, Grew, joined_parts, pushed_truth};
 
 use crate::boolean::BooleanArray;
-use crate::growth::bits;
 use crate::growth::extend::{Grow, extend_by_push};
-use crate::growth::validity;
+use crate::growth::{bits, validity};
 use nest_memory::bitmap::mutable::MutableBitmap;
 use nest_memory::datatypes::DataType;
 use nest_memory::error::{Argument, Error};
@@ -172,7 +171,10 @@ impl MutableBooleanArray {
     ///
     /// # Errors
     /// `Overflow` where the length would pass a `usize`; `Memory`.
-    pub fn try_extend<I: IntoIterator<Item = Option<bool>>>(&mut self, items: I) -> Result<(), Error>
+    pub fn try_extend<I: IntoIterator<Item = Option<bool>>>(
+        &mut self,
+        items: I,
+    ) -> Result<(), Error>
         requires { CanDrain I.into_iter_gives I.IntoIter.can_next I.IntoIter.remaining items }
         ensures ok { OnOk result ((xs : List (Option Bool)) × Gives I.into_iter_gives I.IntoIter.next_gives items xs
             × Extended pushed_truth (optional slots.truth) xs self.old self.new) }
@@ -218,11 +220,17 @@ impl MutableBooleanArray {
         let len = self.values.len();
         let more = other.values.len();
         bits::append(&mut self.values, &other.values)?;
-        let joined = validity::join(self.alloc, &mut self.validity, len, &other.validity, more);
-        if joined.is_err() {
+        if let Err(error) = validity::join(
+            self.alloc,
+            &mut self.validity,
+            len,
+            &other.validity,
+            more,
+        ) {
             self.values.truncate(len);
+            return Err(error);
         }
-        joined
+        Ok(())
     }
 
     /// Keeps the first n slots.
