@@ -89,7 +89,7 @@ impl<O: Offset> BinaryArray<O> {
         requires other_within { p + n ≤ len other.now }
         ensures { IsTrue result ↔ (run (slot self.now) o n ≡ run (slot other.now) p n) }
     {
-        flat_array::same_run(BytesOf(self), o, BytesOf(other), p, n)
+        flat_array::same_run(self, o, other, p, n)
     }
 }
 
@@ -124,7 +124,7 @@ impl<O: Offset> Utf8Array<O> {
         requires other_within { p + n ≤ len other.now }
         ensures { IsTrue result ↔ (run (slot self.now) o n ≡ run (slot other.now) p n) }
     {
-        flat_array::same_run(TextsOf(self), o, TextsOf(other), p, n)
+        flat_array::same_run(self, o, other, p, n)
     }
 }
 

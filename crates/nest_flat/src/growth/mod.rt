@@ -1,0 +1,6 @@
+//! What the builders of flat arrays share.
+pub mod bits;
+pub(crate) mod extend;
+#[cfg(test)]
+mod tests;
+pub mod validity;
