@@ -2,7 +2,6 @@ pub mod Alike
 pub mod Cutting
 pub mod Extending
 pub mod Grown
-pub mod NullCounts
 pub mod Passing
 pub mod RawValues
 pub mod SlotRuns
