@@ -1,5 +1,5 @@
 -- Arrays without their validity, of this project: what their raw values are as slots.
-use Rattle.std.specs.Prelude.{Bool, true, false, not, cond, ◌↔◌, IsTrue, Some, None, get_or, map}
+use Rattle.std.specs.Prelude.{Bool, true, false, not, cond, ◌↔◌, IsTrue, None, get_or}
 use Rattle.std.specs.List.{count_by, range_with_len}
 use Rattle.std.proofs.Common.{◌≡◌, ℕ, zero, suc, ◌+◌, ◌<◌, refl, ap, sym, ◌∙◌, arith}
 use Rattle.std.proofs.lemmas.List.Sums.{sum_by-cons}

@@ -1,4 +1,4 @@
-use Rattle.std.specs.Prelude.{◌<◌, ◌≡◌}
+use Rattle.std.specs.Prelude.{◌<◌}
 use Rattle.std.proofs.Common.{arith, refl, sym, ◌∙◌}
 use Rattle.nest_model.specs.Meaning.{len}
 use Rattle.nest_model.specs.SameArray.{slots-from_places}
