@@ -3,3 +3,5 @@ pub mod NullCounts
 pub mod SlotRuns
 pub mod TextParts
 pub mod Alike
+pub mod JoinedBits
+pub mod BytesGrown

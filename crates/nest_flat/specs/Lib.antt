@@ -1,5 +1,7 @@
 pub mod AnyPrimitive
 pub mod BareSlots
+pub mod BytesGrowth
 pub mod FlatParts
+pub mod Growth
 pub mod NullSlots
 pub mod SameFlat
