@@ -1,3 +1,4 @@
 //! What the builders of flat arrays share.
 pub(crate) mod bytes;
+pub(crate) mod extend;
 pub mod validity;

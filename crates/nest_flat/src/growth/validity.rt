@@ -1,8 +1,8 @@
 //! The bits of a builder's places, which are there from the first null on.
-ghost use Rattle.std.specs.Prelude.{◌≡◌, ◌+◌, ◌^◌, ◌<◌, ◌++◌, ◌∷◌, [], true, false, None, OnOk, OnErr, IfOk, replicate, IsOkUnless, alloc_error};
+ghost use Rattle.std.specs.Prelude.{◌≡◌, ◌+◌, ◌^◌, ◌<◌, ◌++◌, ◌∷◌, [], true, false, None, OnOk, OnErr, IfOk, replicate, IsOkUnless, alloc_error, ◌≤◌, if◌then◌else◌};
 ghost use Rattle.nest_memory.specs.declared.error.Error.TheVariants.{Memory};
 ghost use Rattle.nest_model.specs.Fits.{ValidityFits};
-ghost use Rattle.nest_model.specs.Part.{cut_validity};
+ghost use Rattle.nest_model.specs.Part.{cut_validity, valid_at};
 ghost use Rattle.nest_flat.specs.FlatParts.{ValidityCovers};
 ghost use Rattle.nest_flat.specs.Growth.{pushed_validity};
 
@@ -52,6 +52,49 @@ pub fn truncate(validity: &mut Option<MutableBitmap>, n: usize)
 {
     if let Some(bits) = validity {
         bits.truncate(n);
+    }
+}
+
+/// Keeps the bits of the first n places, or none at all.
+pub fn take_back(validity: &mut Option<MutableBitmap>, n: usize, masked: bool)
+    requires { ValidityCovers validity.old n }
+    ensures { validity.new ≡ (if masked then cut_validity validity.old 0 n else None) }
+{
+    if masked {
+        truncate(validity, n);
+    } else {
+        drop(validity.take());
+    }
+}
+
+/// Whether place i is valid.
+pub fn is_valid(validity: &Option<MutableBitmap>, i: usize) -> bool
+    requires { ValidityCovers validity.now (i + 1) }
+    ensures { result ≡ valid_at validity.now i }
+{
+    match validity {
+        None => true,
+        Some(bits) => bits.get(i),
+    }
+}
+
+/// Room for the bits of so many places more.
+pub fn reserve(validity: &mut Option<MutableBitmap>, additional: usize) -> Result<(), Error>
+    ensures same { validity.new ≡ validity.old }
+    ensures memory { IsOkUnless result (Memory alloc_error) }
+{
+    match validity {
+        None => Ok(()),
+        Some(bits) => bits.reserve(additional),
+    }
+}
+
+/// Gives back memory that holds no bit, where a smaller block is there.
+pub fn shrink_to_fit(validity: &mut Option<MutableBitmap>)
+    ensures { validity.new ≡ validity.old }
+{
+    if let Some(bits) = validity {
+        bits.shrink_to_fit();
     }
 }
 
