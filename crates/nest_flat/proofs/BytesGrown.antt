@@ -2,7 +2,7 @@
 use Rattle.std.specs.Prelude.{Result, Ok, Err, IsErrOf, IsOkUnless, slice_index, Option, Some, None, is_some, if◌then◌else◌, alloc_error}
 use Rattle.std.specs.Str.{IsUtf8}
 use Rattle.std.proofs.Common.{◌≡◌, ℕ, zero, suc, ◌+◌, ◌-◌, ◌<◌, ◌≤◌, Bool, true, false, List, [], ◌∷◌, ◌++◌, length, map, take, drop, get_or, refl, ap, sym, ◌∙◌, subst, arith}
-use Rattle.std.proofs.lemmas.List.{length-append, length-map, length-drop, length-take-le, get_or-take, get_or_append_left, get_or-append-add, get_or-map, get_or-drop, drop-drop, drop-append-le, take-append-le}
+use Rattle.std.proofs.lemmas.List.{length-append, length-map, length-drop, length-take-le, get_or-take, get_or_append_left, get_or-append-add, get_or-map, get_or-drop, drop-drop, drop-append-le, take-append-le, take_all}
 use Rattle.std.proofs.Math.Seq.{drop-append_seam, take-length}
 use Rattle.nest_memory.specs.Cut.{cut}
 use Rattle.nest_memory.specs.Rising.{last_of, last_of-index, NeverFalls}
@@ -12,8 +12,10 @@ use Rattle.nest_memory.specs.declared.error.Error.TheVariants.{Memory, Overflow}
 use Rattle.nest_model.specs.Part.{Validity, valid_at, begin, extent, rows, last_offset, cut_validity}
 use Rattle.nest_model.specs.Slot as slots
 use Rattle.nest_model.specs.Slot.{Slot}
-use Rattle.nest_model.specs.Layout.{Layout, binary, text}
-use Rattle.nest_model.specs.Meaning.{slot, slots_of}
+use Rattle.nest_model.specs.Layout.{Layout, binary, text, layout_type}
+use Rattle.nest_model.specs.Accessors.{validity_of, with_validity}
+use Rattle.nest_model.specs.Cut.{cut_layout}
+use Rattle.nest_model.specs.Meaning.{run, len, slot, slots_of}
 use Rattle.nest_model.specs.Runs.{cut-cut}
 use Rattle.nest_model.specs.Reads.{extent-fits}
 use Rattle.nest_model.specs.SameArray.{slots-from_places}
@@ -22,9 +24,9 @@ use Rattle.nest_model.specs.Array.{AreOffsets}
 use Rattle.nest_model.specs.CutLaws.{slots-cut}
 use Rattle.nest_model.specs.FitsLaws.{top-fits-cut}
 use Rattle.nest_flat.specs.FlatParts.{optional}
-use Rattle.nest_flat.specs.Growth.{pushed_validity, joined_validity}
-use Rattle.nest_flat.specs.BytesGrowth.{Spans, AreSpans, item_bytes, pushed_span, joined_spans, first_spans}
-use Rattle.nest_flat.proofs.JoinedBits.{fits-joined, valid-before, valid-after, slots-joined, pushed-joined}
+use Rattle.nest_flat.specs.Growth.{pushed_validity, joined_validity, first_slots, taken_back, is_masked, Grew}
+use Rattle.nest_flat.specs.BytesGrowth.{Spans, AreSpans, spans, item_bytes, pushed_span, joined_spans, first_spans, bare_spans, spans_of, with_spans}
+use Rattle.nest_flat.proofs.Grown.{fits-joined, valid-before, valid-after, slots-joined, pushed-joined, validity-back, masked-joined, validity-whole}
 
 -- the offsets of the slots of both
 abbrev both : List ℕ → List ℕ → List ℕ
@@ -83,26 +85,49 @@ after-bytes os ps bs cs i h l z k =
     let x : extent (both os ps) (rows os + i) ≡ extent ps i = omega arith in
     (λ j. cut (bs ++ cs) (o j) (x j)) ∙ cut-right bs cs (begin ps i) (extent ps i)
 
--- slots behind others
-pub binary-joined : (l : Bool) (t : TypeTree) (s r : Spans) → AreSpans s → AreSpans r
-    → slots_of (binary l t (joined_spans s r).offsets (joined_spans s r).bytes (joined_spans s r).validity) ≡ slots_of (binary l t s.offsets s.bytes s.validity) ++ slots_of (binary l t r.offsets r.bytes r.validity)
-binary-joined l t s r h k =
-    let n = rows s.offsets in
-    let m = rows r.offsets in
-    slots-joined (binary l t s.offsets s.bytes s.validity) (binary l t r.offsets r.bytes r.validity) (binary l t (joined_spans s r).offsets (joined_spans s r).bytes (joined_spans s r).validity)
-    (rows-both s.offsets r.offsets h.rising.0)
-    (λ i j. λ w. if valid-before s.validity r.validity n m i h.fits j w then slots.bytes (before-bytes s.offsets r.offsets s.bytes r.bytes i h.rising h.ends j w) else slots.null)
-    (λ i j. λ w. if valid-after s.validity r.validity n m i h.fits j w then slots.bytes (after-bytes s.offsets r.offsets s.bytes r.bytes i h.rising.0 h.ends k.first j w) else slots.null)
+-- how arrays of bytes and of texts are made of their parts
+pub record SpansKind (make : Spans → Layout) (wrap : List ℕ → Slot) : Type 0 where
+  pub count : (s : Spans) → len (make s) ≡ rows s.offsets
+  pub place : (s : Spans) (i : ℕ) → slot (make s) i ≡ (if valid_at s.validity i then wrap (cut s.bytes (begin s.offsets i) (extent s.offsets i)) else slots.null)
+  pub typed : (s r : Spans) → layout_type (make s) ≡ layout_type (make r)
+  pub shown : (s : Spans) → spans_of (make s) ≡ s
+  pub changed : (s r : Spans) → with_spans (make s) r ≡ make r
+  pub bits : (s : Spans) → validity_of (make s) ≡ s.validity
+  pub first : (s : Spans) (n : ℕ) → first_slots (make s) n ≡ make (first_spans n s)
+  pub bare : (s : Spans) → with_validity (make s) None ≡ make (bare_spans s)
+  pub short : (s : Spans) (n : ℕ) → cut_layout (make s) 0 n ≡ make (spans (take (n + 1) s.offsets) s.bytes (cut_validity s.validity 0 n))
 
-pub text-joined : (l : Bool) (t : TypeTree) (s r : Spans) → AreSpans s → AreSpans r
-    → slots_of (text l t (joined_spans s r).offsets (joined_spans s r).bytes (joined_spans s r).validity) ≡ slots_of (text l t s.offsets s.bytes s.validity) ++ slots_of (text l t r.offsets r.bytes r.validity)
-text-joined l t s r h k =
-    let n = rows s.offsets in
-    let m = rows r.offsets in
-    slots-joined (text l t s.offsets s.bytes s.validity) (text l t r.offsets r.bytes r.validity) (text l t (joined_spans s r).offsets (joined_spans s r).bytes (joined_spans s r).validity)
-    (rows-both s.offsets r.offsets h.rising.0)
-    (λ i j. λ w. if valid-before s.validity r.validity n m i h.fits j w then slots.text (before-bytes s.offsets r.offsets s.bytes r.bytes i h.rising h.ends j w) else slots.null)
-    (λ i j. λ w. if valid-after s.validity r.validity n m i h.fits j w then slots.text (after-bytes s.offsets r.offsets s.bytes r.bytes i h.rising.0 h.ends k.first j w) else slots.null)
+abbrev pub binary_made : Bool → TypeTree → Spans → Layout
+binary_made l t s = binary l t s.offsets s.bytes s.validity
+
+abbrev pub text_made : Bool → TypeTree → Spans → Layout
+text_made l t s = text l t s.offsets s.bytes s.validity
+
+pub binary-kind : (l : Bool) (t : TypeTree) → SpansKind (binary_made l t) slots.bytes
+binary-kind l t = record {
+  count = λ s. refl;
+  place = λ s i. refl;
+  typed = λ s r. refl;
+  shown = λ s. refl;
+  changed = λ s r. refl;
+  bits = λ s. refl;
+  first = λ s n. refl;
+  bare = λ s. refl;
+  short = λ s n. refl;
+}
+
+pub text-kind : (l : Bool) (t : TypeTree) → SpansKind (text_made l t) slots.text
+text-kind l t = record {
+  count = λ s. refl;
+  place = λ s i. refl;
+  typed = λ s r. refl;
+  shown = λ s. refl;
+  changed = λ s r. refl;
+  bits = λ s. refl;
+  first = λ s n. refl;
+  bare = λ s. refl;
+  short = λ s n. refl;
+}
 
 -- each place of two runs is in the first or in the second
 places : (P : ℕ → Type 0) (n m : ℕ) → ((i : ℕ) → i < n → P i) → ((i : ℕ) → i < m → P (n + i)) → (i : ℕ) → i < n + m → P i
@@ -147,28 +172,6 @@ pushed-one s item =
 whole-item : (xs : List ℕ) → take (length xs - 0) xs ≡ xs
 whole-item xs = ap (λ n. take n xs) (let e : length xs - 0 ≡ length xs = omega arith in e) ∙ take-length xs
 
-binary-one : (l : Bool) (t : TypeTree) (item : Option (List ℕ)) → slots_of (binary l t (one item).offsets (one item).bytes (one item).validity) ≡ optional slots.bytes item ∷ []
-binary-one l t None = refl
-binary-one l t (Some xs) = ap (λ ys. slots.bytes ys ∷ []) (whole-item xs)
-
-text-one : (l : Bool) (t : TypeTree) (item : Option (List ℕ)) → slots_of (text l t (one item).offsets (one item).bytes (one item).validity) ≡ optional slots.text item ∷ []
-text-one l t None = refl
-text-one l t (Some xs) = ap (λ ys. slots.text ys ∷ []) (whole-item xs)
-
-pub binary-pushed : (l : Bool) (t : TypeTree) (s : Spans) (item : Option (List ℕ)) → AreSpans s
-    → slots_of (binary l t (pushed_span item s).offsets (pushed_span item s).bytes (pushed_span item s).validity) ≡ slots_of (binary l t s.offsets s.bytes s.validity) ++ optional slots.bytes item ∷ []
-binary-pushed l t s item h =
-    ap (λ (r : Spans). slots_of (binary l t r.offsets r.bytes r.validity)) (pushed-one s item)
-    ∙ binary-joined l t s (one item) h (one-spans item)
-    ∙ ap (λ ss. slots_of (binary l t s.offsets s.bytes s.validity) ++ ss) (binary-one l t item)
-
-pub text-pushed : (l : Bool) (t : TypeTree) (s : Spans) (item : Option (List ℕ)) → AreSpans s
-    → slots_of (text l t (pushed_span item s).offsets (pushed_span item s).bytes (pushed_span item s).validity) ≡ slots_of (text l t s.offsets s.bytes s.validity) ++ optional slots.text item ∷ []
-text-pushed l t s item h =
-    ap (λ (r : Spans). slots_of (text l t r.offsets r.bytes r.validity)) (pushed-one s item)
-    ∙ text-joined l t s (one item) h (one-spans item)
-    ∙ ap (λ ss. slots_of (text l t s.offsets s.bytes s.validity) ++ ss) (text-one l t item)
-
 pub each-pushed : (s : Spans) (item : Option (List ℕ)) → AreSpans s → IsUtf8 (item_bytes item) → EachText s.offsets s.bytes → EachText (pushed_span item s).offsets (pushed_span item s).bytes
 each-pushed s item h u t =
     each-joined s (one item) h (one-spans item) t one-text
@@ -195,24 +198,6 @@ first-bytes os bs n i h k j =
     let o = begin (take (n + 1) os) i in
     let x = extent (take (n + 1) os) i in
     cut-cut bs 0 (begin os n) o x (omega arith) ∙ ap (λ p. take x (drop p bs)) (let e : 0 + o ≡ o = omega arith in e)
-
-pub binary-first : (l : Bool) (t : TypeTree) (s : Spans) (n : ℕ) → AreSpans s → n ≤ rows s.offsets
-    → slots_of (binary l t (first_spans n s).offsets (first_spans n s).bytes (first_spans n s).validity) ≡ cut (slots_of (binary l t s.offsets s.bytes s.validity)) 0 n
-binary-first l t s n h k =
-    let os = take (n + 1) s.offsets in
-    let r = rows-first s.offsets n h.rising.0 k in
-    slots-from_places (binary l t os (take (begin s.offsets n) s.bytes) (cut_validity s.validity 0 n)) (binary l t os s.bytes (cut_validity s.validity 0 n)) refl
-    (λ i j. λ w. if valid_at (cut_validity s.validity 0 n) i then slots.bytes (first-bytes s.offsets s.bytes n i h.rising k (omega arith) w) else slots.null)
-    ∙ slots-cut (binary l t s.offsets s.bytes s.validity) 0 n (omega arith)
-
-pub text-first : (l : Bool) (t : TypeTree) (s : Spans) (n : ℕ) → AreSpans s → n ≤ rows s.offsets
-    → slots_of (text l t (first_spans n s).offsets (first_spans n s).bytes (first_spans n s).validity) ≡ cut (slots_of (text l t s.offsets s.bytes s.validity)) 0 n
-text-first l t s n h k =
-    let os = take (n + 1) s.offsets in
-    let r = rows-first s.offsets n h.rising.0 k in
-    slots-from_places (text l t os (take (begin s.offsets n) s.bytes) (cut_validity s.validity 0 n)) (text l t os s.bytes (cut_validity s.validity 0 n)) refl
-    (λ i j. λ w. if valid_at (cut_validity s.validity 0 n) i then slots.text (first-bytes s.offsets s.bytes n i h.rising k (omega arith) w) else slots.null)
-    ∙ slots-cut (text l t s.offsets s.bytes s.validity) 0 n (omega arith)
 
 pub each-first : (s : Spans) (n : ℕ) → AreSpans s → n ≤ rows s.offsets → EachText s.offsets s.bytes → EachText (first_spans n s).offsets (first_spans n s).bytes
 each-first s n h k t i j =
@@ -267,14 +252,29 @@ parts-pushed s os bs xs va n item e f g v m =
     let w = v ∙ ap (λ i. pushed_validity s.validity i (is_some item)) m in
     λ j. record { offsets = o j; bytes = g j; validity = w j }
 
-pub parts-first : (s : Spans) (os bs : List ℕ) (va : Validity) (n last : ℕ) → AreSpans s → n ≤ rows s.offsets → os ≡ take (n + 1) s.offsets → last ≡ last_of os → bs ≡ take last s.bytes → va ≡ cut_validity s.validity 0 n
-    → record { offsets = os; bytes = bs; validity = va } ≡ first_spans n s
-parts-first s os bs va n last h k e f g v =
+pub parts-taken : (s : Spans) (os bs : List ℕ) (va : Validity) (n last : ℕ) (m : Bool) → AreSpans s → n ≤ rows s.offsets → os ≡ take (n + 1) s.offsets → last ≡ last_of os → bs ≡ take last s.bytes
+    → va ≡ (if m then cut_validity s.validity 0 n else None) → spans os bs va ≡ (if m then first_spans n s else bare_spans (first_spans n s))
+parts-taken s os bs va n last m h k e f g v =
     let z = h.rising.0 in
     let p : 0 < length os = omega (arith, ap length e, length-take-le (n + 1) s.offsets (omega arith)) in
-    let l : last ≡ begin s.offsets n = f ∙ last_of-index os 0 p ∙ ap last_offset e ∙ last-first s.offsets n h.rising.0 k in
+    let l : last ≡ begin s.offsets n = f ∙ last_of-index os 0 p ∙ ap last_offset e ∙ last-first s.offsets n z k in
     let b : bs ≡ take (begin s.offsets n) s.bytes = g ∙ ap (λ i. take i s.bytes) l in
-    λ w. record { offsets = e w; bytes = b w; validity = v w }
+    by-mask m v e b
+  where
+    by-mask : (m : Bool) → va ≡ (if m then cut_validity s.validity 0 n else None) → os ≡ take (n + 1) s.offsets → bs ≡ take (begin s.offsets n) s.bytes → spans os bs va ≡ (if m then first_spans n s else bare_spans (first_spans n s))
+    by-mask true v e b = λ w. spans (e w) (b w) (v w)
+    by-mask false v e b = λ w. spans (e w) (b w) (v w)
+
+pub parts-joined : (s r : Spans) (os bs cs : List ℕ) (va vb : Validity) (n m : ℕ) → os ≡ s.offsets ++ map (λ e. last_offset s.offsets + e) (drop 1 r.offsets) → bs ≡ s.bytes ++ cs → cs ≡ r.bytes
+    → va ≡ joined_validity s.validity n vb m → vb ≡ r.validity → n ≡ rows s.offsets → m ≡ rows r.offsets → spans os bs va ≡ joined_spans s r
+parts-joined s r os bs cs va vb n m e f g v x i j =
+    let b = f ∙ ap (λ ys. s.bytes ++ ys) g in
+    λ w. spans (e w) (b w) ((v ∙ (λ q. joined_validity s.validity (i q) (x q) (j q))) w)
+
+pub taken-whole : (s : Spans) (n : ℕ) (m : Bool) → AreSpans s → n ≤ rows s.offsets
+    → (last_offset (if m then first_spans n s else bare_spans (first_spans n s)).offsets ≡ length (if m then first_spans n s else bare_spans (first_spans n s)).bytes) × ValidityFits (if m then first_spans n s else bare_spans (first_spans n s)).validity (rows (if m then first_spans n s else bare_spans (first_spans n s)).offsets)
+taken-whole s n true h k = first-whole s n h k
+taken-whole s n false h k = ((first-whole s n h k).0, tt)
 
 -- a call that lacks memory alone never answers that a number is past its type
 pub memory-alone : {T U : Type 0} (r : Result T Error) (x : U) (P : Type 0) → IsOkUnless r (Memory alloc_error) → (P → IsErrOf {T = U} {E = Error} (Ok x) Overflow) → (IsErrOf r Overflow → P) × (P → IsErrOf r Overflow)
@@ -285,3 +285,134 @@ memory-alone {T} {U} r x P h n = (λ e. absurd (never r h e), λ p. absurd (not-
     never (Err y) h e = cc
     not-err : (x : U) → IsErrOf {T = U} {E = Error} (Ok x) Overflow → ⊥
     not-err x e = cc
+
+-- ---- the slots of arrays of bytes or of texts
+module _ (make : Spans → Layout) (wrap : List ℕ → Slot) (kind : SpansKind make wrap) where
+  pub kind-joined : (s r : Spans) → AreSpans s → AreSpans r → slots_of (make (joined_spans s r)) ≡ slots_of (make s) ++ slots_of (make r)
+  kind-joined s r h k =
+      let n = rows s.offsets in
+      let m = rows r.offsets in
+      let a = kind.count s in
+      let b = kind.count r in
+      let c = kind.count (joined_spans s r) in
+      let e = rows-both s.offsets r.offsets h.rising.0 in
+      slots-joined (make s) (make r) (make (joined_spans s r)) (omega arith)
+      (λ i j.
+      let q : i < n = omega arith in
+      kind.place (joined_spans s r) i
+      ∙ (λ w. if valid-before s.validity r.validity n m i h.fits q w then wrap (before-bytes s.offsets r.offsets s.bytes r.bytes i h.rising h.ends q w) else slots.null)
+      ∙ sym (kind.place s i))
+      (λ i j.
+      let q : i < m = omega arith in
+      ap (λ p. slot (make (joined_spans s r)) (p + i)) a
+      ∙ kind.place (joined_spans s r) (n + i)
+      ∙ (λ w. if valid-after s.validity r.validity n m i h.fits q w then wrap (after-bytes s.offsets r.offsets s.bytes r.bytes i h.rising.0 h.ends k.first q w) else slots.null)
+      ∙ sym (kind.place r i))
+
+  kind-one : (item : Option (List ℕ)) → slots_of (make (one item)) ≡ optional wrap item ∷ []
+  kind-one None = ap (run (slot (make (one None))) 0) (kind.count (one None)) ∙ ap (λ x. x ∷ []) (kind.place (one None) 0)
+  kind-one (Some xs) =
+      ap (run (slot (make (one (Some xs)))) 0) (kind.count (one (Some xs)))
+      ∙ ap (λ x. x ∷ []) (kind.place (one (Some xs)) 0 ∙ ap wrap (whole-item xs))
+
+  pub kind-pushed : (s : Spans) (item : Option (List ℕ)) → AreSpans s → slots_of (make (pushed_span item s)) ≡ slots_of (make s) ++ optional wrap item ∷ []
+  kind-pushed s item h =
+      ap (λ (r : Spans). slots_of (make r)) (pushed-one s item)
+      ∙ kind-joined s (one item) h (one-spans item)
+      ∙ ap (λ ss. slots_of (make s) ++ ss) (kind-one item)
+
+  pub kind-first : (s : Spans) (n : ℕ) → AreSpans s → n ≤ rows s.offsets → slots_of (make (first_spans n s)) ≡ cut (slots_of (make s)) 0 n
+  kind-first s n h k =
+      let os = take (n + 1) s.offsets in
+      let va = cut_validity s.validity 0 n in
+      let long : Spans = spans os s.bytes va in
+      let r = rows-first s.offsets n h.rising.0 k in
+      let a = kind.count (first_spans n s) in
+      let b = kind.count long in
+      let c = kind.count s in
+      slots-from_places (make (first_spans n s)) (make long) (a ∙ sym b)
+      (λ i j.
+      kind.place (first_spans n s) i
+      ∙ (λ w. if valid_at va i then wrap (first-bytes s.offsets s.bytes n i h.rising k (omega arith) w) else slots.null)
+      ∙ sym (kind.place long i))
+      ∙ ap slots_of (sym (kind.short s n))
+      ∙ slots-cut (make s) 0 n (omega arith)
+
+  -- what a clause sees of new parts
+  pub kept-with : (s r : Spans) (a : Layout) (f : Spans → Spans) → make s ≡ a → r ≡ f s → make r ≡ with_spans a (f (spans_of a))
+  kept-with s r a f e g =
+      ap make g
+      ∙ sym (kind.changed s (f s))
+      ∙ ap (λ (q : Spans). with_spans (make s) (f q)) (sym (kind.shown s))
+      ∙ ap (λ b. with_spans b (f (spans_of b))) e
+
+  first-both : (s r : Spans) (n : ℕ) → AreSpans s → n ≤ rows s.offsets → is_some s.validity ≡ true → first_spans n (joined_spans s r) ≡ first_spans n s
+  first-both s r n h k m =
+      let z = h.rising.0 in
+      let more = map (λ (e : ℕ). last_offset s.offsets + e) (drop 1 r.offsets) in
+      let os = take-append-le (n + 1) s.offsets more (omega arith) in
+      let e = get_or_append_left s.offsets more 0 n (omega arith) in
+      let l = h.rising.1 n (length s.offsets - 1) (omega arith) (omega arith) in
+      let ends = h.ends in
+      let bs = ap (λ i. take i (s.bytes ++ r.bytes)) e ∙ take-append-le (begin s.offsets n) s.bytes r.bytes (omega arith) in
+      let va = validity-back s.validity r.validity (rows s.offsets) (rows r.offsets) n h.fits k m in
+      λ w. spans (os w) (bs w) (va w)
+
+  bare-both : (s r : Spans) (n : ℕ) → AreSpans s → n ≤ rows s.offsets → bare_spans (first_spans n (joined_spans s r)) ≡ bare_spans (first_spans n s)
+  bare-both s r n h k =
+      let z = h.rising.0 in
+      let more = map (λ (e : ℕ). last_offset s.offsets + e) (drop 1 r.offsets) in
+      let os = take-append-le (n + 1) s.offsets more (omega arith) in
+      let e = get_or_append_left s.offsets more 0 n (omega arith) in
+      let l = h.rising.1 n (length s.offsets - 1) (omega arith) (omega arith) in
+      let ends = h.ends in
+      let bs = ap (λ i. take i (s.bytes ++ r.bytes)) e ∙ take-append-le (begin s.offsets n) s.bytes r.bytes (omega arith) in
+      λ w. spans (os w) (bs w) None
+
+  -- the first slots, or those without a validity
+  pub kind-taken : (s : Spans) (n : ℕ) (m : Bool) → taken_back (make s) n m ≡ make (if m then first_spans n s else bare_spans (first_spans n s))
+  kind-taken s n true = kind.first s n
+  kind-taken s n false = ap (λ a. with_validity a None) (kind.first s n) ∙ kind.bare (first_spans n s)
+
+  kind-back : (s r : Spans) (n : ℕ) (m : Bool) → AreSpans s → n ≤ rows s.offsets → (m ≡ true → is_some s.validity ≡ true) → taken_back (make (joined_spans s r)) n m ≡ taken_back (make s) n m
+  kind-back s r n true h k e = kind-taken (joined_spans s r) n true ∙ ap make (first-both s r n h k (e refl)) ∙ sym (kind-taken s n true)
+  kind-back s r n false h k e = kind-taken (joined_spans s r) n false ∙ ap make (bare-both s r n h k) ∙ sym (kind-taken s n false)
+
+  pub grew-joined : (s r : Spans) → AreSpans s → AreSpans r → Grew (slots_of (make r)) (make s) (make (joined_spans s r))
+  grew-joined s r h k =
+      let b = kind.bits s in
+      let c = kind.bits (joined_spans s r) in
+      let l = kind.count s in
+      record {
+        slots = kind-joined s r h k;
+        same_type = kind.typed (joined_spans s r) s;
+        masked = λ e. ap is_some c ∙ masked-joined s.validity r.validity (rows s.offsets) (rows r.offsets) (ap is_some (sym b) ∙ e);
+        back = λ n m i e. kind-back s r n m h (omega arith) (λ f. ap is_some (sym b) ∙ e f);
+      }
+
+  pub grew-pushed : (s : Spans) (item : Option (List ℕ)) → AreSpans s → Grew (optional wrap item ∷ []) (make s) (make (pushed_span item s))
+  grew-pushed s item h = rw (pushed-one s item, ← kind-one item) (grew-joined s (one item) h (one-spans item))
+
+  whole-masked : (s : Spans) (m : Bool) → AreSpans s → m ≡ is_some s.validity → (if m then first_spans (rows s.offsets) s else bare_spans (first_spans (rows s.offsets) s)) ≡ s
+  whole-masked s m h e =
+      let z = h.rising.0 in
+      let os = take_all (rows s.offsets + 1) s.offsets (omega arith) in
+      let l = h.ends in
+      let bs = take_all (begin s.offsets (rows s.offsets)) s.bytes (omega arith) in
+      masked-whole s m os bs (validity-whole s.validity (rows s.offsets) h.fits) e
+    where
+      masked-whole : (s : Spans) (m : Bool) → take (rows s.offsets + 1) s.offsets ≡ s.offsets → take (begin s.offsets (rows s.offsets)) s.bytes ≡ s.bytes → cut_validity s.validity 0 (rows s.offsets) ≡ s.validity → m ≡ is_some s.validity
+          → (if m then first_spans (rows s.offsets) s else bare_spans (first_spans (rows s.offsets) s)) ≡ s
+      masked-whole s true a b c e = λ w. spans (a w) (b w) (c w)
+      masked-whole s false a b c e = let n = unmasked s.validity e in λ w. spans (a w) (b w) (n w)
+        where
+          unmasked : (va : Validity) → false ≡ is_some va → None ≡ va
+          unmasked None e = refl
+          unmasked (Some bits) e = cc
+
+  -- all slots taken back
+  pub kind-whole : (s : Spans) → AreSpans s → taken_back (make s) (len (make s)) (is_masked (make s)) ≡ make s
+  kind-whole s h =
+      ap (λ n. taken_back (make s) n (is_masked (make s))) (kind.count s)
+      ∙ kind-taken s (rows s.offsets) (is_masked (make s))
+      ∙ ap make (whole-masked s (is_masked (make s)) h (ap is_some (kind.bits s)))

@@ -5,5 +5,4 @@ pub mod NullCounts
 pub mod SlotRuns
 pub mod TextParts
 pub mod Alike
-pub mod JoinedBits
 pub mod BytesGrown

@@ -1,5 +1,7 @@
 -- Builders of bytes and of texts: the parts of their slots, and what each call makes of them.
-use Rattle.std.specs.Prelude.{◌≡◌, ℕ, ◌+◌, List, [], ◌∷◌, ◌++◌, map, take, drop, length, Option, Some, None, is_some}
+use Rattle.std.specs.Prelude.{◌≡◌, ℕ, ◌+◌, List, [], ◌∷◌, ◌++◌, map, take, drop, length, Option, Some, None, is_some, Bool, if◌then◌else◌}
+use Rattle.nest_memory.specs.TypeTree as types
+use Rattle.nest_memory.specs.TypeTree.{TypeTree}
 use Rattle.nest_model.specs.Part.{Validity, rows, begin, last_offset, cut_validity}
 use Rattle.nest_model.specs.Fits.{ValidityFits}
 use Rattle.nest_model.specs.Array.{AreOffsets}
@@ -13,9 +15,12 @@ pub record Spans : Type 0 where
   pub bytes : List ℕ
   pub validity : Validity
 
+abbrev pub spans : List ℕ → List ℕ → Validity → Spans
+spans os bs va = record { offsets = os; bytes = bs; validity = va }
+
 -- no slot, and no validity
 abbrev pub no_spans : Spans
-no_spans = record { offsets = 0 ∷ []; bytes = []; validity = None }
+no_spans = spans (0 ∷ []) [] None
 
 -- what holds of a builder's: the first slot begins with the bytes, and the last ends with them
 pub record AreSpans (s : Spans) : Type 0 where
@@ -53,6 +58,10 @@ first_spans n s = record {
   validity = cut_validity s.validity 0 n;
 }
 
+-- the same without a validity
+abbrev pub bare_spans : Spans → Spans
+bare_spans s = spans s.offsets s.bytes None
+
 -- the parts of an array of bytes or of texts, and such an array of other parts
 abbrev pub spans_of : Layout → Spans
 spans_of a = record { offsets = offsets_of a; bytes = bytes_of a; validity = validity_of a }
@@ -61,3 +70,10 @@ abbrev pub with_spans : Layout → Spans → Layout
 with_spans (binary l t os bs va) s = binary l t s.offsets s.bytes s.validity
 with_spans (text l t os bs va) s = text l t s.offsets s.bytes s.validity
 with_spans a s = a
+
+-- the types that builders of bytes and of texts begin with, by the width of their offsets
+abbrev pub binary_tree : Bool → TypeTree
+binary_tree large = if large then types.large_binary else types.binary
+
+abbrev pub text_tree : Bool → TypeTree
+text_tree large = if large then types.large_utf8 else types.utf8

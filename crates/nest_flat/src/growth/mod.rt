@@ -1,4 +1,5 @@
 //! What the builders of flat arrays share.
+pub mod bits;
 pub(crate) mod bytes;
 pub(crate) mod extend;
 pub mod validity;
