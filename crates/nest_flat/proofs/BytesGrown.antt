@@ -1,5 +1,5 @@
 -- Builders of bytes and of texts: their offsets and their slots after each call.
-use Rattle.std.specs.Prelude.{Result, Ok, Err, IsErrOf, IsOkUnless, slice_index, Option, Some, None, is_some, if◌then◌else◌, alloc_error}
+use Rattle.std.specs.Prelude.{Result, Ok, Err, IsErrOf, IsOkUnless, OnOk, OnErr, slice_index, Option, Some, None, is_some, if◌then◌else◌, alloc_error}
 use Rattle.std.specs.Str.{IsUtf8}
 use Rattle.std.proofs.Common.{◌≡◌, ℕ, zero, suc, ◌+◌, ◌-◌, ◌<◌, ◌≤◌, Bool, true, false, List, [], ◌∷◌, ◌++◌, length, map, take, drop, get_or, refl, ap, sym, ◌∙◌, subst, arith}
 use Rattle.std.proofs.lemmas.List.{length-append, length-map, length-drop, length-take-le, get_or-take, get_or_append_left, get_or-append-add, get_or-map, get_or-drop, drop-drop, drop-append-le, take-append-le, take_all}
@@ -285,6 +285,18 @@ memory-alone {T} {U} r x P h n = (λ e. absurd (never r h e), λ p. absurd (not-
     never (Err y) h e = cc
     not-err : (x : U) → IsErrOf {T = U} {E = Error} (Ok x) Overflow → ⊥
     not-err x e = cc
+
+pub each-taken : (s : Spans) (n : ℕ) (m : Bool) → AreSpans s → n ≤ rows s.offsets → EachText s.offsets s.bytes → EachText (if m then first_spans n s else bare_spans (first_spans n s)).offsets (if m then first_spans n s else bare_spans (first_spans n s)).bytes
+each-taken s n true h k t = each-first s n h k t
+each-taken s n false h k t = each-first s n h k t
+
+pub each-at : (s r : Spans) → s ≡ r → EachText r.offsets r.bytes → EachText s.offsets s.bytes
+each-at s r e t = subst (λ (q : Spans). EachText q.offsets q.bytes) (sym e) t
+
+-- after a call that was refused or not
+pub each-after : {T : Type 0} (r : Result T Error) (new grown old : Spans) → OnOk r (new ≡ grown) → OnErr r (new ≡ old) → EachText grown.offsets grown.bytes → EachText old.offsets old.bytes → EachText new.offsets new.bytes
+each-after (Ok x) new grown old a b t u = each-at new grown a t
+each-after (Err e) new grown old a b t u = each-at new old b u
 
 -- ---- the slots of arrays of bytes or of texts
 module _ (make : Spans → Layout) (wrap : List ℕ → Slot) (kind : SpansKind make wrap) where

@@ -1,5 +1,7 @@
 -- Builders of bytes and of texts: the parts of their slots, and what each call makes of them.
-use Rattle.std.specs.Prelude.{◌≡◌, ℕ, ◌+◌, List, [], ◌∷◌, ◌++◌, map, take, drop, length, Option, Some, None, is_some, Bool, if◌then◌else◌}
+use Rattle.std.specs.Prelude.{◌≡◌, ◌⊎◌, ◌<◌, ℕ, ◌+◌, List, [], ◌∷◌, ◌++◌, map, take, drop, length, Option, Some, None, is_some, Bool, if◌then◌else◌, alloc_error}
+use Rattle.nest_memory.specs.declared.error.Error.{Error}
+use Rattle.nest_memory.specs.declared.error.Error.TheVariants.{Memory, Overflow}
 use Rattle.nest_memory.specs.TypeTree as types
 use Rattle.nest_memory.specs.TypeTree.{TypeTree}
 use Rattle.nest_model.specs.Part.{Validity, rows, begin, last_offset, cut_validity}
@@ -70,6 +72,14 @@ abbrev pub with_spans : Layout → Spans → Layout
 with_spans (binary l t os bs va) s = binary l t s.offsets s.bytes s.validity
 with_spans (text l t os bs va) s = text l t s.offsets s.bytes s.validity
 with_spans a s = a
+
+-- a builder's parts with an item more
+abbrev pub pushed_item : Layout → Option (List ℕ) → Layout
+pushed_item a item = with_spans a (pushed_span item (spans_of a))
+
+-- why an item is refused: its end is past the largest offset, or memory is wanting
+abbrev pub HasPushCause : ℕ → Error → Layout → Option (List ℕ) → Type 0
+HasPushCause largest e a item = ((e ≡ Overflow) × (largest < last_offset (offsets_of a) + length (item_bytes item))) ⊎ (e ≡ Memory alloc_error)
 
 -- the types that builders of bytes and of texts begin with, by the width of their offsets
 abbrev pub binary_tree : Bool → TypeTree
