@@ -20,7 +20,8 @@ use Rattle.nest_model.specs.Runs.{cut-cut}
 use Rattle.nest_model.specs.Reads.{extent-fits}
 use Rattle.nest_model.specs.SameArray.{slots-from_places}
 use Rattle.nest_model.specs.Fits.{ValidityFits, EachText}
-use Rattle.nest_model.specs.Array.{AreOffsets}
+use Rattle.nest_memory.specs.Physical.{physical_type, text_of_width}
+use Rattle.nest_model.specs.Array.{AreOffsets, TopFits}
 use Rattle.nest_model.specs.CutLaws.{slots-cut}
 use Rattle.nest_model.specs.FitsLaws.{top-fits-cut}
 use Rattle.nest_flat.specs.FlatParts.{optional}
@@ -283,6 +284,7 @@ memory-alone {T} {U} r x P h n = (λ e. absurd (never r h e), λ p. absurd (not-
     never : (r : Result T Error) → IsOkUnless r (Memory alloc_error) → IsErrOf r Overflow → ⊥
     never (Ok y) h e = cc
     never (Err y) h e = cc
+
     not-err : (x : U) → IsErrOf {T = U} {E = Error} (Ok x) Overflow → ⊥
     not-err x e = cc
 
@@ -297,6 +299,10 @@ each-at s r e t = subst (λ (q : Spans). EachText q.offsets q.bytes) (sym e) t
 pub each-after : {T : Type 0} (r : Result T Error) (new grown old : Spans) → OnOk r (new ≡ grown) → OnErr r (new ≡ old) → EachText grown.offsets grown.bytes → EachText old.offsets old.bytes → EachText new.offsets new.bytes
 each-after (Ok x) new grown old a b t u = each-at new grown a t
 each-after (Err e) new grown old a b t u = each-at new old b u
+
+-- parts that make an array of texts
+pub text-fits : (l : Bool) (t : TypeTree) (s : Spans) → AreSpans s → EachText s.offsets s.bytes → physical_type t ≡ text_of_width l → TopFits (text l t s.offsets s.bytes s.validity)
+text-fits l t s h e p = let k = h.ends in (h.rising, (omega arith, (e, (h.fits, (p, tt)))))
 
 -- ---- the slots of arrays of bytes or of texts
 module _ (make : Spans → Layout) (wrap : List ℕ → Slot) (kind : SpansKind make wrap) where

@@ -323,6 +323,7 @@ impl<'a, O: Offset> Grow<Option<&'a str>> for MutableUtf8Array<O> {
         requires { n ≤ len self.old }
         ensures { self.new ≡ taken_back self.old n masked }
     {
+        self.spans.known();
         self.spans.take_back(n, masked);
     }
 }
