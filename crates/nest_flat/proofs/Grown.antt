@@ -11,12 +11,11 @@ use Rattle.nest_model.specs.Slot as slots
 use Rattle.nest_model.specs.Slot.{Slot}
 use Rattle.nest_model.specs.Layout.{Layout, boolean, primitive, layout_type}
 use Rattle.nest_model.specs.Accessors.{validity_of, with_validity}
-use Rattle.nest_model.specs.Cut.{cut_layout}
 use Rattle.nest_model.specs.Meaning.{run, len, slot, slots_of}
 use Rattle.nest_model.specs.Runs.{run-ext}
 use Rattle.nest_model.specs.Fits.{ValidityFits}
 use Rattle.nest_flat.specs.FlatParts.{optional}
-use Rattle.nest_flat.specs.Growth.{pushed_validity, joined_validity, taken_back, Grew}
+use Rattle.nest_flat.specs.Growth.{pushed_validity, joined_validity, zeros, pushed_truth, pushed_native, joined_parts, pushed_all, is_masked, first_slots, taken_back, Grew}
 
 -- the bits of both
 pub fits-joined : (va vb : Validity) (n m k : ℕ) → ValidityFits va n → ValidityFits vb m → k ≡ n + m → ValidityFits (joined_validity va n vb m) k
@@ -26,14 +25,14 @@ fits-joined (Some bits) None n m k h g e = omega (arith, length-append bits (rep
 fits-joined (Some bits) (Some more) n m k h g e = omega (arith, length-append bits more)
 
 -- the places of the first keep their bits, and those of the second follow
-valid-before : (va vb : Validity) (n m i : ℕ) → ValidityFits va n → i < n → valid_at (joined_validity va n vb m) i ≡ valid_at va i
+pub valid-before : (va vb : Validity) (n m i : ℕ) → ValidityFits va n → i < n → valid_at (joined_validity va n vb m) i ≡ valid_at va i
 valid-before None None n m i h k = refl
 valid-before None (Some more) n m i h k =
     get_or_append_left (replicate n true) more true i (omega (arith, length-replicate n true)) ∙ get_or-replicate n i true true k
 valid-before (Some bits) None n m i h k = get_or_append_left bits (replicate m true) true i (omega arith)
 valid-before (Some bits) (Some more) n m i h k = get_or_append_left bits more true i (omega arith)
 
-valid-after : (va vb : Validity) (n m i : ℕ) → ValidityFits va n → i < m → valid_at (joined_validity va n vb m) (n + i) ≡ valid_at vb i
+pub valid-after : (va vb : Validity) (n m i : ℕ) → ValidityFits va n → i < m → valid_at (joined_validity va n vb m) (n + i) ≡ valid_at vb i
 valid-after None None n m i h k = refl
 valid-after None (Some more) n m i h k =
     ap (λ p. get_or (replicate n true ++ more) (p + i) true) (sym (length-replicate n true)) ∙ get_or-append-add (replicate n true) more i true
@@ -42,7 +41,7 @@ valid-after (Some bits) None n m i h k =
 valid-after (Some bits) (Some more) n m i h k = ap (λ p. get_or (bits ++ more) (p + i) true) (sym h) ∙ get_or-append-add bits more i true
 
 -- runs of slots one after another
-run-append : (f : ℕ → Slot) (o n m : ℕ) → run f o (n + m) ≡ run f o n ++ run f (o + n) m
+pub run-append : (f : ℕ → Slot) (o n m : ℕ) → run f o (n + m) ≡ run f o n ++ run f (o + n) m
 run-append f o zero m =
     let z : 0 + m ≡ m = omega arith in
     let e : o ≡ o + 0 = omega arith in
@@ -67,22 +66,26 @@ slots-joined a b c e f g =
     at-zero i = omega arith
 
 -- one place more is a joined one
-pushed-joined : (va : Validity) (n : ℕ) (b : Bool) → pushed_validity va n b ≡ joined_validity va n (if b then None else Some (false ∷ [])) 1
+pub pushed-joined : (va : Validity) (n : ℕ) (b : Bool) → pushed_validity va n b ≡ joined_validity va n (if b then None else Some (false ∷ [])) 1
 pushed-joined None n true = refl
 pushed-joined None n false = refl
 pushed-joined (Some bits) n true = refl
 pushed-joined (Some bits) n false = refl
 
 -- bits taken back
-validity-back : (va vb : Validity) (n m k : ℕ) → ValidityFits va n → k ≤ n → is_some va ≡ true → cut_validity (joined_validity va n vb m) 0 k ≡ cut_validity va 0 k
+pub validity-back : (va vb : Validity) (n m k : ℕ) → ValidityFits va n → k ≤ n → is_some va ≡ true → cut_validity (joined_validity va n vb m) 0 k ≡ cut_validity va 0 k
 validity-back None vb n m k h l e = cc
 validity-back (Some bits) None n m k h l e = ap Some (take-append-le k bits (replicate m true) (omega arith))
 validity-back (Some bits) (Some more) n m k h l e = ap Some (take-append-le k bits more (omega arith))
 
-masked-joined : (va vb : Validity) (n m : ℕ) → is_some va ≡ true → is_some (joined_validity va n vb m) ≡ true
+pub masked-joined : (va vb : Validity) (n m : ℕ) → is_some va ≡ true → is_some (joined_validity va n vb m) ≡ true
 masked-joined None vb n m e = cc
 masked-joined (Some bits) None n m e = refl
 masked-joined (Some bits) (Some more) n m e = refl
+
+pub validity-whole : (va : Validity) (n : ℕ) → ValidityFits va n → cut_validity va 0 n ≡ va
+validity-whole None n h = refl
+validity-whole (Some bits) n h = ap Some (take_all n bits (omega arith))
 
 -- how a kind of flat array is made of its raw values and its validity
 pub record Made {A : Type 0} (make : List A → Validity → Layout) (f : A → Slot) (d : A) : Type 0 where
@@ -90,7 +93,7 @@ pub record Made {A : Type 0} (make : List A → Validity → Layout) (f : A → 
   pub place : (xs : List A) (va : Validity) (i : ℕ) → slot (make xs va) i ≡ (if valid_at va i then f (get_or xs i d) else slots.null)
   pub typed : (xs ys : List A) (va wa : Validity) → layout_type (make xs va) ≡ layout_type (make ys wa)
   pub bits : (xs : List A) (va : Validity) → validity_of (make xs va) ≡ va
-  pub short : (xs : List A) (va : Validity) (n : ℕ) → cut_layout (make xs va) 0 n ≡ make (take n xs) (cut_validity va 0 n)
+  pub short : (xs : List A) (va : Validity) (n : ℕ) → first_slots (make xs va) n ≡ make (take n xs) (cut_validity va 0 n)
   pub bare : (xs : List A) (va wa : Validity) → with_validity (make xs va) wa ≡ make xs wa
 
 pub made-native : (k : PrimitiveType) (t : TypeTree) → Made (primitive k t) slots.number []
@@ -142,17 +145,17 @@ module _ {A : Type 0} (make : List A → Validity → Layout) (f : A → Slot) (
       (λ i k. both-before xs ys va vb i h (omega arith))
       (λ i k. ap (λ p. slot (both xs ys va vb) (p + i)) l ∙ both-after xs ys va vb i h (omega arith))
 
-  back-true : (xs ys : List A) (va vb : Validity) (n : ℕ) → ValidityFits va (length xs) → n ≤ length xs → is_some va ≡ true → cut_layout (both xs ys va vb) 0 n ≡ cut_layout (make xs va) 0 n
+  back-true : (xs ys : List A) (va vb : Validity) (n : ℕ) → ValidityFits va (length xs) → n ≤ length xs → is_some va ≡ true → first_slots (both xs ys va vb) n ≡ first_slots (make xs va) n
   back-true xs ys va vb n h l e =
       kind.short (xs ++ ys) (joined_validity va (length xs) vb (length ys)) n
       ∙ ap (λ zs. make zs (cut_validity (joined_validity va (length xs) vb (length ys)) 0 n)) (take-append-le n xs ys l)
       ∙ ap (make (take n xs)) (validity-back va vb (length xs) (length ys) n h l e)
       ∙ sym (kind.short xs va n)
 
-  bare-short : (xs : List A) (va : Validity) (n : ℕ) → with_validity (cut_layout (make xs va) 0 n) None ≡ make (take n xs) None
+  bare-short : (xs : List A) (va : Validity) (n : ℕ) → with_validity (first_slots (make xs va) n) None ≡ make (take n xs) None
   bare-short xs va n = ap (λ a. with_validity a None) (kind.short xs va n) ∙ kind.bare (take n xs) (cut_validity va 0 n) None
 
-  back-false : (xs ys : List A) (va vb : Validity) (n : ℕ) → n ≤ length xs → with_validity (cut_layout (both xs ys va vb) 0 n) None ≡ with_validity (cut_layout (make xs va) 0 n) None
+  back-false : (xs ys : List A) (va vb : Validity) (n : ℕ) → n ≤ length xs → with_validity (first_slots (both xs ys va vb) n) None ≡ with_validity (first_slots (make xs va) n) None
   back-false xs ys va vb n l =
       bare-short (xs ++ ys) (joined_validity va (length xs) vb (length ys)) n
       ∙ ap (λ zs. make zs None) (take-append-le n xs ys l)

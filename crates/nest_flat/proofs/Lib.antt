@@ -1,4 +1,5 @@
 pub mod Alike
+pub mod BytesGrown
 pub mod Cutting
 pub mod Extending
 pub mod Grown

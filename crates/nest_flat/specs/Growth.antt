@@ -1,12 +1,12 @@
 -- Builders of flat arrays: what pushed and joined slots add to the parts of an array, of this project.
-use Rattle.std.specs.Prelude.{◌≡◌, ℕ, ◌+◌, ◌≤◌, ℤ, pos, Bool, true, false, List as Seq, [], ◌∷◌, ◌++◌, length, map, replicate, Option, Some, None, is_some, if◌then◌else◌}
+use Rattle.std.specs.Prelude.{◌≡◌, ℕ, ◌+◌, ◌≤◌, ℤ, pos, Bool, true, false, List as Seq, [], ◌∷◌, ◌++◌, length, map, take, replicate, Option, Some, None, is_some, if◌then◌else◌}
 use Rattle.std.specs.Option.{unwrap_or}
 use Rattle.std.specs.Iterator.{Count, IsFinite}
 use Rattle.nest_memory.specs.Native.{parts_of}
 use Rattle.nest_memory.specs.declared.datatypes.physical_type.PrimitiveType.{PrimitiveType}
-use Rattle.nest_model.specs.Part.{Validity}
+use Rattle.nest_model.specs.Part.{Validity, begin, cut_validity}
 use Rattle.nest_model.specs.Slot.{Slot}
-use Rattle.nest_model.specs.Layout.{Layout, boolean, primitive, layout_type}
+use Rattle.nest_model.specs.Layout.{Layout, boolean, primitive, binary, text, layout_type}
 use Rattle.nest_model.specs.Accessors.{validity_of, with_validity}
 use Rattle.nest_model.specs.Meaning.{len, slots_of}
 use Rattle.nest_model.specs.Cut.{cut_layout}
@@ -60,9 +60,15 @@ pub record Extended {A : Type 0} (pushed : Layout → A → Layout) (slot_of_ite
 abbrev pub is_masked : Layout → Bool
 is_masked a = is_some (validity_of a)
 
+-- the first n slots; no byte is left behind the last of them
+abbrev pub first_slots : Layout → ℕ → Layout
+first_slots (binary l t os bs va) n = binary l t (take (n + 1) os) (take (begin os n) bs) (cut_validity va 0 n)
+first_slots (text l t os bs va) n = text l t (take (n + 1) os) (take (begin os n) bs) (cut_validity va 0 n)
+first_slots a n = cut_layout a 0 n
+
 -- the first n slots, without a validity where none was there
 abbrev pub taken_back : Layout → ℕ → Bool → Layout
-taken_back a n masked = if masked then cut_layout a 0 n else with_validity (cut_layout a 0 n) None
+taken_back a n masked = if masked then first_slots a n else with_validity (first_slots a n) None
 
 -- these slots stand behind the old ones, and can be taken back
 pub record Grew (ss : Seq Slot) (old new : Layout) : Type 0 where

@@ -1,5 +1,6 @@
 //! What the builders of flat arrays share.
 pub mod bits;
+pub(crate) mod bytes;
 pub(crate) mod extend;
 #[cfg(test)]
 mod tests;
