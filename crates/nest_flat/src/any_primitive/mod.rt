@@ -1,19 +1,27 @@
 //! Arrays of native values of any kind.
+mod equality;
+mod native;
+
 ghost use Rattle.std.specs.Prelude.{◌≡◌, ◌+◌, ◌≤◌, ◌<◌, ◌↔◌, IsTrue, IfOk, IsOkUnless, MatchResult, option_map, alloc_error};
 ghost use Rattle.nest_memory.specs.declared.error.Error.TheVariants.{Memory};
 ghost use Rattle.nest_memory.specs.Cut.{cut};
 ghost use Rattle.nest_memory.specs.TypeOf.{type_of};
-ghost use Rattle.nest_model.specs.Accessors.{validity_of, with_validity};
+ghost use Rattle.nest_memory.specs.Physical.{physical_type};
+ghost use Rattle.nest_memory.specs.declared.datatypes.physical_type.PhysicalType.TheVariants as physical;
+ghost use Rattle.nest_model.specs.Accessors.{natives_of, validity_of, with_validity};
 ghost use Rattle.nest_model.specs.Array.{TopFits};
 ghost use Rattle.nest_model.specs.Cut.{cut_layout};
 ghost use Rattle.nest_model.specs.Fits.{ValidityFits, ValidityFault};
-ghost use Rattle.nest_model.specs.Layout.{Layout, layout_type};
+ghost use Rattle.nest_model.specs.Layout as layouts;
+ghost use Rattle.nest_model.specs.Layout.{layout_type};
 ghost use Rattle.nest_model.specs.Meaning.{len, slot, slots_of};
 ghost use Rattle.nest_model.specs.Nullness.{is_null_at, null_count};
 ghost use Rattle.nest_model.specs.Slot as slots;
-ghost use Rattle.nest_flat.specs.AnyPrimitive.{primitive_layout};
+ghost use Rattle.nest_flat.specs.AnyPrimitive.{primitive_kind, primitive_layout};
 
 use crate::primitive::PrimitiveArray;
+pub use equality::same_run;
+pub use native::Native;
 use nest_memory::bitmap::immutable::Bitmap;
 use nest_memory::datatypes::DataType;
 use nest_memory::error::Error;
@@ -37,138 +45,6 @@ pub enum AnyPrimitive {
     MonthDayNano(PrimitiveArray<months_days_ns>),
 }
 
-/// The twelve native types.
-pub trait Native: NativeType {
-    /// `PrimitiveArray<Self>`.
-    type Array;
-
-    ghost layout_of_array: { Self.Array → Layout };
-
-    /// The same array in the variant of its kind.
-    fn wrap(array: Self::Array) -> AnyPrimitive
-        ensures { primitive_layout result ≡ layout_of_array array };
-}
-
-impl Native for i8 {
-    type Array = PrimitiveArray<i8>;
-
-    ghost layout_of_array = { λ a. a };
-
-    fn wrap(array: PrimitiveArray<i8>) -> AnyPrimitive {
-        AnyPrimitive::Int8(array)
-    }
-}
-
-impl Native for i16 {
-    type Array = PrimitiveArray<i16>;
-
-    ghost layout_of_array = { λ a. a };
-
-    fn wrap(array: PrimitiveArray<i16>) -> AnyPrimitive {
-        AnyPrimitive::Int16(array)
-    }
-}
-
-impl Native for i32 {
-    type Array = PrimitiveArray<i32>;
-
-    ghost layout_of_array = { λ a. a };
-
-    fn wrap(array: PrimitiveArray<i32>) -> AnyPrimitive {
-        AnyPrimitive::Int32(array)
-    }
-}
-
-impl Native for i64 {
-    type Array = PrimitiveArray<i64>;
-
-    ghost layout_of_array = { λ a. a };
-
-    fn wrap(array: PrimitiveArray<i64>) -> AnyPrimitive {
-        AnyPrimitive::Int64(array)
-    }
-}
-
-impl Native for i128 {
-    type Array = PrimitiveArray<i128>;
-
-    ghost layout_of_array = { λ a. a };
-
-    fn wrap(array: PrimitiveArray<i128>) -> AnyPrimitive {
-        AnyPrimitive::Int128(array)
-    }
-}
-
-impl Native for i256 {
-    type Array = PrimitiveArray<i256>;
-
-    ghost layout_of_array = { λ a. a };
-
-    fn wrap(array: PrimitiveArray<i256>) -> AnyPrimitive {
-        AnyPrimitive::Int256(array)
-    }
-}
-
-impl Native for u8 {
-    type Array = PrimitiveArray<u8>;
-
-    ghost layout_of_array = { λ a. a };
-
-    fn wrap(array: PrimitiveArray<u8>) -> AnyPrimitive {
-        AnyPrimitive::UInt8(array)
-    }
-}
-
-impl Native for u16 {
-    type Array = PrimitiveArray<u16>;
-
-    ghost layout_of_array = { λ a. a };
-
-    fn wrap(array: PrimitiveArray<u16>) -> AnyPrimitive {
-        AnyPrimitive::UInt16(array)
-    }
-}
-
-impl Native for u32 {
-    type Array = PrimitiveArray<u32>;
-
-    ghost layout_of_array = { λ a. a };
-
-    fn wrap(array: PrimitiveArray<u32>) -> AnyPrimitive {
-        AnyPrimitive::UInt32(array)
-    }
-}
-
-impl Native for u64 {
-    type Array = PrimitiveArray<u64>;
-
-    ghost layout_of_array = { λ a. a };
-
-    fn wrap(array: PrimitiveArray<u64>) -> AnyPrimitive {
-        AnyPrimitive::UInt64(array)
-    }
-}
-
-impl Native for days_ms {
-    type Array = PrimitiveArray<days_ms>;
-
-    ghost layout_of_array = { λ a. a };
-
-    fn wrap(array: PrimitiveArray<days_ms>) -> AnyPrimitive {
-        AnyPrimitive::DaysMs(array)
-    }
-}
-
-impl Native for months_days_ns {
-    type Array = PrimitiveArray<months_days_ns>;
-
-    ghost layout_of_array = { λ a. a };
-
-    fn wrap(array: PrimitiveArray<months_days_ns>) -> AnyPrimitive {
-        AnyPrimitive::MonthDayNano(array)
-    }
-}
-
 // What is the same for each kind.
 macro_rules! each_kind {
     ($any:expr, $array:ident => $body:expr) => {
@@ -189,12 +65,23 @@ macro_rules! each_kind {
     };
 }
 
+// What holds of every array of native values, by its kind.
+fn known<T: NativeType>(array: &PrimitiveArray<T>)
+    ensures fits { TopFits array.now }
+    ensures kind { physical_type (layout_type array.now) ≡ physical.Primitive T.PRIMITIVE }
+    ensures parts { array.now ≡ layouts.primitive T.PRIMITIVE (layout_type array.now) (natives_of array.now) (validity_of array.now) }
+{
+    array.known();
+}
+
 impl AnyPrimitive {
     /// What holds of every such array.
     pub fn known(&self)
-        ensures { TopFits (primitive_layout self.now) }
+        ensures fits { TopFits (primitive_layout self.now) }
+        ensures kind { physical_type (layout_type (primitive_layout self.now)) ≡ physical.Primitive (primitive_kind self.now) }
+        ensures parts { primitive_layout self.now ≡ layouts.primitive (primitive_kind self.now) (layout_type (primitive_layout self.now)) (natives_of (primitive_layout self.now)) (validity_of (primitive_layout self.now)) }
     {
-        each_kind!(self, array => array.known())
+        each_kind!(self, array => known(array))
     }
 
     /// How many slots it has.
