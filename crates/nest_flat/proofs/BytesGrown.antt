@@ -23,7 +23,6 @@ use Rattle.nest_model.specs.Fits.{ValidityFits, EachText}
 use Rattle.nest_memory.specs.Physical.{physical_type, text_of_width}
 use Rattle.nest_model.specs.Array.{AreOffsets, TopFits}
 use Rattle.nest_model.specs.CutLaws.{slots-cut}
-use Rattle.nest_model.specs.FitsLaws.{top-fits-cut}
 use Rattle.nest_flat.specs.FlatParts.{optional}
 use Rattle.nest_flat.specs.Growth.{pushed_validity, joined_validity, first_slots, taken_back, is_masked, Grew}
 use Rattle.nest_flat.specs.BytesGrowth.{Spans, AreSpans, spans, item_bytes, pushed_span, joined_spans, first_spans, bare_spans, spans_of, with_spans}
