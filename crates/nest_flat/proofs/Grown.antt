@@ -1,11 +1,9 @@
 -- Slots that stand behind others, and their bits.
 use Rattle.std.specs.Prelude.{ℤ, Option, Some, None, if◌then◌else◌, is_some, option_map}
 use Rattle.std.specs.Option.{unwrap_or}
-use Rattle.std.proofs.Common.{◌≡◌, ℕ, zero, suc, ◌+◌, ◌-◌, ◌<◌, ◌≤◌, Bool, true, false, List, [], ◌∷◌, ◌++◌, length, map, take, replicate, get_or, refl, ap, sym, ◌∙◌, subst, arith, append_assoc}
-use Rattle.std.proofs.lemmas.List.{length_push, length-append, length-replicate, get_or-replicate, get_or_append_left, get_or-append-add, append-nil}
-use Rattle.std.proofs.Math.Seq.{get_or-append_seam, take-append_seam}
-use Rattle.std.proofs.lemmas.List.{take-append-le, take_all}
-use Rattle.nest_memory.specs.Cut.{cut}
+use Rattle.std.proofs.Common.{◌≡◌, ℕ, zero, suc, ◌+◌, ◌<◌, ◌≤◌, Bool, true, false, List, [], ◌∷◌, ◌++◌, length, take, replicate, get_or, refl, ap, sym, ◌∙◌, arith}
+use Rattle.std.proofs.lemmas.List.{length-append, length-replicate, get_or-replicate, get_or_append_left, get_or-append-add}
+use Rattle.std.proofs.lemmas.List.{take-append-le}
 use Rattle.nest_memory.specs.TypeTree.{TypeTree}
 use Rattle.nest_memory.specs.declared.datatypes.physical_type.PrimitiveType.{PrimitiveType}
 use Rattle.nest_model.specs.Part.{Validity, valid_at, cut_validity}
@@ -15,10 +13,9 @@ use Rattle.nest_model.specs.Layout.{Layout, boolean, primitive, layout_type}
 use Rattle.nest_model.specs.Accessors.{validity_of, with_validity}
 use Rattle.nest_model.specs.Meaning.{run, len, slot, slots_of}
 use Rattle.nest_model.specs.Runs.{run-ext}
-use Rattle.nest_model.specs.Reads.{slots-length}
 use Rattle.nest_model.specs.Fits.{ValidityFits}
 use Rattle.nest_flat.specs.FlatParts.{optional}
-use Rattle.nest_flat.specs.Growth.{pushed_validity, joined_validity, zeros, pushed_truth, pushed_native, joined_parts, pushed_all, is_masked, first_slots, taken_back, Grew}
+use Rattle.nest_flat.specs.Growth.{pushed_validity, joined_validity, first_slots, taken_back, Grew}
 
 -- the bits of both
 pub fits-joined : (va vb : Validity) (n m k : ℕ) → ValidityFits va n → ValidityFits vb m → k ≡ n + m → ValidityFits (joined_validity va n vb m) k
@@ -85,10 +82,6 @@ pub masked-joined : (va vb : Validity) (n m : ℕ) → is_some va ≡ true → i
 masked-joined None vb n m e = cc
 masked-joined (Some bits) None n m e = refl
 masked-joined (Some bits) (Some more) n m e = refl
-
-pub validity-whole : (va : Validity) (n : ℕ) → ValidityFits va n → cut_validity va 0 n ≡ va
-validity-whole None n h = refl
-validity-whole (Some bits) n h = ap Some (take_all n bits (omega arith))
 
 -- how a kind of flat array is made of its raw values and its validity
 pub record Made {A : Type 0} (make : List A → Validity → Layout) (f : A → Slot) (d : A) : Type 0 where
@@ -181,20 +174,6 @@ module _ {A : Type 0} (make : List A → Validity → Layout) (f : A → Slot) (
         masked = λ e. ap is_some c ∙ masked-joined va vb (length xs) (length ys) (ap is_some (sym b) ∙ e);
         back = λ n m k e. back xs ys va vb n m h (omega arith) (λ f. ap is_some (sym b) ∙ e f);
       }
-
-  whole-masked : (xs : List A) (va : Validity) (m : Bool) → ValidityFits va (length xs) → m ≡ is_some va → taken_back (make xs va) (length xs) m ≡ make xs va
-  whole-masked xs va true h e =
-      kind.short xs va (length xs)
-      ∙ ap (λ zs. make zs (cut_validity va 0 (length xs))) (take_all (length xs) xs (omega arith))
-      ∙ ap (make xs) (validity-whole va (length xs) h)
-  whole-masked xs None false h e = bare-short xs None (length xs) ∙ ap (λ zs. make zs None) (take_all (length xs) xs (omega arith))
-  whole-masked xs (Some bits) false h e = cc
-
-  -- all slots taken back
-  pub made-whole : (xs : List A) (va : Validity) → ValidityFits va (length xs) → taken_back (make xs va) (len (make xs va)) (is_masked (make xs va)) ≡ make xs va
-  made-whole xs va h =
-      ap (λ n. taken_back (make xs va) n (is_masked (make xs va))) (kind.count xs va)
-      ∙ whole-masked xs va (is_masked (make xs va)) h (ap is_some (kind.bits xs va))
 
   -- a slot that stands behind others
   one-slot : (x : A) (b : Bool) → slots_of (make (x ∷ []) (if b then None else Some (false ∷ []))) ≡ (if b then f x else slots.null) ∷ []

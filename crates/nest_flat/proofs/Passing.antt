@@ -1,6 +1,6 @@
 -- Booleans of which some would pass the limit of a length.
 use Rattle.std.specs.Prelude.{Option, Result, Ok, Err, IfErr, alloc_error, ◌⊎◌}
-use Rattle.std.proofs.Common.{◌≡◌, ℕ, ◌+◌, ◌≤◌, Bool, false, List, [], ◌∷◌, ◌++◌, length, inl, inr, arith}
+use Rattle.std.proofs.Common.{◌≡◌, ◌+◌, ◌≤◌, Bool, false, List, [], ◌∷◌, ◌++◌, length, inl, inr, arith}
 use Rattle.std.specs.Option.{unwrap_or}
 use Rattle.std.proofs.lemmas.List.{length_push}
 use Rattle.nest_memory.specs.declared.error.Error.{Error}

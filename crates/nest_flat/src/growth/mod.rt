@@ -4,4 +4,6 @@ pub(crate) mod bytes;
 #[cfg(test)]
 mod bytes_tests;
 pub(crate) mod extend;
+#[cfg(test)]
+mod tests;
 pub mod validity;

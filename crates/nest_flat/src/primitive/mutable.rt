@@ -1,8 +1,7 @@
 //! The builder of arrays of native values.
-ghost use Rattle.std.specs.Prelude.{◌≡◌, ◌≢◌, ◌+◌, ◌≤◌, ◌<◌, ◌↔◌, ◌++◌, ◌∷◌, [], List, Option, IsTrue, IfOk, IfErr, ◌⊎◌, OnOk, OnErr, IsOkUnless, IsErrOf, None, Some, option_map, map, is_some, alloc_error};
+ghost use Rattle.std.specs.Prelude.{◌≡◌, ◌≢◌, ◌+◌, ◌≤◌, ◌<◌, ◌↔◌, ◌++◌, ◌∷◌, [], List, Option, IsTrue, IfOk, IfErr, ◌⊎◌, OnOk, OnErr, IsOkUnless, IsErrOf, None, Some, option_map, map, alloc_error};
 ghost use Rattle.std.specs.Option.{unwrap_or};
 ghost use Rattle.nest_memory.specs.Cut.{cut};
-ghost use Rattle.nest_memory.specs.Native.{parts_of};
 ghost use Rattle.nest_memory.specs.Physical.{physical_type, primitive_tree};
 ghost use Rattle.nest_memory.specs.TypeOf.{type_of};
 ghost use Rattle.nest_memory.specs.declared.datatypes.physical_type.PhysicalType.TheVariants as physical;

@@ -1,8 +1,8 @@
-use Rattle.std.proofs.Common.{[], ◌∷◌, ◌++◌, refl, ap, sym, ◌∙◌, subst, rules, arith}
+use Rattle.std.proofs.Common.{ap, sym, ◌∙◌, rules, arith}
 use Rattle.std.proofs.iter.Next.{Yields-more}
 use Rattle.nest_model.specs.Layout.{Layout, layout_type}
 use Rattle.nest_flat.specs.Growth.{taken_back}
-use Rattle.nest_flat.proofs.Extending.{grew-len, took-none, took-more, took-extended, took-back}
+use Rattle.nest_flat.proofs.Extending.{grew-len, took-none, took-more, took-back}
 use Rattle.nest_flat.proofs.growth.extend.extend_by_push.Goals as goal
 
 pub loop-item-init : goal.loop-item-init

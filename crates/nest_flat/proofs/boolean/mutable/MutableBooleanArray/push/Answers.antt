@@ -1,4 +1,4 @@
-use Rattle.std.proofs.Common.{◌≡◌, ap, sym, ◌∙◌, length, false, if◌then◌else◌, [], ◌∷◌, ◌++◌, rules}
+use Rattle.std.proofs.Common.{ap, ◌∙◌, false, if◌then◌else◌}
 use Rattle.nest_memory.specs.TypeOf.{type_of}
 use Rattle.nest_model.specs.Layout.{boolean}
 use Rattle.nest_model.specs.Slot as slots

@@ -1,7 +1,5 @@
-use Rattle.std.proofs.Common.{◌≡◌, ap, sym, ◌∙◌, map, take}
+use Rattle.std.proofs.Common.{ap, sym, ◌∙◌, map}
 use Rattle.std.proofs.lemmas.List.{take-map}
-use Rattle.nest_memory.specs.TypeOf.{type_of}
-use Rattle.nest_model.specs.Cut.{cut_layout}
 use Rattle.nest_flat.proofs.primitive.mutable.MutablePrimitiveArray.cut.Goals as goal
 
 pub returns : goal.returns

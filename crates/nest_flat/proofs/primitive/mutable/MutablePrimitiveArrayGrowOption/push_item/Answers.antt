@@ -1,4 +1,4 @@
-use Rattle.std.proofs.Common.{◌≡◌, ap, sym, ◌∙◌, map, length, subst, [], ◌∷◌, ◌++◌, rules}
+use Rattle.std.proofs.Common.{◌≡◌, ap, sym, ◌∙◌, map, length, [], ◌∷◌, ◌++◌, rules}
 use Rattle.std.proofs.lemmas.List.{map_push, length-map}
 use Rattle.nest_memory.specs.TypeOf.{type_of}
 use Rattle.nest_model.specs.Layout.{primitive}

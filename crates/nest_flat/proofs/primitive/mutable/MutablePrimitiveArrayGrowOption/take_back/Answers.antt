@@ -1,4 +1,4 @@
-use Rattle.std.proofs.Common.{◌≡◌, ap, sym, ◌∙◌, map, take, []}
+use Rattle.std.proofs.Common.{ap, sym, ◌∙◌, map, []}
 use Rattle.std.proofs.lemmas.List.{take-map}
 use Rattle.nest_memory.specs.TypeOf.{type_of}
 use Rattle.nest_model.specs.Layout.{primitive}
