@@ -19,6 +19,7 @@ pub use fixed_size_list::FixedSizeListArray;
 pub use generic_binary::{FixedSizeBinaryValues, GenericBinaryArray};
 pub use list::ListArray;
 pub use list::large::LargeListArray;
+pub use list::offset::ListOffset;
 pub use null::NullArray;
 pub use struct_::StructArray;
 pub use window::Window;

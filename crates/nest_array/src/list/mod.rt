@@ -1,6 +1,7 @@
 //! Arrays of lists.
 mod data_type;
 pub mod large;
+pub mod offset;
 mod ranges;
 
 ghost use Rattle.std.specs.Prelude.{◌≡◌, ◌+◌, ◌≤◌, ◌<◌, ◌↔◌, false, IsTrue, IfOk, IsOkUnless, MatchResult, option_map, alloc_error};
