@@ -1,5 +1,5 @@
 //! The offsets of lists, and the arrays that they make.
-ghost use Rattle.std.specs.Prelude.{◌≡◌, MatchResult, false, true};
+ghost use Rattle.std.specs.Prelude.{◌≡◌, ℕ, List as Seq, MatchResult};
 ghost use Rattle.nest_memory.specs.TypeOf.{type_of};
 ghost use Rattle.nest_model.specs.Fits.{Fits};
 ghost use Rattle.nest_model.specs.Layout as layouts;
@@ -19,18 +19,23 @@ use std::alloc::Global;
 
 /// An offset by which lists are made: of 32 bits those of a `ListArray`, of 64 bits those of a `LargeListArray`.
 pub trait ListOffset: Offset {
+    /// `OffsetsBuffer<Self>`.
+    type Buffer;
+
     /// The array of lists by such offsets.
     type List: Array;
+
+    ghost offsets_of_buffer: { Self.Buffer → Seq ℕ };
 
     /// The array of these parts: its `try_new`.
     fn list(
         alloc: Global,
         data_type: DataType,
-        offsets: OffsetsBuffer<Self>,
+        offsets: Self::Buffer,
         values: AnyArray,
         validity: Option<Bitmap>,
     ) -> Result<Self::List, Error>
-        ensures { let parts = layouts.list Self.IS_LARGE (type_of data_type) offsets (layout_of values) validity in
+        ensures { let parts = layouts.list Self.IS_LARGE (type_of data_type) (offsets_of_buffer offsets) (layout_of values) validity in
             MatchResult result (λ a. Fits parts × (Self.List.layout a ≡ parts)) (λ e. RefusesOrMemory e parts) };
 
     /// The same array in its variant.
@@ -39,7 +44,11 @@ pub trait ListOffset: Offset {
 }
 
 impl ListOffset for i32 {
+    type Buffer = OffsetsBuffer<i32>;
+
     type List = ListArray;
+
+    ghost offsets_of_buffer = { λ os. os };
 
     fn list(
         alloc: Global,
@@ -47,10 +56,7 @@ impl ListOffset for i32 {
         offsets: OffsetsBuffer<i32>,
         values: AnyArray,
         validity: Option<Bitmap>,
-    ) -> Result<ListArray, Error>
-        ensures { let parts = layouts.list false (type_of data_type) offsets (layout_of values) validity in
-            MatchResult result (λ a. Fits parts × (a ≡ parts)) (λ e. RefusesOrMemory e parts) }
-    {
+    ) -> Result<ListArray, Error> {
         ListArray::try_new(alloc, data_type, offsets, values, validity)
     }
 
@@ -60,7 +66,11 @@ impl ListOffset for i32 {
 }
 
 impl ListOffset for i64 {
+    type Buffer = OffsetsBuffer<i64>;
+
     type List = LargeListArray;
+
+    ghost offsets_of_buffer = { λ os. os };
 
     fn list(
         alloc: Global,
@@ -68,10 +78,7 @@ impl ListOffset for i64 {
         offsets: OffsetsBuffer<i64>,
         values: AnyArray,
         validity: Option<Bitmap>,
-    ) -> Result<LargeListArray, Error>
-        ensures { let parts = layouts.list true (type_of data_type) offsets (layout_of values) validity in
-            MatchResult result (λ a. Fits parts × (a ≡ parts)) (λ e. RefusesOrMemory e parts) }
-    {
+    ) -> Result<LargeListArray, Error> {
         LargeListArray::try_new(alloc, data_type, offsets, values, validity)
     }
 
