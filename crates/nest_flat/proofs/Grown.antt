@@ -1,7 +1,7 @@
 -- Slots that stand behind others, and their bits.
 use Rattle.std.specs.Prelude.{ℤ, Option, Some, None, if◌then◌else◌, is_some, option_map}
 use Rattle.std.specs.Option.{unwrap_or}
-use Rattle.std.proofs.Common.{take_all, ◌≡◌, ℕ, zero, suc, ◌+◌, ◌<◌, ◌≤◌, Bool, true, false, List, [], ◌∷◌, ◌++◌, length, take, replicate, get_or, refl, ap, sym, ◌∙◌, arith}
+use Rattle.std.proofs.Common.{◌≡◌, ℕ, zero, suc, ◌+◌, ◌<◌, ◌≤◌, Bool, true, false, List, [], ◌∷◌, ◌++◌, length, take, replicate, get_or, refl, ap, sym, ◌∙◌, arith}
 use Rattle.std.proofs.lemmas.List.{length-append, length-replicate, get_or-replicate, get_or_append_left, get_or-append-add}
 use Rattle.std.proofs.lemmas.List.{take-append-le}
 use Rattle.nest_memory.specs.TypeTree.{TypeTree}
