@@ -5,7 +5,7 @@ ghost use Rattle.nest_memory.specs.TypeTree as types;
 ghost use Rattle.nest_memory.specs.TypeTree.{item_type};
 ghost use Rattle.nest_model.specs.Layout.{layout_type};
 ghost use Rattle.nest_model.specs.Meaning.{len, slot, slots_of};
-ghost use Rattle.nest_array.specs.Items.{item_slot};
+ghost use Rattle.nest_build.specs.Items.{item_slot};
 ghost use Rattle.listcut.specs.Spelling.{item_text, row_text, text_of};
 ghost use Rattle.listcut.specs.Outcome.{Writes};
 

@@ -1,9 +1,6 @@
-//! Arrays of lists in the Arrow format, and their builder.
+//! Arrays of lists in the Arrow format.
 #![tactic(auto)]
 
-mod growth;
 pub mod list;
-pub mod primitive;
 
-pub use list::{ListArray, MutableListArray};
-pub use primitive::MutablePrimitiveArray;
+pub use list::ListArray;

@@ -19,12 +19,9 @@ ghost use Rattle.nest_array.specs.Types.{default_list_type};
 ghost use Rattle.nest_model.specs.Accessors.{offsets_of, child_of, validity_of};
 
 mod equality;
-mod mutable;
-mod rows;
 #[cfg(test)]
 mod tests;
 
-pub use mutable::MutableListArray;
 use nest_flat::primitive::PrimitiveArray;
 use nest_flat::validity;
 use nest_memory::bitmap::immutable::Bitmap;
@@ -33,7 +30,6 @@ use nest_memory::datatypes::field::Field;
 use nest_memory::datatypes::physical_type::PhysicalType;
 use nest_memory::error::{Error, Spec};
 use nest_memory::offsets::OffsetsBuffer;
-pub use rows::ListRows;
 use std::alloc::Global;
 use std::marker::Model;
 

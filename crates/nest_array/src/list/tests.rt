@@ -1,32 +1,27 @@
 //! Arrays of lists by their worked rows. Values with a data type are let go by `drop`, which keeps the proofs short.
 
-use crate::{ListArray, MutableListArray, MutablePrimitiveArray};
+use crate::ListArray;
 use nest_flat::primitive::PrimitiveArray;
 use nest_memory::bitmap::immutable::Bitmap;
+use nest_memory::buffer::Buffer;
 use nest_memory::datatypes::DataType;
-use nest_memory::error::{Argument, Error, Spec};
+use nest_memory::error::{Error, Spec};
 use nest_memory::offsets::OffsetsBuffer;
-use std::alloc::{AllocError, Global};
+use std::alloc::Global;
 use std::test::Fail;
 
 const ONE_TO_FIVE: [Option<i64>; 5] = [Some(1), Some(2), Some(3), Some(4), Some(5)];
 
-fn push_each(child: &mut MutablePrimitiveArray, items: &[Option<i64>]) -> Result<(), Error> {
-    for item in items {
-        child.try_push(*item)?;
-    }
-    Ok(())
-}
-
 fn numbers(alloc: Global, items: &[Option<i64>]) -> Result<PrimitiveArray<i64>, Error> {
-    let mut child = MutablePrimitiveArray::new(alloc);
-    if let Err(error) = push_each(&mut child, items) {
-        drop(child);
-        return Err(error);
+    let mut values = Vec::new(alloc);
+    let mut bits = Vec::new(alloc);
+    for item in items {
+        values.push(item.unwrap_or(0))?;
+        bits.push(item.is_some())?;
     }
-    let array = child.freeze();
-    drop(child);
-    array
+    let values = Buffer::from_vec(alloc, values)?;
+    let validity = Bitmap::from_bools(alloc, &bits)?;
+    PrimitiveArray::try_new(DataType::Int64, values, Some(validity))
 }
 
 /// An array of these items, offsets and bits.
@@ -91,28 +86,6 @@ fn text_of(alloc: Global, array: Result<ListArray, Error>) -> Result<String, Err
     }
 }
 
-fn push_rows(rows: &mut MutableListArray) -> Result<(), Error> {
-    let rows_told = [Some([Some(1), None].as_slice()), None, Some([].as_slice())];
-    for row in rows_told {
-        if rows.is_whole() {
-            rows.try_push(row)?;
-        }
-    }
-    Ok(())
-}
-
-/// The array of the rows [1,null], null, [].
-fn pushed(alloc: Global) -> Result<ListArray, Error> {
-    let mut rows = MutableListArray::new(alloc)?;
-    if let Err(error) = push_rows(&mut rows) {
-        drop(rows);
-        return Err(error);
-    }
-    let array = rows.freeze();
-    drop(rows);
-    array
-}
-
 fn are_same(x: &Result<ListArray, Error>, y: &Result<ListArray, Error>) -> bool {
     match x {
         Err(_) => false,
@@ -123,39 +96,18 @@ fn are_same(x: &Result<ListArray, Error>, y: &Result<ListArray, Error>) -> bool 
     }
 }
 
-fn offsets_are(array: &Result<ListArray, Error>, offsets: &[i32]) -> bool {
-    match array {
-        Err(_) => false,
-        Ok(array) => array.offsets().as_slice() == offsets,
-    }
-}
-
 #[test]
-fn pushed_rows_are_the_slots(rt: HostRuntime) -> Result<(), Fail> {
-    let text = text_of(rt.alloc(), pushed(rt.alloc()))?;
-    assert_eq!(rt; text.as_str(), "[ 1 null ] null [ ] ");
-    let array = pushed(rt.alloc());
-    assert!(rt; offsets_are(&array, [0i32, 2, 2, 2].as_slice()));
-    let offsets = [0i32, 2, 3, 3].as_slice();
+fn what_lies_under_a_null_is_not_compared(rt: HostRuntime) {
+    let items = [Some(1), None, Some(5)].as_slice();
     let bits = Some([true, false, true].as_slice());
-    let under_null = array_of(
-        rt.alloc(),
-        [Some(1), None, Some(5)].as_slice(),
-        offsets,
-        bits,
-    );
-    assert!(rt; are_same(&array, &under_null));
-    let valid = array_of(
-        rt.alloc(),
-        [Some(1), None, Some(5)].as_slice(),
-        offsets,
-        None,
-    );
-    assert!(rt; !are_same(&array, &valid));
-    drop(array);
-    drop(under_null);
+    let empty = array_of(rt.alloc(), items, [0i32, 2, 2, 2].as_slice(), bits);
+    let full = array_of(rt.alloc(), items, [0i32, 2, 3, 3].as_slice(), bits);
+    let valid = array_of(rt.alloc(), items, [0i32, 2, 3, 3].as_slice(), None);
+    assert!(rt; are_same(&empty, &full));
+    assert!(rt; !are_same(&full, &valid));
+    drop(empty);
+    drop(full);
     drop(valid);
-    Ok(())
 }
 
 #[test]
@@ -219,53 +171,4 @@ fn the_first_failed_check_answers(rt: HostRuntime) {
         let array = array_of(rt.alloc(), ONE_TO_FIVE.as_slice(), offsets, bits);
         assert_eq!(rt; refusal(array), Some(Error::OutOfSpec(fault)));
     }
-}
-
-/// The items of a builder wait until their row is told.
-fn wait_and_tell(rows: &mut MutableListArray) -> Result<bool, Error> {
-    rows.mut_values().try_push(Some(7))?;
-    let waits = !rows.is_whole();
-    let unfinished = Some(Error::InvalidArgumentError(Argument::Unfinished));
-    let refused = refusal(rows.freeze()) == unfinished;
-    rows.try_push_valid()?;
-    Ok(waits && refused && rows.is_whole() && rows.len() == 1)
-}
-
-#[test]
-fn items_wait_for_their_row(rt: HostRuntime) -> Result<(), Fail> {
-    let mut rows = MutableListArray::new(rt.alloc())?;
-    assert_eq!(rt; wait_and_tell(&mut rows), Ok(true));
-    let array = rows.freeze();
-    assert!(rt; rows.is_whole());
-    drop(rows);
-    assert_eq!(rt; text_of(rt.alloc(), array)?.as_str(), "[ 7 ] ");
-    Ok(())
-}
-
-// Holds where any one request for memory is refused: a refused row changes nothing, and a freeze empties the builder.
-#[test]
-fn refused_rows_change_nothing(rt: HostRuntime) {
-    let Ok(mut rows) = MutableListArray::new(rt.alloc()) else {
-        return;
-    };
-    let mut accepted = 0usize;
-    for turn in 0..12u32 {
-        assert!(rt; rows.is_whole());
-        let row = if turn % 3 == 2 {
-            None
-        } else {
-            Some(ONE_TO_FIVE.as_slice())
-        };
-        match rows.try_push(row) {
-            Ok(()) => accepted = accepted.saturating_add(1),
-            Err(error) => assert_eq!(rt; error, Error::Memory(AllocError)),
-        }
-        assert_eq!(rt; rows.len(), accepted);
-    }
-    if let Some(error) = refusal(rows.freeze()) {
-        assert_eq!(rt; error, Error::Memory(AllocError));
-    }
-    assert_eq!(rt; rows.len(), 0);
-    assert!(rt; rows.is_whole());
-    drop(rows);
 }

@@ -1,0 +1,4 @@
+pub mod Grown
+pub mod Pushed
+pub mod Rows
+pub mod Spelled

@@ -1,0 +1,4 @@
+pub mod Growth
+pub mod Items
+pub mod Parts
+pub mod Seen
