@@ -10,10 +10,10 @@ use Rattle.listcut.proofs.Lines.{lines_stop, lines_many, lines_next, rows_end, w
 use Rattle.listcut.proofs.Counted.{items-len, within-limit}
 use Rattle.listcut.proofs.reading.push_rows.Goals as goal
 
-pub returns-in_default-2-clause-fault : goal.returns-in_default-2-clause-fault
-returns-in_default-2-clause-fault c =
+pub returns-in_default-clause-fault : goal.returns-in_default-clause-fault
+returns-in_default-clause-fault c =
     lines_stop (own_slots (tree_of c.lines.rows)) c.lines.above (item_count c.lines.rows) c.lines.rest.now c.next_line.result.0.now c.next_line.result.1.now _ c.next_line.ensures.line c.lines.invariant.so_far
-    (sym c.in_ok-row.ensures ∙ ap (option_map seen_row) c.in_default-2.is)
+    (sym c.in_ok-row.ensures ∙ ap (option_map seen_row) c.in_default.is)
 
 pub returns-in-Err-Overflow-clause-fault : goal.returns-in-Err-Overflow-clause-fault
 returns-in-Err-Overflow-clause-fault c =
@@ -22,7 +22,7 @@ returns-in-Err-Overflow-clause-fault c =
 
 pub lines-preserved : goal.lines-preserved
 lines-preserved c =
-    let pushed = c.in-Ok-try_push.ensures in
+    let pushed = c.in-Ok.ensures in
     let same = items-len c.in-Some.row in
     let within = within-limit _ _ _ _ pushed.overflow.1 in
     record {
