@@ -1,4 +1,6 @@
 pub mod Cutting
+pub mod Extending
+pub mod Grown
 pub mod NullCounts
 pub mod SlotRuns
 pub mod TextParts

@@ -1,5 +1,6 @@
 pub mod AnyPrimitive
 pub mod BareSlots
 pub mod FlatParts
+pub mod Growth
 pub mod NullSlots
 pub mod SameFlat

@@ -6,6 +6,7 @@ pub mod binary;
 pub mod boolean;
 mod equality;
 pub mod flat_array;
+pub mod growth;
 pub mod iterator;
 pub mod primitive;
 mod spans;

@@ -1,0 +1,3 @@
+//! What the builders of flat arrays share.
+pub(crate) mod extend;
+pub mod validity;
