@@ -1,4 +1,3 @@
-pub mod Grown
 pub mod Pushed
 pub mod Rows
 pub mod Spelled

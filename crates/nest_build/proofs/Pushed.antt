@@ -2,8 +2,8 @@
 use Rattle.std.specs.Prelude.{ℤ, Option, Some, None, Result, Ok, Err, IsOkUnless, IsErrOf, alloc_error}
 use Rattle.nest_memory.specs.declared.error.Error.{Error}
 use Rattle.nest_memory.specs.declared.error.Error.TheVariants.{Memory, Overflow}
-use Rattle.std.proofs.Common.{◌≡◌, ℕ, ◌+◌, ◌-◌, ◌<◌, ◌≤◌, Bool, true, false, List, [], ◌∷◌, ◌++◌, length, map, take, drop, get_or, refl, ap, sym, ◌∙◌, arith, append_assoc}
-use Rattle.std.proofs.lemmas.List.{append-nil, take_more, map_push}
+use Rattle.std.proofs.Common.{◌≡◌, ℕ, ◌-◌, ◌≤◌, Bool, true, false, List, [], ◌∷◌, ◌++◌, length, map, take, drop, refl, ap, sym, ◌∙◌, arith, append_assoc}
+use Rattle.std.proofs.lemmas.List.{append-nil}
 use Rattle.std.proofs.Math.Seq.{take-append_seam}
 use Rattle.nest_memory.specs.Cut.{cut}
 use Rattle.nest_memory.specs.TypeTree.{TypeTree}
@@ -22,7 +22,7 @@ use Rattle.nest_model.specs.BuilderTree.{BuilderTree, flat, list}
 use Rattle.nest_model.specs.BuilderLevels.{rows_of_items}
 use Rattle.nest_model.specs.BuilderLevelLaws.{items-push, cut-all_after}
 use Rattle.nest_model.specs.BuilderWhole.{IsWhole}
-use Rattle.nest_build.specs.Growth.{Spells}
+use Rattle.nest_build.specs.Rows.{Spells}
 use Rattle.nest_model.specs.Layout as layouts
 use Rattle.nest_build.proofs.Spelled.{spelled, spelled-end}
 use Rattle.nest_model.specs.BuilderItem.{slot_of_item}
@@ -66,15 +66,6 @@ flat-took t u ss new xs e k =
       undo = ap (flat t) (take-append_seam ss (map item_slot xs));
       differ = λ d. tt;
     })
-
--- one item more of a list
-pub items-more : (ss new now : List Slot) (xs : List (Option ℤ)) (x : Option ℤ) (i : ℕ) → new ≡ ss ++ map item_slot (take i xs) → now ≡ new ++ item_slot x ∷ [] → i < length xs → x ≡ get_or xs i x → now ≡ ss ++ map item_slot (take (i + 1) xs)
-items-more ss new now xs x i e f k g =
-    let a = take_more xs i x k in
-    f
-    ∙ ap (λ ys. ys ++ item_slot x ∷ []) e
-    ∙ append_assoc ss (map item_slot (take i xs)) (item_slot x ∷ [])
-    ∙ ap (λ ys. ss ++ ys) (sym (map_push item_slot (take i xs) x) ∙ ap (λ (y : Option ℤ). map item_slot (take i xs ++ y ∷ [])) g ∙ sym (ap (map item_slot) a))
 
 -- items taken back
 pub items-back : (ss new : List Slot) (ys : List Slot) (n : ℕ) → new ≡ ss ++ ys → n ≡ length ss → cut new 0 n ≡ ss

@@ -7,7 +7,8 @@ use Rattle.nest_memory.specs.Rising.{NeverFalls}
 use Rattle.nest_model.specs.Part.{Validity, rows, last_offset}
 use Rattle.nest_model.specs.Fits.{ValidityFits}
 use Rattle.nest_model.specs.BuilderRow.{Row, told_row, end_from, RisesFrom}
-use Rattle.nest_build.specs.Growth.{pushed_validity, zip_rows, rows_ending, rows_told}
+use Rattle.nest_flat.specs.Growth.{pushed_validity}
+use Rattle.nest_build.specs.Rows.{zip_rows, rows_ending, rows_told}
 
 -- where rows end
 abbrev ends : List Row → List ℕ

@@ -13,7 +13,7 @@ use Rattle.nest_model.specs.Meaning.{run, len, slot, slots_of}
 use Rattle.nest_model.specs.Reads.{items-cut, extent-fits}
 use Rattle.nest_model.specs.BuilderRow.{Row, told_row, end_from}
 use Rattle.nest_model.specs.BuilderLevels.{valid_or_null, rows_of_items}
-use Rattle.nest_build.specs.Growth.{zip_rows, rows_ending, Spells}
+use Rattle.nest_build.specs.Rows.{zip_rows, rows_ending, Spells}
 use Rattle.nest_model.specs.Layout as layouts
 use Rattle.nest_build.proofs.Rows.{told-count, told-ends, told-end, first-rest, tail-count}
 

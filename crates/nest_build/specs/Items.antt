@@ -1,6 +1,7 @@
 -- The items and rows that are pushed, and the slots that they are.
 use Rattle.std.specs.Prelude.{ℕ, ℤ, List as Seq, [], ◌∷◌, map, length, Option, Some, None}
 use Rattle.nest_memory.specs.declared.datatypes.physical_type.PrimitiveType.TheVariants as primitives
+use Rattle.nest_flat.specs.FlatParts.{optional}
 use Rattle.nest_model.specs.Slot as slots
 use Rattle.nest_model.specs.Slot.{Slot, seal}
 use Rattle.nest_model.specs.BuilderItem as items
@@ -8,8 +9,7 @@ use Rattle.nest_model.specs.BuilderItem.{Item, seal_items}
 
 -- null, or a number
 abbrev pub item_slot : Option ℤ → Slot
-item_slot None = slots.null
-item_slot (Some z) = slots.number (z ∷ [])
+item_slot x = optional (λ z. slots.number (z ∷ [])) x
 
 -- null, or the list of the items
 abbrev pub row_slot : Option (Seq (Option ℤ)) → Slot

@@ -1,4 +1,4 @@
-pub mod Growth
+pub mod ChildRow
 pub mod Items
-pub mod Parts
+pub mod Rows
 pub mod Seen

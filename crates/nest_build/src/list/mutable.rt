@@ -21,8 +21,8 @@ ghost use Rattle.nest_build.specs.Items.{item_slot, row_item, row_slot, row_len}
 ghost use Rattle.nest_array.specs.Types.{default_list_type};
 
 use crate::list::rows::ListRows;
-use crate::primitive::MutablePrimitiveArray;
 use nest_array::ListArray;
+use nest_flat::primitive::mutable::MutablePrimitiveArray;
 use nest_memory::datatypes::DataType;
 use nest_memory::error::{Argument, Error};
 use std::alloc::Global;
@@ -84,20 +84,13 @@ impl ListType {
 }
 
 /// Adds all items or none.
-fn extend(values: &mut MutablePrimitiveArray, items: &[Option<i64>]) -> Result<(), Error>
+fn extend(values: &mut MutablePrimitiveArray<i64>, items: &[Option<i64>]) -> Result<(), Error>
     ensures ok { OnOk result (slots_of values.new ≡ slots_of values.old ++ map item_slot items.now) }
-    ensures err { OnErr result (slots_of values.new ≡ slots_of values.old) }
+    ensures err { OnErr result (values.new ≡ values.old) }
     ensures same_type { layout_type values.new ≡ layout_type values.old }
     ensures memory { IsOkUnless result (Memory alloc_error) }
 {
-    let len = values.len();
-    for item in items {
-        if let Err(error) = values.try_push(*item) {
-            values.truncate(len);
-            return Err(error);
-        }
-    }
-    Ok(())
+    values.try_extend(items.iter().copied())
 }
 
 /// Lists of whole numbers that are pushed one after another, by offsets of 32 bits. Items that are pushed into its
@@ -106,14 +99,14 @@ fn extend(values: &mut MutablePrimitiveArray, items: &[Option<i64>]) -> Result<(
 pub struct MutableListArray {
     data_type: ListType,
     rows: ListRows,
-    values: MutablePrimitiveArray,
+    values: MutablePrimitiveArray<i64>,
     alloc: Global,
 }
 
 impl MutableListArray {
     ghost use Rattle.nest_build.specs.Seen.{tree_of, child_seen, item_count, with_child};
     ghost use Rattle.nest_build.specs.contracts.list.mutable.MutableListArray.{the_row};
-    ghost use Rattle.nest_build.specs.contracts.primitive.MutablePrimitiveArray.{the_row as child_row};
+    ghost use Rattle.nest_build.specs.ChildRow.{child_row};
 
     /// An empty builder of lists whose items are named "item" and nullable.
     pub fn new(alloc: Global) -> Result<MutableListArray, Error>
@@ -150,7 +143,7 @@ impl MutableListArray {
     }
 
     /// The child, into which the items of a row may be pushed before the row is told.
-    pub fn mut_values(&mut self) -> &mut MutablePrimitiveArray
+    pub fn mut_values(&mut self) -> &mut MutablePrimitiveArray<i64>
         ensures* writes_back { sem 𝓛 (Lends the_row child_row self.entry result (with_child self.entry.now)) }
         ensures value { result.now ≡ child_seen self.old }
     {

@@ -3,9 +3,9 @@ ghost use Rattle.std.specs.Prelude.{◌≡◌, ◌≤◌, ◌<◌, ◌⊎◌, �
 ghost use Rattle.nest_memory.specs.declared.error.Error.TheVariants.{Memory, Overflow};
 ghost use Rattle.nest_model.specs.BuilderRow.{end_from, told_row, RisesFrom};
 ghost use Rattle.nest_model.specs.BuilderTree.{largest_offset};
-ghost use Rattle.nest_build.specs.Growth.{Spells};
+ghost use Rattle.nest_build.specs.Rows.{Spells};
 
-use crate::growth;
+use nest_flat::growth::validity;
 use nest_memory::bitmap::immutable::Bitmap;
 use nest_memory::bitmap::mutable::MutableBitmap;
 use nest_memory::error::Error;
@@ -27,7 +27,7 @@ impl Model for ListRows {
     ghost use Rattle.nest_model.specs.BuilderRow.{Row};
     ghost use Rattle.nest_model.specs.Part.{rows};
     ghost use Rattle.nest_model.specs.Fits.{ValidityFits};
-    ghost use Rattle.nest_build.specs.Growth.{rows_told};
+    ghost use Rattle.nest_build.specs.Rows.{rows_told};
 
     ghost Value = { List Row };
 
@@ -81,7 +81,7 @@ impl ListRows {
         let len = self.offsets.len_proxy();
         self.offsets.try_push_usize(end - last)?;
         self.offsets.known();
-        if let Err(error) = growth::push(self.alloc, &mut self.validity, len, valid) {
+        if let Err(error) = validity::push(self.alloc, &mut self.validity, len, valid) {
             self.offsets.truncate(len);
             return Err(error);
         }
@@ -96,7 +96,7 @@ impl ListRows {
     {
         self.offsets.known();
         let offsets = self.offsets.freeze();
-        let validity = growth::freeze(&mut self.validity);
+        let validity = validity::freeze(&mut self.validity);
         Ok((offsets?, validity?))
     }
 }

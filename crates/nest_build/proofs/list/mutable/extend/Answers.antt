@@ -1,24 +1,21 @@
-use Rattle.std.proofs.Common.{length, map, take, ap, ◌∙◌, arith}
-use Rattle.std.proofs.lemmas.List.{length-append}
+use Rattle.std.specs.Prelude.{Option, Result, Ok, ℤ}
+use Rattle.std.proofs.Common.{◌≡◌, List, ◌++◌, map}
+use Rattle.std.proofs.lemmas.Result.{on_ok_weaker}
+use Rattle.std.proofs.lemmas.Iterator.{YieldsList-from_slice}
+use Rattle.std.proofs.lemmas.Iterator.Adapters.{items_from_extend}
+use Rattle.std.proofs.lemmas.Iterator.Consumers.{YieldsList-from_copied}
+use Rattle.nest_memory.specs.declared.error.Error.{Error}
 use Rattle.nest_model.specs.Meaning.{slots_of}
-use Rattle.nest_model.specs.Reads.{slots-length}
 use Rattle.nest_build.specs.Items.{item_slot}
-use Rattle.nest_build.proofs.Pushed.{slots-count, items-back}
 use Rattle.nest_build.proofs.list.mutable.extend.Goals as goal
 
-pub truncate-requires : goal.truncate-requires
-truncate-requires c =
+pub returns-clause-ok : goal.returns-clause-ok
+returns-clause-ok c =
     let old = slots_of c.args.values.now in
-    let more = map item_slot (take c.loop-item.item-index c.args.items.now) in
-    let n = slots-count c.args.values.now c.len-len.result c.len-len.ensures in
-    let e = ap length (c.in-Err.ensures.err ∙ c.loop-item.invariant.slots) in
-    let m = slots-length c.try_push.new.self in
-    let l = length-append old more in
-    omega arith
-
-pub returns-in-Err-clause-err : goal.returns-in-Err-clause-err
-returns-in-Err-clause-err c =
-    let old = slots_of c.args.values.now in
-    let more = map item_slot (take c.loop-item.item-index c.args.items.now) in
-    let n = slots-count c.args.values.now c.len-len.result c.len-len.ensures in
-    c.truncate.ensures.slots ∙ items-back old (slots_of c.try_push.new.self) more c.len-len.result (c.in-Err.ensures.err ∙ c.loop-item.invariant.slots) n
+    let new = slots_of c.try_extend.new.self in
+    let done : Result (Unit {0}) Error = Ok tt in
+    on_ok_weaker c.try_extend.result
+    (λ e.
+    items_from_extend {P = λ (xs : List (Option ℤ)). new ≡ old ++ map item_slot xs} done (e.1.0, e.0, e.1.1, e.2.slots, e.1.2)
+    (YieldsList-from_copied (YieldsList-from_slice c.args.items.now cc)))
+    c.try_extend.ensures.ok
