@@ -213,6 +213,10 @@ module _ {A : Type 0} (make : List A → Validity → Layout) (f : A → Slot) (
       → ValidityFits va (length xs) → (if b then f x else slots.null) ≡ s → Grew (s ∷ []) a (make ws wa)
   made-took xs ws x va wa b n a s e p q l h r = rw (← e, p, q, l, ← r) (made-pushed xs x va b h)
 
+  pub made-joined : (xs ws ys : List A) (va wa vb : Validity) (n m : ℕ) (a b : Layout) → make xs va ≡ a → slots_of (make ys vb) ≡ slots_of b → ws ≡ xs ++ ys → wa ≡ joined_validity va n vb m
+      → n ≡ length xs → m ≡ length ys → ValidityFits va (length xs) → Grew (slots_of b) a (make ws wa)
+  made-joined xs ws ys va wa vb n m a b e i p q l k h = rw (← e, ← i, p, q, l, k) (made-grew xs ys va vb h)
+
   pub made-taken : (xs ws : List A) (va wa : Validity) (n : ℕ) (m : Bool) (a : Layout) → make xs va ≡ a → ws ≡ take n xs → wa ≡ (if m then cut_validity va 0 n else None) → make ws wa ≡ taken_back a n m
   made-taken xs ws va wa n true a e p q = rw (← e, p, q) (sym (kind.short xs va n))
   made-taken xs ws va wa n false a e p q = rw (← e, p, q) (sym (bare-short xs va n))
@@ -222,3 +226,7 @@ pub native-item : {T : Type 0} (num : T → List ℤ) (item : Option T) (v : T) 
     → (if b then slots.number (num v) else slots.null) ≡ optional (λ x. slots.number (num x)) item
 native-item num None v d b e h = rw e refl
 native-item num (Some x) v d b e h = rw e (ap slots.number h)
+
+pub truth-item : (item : Option Bool) (b : Bool) → b ≡ is_some item → (if b then slots.truth (unwrap_or item false) else slots.null) ≡ optional slots.truth item
+truth-item None b e = rw e refl
+truth-item (Some x) b e = rw e refl

@@ -1,5 +1,5 @@
 -- Builders of flat arrays: what pushed and joined slots add to the parts of an array, of this project.
-use Rattle.std.specs.Prelude.{◌≡◌, ℕ, ◌≤◌, ℤ, pos, Bool, true, false, List as Seq, [], ◌∷◌, ◌++◌, length, map, replicate, Option, Some, None, is_some, if◌then◌else◌}
+use Rattle.std.specs.Prelude.{◌≡◌, ℕ, ◌+◌, ◌≤◌, ℤ, pos, Bool, true, false, List as Seq, [], ◌∷◌, ◌++◌, length, map, replicate, Option, Some, None, is_some, if◌then◌else◌}
 use Rattle.std.specs.Option.{unwrap_or}
 use Rattle.std.specs.Iterator.{Count, IsFinite}
 use Rattle.nest_memory.specs.Native.{parts_of}
@@ -10,6 +10,8 @@ use Rattle.nest_model.specs.Layout.{Layout, boolean, primitive, layout_type}
 use Rattle.nest_model.specs.Accessors.{validity_of, with_validity}
 use Rattle.nest_model.specs.Meaning.{len, slots_of}
 use Rattle.nest_model.specs.Cut.{cut_layout}
+use Rattle.nest_model.specs.BuilderSpells.{Begins}
+use Rattle.nest_model.specs.BuilderTree.{IsPast}
 
 -- Validity bitmaps: one place more after n others; the bits are made at the first null
 abbrev pub pushed_validity : Validity → ℕ → Bool → Validity
@@ -72,3 +74,7 @@ pub record Grew (ss : Seq Slot) (old new : Layout) : Type 0 where
 -- whatever u becomes may be called, and ends
 abbrev pub CanDrain : {U T : Type 0} → (U → T → Type 0) → (T → Type 0) → (T → Count) → U → Type 0
 CanDrain {U} {T} becomes can left u = (it : T) → becomes u it → can it × IsFinite (left it)
+
+-- after n slots, a beginning of what u gives passes the limit of a length
+abbrev pub BeginningPasses : {U T A : Type 0} → (U → T → Type 0) → (T → Option A → T → Type 0) → ℕ → U → Type 0
+BeginningPasses {U} {T} {A} becomes steps n u = (xs : Seq A) × Begins becomes steps u xs × IsPast (n + length xs)

@@ -1,3 +1,4 @@
 //! What the builders of flat arrays share.
+pub mod bits;
 pub(crate) mod extend;
 pub mod validity;

@@ -1,11 +1,12 @@
 //! The bits of a builder's places, which are there from the first null on.
-ghost use Rattle.std.specs.Prelude.{◌≡◌, ◌+◌, ◌^◌, ◌<◌, ◌++◌, ◌∷◌, [], true, false, None, OnOk, OnErr, IfOk, replicate, IsOkUnless, alloc_error, ◌≤◌, if◌then◌else◌};
+ghost use Rattle.std.specs.Prelude.{◌≡◌, ◌+◌, ◌^◌, ◌<◌, ◌++◌, ◌∷◌, [], length, true, false, None, OnOk, OnErr, IfOk, replicate, IsOkUnless, alloc_error, ◌≤◌, if◌then◌else◌};
 ghost use Rattle.nest_memory.specs.declared.error.Error.TheVariants.{Memory};
 ghost use Rattle.nest_model.specs.Fits.{ValidityFits};
 ghost use Rattle.nest_model.specs.Part.{cut_validity, valid_at};
 ghost use Rattle.nest_flat.specs.FlatParts.{ValidityCovers};
-ghost use Rattle.nest_flat.specs.Growth.{pushed_validity};
+ghost use Rattle.nest_flat.specs.Growth.{joined_validity, pushed_validity};
 
+use crate::growth::bits;
 use nest_memory::bitmap::immutable::Bitmap;
 use nest_memory::bitmap::mutable::MutableBitmap;
 use nest_memory::error::Error;
@@ -41,6 +42,45 @@ pub fn push(
     }
     if !valid {
         *validity = Some(first_null(alloc, len)?);
+    }
+    Ok(())
+}
+
+/// The bits of n valid places, and others behind them.
+fn valid_before(alloc: Global, n: usize, more: &MutableBitmap) -> Result<MutableBitmap, Error>
+    requires { n + length more.now < 2 ^ 64 }
+    ensures ok { IfOk result (λ bits. bits ≡ replicate n true ++ more.now) }
+    ensures err { IsOkUnless result (Memory alloc_error) }
+{
+    let mut bits = MutableBitmap::new(alloc);
+    bits.extend_constant(n, true)?;
+    bits::append(&mut bits, more)?;
+    Ok(bits)
+}
+
+/// Adds the bits of m places more, after n others.
+pub fn join(
+    alloc: Global,
+    validity: &mut Option<MutableBitmap>,
+    n: usize,
+    more: &Option<MutableBitmap>,
+    m: usize,
+) -> Result<(), Error>
+    requires fits { ValidityFits validity.old n }
+    requires more_fits { ValidityFits more.now m }
+    requires room { n + m < 2 ^ 64 }
+    ensures ok { OnOk result (validity.new ≡ joined_validity validity.old n more.now m) }
+    ensures err { OnErr result (validity.new ≡ validity.old) }
+    ensures memory { IsOkUnless result (Memory alloc_error) }
+{
+    if let Some(bits) = validity {
+        return match more {
+            None => bits.extend_constant(m, true),
+            Some(more) => bits::append(bits, more),
+        };
+    }
+    if let Some(more) = more {
+        *validity = Some(valid_before(alloc, n, more)?);
     }
     Ok(())
 }

@@ -1,5 +1,5 @@
 //! The builder of arrays of native values.
-ghost use Rattle.std.specs.Prelude.{◌≡◌, ◌≢◌, ◌+◌, ◌≤◌, ◌<◌, ◌↔◌, ◌++◌, ◌∷◌, [], List, Option, IsTrue, IfOk, OnOk, OnErr, IsOkUnless, IsErrOf, None, Some, option_map, map, is_some, alloc_error};
+ghost use Rattle.std.specs.Prelude.{◌≡◌, ◌≢◌, ◌+◌, ◌≤◌, ◌<◌, ◌↔◌, ◌++◌, ◌∷◌, [], List, Option, IsTrue, IfOk, IfErr, ◌⊎◌, OnOk, OnErr, IsOkUnless, IsErrOf, None, Some, option_map, map, is_some, alloc_error};
 ghost use Rattle.std.specs.Option.{unwrap_or};
 ghost use Rattle.nest_memory.specs.Cut.{cut};
 ghost use Rattle.nest_memory.specs.Native.{parts_of};
@@ -18,7 +18,7 @@ ghost use Rattle.nest_model.specs.Meaning.{len, slots_of};
 ghost use Rattle.nest_model.specs.Part.{valid_at};
 ghost use Rattle.nest_model.specs.Slot as slots;
 ghost use Rattle.nest_flat.specs.FlatParts.{optional};
-ghost use Rattle.nest_flat.specs.Growth.{CanDrain, Extended, joined_parts, pushed_native, zeros};
+ghost use Rattle.nest_flat.specs.Growth.{CanDrain, Extended, Grew, joined_parts, pushed_native, zeros};
 
 use crate::growth::extend::{Grow, extend_by_push};
 use crate::growth::validity;
@@ -26,7 +26,7 @@ use crate::primitive::PrimitiveArray;
 use nest_memory::bitmap::mutable::MutableBitmap;
 use nest_memory::buffer::Buffer;
 use nest_memory::datatypes::DataType;
-use nest_memory::error::Error;
+use nest_memory::error::{Argument, Error};
 use nest_memory::types::NativeType;
 use std::alloc::Global;
 use std::marker::Model;
@@ -163,6 +163,43 @@ impl<T: NativeType> MutablePrimitiveArray<T> {
         ensures memory { IsOkUnless result (Memory alloc_error) }
     {
         extend_by_push(self, items)
+    }
+
+    /// Adds the slots of another builder, all of them or none.
+    ///
+    /// # Errors
+    /// `ItemType` where the data types differ; `Memory`.
+    pub fn try_extend_from_self(&mut self, other: &MutablePrimitiveArray<T>) -> Result<(), Error>
+        ensures parts { OnOk result (self.new ≡ joined_parts self.old other.now) }
+        ensures slots { OnOk result (slots_of self.new ≡ slots_of self.old ++ slots_of other.now) }
+        ensures err { OnErr result (self.new ≡ self.old) }
+        ensures same_type { layout_type self.new ≡ layout_type self.old }
+        ensures item_type { IsErrOf result (InvalidArgumentError ItemType) ↔ layout_type self.old ≢ layout_type other.now }
+        ensures errors { IfErr result (λ e. (e ≡ InvalidArgumentError ItemType) ⊎ (e ≡ Memory alloc_error)) }
+    {
+        let same_type = *self.data_type() == *other.data_type();
+        if !same_type {
+            return Err(Error::InvalidArgumentError(Argument::ItemType));
+        }
+        self.append(other)
+    }
+
+    fn append(&mut self, other: &MutablePrimitiveArray<T>) -> Result<(), Error>
+        ensures parts { OnOk result (self.new ≡ joined_parts self.old other.now) }
+        ensures grew { OnOk result (Grew (slots_of other.now) self.old self.new) }
+        ensures err { OnErr result (self.new ≡ self.old) }
+        ensures memory { IsOkUnless result (Memory alloc_error) }
+    {
+        let alloc = *self.values.allocator();
+        let len = self.values.len();
+        self.values.extend_from_slice(other.values.as_slice())?;
+        let _more = self.values.len();
+        let more = other.values.len();
+        if let Err(error) = validity::join(alloc, &mut self.validity, len, &other.validity, more) {
+            self.values.truncate(len);
+            return Err(error);
+        }
+        Ok(())
     }
 
     /// Keeps the first n slots.
