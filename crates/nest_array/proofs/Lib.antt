@@ -1,2 +1,4 @@
-pub mod Comparing
+pub mod Children
+pub mod FixedSizes
 pub mod Lists
+pub mod Windows
