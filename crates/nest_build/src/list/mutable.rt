@@ -21,9 +21,11 @@ ghost use Rattle.nest_build.specs.Items.{item_slot, row_item, row_slot, row_len}
 ghost use Rattle.nest_array.specs.Types.{default_list_type};
 
 use crate::list::rows::ListRows;
-use nest_array::ListArray;
+use nest_array::{AnyArray, ListArray};
+use nest_flat::any_primitive::AnyPrimitive;
 use nest_flat::primitive::mutable::MutablePrimitiveArray;
 use nest_memory::datatypes::DataType;
+use nest_memory::datatypes::field::Field;
 use nest_memory::error::{Argument, Error};
 use std::alloc::Global;
 use std::marker::Model;
@@ -60,8 +62,9 @@ impl ListType {
         ensures ok { IfOk result (λ t. t ≡ default_list_type (type_of items)) }
         ensures memory { IsOkUnless result (Memory alloc_error) }
     {
+        let field = Field::new(alloc, "item", items, true)?;
         Ok(ListType {
-            data_type: ListArray::default_datatype(alloc, items)?,
+            data_type: DataType::List(Box::new(alloc, field)?),
         })
     }
 
@@ -259,8 +262,23 @@ impl MutableListArray {
         }
         let values = self.values.freeze();
         let rows = self.rows.freeze();
-        let data_type = self.data_type.get().clone(self.alloc);
-        let (offsets, validity) = rows?;
-        Ok(ListArray::new(data_type?, offsets, values?, validity))
+        let values = values?;
+        let (offsets, validity) = match rows {
+            Ok(rows) => rows,
+            Err(error) => {
+                drop(values);
+                return Err(error);
+            }
+        };
+        match self.data_type.get().clone(self.alloc) {
+            Ok(data_type) => {
+                let values = AnyArray::Primitive(AnyPrimitive::Int64(values));
+                ListArray::new(self.alloc, data_type, offsets, values, validity)
+            }
+            Err(error) => {
+                drop(values);
+                Err(error)
+            }
+        }
     }
 }

@@ -1,8 +1,7 @@
-use Rattle.std.proofs.Common.{false, ℕ, List, ap, sym, ◌∙◌, subst}
+use Rattle.std.proofs.Common.{ap, ◌∙◌}
+use Rattle.std.proofs.lemmas.Result.{IfOk-weaker}
 use Rattle.nest_memory.specs.TypeOf.{type_of}
-use Rattle.nest_model.specs.Fits.{Fits}
 use Rattle.nest_model.specs.Meaning.{slots_of}
-use Rattle.nest_model.specs.Layout as layouts
 use Rattle.nest_build.proofs.Pushed.{frozen-fits, frozen-slots}
 use Rattle.nest_build.proofs.list.mutable.MutableListArray.freeze.Goals as goal
 
@@ -10,15 +9,12 @@ pub new-requires : goal.new-requires
 new-requires c =
     let b = c.args.self.now in
     let w = c.is_whole.ensures.0 c.if-not-is_whole.false in
-    let t = type_of c.in_ok-data_type.field-0 in
-    subst (λ (os : List ℕ). Fits (layouts.list false t os c.in_ok-values.field-0 c.in_ok-offsets.validity)) (sym c.offsets.view_is)
-    (frozen-fits t b.data_type c.in_ok-offsets.offsets b.values c.in_ok-values.field-0 c.in_ok-offsets.validity b.rows c.in_ok-offsets.ensures.ok w c.in_ok-values.ensures.ok (c.in_ok-data_type.ensures.ok ∙ c.get.ensures.value) c.get.ensures.lists)
+    frozen-fits (type_of c.in-Ok-clone.data_type) b.data_type c.in-Ok.rows.0 b.values c.in_ok-values.values c.in-Ok.rows.1 b.rows c.in-Ok.ensures.ok w c.in_ok-values.ensures.ok (c.in-Ok-clone.ensures.ok ∙ c.get.ensures.value) c.get.ensures.lists
 
-pub returns-clause-slots : goal.returns-clause-slots
-returns-clause-slots c =
+pub returns-in-Ok-clone-clause-slots : goal.returns-in-Ok-clone-clause-slots
+returns-in-Ok-clone-clause-slots c =
     let b = c.args.self.now in
     let w = c.is_whole.ensures.0 c.if-not-is_whole.false in
-    let t = type_of c.in_ok-data_type.field-0 in
-    ap slots_of c.new.ensures
-    ∙ ap (λ os. slots_of (layouts.list false t os c.in_ok-values.field-0 c.in_ok-offsets.validity)) c.offsets.view_is
-    ∙ frozen-slots t b.data_type c.in_ok-offsets.offsets b.values c.in_ok-values.field-0 c.in_ok-offsets.validity b.rows c.in_ok-offsets.ensures.ok w c.in_ok-values.ensures.ok
+    IfOk-weaker c.new.result _ _
+    (λ a e. ap slots_of e ∙ frozen-slots (type_of c.in-Ok-clone.data_type) b.data_type c.in-Ok.rows.0 b.values c.in_ok-values.values c.in-Ok.rows.1 b.rows c.in-Ok.ensures.ok w c.in_ok-values.ensures.ok)
+    c.new.ensures.ok
