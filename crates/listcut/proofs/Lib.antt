@@ -2,8 +2,8 @@ pub mod Again
 pub mod Counted
 pub mod Digits
 pub mod Faulty
+pub mod ItemTypes
 pub mod Items
-pub mod Kinds
 pub mod Lines
 pub mod Pieces
 pub mod Sealed

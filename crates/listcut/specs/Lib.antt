@@ -3,4 +3,3 @@ pub mod Grammar
 pub mod Spelling
 pub mod Outcome
 pub mod SeenRow
-pub mod Kinds

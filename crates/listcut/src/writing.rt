@@ -10,7 +10,7 @@ ghost use Rattle.listcut.specs.Spelling.{item_text, row_text, text_of};
 ghost use Rattle.listcut.specs.Outcome.{Writes};
 
 use crate::fault::Fault;
-use crate::items::numbers;
+use crate::int64::numbers;
 use itoa::Buffer;
 use nest_array::ListArray;
 use nest_flat::primitive::PrimitiveArray;

@@ -5,13 +5,13 @@ use Rattle.nest_model.specs.Meaning.{slot, slots_of}
 use Rattle.nest_model.specs.Accessors.{child_of, validity_of}
 use Rattle.nest_model.specs.CutLaws.{type-cut}
 use Rattle.nest_array.specs.Seen.{layout_of}
-use Rattle.listcut.proofs.Kinds.{items-int64}
+use Rattle.listcut.proofs.ItemTypes.{items-typed}
 use Rattle.listcut.proofs.Texts.{joined, row-pushed}
 use Rattle.listcut.proofs.writing.push_row.Goals as goal
 
 pub numbers-requires : goal.numbers-requires
 numbers-requires c =
-    ap layout_type c.in-Ok.ensures.parts ∙ type-cut (child_of c.args.rows.now) _ _ ∙ items-int64 c.args.rows.now c.known.ensures.kind c.known.ensures.fits c.requires.numbers
+    ap layout_type c.in-Ok.ensures.parts ∙ type-cut (child_of c.args.rows.now) _ _ ∙ items-typed c.args.rows.now _ c.known.ensures.kind c.known.ensures.fits c.requires.numbers
 
 pub returns : goal.returns
 returns c =

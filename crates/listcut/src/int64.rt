@@ -4,7 +4,6 @@ ghost use Rattle.nest_memory.specs.TypeTree as types;
 ghost use Rattle.nest_model.specs.Layout.{layout_type};
 ghost use Rattle.nest_flat.specs.AnyPrimitive.{primitive_layout};
 ghost use Rattle.nest_array.specs.Seen.{layout_of};
-ghost use Rattle.listcut.specs.Kinds.{IsInt64};
 
 use nest_array::AnyArray;
 use nest_flat::any_primitive::AnyPrimitive;
@@ -23,7 +22,6 @@ pub fn numbers(items: &AnyArray) -> &PrimitiveArray<i64>
     requires { layout_type (layout_of items.now) ≡ types.int64 }
     ensures { result.now ≡ layout_of items.now }
 {
-    items.known();
     match items {
         AnyArray::Primitive(items) => native_numbers(items),
         AnyArray::Boolean(other) => other_kind!(other),
@@ -39,7 +37,7 @@ pub fn numbers(items: &AnyArray) -> &PrimitiveArray<i64>
 }
 
 fn native_numbers(items: &AnyPrimitive) -> &PrimitiveArray<i64>
-    requires { IsInt64 (primitive_layout items.now) }
+    requires { layout_type (primitive_layout items.now) ≡ types.int64 }
     ensures { result.now ≡ primitive_layout items.now }
 {
     match items {
