@@ -1,15 +1,18 @@
 //! Pushed rows by their arrays. Values with a data type are let go by `drop`, which keeps the proofs short.
 
 use crate::list::MutableListArray;
-use nest_array::ListArray;
-use nest_flat::primitive::PrimitiveArray;
+use nest_array::{AnyArray, ListArray};
+use nest_flat::any_primitive::AnyPrimitive;
 use nest_memory::error::{Argument, Error};
 use std::alloc::{AllocError, Global};
 use std::test::Fail;
 
 const ONE_TO_FIVE: [Option<i64>; 5] = [Some(1), Some(2), Some(3), Some(4), Some(5)];
 
-fn show_items(items: &PrimitiveArray<i64>, text: &mut String) -> Result<(), Error> {
+fn show_items(items: &AnyArray, text: &mut String) -> Result<(), Error> {
+    let AnyArray::Primitive(AnyPrimitive::Int64(items)) = items else {
+        return Ok(());
+    };
     text.push_str("[ ")?;
     for k in 0..items.len() {
         match items.get(k) {
