@@ -1,6 +1,4 @@
-pub mod Comparing
-pub mod Grown
+pub mod Children
+pub mod FixedSizes
 pub mod Lists
-pub mod Pushed
-pub mod Rows
-pub mod Spelled
+pub mod Windows

@@ -1,6 +1,10 @@
-pub mod Growth
-pub mod Items
-pub mod Parts
+pub mod Falls
+pub mod Refusals
 pub mod SameLists
 pub mod Seen
+pub mod SeenFixedSizeList
+pub mod SeenLargeList
+pub mod SeenList
+pub mod SeenStruct
 pub mod Types
+pub mod WindowParts

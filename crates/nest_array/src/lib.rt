@@ -1,9 +1,16 @@
-//! Arrays of lists in the Arrow format, and their builder.
+//! Arrays of any nesting in the Arrow format.
 #![tactic(auto)]
 
-mod growth;
+pub mod any;
+pub mod fixed_size_list;
 pub mod list;
-pub mod primitive;
+pub mod struct_;
+mod types;
+pub mod window;
 
-pub use list::{ListArray, MutableListArray};
-pub use primitive::MutablePrimitiveArray;
+pub use any::AnyArray;
+pub use fixed_size_list::FixedSizeListArray;
+pub use list::ListArray;
+pub use list::large::LargeListArray;
+pub use struct_::StructArray;
+pub use window::Window;

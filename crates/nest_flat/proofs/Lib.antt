@@ -1,5 +1,4 @@
 pub mod Cutting
-pub mod NullCounts
 pub mod RawValues
 pub mod SlotRuns
 pub mod TextParts

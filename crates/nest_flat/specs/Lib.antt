@@ -1,6 +1,7 @@
 pub mod AnyPrimitive
 pub mod BareSlots
 pub mod FlatParts
+pub mod NullCounts
 pub mod NullSlots
 pub mod SameFlat
 pub mod SameRuns
