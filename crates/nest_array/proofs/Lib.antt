@@ -2,3 +2,4 @@ pub mod Children
 pub mod FixedSizes
 pub mod Lists
 pub mod Windows
+pub mod SameRows

@@ -1,10 +1,13 @@
 pub mod Falls
+pub mod Kinds
 pub mod Refusals
+pub mod RowSlots
 pub mod SameLists
 pub mod Seen
 pub mod SeenFixedSizeList
 pub mod SeenLargeList
 pub mod SeenList
+pub mod SeenLists
 pub mod SeenStruct
 pub mod Types
 pub mod WindowParts

@@ -2,6 +2,7 @@
 #![tactic(auto)]
 
 pub mod any;
+pub mod equal;
 pub mod fixed_size_list;
 pub mod list;
 pub mod struct_;

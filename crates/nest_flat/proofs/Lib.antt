@@ -2,4 +2,3 @@ pub mod Cutting
 pub mod RawValues
 pub mod SlotRuns
 pub mod TextParts
-pub mod Alike
