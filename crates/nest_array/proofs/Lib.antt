@@ -1,5 +1,8 @@
+pub mod ChildTypes
 pub mod Children
+pub mod FixedSizeBinaries
 pub mod FixedSizes
 pub mod Lists
+pub mod NullArrays
 pub mod Windows
 pub mod SameRows

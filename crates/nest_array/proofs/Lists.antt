@@ -17,6 +17,7 @@ use Rattle.nest_model.specs.Array.{TopFits}
 use Rattle.nest_model.specs.FitsLaws.{top-fits-cut}
 use Rattle.nest_model.specs.Reads.{where_valid, list-slot, extent-fits}
 use Rattle.nest_model.specs.Accessors.{offsets_of, child_of, validity_of}
+use Rattle.nest_array.specs.WindowParts.{WindowParts, window_parts, window_slots}
 
 some-one : (t u : TypeTree) → Some t ≡ Some u → t ≡ u
 some-one t u e = cc
@@ -59,4 +60,13 @@ slot-items l t os c va a d i h fits k e =
     (λ j g. list-slot l t os c va i fits j
     ∙ ap (λ ss. where_valid va i (slots.list (seal ss)))
     (sym (slots-cut c (begin os i) (extent os i) (extent-fits os (len c) i fits.0 fits.1.0 j)) ∙ ap slots_of (sym g)))
+    k e
+
+-- the same of the window over them
+pub slot-window : (l : Bool) (t : TypeTree) (os : List ℕ) (c : Layout) (va : Validity) (a : Layout) (w : WindowParts) (i : ℕ) → layouts.list l t os c va ≡ a → TopFits (layouts.list l t os c va) → i < len a
+    → w ≡ window_parts (child_of a) (begin (offsets_of a) i) (extent (offsets_of a) i)
+    → slot a i ≡ where_valid (validity_of a) i (slots.list (seal (window_slots w)))
+slot-window l t os c va a w i h fits k e =
+    subst (λ (b : Layout). i < len b → w ≡ window_parts (child_of b) (begin (offsets_of b) i) (extent (offsets_of b) i) → slot b i ≡ where_valid (validity_of b) i (slots.list (seal (window_slots w)))) h
+    (λ j g. list-slot l t os c va i fits j ∙ ap (λ x. where_valid va i (slots.list (seal (window_slots x)))) (sym g))
     k e

@@ -1,17 +1,19 @@
 -- An array of any kind as its layout.
 use Rattle.std.specs.Prelude.{List as Seq, [], ◌∷◌}
 use Rattle.nest_array.specs.declared.any.AnyArray.{AnyArray}
-use Rattle.nest_array.specs.declared.any.AnyArray.TheVariants.{Boolean, Primitive, Binary, LargeBinary, Utf8, LargeUtf8, FixedSizeList, List, LargeList, Struct}
+use Rattle.nest_array.specs.declared.any.AnyArray.TheVariants.{Null, Boolean, Primitive, Binary, LargeBinary, Utf8, LargeUtf8, FixedSizeBinary, FixedSizeList, List, LargeList, Struct}
 use Rattle.nest_flat.specs.AnyPrimitive.{primitive_layout}
 use Rattle.nest_model.specs.Layout.{Layout, Layouts, no_layouts, more_layouts}
 
 abbrev pub layout_of : AnyArray → Layout
+layout_of (Null a) = a
 layout_of (Boolean a) = a
 layout_of (Primitive a) = primitive_layout a
 layout_of (Binary a) = a
 layout_of (LargeBinary a) = a
 layout_of (Utf8 a) = a
 layout_of (LargeUtf8 a) = a
+layout_of (FixedSizeBinary a) = a
 layout_of (FixedSizeList a) = a
 layout_of (List a) = a
 layout_of (LargeList a) = a

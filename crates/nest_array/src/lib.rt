@@ -2,16 +2,24 @@
 #![tactic(auto)]
 
 pub mod any;
+pub mod array;
 pub mod equal;
+pub mod fixed_size_binary;
 pub mod fixed_size_list;
+pub mod generic_binary;
 pub mod list;
+pub mod null;
 pub mod struct_;
 mod types;
 pub mod window;
 
 pub use any::AnyArray;
+pub use array::Array;
+pub use fixed_size_binary::FixedSizeBinaryArray;
 pub use fixed_size_list::FixedSizeListArray;
+pub use generic_binary::{FixedSizeBinaryValues, GenericBinaryArray};
 pub use list::ListArray;
 pub use list::large::LargeListArray;
+pub use null::NullArray;
 pub use struct_::StructArray;
 pub use window::Window;

@@ -1,7 +1,9 @@
 pub mod Alike
 pub mod AnyPrimitive
 pub mod BareSlots
+pub mod BytesGrowth
 pub mod FlatParts
+pub mod Growth
 pub mod NullCounts
 pub mod NullSlots
 pub mod SameFlat

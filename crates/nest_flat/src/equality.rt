@@ -4,12 +4,10 @@ ghost use Rattle.nest_model.specs.Meaning.{len, run, slot};
 ghost use Rattle.nest_model.specs.SameArray.{IsSameArray, same_array};
 
 use crate::binary::BinaryArray;
-use crate::binary::iterator::BytesOf;
 use crate::boolean::BooleanArray;
 use crate::flat_array;
 use crate::primitive::PrimitiveArray;
 use crate::utf8::Utf8Array;
-use crate::utf8::iterator::TextsOf;
 use nest_memory::offset::Offset;
 use nest_memory::types::NativeType;
 
@@ -91,7 +89,7 @@ impl<O: Offset> BinaryArray<O> {
         requires other_within { p + n ≤ len other.now }
         ensures { IsTrue result ↔ (run (slot self.now) o n ≡ run (slot other.now) p n) }
     {
-        flat_array::same_run(BytesOf(self), o, BytesOf(other), p, n)
+        flat_array::same_run(self, o, other, p, n)
     }
 }
 
@@ -108,7 +106,7 @@ impl<O: Offset> PartialEq for BinaryArray<O> {
         ensures computes { result ≡ same_array self.now other.now }
         ensures decides { IsTrue result ↔ IsSameArray self.now other.now }
     {
-        flat_array::same_arrays(BytesOf(self), BytesOf(other))
+        flat_array::same_arrays(self, other)
     }
 }
 
@@ -126,7 +124,7 @@ impl<O: Offset> Utf8Array<O> {
         requires other_within { p + n ≤ len other.now }
         ensures { IsTrue result ↔ (run (slot self.now) o n ≡ run (slot other.now) p n) }
     {
-        flat_array::same_run(TextsOf(self), o, TextsOf(other), p, n)
+        flat_array::same_run(self, o, other, p, n)
     }
 }
 
@@ -143,7 +141,7 @@ impl<O: Offset> PartialEq for Utf8Array<O> {
         ensures computes { result ≡ same_array self.now other.now }
         ensures decides { IsTrue result ↔ IsSameArray self.now other.now }
     {
-        flat_array::same_arrays(TextsOf(self), TextsOf(other))
+        flat_array::same_arrays(self, other)
     }
 }
 

@@ -77,7 +77,7 @@ pub trait FlatArray: Copy {
 
 /// The slots of an array, `None` where one is null.
 #[derive(Clone, Copy)]
-pub struct Slots<A: FlatArray>(pub(crate) A);
+pub struct Slots<A: FlatArray>(pub A);
 
 impl<A: FlatArray> SlotItems for Slots<A> {
     type Item = Option<A::Value>;
@@ -104,7 +104,7 @@ impl<A: FlatArray> SlotItems for Slots<A> {
 
 /// The raw values of an array, also those under nulls.
 #[derive(Clone, Copy)]
-pub struct Values<A: FlatArray>(pub(crate) A);
+pub struct Values<A: FlatArray>(pub A);
 
 #[tactic(auto, using(crate::specs::BareSlots::len_bare))]
 impl<A: FlatArray> SlotItems for Values<A> {

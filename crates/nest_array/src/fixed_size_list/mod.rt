@@ -17,10 +17,14 @@ ghost use Rattle.nest_model.specs.Reads.{where_valid};
 ghost use Rattle.nest_model.specs.Slot as slots;
 ghost use Rattle.nest_model.specs.Slot.{seal};
 ghost use Rattle.nest_array.specs.Refusals.{RefusesOrMemory};
+ghost use Rattle.nest_flat.specs.FlatParts.{optional};
 ghost use Rattle.nest_array.specs.Seen.{layout_of};
+ghost use Rattle.nest_array.specs.Types.{default_fixed_size_list_type};
+ghost use Rattle.nest_array.specs.WindowParts.{window_parts, window_slots};
 
 use crate::any::AnyArray;
-use crate::types::has_items;
+use crate::types::{default_child, has_items};
+use crate::window::Window;
 use nest_flat::validity;
 use nest_memory::bitmap::immutable::Bitmap;
 use nest_memory::datatypes::DataType;
@@ -28,6 +32,7 @@ use nest_memory::datatypes::physical_type::PhysicalType;
 use nest_memory::error::{Error, Spec};
 use std::alloc::Global;
 use std::marker::Model;
+use std::rc::Rc;
 
 /// Lists of as many items each: the Fixed-Size List Layout of the Arrow format.
 #[cycle(array)]
@@ -136,6 +141,19 @@ impl FixedSizeListArray {
         }
     }
 
+    /// The type of lists of so many such items: the field is named "item" and nullable.
+    pub fn default_datatype(
+        alloc: Global,
+        data_type: DataType,
+        size: usize,
+    ) -> Result<DataType, Error>
+        ensures ok { IfOk result (λ t. type_of t ≡ default_fixed_size_list_type (type_of data_type) size) }
+        ensures err { IsOkUnless result (Memory alloc_error) }
+    {
+        let field = default_child(alloc, data_type)?;
+        Ok(DataType::FixedSizeList(Box::new(alloc, field)?, size))
+    }
+
     /// What holds of every such array.
     pub fn known(&self)
         ensures fits { TopFits self.now }
@@ -232,6 +250,29 @@ impl FixedSizeListArray {
         let mut items = self.values.clone(alloc)?;
         items.slice(start, self.size);
         Ok(items)
+    }
+
+    /// The items of slot i, `None` where it is null.
+    pub fn get(&self, alloc: Global, i: usize) -> Result<Option<AnyArray>, Error>
+        requires { i < len self.now }
+        ensures ok { IfOk result (λ items. optional (λ a. slots.list (seal (slots_of (layout_of a)))) items ≡ slot self.now i) }
+        ensures err { IsOkUnless result (Memory alloc_error) }
+    {
+        if self.is_null(i) {
+            return Ok(None);
+        }
+        Ok(Some(self.value(alloc, i)?))
+    }
+
+    /// The items of slot i, also under a null, borrowed.
+    pub fn window(&self, i: usize) -> Window<'_>
+        requires { i < len self.now }
+        ensures parts { result ≡ window_parts (child_of self.now) (i * size_of (layout_type self.now)) (size_of (layout_type self.now)) }
+        ensures items { slot self.now i ≡ where_valid (validity_of self.now) i (slots.list (seal (window_slots result))) }
+    {
+        let start = self.start(i);
+        let values: &AnyArray = &self.values;
+        Window::new(values, start, self.size)
     }
 
     /// Keeps the n slots from place o.
@@ -341,6 +382,14 @@ impl FixedSizeListArray {
         ensures { layout_of result ≡ self }
     {
         AnyArray::FixedSizeList(self)
+    }
+
+    /// The same array, owned by what shares it.
+    pub fn arced(self, alloc: Global) -> Result<Rc<AnyArray>, Error>
+        ensures ok { IfOk result (λ r. layout_of r.value ≡ self) }
+        ensures err { IsOkUnless result (Memory alloc_error) }
+    {
+        Ok(Rc::new(alloc, self.boxed())?)
     }
 }
 

@@ -1,4 +1,5 @@
 //! Arrays of lists.
+mod data_type;
 pub mod large;
 mod ranges;
 
@@ -20,9 +21,11 @@ ghost use Rattle.nest_model.specs.Slot as slots;
 ghost use Rattle.nest_model.specs.Slot.{seal};
 ghost use Rattle.nest_array.specs.Refusals.{RefusesOrMemory};
 ghost use Rattle.nest_array.specs.Seen.{layout_of};
+ghost use Rattle.nest_array.specs.WindowParts.{window_parts, window_slots};
 
 use crate::any::AnyArray;
 use crate::list::ranges::Ranges;
+use crate::window::Window;
 use nest_flat::validity;
 use nest_memory::bitmap::immutable::Bitmap;
 use nest_memory::datatypes::DataType;
@@ -30,6 +33,7 @@ use nest_memory::error::{Error, Spec};
 use nest_memory::offsets::OffsetsBuffer;
 use std::alloc::Global;
 use std::marker::Model;
+use std::rc::Rc;
 
 /// Lists of items of any kind, by offsets of 32 bits: the Variable-size List Layout of the Arrow format.
 #[cycle(array)]
@@ -228,6 +232,17 @@ impl ListArray {
         Ok(items)
     }
 
+    /// The items of slot i, also under a null, borrowed.
+    pub fn window(&self, i: usize) -> Window<'_>
+        requires { i < len self.now }
+        ensures parts { result ≡ window_parts (child_of self.now) (begin (offsets_of self.now) i) (extent (offsets_of self.now) i) }
+        ensures items { slot self.now i ≡ where_valid (validity_of self.now) i (slots.list (seal (window_slots result))) }
+    {
+        let (start, count) = self.range(i);
+        let values: &AnyArray = &self.values;
+        Window::new(values, start, count)
+    }
+
     /// Keeps the n slots from place o.
     pub fn slice(&mut self, o: usize, n: usize)
         requires { o + n ≤ len self.old }
@@ -333,5 +348,13 @@ impl ListArray {
         ensures { layout_of result ≡ self }
     {
         AnyArray::List(self)
+    }
+
+    /// The same array, owned by what shares it.
+    pub fn arced(self, alloc: Global) -> Result<Rc<AnyArray>, Error>
+        ensures ok { IfOk result (λ r. layout_of r.value ≡ self) }
+        ensures err { IsOkUnless result (Memory alloc_error) }
+    {
+        Ok(Rc::new(alloc, self.boxed())?)
     }
 }

@@ -4,6 +4,8 @@ ghost use Rattle.nest_memory.specs.declared.error.Error.TheVariants.{Memory};
 ghost use Rattle.nest_memory.specs.Cut.{cut};
 ghost use Rattle.nest_memory.specs.TypeOf.{type_of, field_list_of};
 ghost use Rattle.nest_memory.specs.TypeTree.{fields_of};
+ghost use Rattle.nest_memory.specs.Physical.{physical_type};
+ghost use Rattle.nest_memory.specs.declared.datatypes.physical_type.PhysicalType.TheVariants as physical;
 ghost use Rattle.nest_model.specs.Accessors.{validity_of, children_of, with_validity};
 ghost use Rattle.nest_model.specs.Array.{TopFits};
 ghost use Rattle.nest_model.specs.Cut.{cut_layout, cut_layouts};
@@ -25,6 +27,7 @@ use nest_memory::datatypes::physical_type::PhysicalType;
 use nest_memory::error::{Error, Spec};
 use std::alloc::Global;
 use std::marker::Model;
+use std::rc::Rc;
 
 /// Records of one child for each field: the Struct Layout of the Arrow format.
 #[cycle(array)]
@@ -148,6 +151,32 @@ impl StructArray {
         ensures { field_list_of result.now ≡ fields_of (layout_type self.now) }
     {
         self.data_type.fields()
+    }
+
+    /// The fields of a data type of records.
+    pub fn get_fields(data_type: &DataType) -> &[Field]
+        requires { physical_type (type_of data_type.now) ≡ physical.Struct }
+        ensures { field_list_of result.now ≡ fields_of (type_of data_type.now) }
+    {
+        data_type.fields()
+    }
+
+    /// Its fields, its children and its validity.
+    pub fn into_data(self) -> (Vec<Field>, Vec<AnyArray>, Option<Bitmap>)
+        ensures fields { field_list_of result.0.items ≡ fields_of (layout_type self) }
+        ensures children { layouts_of result.1.items ≡ children_of self }
+        ensures validity { result.2 ≡ validity_of self }
+    {
+        let StructArray {
+            data_type,
+            count: _,
+            values,
+            validity,
+        } = self;
+        match data_type.into_fields() {
+            Some(fields) => (fields, values, validity),
+            None => unreachable!(),
+        }
     }
 
     /// Which slots are valid, a bit a slot; without it all are.
@@ -286,6 +315,14 @@ impl StructArray {
         ensures { layout_of result ≡ self }
     {
         AnyArray::Struct(self)
+    }
+
+    /// The same array, owned by what shares it.
+    pub fn arced(self, alloc: Global) -> Result<Rc<AnyArray>, Error>
+        ensures ok { IfOk result (λ r. layout_of r.value ≡ self) }
+        ensures err { IsOkUnless result (Memory alloc_error) }
+    {
+        Ok(Rc::new(alloc, self.boxed())?)
     }
 }
 

@@ -2,15 +2,17 @@
 mod equality;
 mod native;
 
-ghost use Rattle.std.specs.Prelude.{◌≡◌, ◌+◌, ◌≤◌, ◌<◌, ◌↔◌, IsTrue, IfOk, IsOkUnless, option_map, alloc_error};
+ghost use Rattle.std.specs.Prelude.{◌≡◌, ◌+◌, ◌≤◌, ◌<◌, ◌↔◌, IsTrue, IfOk, IsOkUnless, MatchResult, option_map, alloc_error};
 ghost use Rattle.nest_memory.specs.declared.error.Error.TheVariants.{Memory};
 ghost use Rattle.nest_memory.specs.Cut.{cut};
 ghost use Rattle.nest_memory.specs.TypeOf.{type_of};
 ghost use Rattle.nest_memory.specs.Physical.{physical_type};
 ghost use Rattle.nest_memory.specs.declared.datatypes.physical_type.PhysicalType.TheVariants as physical;
-ghost use Rattle.nest_model.specs.Accessors.{validity_of};
+ghost use Rattle.nest_model.specs.Accessors.{natives_of, validity_of, with_validity};
 ghost use Rattle.nest_model.specs.Array.{TopFits};
 ghost use Rattle.nest_model.specs.Cut.{cut_layout};
+ghost use Rattle.nest_model.specs.Fits.{ValidityFits, ValidityFault};
+ghost use Rattle.nest_model.specs.Layout as layouts;
 ghost use Rattle.nest_model.specs.Layout.{layout_type};
 ghost use Rattle.nest_model.specs.Meaning.{len, slot, slots_of};
 ghost use Rattle.nest_model.specs.Nullness.{is_null_at, null_count};
@@ -67,6 +69,7 @@ macro_rules! each_kind {
 fn known<T: NativeType>(array: &PrimitiveArray<T>)
     ensures fits { TopFits array.now }
     ensures kind { physical_type (layout_type array.now) ≡ physical.Primitive T.PRIMITIVE }
+    ensures parts { array.now ≡ layouts.primitive T.PRIMITIVE (layout_type array.now) (natives_of array.now) (validity_of array.now) }
 {
     array.known();
 }
@@ -76,6 +79,7 @@ impl AnyPrimitive {
     pub fn known(&self)
         ensures fits { TopFits (primitive_layout self.now) }
         ensures kind { physical_type (layout_type (primitive_layout self.now)) ≡ physical.Primitive (primitive_kind self.now) }
+        ensures parts { primitive_layout self.now ≡ layouts.primitive (primitive_kind self.now) (layout_type (primitive_layout self.now)) (natives_of (primitive_layout self.now)) (validity_of (primitive_layout self.now)) }
     {
         each_kind!(self, array => known(array))
     }
@@ -125,6 +129,16 @@ impl AnyPrimitive {
         ensures same_type { layout_type (primitive_layout self.new) ≡ layout_type (primitive_layout self.old) }
     {
         each_kind!(self, array => array.slice(o, n))
+    }
+
+    /// Takes a new validity. `ValidityLength` where it has not a bit for each slot; the array stays
+    /// as it was then.
+    pub fn set_validity(&mut self, validity: Option<Bitmap>) -> Result<(), Error>
+        ensures { MatchResult result
+            (λ _. ValidityFits validity (len (primitive_layout self.old)) × (primitive_layout self.new ≡ with_validity (primitive_layout self.old) validity))
+            (λ e. ValidityFault e (primitive_layout self.old) validity × (primitive_layout self.new ≡ primitive_layout self.old)) }
+    {
+        each_kind!(self, array => array.set_validity(validity))
     }
 
     /// The same array, on shared memory.

@@ -1,4 +1,4 @@
-use Rattle.std.proofs.Common.{false, ap, ◌∙◌}
+use Rattle.std.proofs.Common.{false, rules}
 use Rattle.nest_memory.specs.TypeOf.{type_of}
 use Rattle.nest_model.specs.Cut.{cut_layout}
 use Rattle.nest_model.specs.Accessors.{child_of}
@@ -8,7 +8,5 @@ use Rattle.nest_array.proofs.list.ListArray.value.Goals as goal
 
 pub returns-clause-items : goal.returns-clause-items
 returns-clause-items c =
-    let start = c.range-start.ensures.start in
-    let count = c.range-start.ensures.count in
-    slot-items false (type_of c.self.inside.data_type) c.self.inside.ranges.offsets (layout_of c.self.inside.values.value) c.self.inside.ranges.validity c.args.self.now (layout_of c.slice.new.self) c.args.i c.self.view_is c.self.invariant c.requires
-    (c.slice.ensures.parts ∙ (λ i. cut_layout (c.in_ok-items.ensures.ok i) (start i) (count i)) ∙ ap (λ a. cut_layout (child_of a) _ _) c.self.view_is)
+    slot-items false (type_of c.self.inside.data_type) c.self.inside.ranges.offsets (layout_of c.self.inside.values.value) c.self.inside.ranges.validity c.args.self.now (layout_of c.slice.new.self) c.args.i c.self.view_is
+    c.self.invariant c.requires (search rules)

@@ -1,0 +1,7 @@
+//! What the builders of flat arrays share.
+pub mod bits;
+pub(crate) mod bytes;
+pub(crate) mod extend;
+#[cfg(test)]
+mod tests;
+pub mod validity;
