@@ -10,12 +10,14 @@ use Rattle.nest_array.specs.declared.any.AnyArray.{AnyArray}
 use Rattle.nest_array.specs.declared.any.AnyArray.TheVariants as any
 
 abbrev pub physical_kind : AnyArray → PhysicalType
+physical_kind (any.Null a) = physical.Null
 physical_kind (any.Primitive a) = physical.Primitive (primitive_kind a)
 physical_kind (any.Boolean a) = physical.Boolean
 physical_kind (any.Binary a) = physical.Binary
 physical_kind (any.LargeBinary a) = physical.LargeBinary
 physical_kind (any.Utf8 a) = physical.Utf8
 physical_kind (any.LargeUtf8 a) = physical.LargeUtf8
+physical_kind (any.FixedSizeBinary a) = physical.FixedSizeBinary
 physical_kind (any.FixedSizeList a) = physical.FixedSizeList
 physical_kind (any.List a) = physical.List
 physical_kind (any.LargeList a) = physical.LargeList

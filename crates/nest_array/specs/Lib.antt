@@ -2,7 +2,6 @@ pub mod Falls
 pub mod Kinds
 pub mod Refusals
 pub mod RowSlots
-pub mod SameLists
 pub mod Seen
 pub mod SeenFixedSizeList
 pub mod SeenLargeList

@@ -8,9 +8,11 @@ ghost use Rattle.nest_array.specs.Kinds.{physical_kind, IsPrimitive};
 ghost use Rattle.nest_array.specs.Seen.{layout_of};
 
 use crate::any::AnyArray;
+use crate::fixed_size_binary::FixedSizeBinaryArray;
 use crate::fixed_size_list::FixedSizeListArray;
 use crate::list::ListArray;
 use crate::list::large::LargeListArray;
+use crate::null::NullArray;
 use crate::struct_::StructArray;
 use nest_flat::any_primitive::AnyPrimitive;
 use nest_flat::binary::BinaryArray;
@@ -22,16 +24,30 @@ pub(crate) fn kind(a: &AnyArray)
     ensures { physical_type (layout_type (layout_of a.now)) ≡ physical_kind a.now }
 {
     match a {
+        AnyArray::Null(x) => x.known(),
         AnyArray::Boolean(x) => x.known(),
         AnyArray::Primitive(x) => x.known(),
         AnyArray::Binary(x) => x.known(),
         AnyArray::LargeBinary(x) => x.known(),
         AnyArray::Utf8(x) => x.known(),
         AnyArray::LargeUtf8(x) => x.known(),
+        AnyArray::FixedSizeBinary(x) => x.known(),
         AnyArray::FixedSizeList(x) => x.known(),
         AnyArray::List(x) => x.known(),
         AnyArray::LargeList(x) => x.known(),
         AnyArray::Struct(x) => x.known(),
+    }
+}
+
+/// The array whose data type is that of nulls.
+pub(crate) fn as_null(b: &AnyArray) -> &NullArray
+    requires { physical_type (layout_type (layout_of b.now)) ≡ physical.Null }
+    ensures { result.now ≡ layout_of b.now }
+{
+    kind(b);
+    match b {
+        AnyArray::Null(y) => y,
+        _ => unreachable!(),
     }
 }
 
@@ -103,6 +119,18 @@ pub(crate) fn as_large_utf8(b: &AnyArray) -> &Utf8Array<i64>
     kind(b);
     match b {
         AnyArray::LargeUtf8(y) => y,
+        _ => unreachable!(),
+    }
+}
+
+/// The array whose data type is that of byte strings of one size.
+pub(crate) fn as_fixed_size_binary(b: &AnyArray) -> &FixedSizeBinaryArray
+    requires { physical_type (layout_type (layout_of b.now)) ≡ physical.FixedSizeBinary }
+    ensures { result.now ≡ layout_of b.now }
+{
+    kind(b);
+    match b {
+        AnyArray::FixedSizeBinary(y) => y,
         _ => unreachable!(),
     }
 }

@@ -15,9 +15,11 @@ ghost use Rattle.nest_array.specs.SeenLists.{lists_layout};
 ghost use Rattle.nest_array.specs.WindowParts.{window_slots};
 
 use crate::any::AnyArray;
+use crate::null::NullArray;
 use crate::window::Window;
 use kinds::kind;
 use nest_flat::any_primitive;
+use nest_flat::flat_array;
 use records::same_records;
 use rows::{Lists, Rows};
 
@@ -57,12 +59,16 @@ pub(crate) fn same_run(a: &AnyArray, o: usize, b: &AnyArray, p: usize, n: usize)
 {
     kind(a);
     match a {
+        AnyArray::Null(x) => same_nulls(x, o, kinds::as_null(b), p, n),
         AnyArray::Boolean(x) => x.same_run(o, kinds::as_boolean(b), p, n),
         AnyArray::Primitive(x) => any_primitive::same_run(x, o, kinds::as_primitive(b), p, n),
         AnyArray::Binary(x) => x.same_run(o, kinds::as_binary(b), p, n),
         AnyArray::LargeBinary(x) => x.same_run(o, kinds::as_large_binary(b), p, n),
         AnyArray::Utf8(x) => x.same_run(o, kinds::as_utf8(b), p, n),
         AnyArray::LargeUtf8(x) => x.same_run(o, kinds::as_large_utf8(b), p, n),
+        AnyArray::FixedSizeBinary(x) => {
+            flat_array::same_run(x, o, kinds::as_fixed_size_binary(b), p, n)
+        }
         AnyArray::FixedSizeList(x) => {
             x.known();
             let y = kinds::as_fixed_size_list(b);
@@ -80,6 +86,15 @@ pub(crate) fn same_run(a: &AnyArray, o: usize, b: &AnyArray, p: usize, n: usize)
         }
         AnyArray::Struct(x) => same_records(x, o, kinds::as_struct(b), p, n),
     }
+}
+
+/// Whether n nulls from place o are n nulls from place p, as always.
+fn same_nulls(x: &NullArray, o: usize, y: &NullArray, p: usize, n: usize) -> bool
+    ensures { IsTrue result ↔ (run (slot x.now) o n ≡ run (slot y.now) p n) }
+{
+    x.known();
+    y.known();
+    true
 }
 
 /// Whether the n lists of xs from place o are those of ys from place p.

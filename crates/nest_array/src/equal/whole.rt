@@ -1,12 +1,12 @@
 //! Equality of whole arrays: of any kind, and of each kind that has children.
 ghost use Rattle.std.specs.Prelude.{◌≡◌, ◌↔◌, ◌+◌, ◌≤◌, IsTrue};
-ghost use Rattle.nest_memory.specs.TypeOf.{type_of};
-ghost use Rattle.nest_model.specs.Layout.{Layout, layout_type};
+ghost use Rattle.nest_model.specs.Layout.{layout_type};
 ghost use Rattle.nest_model.specs.Meaning.{len, run, slot};
 ghost use Rattle.nest_model.specs.SameArray.{IsSameArray, same_array};
 ghost use Rattle.nest_array.specs.Seen.{layout_of};
 
 use crate::any::AnyArray;
+use crate::array::Array;
 use crate::equal::records::same_records;
 use crate::equal::rows::Lists;
 use crate::equal::{same_rows, same_run};
@@ -14,63 +14,40 @@ use crate::fixed_size_list::FixedSizeListArray;
 use crate::list::ListArray;
 use crate::list::large::LargeListArray;
 use crate::struct_::StructArray;
-use nest_memory::datatypes::DataType;
 
-/// What a comparison asks of arrays of one kind.
-pub(crate) trait Kind {
-    ghost layout: { Self → Layout };
-
-    /// How many slots it has.
-    fn count(&self) -> usize
-        ensures { result ≡ len (layout self.now) };
-
-    /// Its data type.
-    fn type_of_slots(&self) -> &DataType
-        ensures { type_of result.now ≡ layout_type (layout self.now) };
-
+/// An array whose slots are compared in runs.
+pub(crate) trait SlotRuns: Array {
     /// Whether the n slots from place o are those of the other array from place p.
     fn is_same_run(&self, o: usize, other: &Self, p: usize, n: usize) -> bool
-        requires same_type { layout_type (layout self.now) ≡ layout_type (layout other.now) }
-        requires within { o + n ≤ len (layout self.now) }
-        requires other_within { p + n ≤ len (layout other.now) }
-        ensures { IsTrue result ↔ (run (slot (layout self.now)) o n ≡ run (slot (layout other.now)) p n) };
+        requires same_type { layout_type (Self.layout self.now) ≡ layout_type (Self.layout other.now) }
+        requires within { o + n ≤ len (Self.layout self.now) }
+        requires other_within { p + n ≤ len (Self.layout other.now) }
+        ensures { IsTrue result ↔ (run (slot (Self.layout self.now)) o n ≡ run (slot (Self.layout other.now)) p n) };
 }
 
 /// Whether two arrays of one kind have the same data type and the same slots.
-pub(crate) fn same_arrays<A: Kind>(x: &A, y: &A) -> bool
+pub(crate) fn same_arrays<A: SlotRuns>(x: &A, y: &A) -> bool
     ensures computes { result ≡ same_array (A.layout x.now) (A.layout y.now) }
     ensures decides { IsTrue result ↔ IsSameArray (A.layout x.now) (A.layout y.now) }
 {
     same_type_and_slots(x, y)
 }
 
-fn same_type_and_slots<A: Kind>(x: &A, y: &A) -> bool
+fn same_type_and_slots<A: SlotRuns>(x: &A, y: &A) -> bool
     ensures { IsTrue result ↔ IsSameArray (A.layout x.now) (A.layout y.now) }
 {
-    let same_type = *x.type_of_slots() == *y.type_of_slots();
+    let same_type = *x.data_type() == *y.data_type();
     if !same_type {
         return false;
     }
-    let n = x.count();
-    if n != y.count() {
+    let n = x.len();
+    if n != y.len() {
         return false;
     }
     x.is_same_run(0, y, 0, n)
 }
 
-impl Kind for AnyArray {
-    ghost use Rattle.nest_array.specs.Seen.{layout_of};
-
-    ghost layout = { layout_of };
-
-    fn count(&self) -> usize {
-        self.len()
-    }
-
-    fn type_of_slots(&self) -> &DataType {
-        self.data_type()
-    }
-
+impl SlotRuns for AnyArray {
     fn is_same_run(&self, o: usize, other: &AnyArray, p: usize, n: usize) -> bool {
         same_run(self, o, other, p, n)
     }
@@ -102,17 +79,7 @@ impl Eq for AnyArray {
     ghost laws = { on_equiv layout_of same_array-equiv };
 }
 
-impl Kind for ListArray {
-    ghost layout = { λ x. x };
-
-    fn count(&self) -> usize {
-        self.len()
-    }
-
-    fn type_of_slots(&self) -> &DataType {
-        self.data_type()
-    }
-
+impl SlotRuns for ListArray {
     fn is_same_run(&self, o: usize, other: &ListArray, p: usize, n: usize) -> bool {
         same_rows(&Lists::List(self), o, &Lists::List(other), p, n)
     }
@@ -141,17 +108,7 @@ impl Eq for ListArray {
     ghost laws = { same_array-equiv };
 }
 
-impl Kind for LargeListArray {
-    ghost layout = { λ x. x };
-
-    fn count(&self) -> usize {
-        self.len()
-    }
-
-    fn type_of_slots(&self) -> &DataType {
-        self.data_type()
-    }
-
+impl SlotRuns for LargeListArray {
     fn is_same_run(&self, o: usize, other: &LargeListArray, p: usize, n: usize) -> bool {
         same_rows(&Lists::LargeList(self), o, &Lists::LargeList(other), p, n)
     }
@@ -180,17 +137,7 @@ impl Eq for LargeListArray {
     ghost laws = { same_array-equiv };
 }
 
-impl Kind for FixedSizeListArray {
-    ghost layout = { λ x. x };
-
-    fn count(&self) -> usize {
-        self.len()
-    }
-
-    fn type_of_slots(&self) -> &DataType {
-        self.data_type()
-    }
-
+impl SlotRuns for FixedSizeListArray {
     fn is_same_run(&self, o: usize, other: &FixedSizeListArray, p: usize, n: usize) -> bool {
         same_rows(&Lists::FixedSizeList(self), o, &Lists::FixedSizeList(other), p, n)
     }
@@ -219,17 +166,7 @@ impl Eq for FixedSizeListArray {
     ghost laws = { same_array-equiv };
 }
 
-impl Kind for StructArray {
-    ghost layout = { λ x. x };
-
-    fn count(&self) -> usize {
-        self.len()
-    }
-
-    fn type_of_slots(&self) -> &DataType {
-        self.data_type()
-    }
-
+impl SlotRuns for StructArray {
     fn is_same_run(&self, o: usize, other: &StructArray, p: usize, n: usize) -> bool {
         same_records(self, o, other, p, n)
     }
