@@ -1,7 +1,7 @@
 -- Slots that stand behind others, and their bits.
 use Rattle.std.specs.Prelude.{ℤ, Option, Some, None, if◌then◌else◌, is_some, option_map}
 use Rattle.std.specs.Option.{unwrap_or}
-use Rattle.std.proofs.Common.{◌≡◌, ℕ, zero, suc, ◌+◌, ◌<◌, ◌≤◌, Bool, true, false, List, [], ◌∷◌, ◌++◌, length, take, replicate, get_or, refl, ap, sym, ◌∙◌, arith}
+use Rattle.std.proofs.Common.{take_all, ◌≡◌, ℕ, zero, suc, ◌+◌, ◌<◌, ◌≤◌, Bool, true, false, List, [], ◌∷◌, ◌++◌, length, take, replicate, get_or, refl, ap, sym, ◌∙◌, arith}
 use Rattle.std.proofs.lemmas.List.{length-append, length-replicate, get_or-replicate, get_or_append_left, get_or-append-add}
 use Rattle.std.proofs.lemmas.List.{take-append-le}
 use Rattle.nest_memory.specs.TypeTree.{TypeTree}
@@ -15,7 +15,7 @@ use Rattle.nest_model.specs.Meaning.{run, len, slot, slots_of}
 use Rattle.nest_model.specs.Runs.{run-ext}
 use Rattle.nest_model.specs.Fits.{ValidityFits}
 use Rattle.nest_flat.specs.FlatParts.{optional}
-use Rattle.nest_flat.specs.Growth.{pushed_validity, joined_validity, zeros, pushed_truth, pushed_native, joined_parts, pushed_all, is_masked, first_slots, taken_back, Grew}
+use Rattle.nest_flat.specs.Growth.{pushed_validity, joined_validity, first_slots, taken_back, Grew}
 
 -- the bits of both
 pub fits-joined : (va vb : Validity) (n m k : ℕ) → ValidityFits va n → ValidityFits vb m → k ≡ n + m → ValidityFits (joined_validity va n vb m) k
@@ -82,10 +82,6 @@ pub masked-joined : (va vb : Validity) (n m : ℕ) → is_some va ≡ true → i
 masked-joined None vb n m e = cc
 masked-joined (Some bits) None n m e = refl
 masked-joined (Some bits) (Some more) n m e = refl
-
-pub validity-whole : (va : Validity) (n : ℕ) → ValidityFits va n → cut_validity va 0 n ≡ va
-validity-whole None n h = refl
-validity-whole (Some bits) n h = ap Some (take_all n bits (omega arith))
 
 -- how a kind of flat array is made of its raw values and its validity
 pub record Made {A : Type 0} (make : List A → Validity → Layout) (f : A → Slot) (d : A) : Type 0 where

@@ -1,4 +1,3 @@
-use Rattle.std.proofs.Common.{◌≡◌, ◌<◌, ◌+◌}
 use Rattle.nest_memory.specs.Rising.{last_of-index}
 use Rattle.nest_flat.proofs.growth.bytes.push_end.Goals as goal
 

@@ -1,4 +1,4 @@
-use Rattle.std.proofs.Common.{◌≡◌, ◌≤◌, ap, ◌∙◌, arith}
+use Rattle.std.proofs.Common.{◌≤◌, ap, ◌∙◌, arith}
 use Rattle.std.specs.Prelude.{if◌then◌else◌}
 use Rattle.nest_model.specs.Part.{rows}
 use Rattle.nest_flat.specs.BytesGrowth.{Spans, spans, first_spans, bare_spans}
