@@ -88,8 +88,8 @@ record-same s q cs ds i j r a b t h =
     let y : j ≡ j + 0 = omega arith in (
       λ u. a ∙ ap (λ m. slots.record_of (each cs m)) x ∙ ap slots.record_of (same-each cs ds i j 1 0 (h.0 u) (omega arith)) ∙ sym (ap (λ m. slots.record_of (each ds m)) y) ∙ sym b,
       λ e. h.1 (each-same cs ds i j 1 t (λ k l.
-      let z : k ≡ 0 = omega arith in
-      ap (λ m. each cs (i + m)) z ∙ sym (ap (each cs) x) ∙ record-one _ _ (sym a ∙ e ∙ b) ∙ ap (each ds) y ∙ sym (ap (λ m. each ds (j + m)) z))),
+          let z : k ≡ 0 = omega arith in
+          ap (λ m. each cs (i + m)) z ∙ sym (ap (each cs) x) ∙ record-one _ _ (sym a ∙ e ∙ b) ∙ ap (each ds) y ∙ sym (ap (λ m. each ds (j + m)) z))),
     )
 
 -- what is known of the children of an array of records

@@ -18,8 +18,7 @@ use crate::any::AnyArray;
 use crate::null::NullArray;
 use crate::window::Window;
 use kinds::kind;
-use nest_flat::any_primitive;
-use nest_flat::flat_array;
+use nest_flat::{any_primitive, flat_array};
 use records::same_records;
 use rows::{Lists, Rows};
 

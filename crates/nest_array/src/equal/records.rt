@@ -14,13 +14,7 @@ use crate::struct_::StructArray;
 /// Whether the n records of x from place o are those of y from place p. Where neither has a validity, this goes child
 /// by child, else record by record.
 #[cycle(equal)]
-pub(crate) fn same_records(
-    x: &StructArray,
-    o: usize,
-    y: &StructArray,
-    p: usize,
-    n: usize,
-) -> bool
+pub(crate) fn same_records(x: &StructArray, o: usize, y: &StructArray, p: usize, n: usize) -> bool
     requires same_type { layout_type x.now ≡ layout_type y.now }
     requires within { o + n ≤ len x.now }
     requires other_within { p + n ≤ len y.now }

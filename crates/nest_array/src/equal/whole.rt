@@ -139,7 +139,13 @@ impl Eq for LargeListArray {
 
 impl SlotRuns for FixedSizeListArray {
     fn is_same_run(&self, o: usize, other: &FixedSizeListArray, p: usize, n: usize) -> bool {
-        same_rows(&Lists::FixedSizeList(self), o, &Lists::FixedSizeList(other), p, n)
+        same_rows(
+            &Lists::FixedSizeList(self),
+            o,
+            &Lists::FixedSizeList(other),
+            p,
+            n,
+        )
     }
 }
 
