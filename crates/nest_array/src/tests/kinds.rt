@@ -91,6 +91,7 @@ fn counts_of<A: Array + Drop>(array: Result<A, Error>) -> Option<(usize, usize)>
 #[test]
 fn arrays_in_their_variants(rt: HostRuntime) {
     let array = structs::four(rt.alloc(), &[1, 2, 3, 4]).expect(&rt, "four records");
+    assert_eq!(rt; array.len(), 4);
     assert_eq!(rt; counts(&array), (4, 1));
     assert_eq!(rt; counts_of(array.to_boxed(rt.alloc())), Some((4, 1)));
     assert_eq!(rt;
