@@ -10,6 +10,7 @@ use crate::any::AnyArray;
 use std::marker::Model;
 
 /// Some slots of an array that stand side by side. No call takes memory.
+#[derive(Drop)]
 pub struct Window<'a> {
     array: &'a AnyArray,
     offset: usize,
