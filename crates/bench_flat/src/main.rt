@@ -9,6 +9,7 @@ use nest_flat::utf8::Utf8Array;
 use nest_flat::utf8::mutable::MutableUtf8Array;
 use nest_memory::error::Error;
 use std::alloc::Global;
+use std::fmt::Display;
 use std::rt::{Clock, Env};
 use std::time::Instant;
 use std::{env, io};
@@ -103,7 +104,7 @@ fn sum_of_places(array: &PrimitiveArray<i64>) -> i64 {
 fn tell<R: Clock + Print>(
     rt: &R,
     work: &str,
-    given: i64,
+    given: impl Display + Drop,
     begun: Option<Instant>,
     n: usize,
 ) -> io::Result<()> {
@@ -148,10 +149,10 @@ fn compare<R: Clock + Print>(
     let n = left.len().min(right.len());
     let begun = begin(rt, measured)?;
     let same = left == right;
-    tell(rt, "  arrays found equal", i64::from(same), begun, n)?;
+    tell(rt, "  arrays found equal", same, begun, n)?;
     let begun = begin(rt, measured)?;
     let same = left.same_run(0, right, 0, n);
-    tell(rt, "  runs found equal", i64::from(same), begun, n)
+    tell(rt, "  runs found equal", same, begun, n)
 }
 
 /// Walks an array of numbers, and compares it with one that is made like it.
@@ -179,7 +180,7 @@ fn run_numbers<R: Clock + Print + AllocGlobal>(
     let n = if measured { NUMBERS } else { FEW };
     let begun = begin(rt, measured)?;
     let array = numbers(rt.alloc(), n, nulls)?;
-    let told = tell(rt, work, (array.null_count() % 1_000_000_000) as i64, begun, n);
+    let told = tell(rt, work, array.null_count(), begun, n);
     let done = match told {
         Ok(()) => walk_and_compare(rt, &array, nulls, measured),
         Err(error) => Err(error.into()),
@@ -195,13 +196,23 @@ fn run_texts<R: Clock + Print + AllocGlobal>(rt: &R, measured: bool) -> Result<(
     let array = texts(rt.alloc(), n)?;
     let bytes = array.values().len();
     drop(array);
-    tell(rt, "texts pushed and frozen, their bytes", (bytes % 1_000_000_000) as i64, begun, n)?;
+    tell(rt, "texts pushed and frozen, their bytes", bytes, begun, n)?;
     Ok(())
 }
 
 fn run<R: Clock + Print + AllocGlobal>(rt: &R, measured: bool) -> Result<()> {
-    run_numbers(rt, "numbers pushed and frozen, their nulls", false, measured)?;
-    run_numbers(rt, "numbers and nulls pushed and frozen, their nulls", true, measured)?;
+    run_numbers(
+        rt,
+        "numbers pushed and frozen, their nulls",
+        false,
+        measured,
+    )?;
+    run_numbers(
+        rt,
+        "numbers and nulls pushed and frozen, their nulls",
+        true,
+        measured,
+    )?;
     run_texts(rt, measured)
 }
 
