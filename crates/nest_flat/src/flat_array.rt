@@ -96,10 +96,6 @@ impl<A: FlatArray> SlotItems for Slots<A> {
         }
         Some(self.0.value_at(i))
     }
-
-    fn is_same_item(&self, other: &Slots<A>, i: usize) -> bool {
-        is_same_slot(self.0, i, other.0, i)
-    }
 }
 
 /// The raw values of an array, also those under nulls.
@@ -123,10 +119,6 @@ impl<A: FlatArray> SlotItems for Values<A> {
 
     fn item(&self, i: usize) -> A::Value {
         self.0.value_at(i)
-    }
-
-    fn is_same_item(&self, other: &Values<A>, i: usize) -> bool {
-        self.0.is_same_value(i, &other.0, i)
     }
 }
 
