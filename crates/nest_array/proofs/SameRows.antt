@@ -1,6 +1,6 @@
 -- When rows and records are the same.
-use Rattle.std.specs.Prelude.{◌↔◌, ◌⊎◌, IsTrue, IsSome, not, if◌then◌else◌, Some, None, List as Seq, [], ◌∷◌}
-use Rattle.std.proofs.Common.{◌≡◌, ℕ, zero, suc, ◌+◌, ◌<◌, ◌≤◌, Bool, true, false, length, get_or, refl, ap, sym, ◌∙◌, subst, inl, inr, arith}
+use Rattle.std.specs.Prelude.{◌↔◌, ◌⊎◌, IsTrue, IsSome, not, if◌then◌else◌, List as Seq, [], ◌∷◌}
+use Rattle.std.proofs.Common.{◌≡◌, ℕ, ◌+◌, ◌<◌, ◌≤◌, Bool, true, false, length, refl, ap, sym, ◌∙◌, subst, inl, inr, arith}
 use Rattle.nest_memory.specs.TypeTree.{TypeTree, FieldTrees, no_fields, more_fields, fields_of}
 use Rattle.nest_model.specs.Accessors.{children_of, validity_of}
 use Rattle.nest_model.specs.Array.{TopFits}

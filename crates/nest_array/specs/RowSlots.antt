@@ -1,6 +1,5 @@
 -- Rows of items of a child: where they lie, and the slots that they are (of this project).
 use Rattle.std.specs.Prelude.{◌≡◌, ℕ, ◌+◌, ◌≤◌, Option, Some, None}
-use Rattle.nest_memory.specs.TypeTree.{TypeTree}
 use Rattle.nest_model.specs.Layout.{Layout, Layouts, no_layouts, more_layouts, layout_type}
 use Rattle.nest_model.specs.Meaning.{run, slot}
 use Rattle.nest_model.specs.Slot as slots
