@@ -5,3 +5,4 @@ pub mod FixedSizes
 pub mod Lists
 pub mod NullArrays
 pub mod Windows
+pub mod SameRows

@@ -3,6 +3,7 @@
 
 pub mod any;
 pub mod array;
+pub mod equal;
 pub mod fixed_size_binary;
 pub mod fixed_size_list;
 pub mod generic_binary;

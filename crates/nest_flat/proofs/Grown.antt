@@ -83,10 +83,6 @@ masked-joined None vb n m e = cc
 masked-joined (Some bits) None n m e = refl
 masked-joined (Some bits) (Some more) n m e = refl
 
-pub validity-whole : (va : Validity) (n : ℕ) → ValidityFits va n → cut_validity va 0 n ≡ va
-validity-whole None n h = refl
-validity-whole (Some bits) n h = ap Some (take_all n bits (omega arith))
-
 -- how a kind of flat array is made of its raw values and its validity
 pub record Made {A : Type 0} (make : List A → Validity → Layout) (f : A → Slot) (d : A) : Type 0 where
   pub count : (xs : List A) (va : Validity) → len (make xs va) ≡ length xs

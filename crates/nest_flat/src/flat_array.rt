@@ -187,7 +187,7 @@ pub(crate) fn same_slots<A: FlatArray>(a: A, b: A) -> bool
 }
 
 /// Whether two arrays have the same data type and the same slots.
-pub(crate) fn same_arrays<A: FlatArray>(a: A, b: A) -> bool
+pub fn same_arrays<A: FlatArray>(a: A, b: A) -> bool
     ensures { IsTrue result ↔ IsSameArray (A.layout a) (A.layout b) }
 {
     let same_type = *a.type_of_slots() == *b.type_of_slots();
