@@ -3,6 +3,7 @@
 #![tactic(auto)]
 
 mod arrays;
+mod comparing;
 mod cuts;
 mod rows;
 mod telling;
@@ -13,7 +14,8 @@ use std::rt::{Clock, Env};
 
 fn run<R: Clock + Print + AllocGlobal>(rt: &R, measured: bool) -> Result<()> {
     cuts::run(rt, measured)?;
-    rows::run(rt, measured)
+    rows::run(rt, measured)?;
+    comparing::run(rt, measured)
 }
 
 fn main(rt: HostRuntime) -> Result<()> {
