@@ -4,4 +4,5 @@ pub mod FixedSizeBinaries
 pub mod FixedSizes
 pub mod Lists
 pub mod NullArrays
+pub mod SameRows
 pub mod Windows

@@ -1,10 +1,12 @@
 pub mod Falls
+pub mod Kinds
 pub mod Refusals
-pub mod SameLists
+pub mod RowSlots
 pub mod Seen
 pub mod SeenFixedSizeList
 pub mod SeenLargeList
 pub mod SeenList
+pub mod SeenLists
 pub mod SeenStruct
 pub mod Types
 pub mod WindowParts

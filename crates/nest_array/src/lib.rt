@@ -3,6 +3,7 @@
 
 pub mod any;
 pub mod array;
+pub mod equal;
 pub mod fixed_size_binary;
 pub mod fixed_size_list;
 pub mod generic_binary;
@@ -21,6 +22,7 @@ pub use fixed_size_list::FixedSizeListArray;
 pub use generic_binary::{FixedSizeBinaryValues, GenericBinaryArray};
 pub use list::ListArray;
 pub use list::large::LargeListArray;
+pub use list::offset::ListOffset;
 pub use null::NullArray;
 pub use struct_::StructArray;
 pub use window::Window;

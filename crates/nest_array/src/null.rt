@@ -184,7 +184,7 @@ impl NullArray {
 impl PartialEq for NullArray {
     ghost use Rattle.std.specs.Cmp.{partial_equiv_from_equiv};
     ghost use Rattle.nest_model.specs.SameArray.{same_array};
-    ghost use Rattle.nest_array.specs.SameLists.{same_array-equiv};
+    ghost use Rattle.nest_flat.specs.SameFlat.{same_array-equiv};
 
     ghost eq = { same_array };
 
@@ -199,7 +199,7 @@ impl PartialEq for NullArray {
 }
 
 impl Eq for NullArray {
-    ghost use Rattle.nest_array.specs.SameLists.{same_array-equiv};
+    ghost use Rattle.nest_flat.specs.SameFlat.{same_array-equiv};
 
     ghost laws = { same_array-equiv };
 }

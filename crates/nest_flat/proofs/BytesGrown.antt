@@ -26,7 +26,7 @@ use Rattle.nest_model.specs.CutLaws.{slots-cut}
 use Rattle.nest_flat.specs.FlatParts.{optional}
 use Rattle.nest_flat.specs.Growth.{pushed_validity, joined_validity, first_slots, taken_back, is_masked, Grew}
 use Rattle.nest_flat.specs.BytesGrowth.{Spans, AreSpans, spans, item_bytes, pushed_span, joined_spans, first_spans, bare_spans, spans_of, with_spans}
-use Rattle.nest_flat.proofs.Grown.{fits-joined, valid-before, valid-after, slots-joined, pushed-joined, validity-back, masked-joined, validity-whole}
+use Rattle.nest_flat.proofs.Grown.{fits-joined, valid-before, valid-after, slots-joined, pushed-joined, validity-back, masked-joined}
 
 -- the offsets of the slots of both
 abbrev both : List ℕ → List ℕ → List ℕ
@@ -302,6 +302,10 @@ each-after (Err e) new grown old a b t u = each-at new old b u
 -- parts that make an array of texts
 pub text-fits : (l : Bool) (t : TypeTree) (s : Spans) → AreSpans s → EachText s.offsets s.bytes → physical_type t ≡ text_of_width l → TopFits (text l t s.offsets s.bytes s.validity)
 text-fits l t s h e p = let k = h.ends in (h.rising, (omega arith, (e, (h.fits, (p, tt)))))
+
+validity-whole : (va : Validity) (n : ℕ) → ValidityFits va n → cut_validity va 0 n ≡ va
+validity-whole None n h = refl
+validity-whole (Some bits) n h = ap Some (take_all n bits (omega arith))
 
 -- ---- the slots of arrays of bytes or of texts
 module _ (make : Spans → Layout) (wrap : List ℕ → Slot) (kind : SpansKind make wrap) where

@@ -1,7 +1,7 @@
 -- Slots that stand behind others, and their bits.
 use Rattle.std.specs.Prelude.{ℤ, Option, Some, None, if◌then◌else◌, is_some, option_map}
 use Rattle.std.specs.Option.{unwrap_or}
-use Rattle.std.proofs.Common.{take_all, ◌≡◌, ℕ, zero, suc, ◌+◌, ◌<◌, ◌≤◌, Bool, true, false, List, [], ◌∷◌, ◌++◌, length, take, replicate, get_or, refl, ap, sym, ◌∙◌, arith}
+use Rattle.std.proofs.Common.{◌≡◌, ℕ, zero, suc, ◌+◌, ◌<◌, ◌≤◌, Bool, true, false, List, [], ◌∷◌, ◌++◌, length, take, replicate, get_or, refl, ap, sym, ◌∙◌, arith}
 use Rattle.std.proofs.lemmas.List.{length-append, length-replicate, get_or-replicate, get_or_append_left, get_or-append-add}
 use Rattle.std.proofs.lemmas.List.{take-append-le}
 use Rattle.nest_memory.specs.TypeTree.{TypeTree}
@@ -82,10 +82,6 @@ pub masked-joined : (va vb : Validity) (n m : ℕ) → is_some va ≡ true → i
 masked-joined None vb n m e = cc
 masked-joined (Some bits) None n m e = refl
 masked-joined (Some bits) (Some more) n m e = refl
-
-pub validity-whole : (va : Validity) (n : ℕ) → ValidityFits va n → cut_validity va 0 n ≡ va
-validity-whole None n h = refl
-validity-whole (Some bits) n h = ap Some (take_all n bits (omega arith))
 
 -- how a kind of flat array is made of its raw values and its validity
 pub record Made {A : Type 0} (make : List A → Validity → Layout) (f : A → Slot) (d : A) : Type 0 where

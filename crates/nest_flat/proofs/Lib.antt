@@ -1,4 +1,3 @@
-pub mod Alike
 pub mod BytesGrown
 pub mod Cutting
 pub mod Extending

@@ -1,3 +1,4 @@
+pub mod Alike
 pub mod AnyPrimitive
 pub mod BareSlots
 pub mod BytesGrowth

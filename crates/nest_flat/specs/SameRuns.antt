@@ -22,7 +22,8 @@ runs-differ f g o p n k r e d h = (λ t. cc, λ s. sym d ∙ e.1 (same-at f g o 
 pub runs-same : (f g : ℕ → Slot) (o p n k : ℕ) → ((i : ℕ) → i < k → f (o + i) ≡ g (p + i)) → n ≤ k → IsTrue true ↔ (run f o n ≡ run g p n)
 runs-same f g o p n k e h = (λ t. run-ext f g o p n (λ i l. e i (omega arith)), λ s. refl)
 
-no-validity : (va : Validity) (r : Bool) → (IsTrue r ↔ IsSome va) → r ≡ false → va ≡ None
+-- a validity that a test says isn't there
+pub no-validity : (va : Validity) (r : Bool) → (IsTrue r ↔ IsSome va) → r ≡ false → va ≡ None
 no-validity None r e f = refl
 no-validity (Some bits) r e f = let t = e.1 refl in cc
 

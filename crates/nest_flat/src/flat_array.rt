@@ -96,10 +96,6 @@ impl<A: FlatArray> SlotItems for Slots<A> {
         }
         Some(self.0.value_at(i))
     }
-
-    fn is_same_item(&self, other: &Slots<A>, i: usize) -> bool {
-        is_same_slot(self.0, i, other.0, i)
-    }
 }
 
 /// The raw values of an array, also those under nulls.
@@ -123,10 +119,6 @@ impl<A: FlatArray> SlotItems for Values<A> {
 
     fn item(&self, i: usize) -> A::Value {
         self.0.value_at(i)
-    }
-
-    fn is_same_item(&self, other: &Values<A>, i: usize) -> bool {
-        self.0.is_same_value(i, &other.0, i)
     }
 }
 
@@ -187,7 +179,7 @@ pub(crate) fn same_slots<A: FlatArray>(a: A, b: A) -> bool
 }
 
 /// Whether two arrays have the same data type and the same slots.
-pub(crate) fn same_arrays<A: FlatArray>(a: A, b: A) -> bool
+pub fn same_arrays<A: FlatArray>(a: A, b: A) -> bool
     ensures { IsTrue result ↔ IsSameArray (A.layout a) (A.layout b) }
 {
     let same_type = *a.type_of_slots() == *b.type_of_slots();

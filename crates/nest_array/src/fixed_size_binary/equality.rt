@@ -1,14 +1,16 @@
 //! Equality of arrays of byte strings of one size: equal data types and equal slots.
-ghost use Rattle.std.specs.Prelude.{◌≡◌, ◌<◌, ◌↔◌, IsTrue};
-ghost use Rattle.nest_model.specs.Meaning.{len, slot};
+ghost use Rattle.std.specs.Prelude.{◌≡◌, ◌↔◌, IsTrue};
 ghost use Rattle.nest_model.specs.SameArray.{IsSameArray, same_array};
+ghost use Rattle.nest_model.specs.Slot as slots;
 
 use crate::fixed_size_binary::FixedSizeBinaryArray;
+use nest_flat::flat_array::{self, FlatArray};
+use nest_memory::datatypes::DataType;
 
 impl PartialEq for FixedSizeBinaryArray {
     ghost use Rattle.std.specs.Cmp.{partial_equiv_from_equiv};
     ghost use Rattle.nest_model.specs.SameArray.{same_array};
-    ghost use Rattle.nest_array.specs.SameLists.{same_array-equiv};
+    ghost use Rattle.nest_flat.specs.SameFlat.{same_array-equiv};
 
     ghost eq = { same_array };
 
@@ -18,43 +20,48 @@ impl PartialEq for FixedSizeBinaryArray {
         ensures computes { result ≡ same_array self.now other.now }
         ensures decides { IsTrue result ↔ IsSameArray self.now other.now }
     {
-        same_arrays(self, other)
+        flat_array::same_arrays(self, other)
     }
 }
 
 impl Eq for FixedSizeBinaryArray {
-    ghost use Rattle.nest_array.specs.SameLists.{same_array-equiv};
+    ghost use Rattle.nest_flat.specs.SameFlat.{same_array-equiv};
 
     ghost laws = { same_array-equiv };
 }
 
-fn same_arrays(x: &FixedSizeBinaryArray, y: &FixedSizeBinaryArray) -> bool
-    ensures { IsTrue result ↔ IsSameArray x.now y.now }
-{
-    let n = x.len();
-    if n != y.len() {
-        return false;
-    }
-    if !(x.data_type() == y.data_type()) {
-        return false;
-    }
-    for i in 0..n {
-        if !same_slot(x, y, i) {
-            return false;
-        }
-    }
-    true
-}
+impl<'a> FlatArray for &'a FixedSizeBinaryArray {
+    type Value = &'a [u8];
 
-/// Slot i of x against that of y.
-fn same_slot(x: &FixedSizeBinaryArray, y: &FixedSizeBinaryArray, i: usize) -> bool
-    requires within { i < len x.now }
-    requires within_other { i < len y.now }
-    ensures { IsTrue result ↔ (slot x.now i ≡ slot y.now i) }
-{
-    match (x.get(i), y.get(i)) {
-        (None, None) => true,
-        (Some(bytes), Some(other)) => bytes == other,
-        _ => false,
+    ghost layout = { λ s. s.now };
+
+    ghost slot_of_value = { λ x. slots.bytes x.now };
+
+    fn type_of_slots(&self) -> &DataType {
+        self.data_type()
+    }
+
+    fn count(&self) -> usize {
+        self.len()
+    }
+
+    fn nulls(&self) -> usize {
+        self.null_count()
+    }
+
+    fn is_null_slot(&self, i: usize) -> bool {
+        self.is_null(i)
+    }
+
+    fn has_validity(&self) -> bool {
+        self.validity().is_some()
+    }
+
+    fn value_at(&self, i: usize) -> &'a [u8] {
+        self.value(i)
+    }
+
+    fn is_same_value(&self, i: usize, other: &&'a FixedSizeBinaryArray, j: usize) -> bool {
+        self.value(i) == other.value(j)
     }
 }

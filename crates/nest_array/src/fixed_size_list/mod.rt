@@ -1,4 +1,6 @@
 //! Arrays of lists of one size.
+mod copies;
+
 ghost use Rattle.std.specs.Prelude.{◌≡◌, ◌+◌, ◌*◌, ◌≤◌, ◌<◌, ◌↔◌, IsTrue, IfOk, IsOkUnless, MatchResult, MatchOption, option_map, alloc_error};
 ghost use Rattle.nest_memory.specs.declared.error.Error.TheVariants.{Memory};
 ghost use Rattle.nest_memory.specs.Cut.{cut};
@@ -306,90 +308,6 @@ impl FixedSizeListArray {
         let mut cut = self;
         cut.slice(o, n);
         cut
-    }
-
-    /// Takes a new validity. `ValidityLength` where it has not a bit for each slot; the array stays
-    /// as it was then.
-    pub fn set_validity(&mut self, validity: Option<Bitmap>) -> Result<(), Error>
-        ensures { MatchResult result
-            (λ _. ValidityFits validity (len self.old) × (self.new ≡ with_validity self.old validity))
-            (λ e. ValidityFault e self.old validity × (self.new ≡ self.old)) }
-    {
-        if !validity::fits(&validity, self.len()) {
-            return Err(Error::OutOfSpec(Spec::ValidityLength));
-        }
-        self.validity = validity;
-        Ok(())
-    }
-
-    /// The array under a new validity, or as it was beside the refusal.
-    pub fn with_validity(
-        self,
-        validity: Option<Bitmap>,
-    ) -> Result<FixedSizeListArray, (FixedSizeListArray, Error)>
-        ensures { MatchResult result
-            (λ a. ValidityFits validity (len self) × (a ≡ with_validity self validity))
-            (λ r. ValidityFault r.1 self validity × (r.0 ≡ self)) }
-    {
-        let mut array = self;
-        match array.set_validity(validity) {
-            Ok(()) => Ok(array),
-            Err(e) => Err((array, e)),
-        }
-    }
-
-    /// The same array, on shared memory.
-    #[cycle(clone)]
-    pub fn clone(&self, alloc: Global) -> Result<FixedSizeListArray, Error>
-        ensures ok { IfOk result (λ a. a ≡ self.now) }
-        ensures err { IsOkUnless result (Memory alloc_error) }
-    {
-        let values: &AnyArray = &self.values;
-        let values = values.clone(alloc)?;
-        FixedSizeListArray::again(alloc, &self.data_type, values, &self.validity)
-    }
-
-    // The array of a type and a validity that are shared, and of items.
-    fn again(
-        alloc: Global,
-        data_type: &DataType,
-        values: AnyArray,
-        validity: &Option<Bitmap>,
-    ) -> Result<FixedSizeListArray, Error>
-        requires { TopFits (layouts.fixed_size_list (type_of data_type.now) (layout_of values) validity.now) }
-        ensures ok { IfOk result (λ a. a ≡ layouts.fixed_size_list (type_of data_type.now) (layout_of values) validity.now) }
-        ensures err { IsOkUnless result (Memory alloc_error) }
-    {
-        let validity = match validity::clone(validity) {
-            Ok(validity) => validity,
-            Err(error) => {
-                drop(values);
-                return Err(error);
-            }
-        };
-        match data_type.clone(alloc) {
-            Ok(data_type) => FixedSizeListArray::of(alloc, data_type, values, validity),
-            Err(error) => {
-                drop(validity);
-                drop(values);
-                Err(error)
-            }
-        }
-    }
-
-    /// The same array in its variant.
-    pub fn boxed(self) -> AnyArray
-        ensures { layout_of result ≡ self }
-    {
-        AnyArray::FixedSizeList(self)
-    }
-
-    /// The same array, owned by what shares it.
-    pub fn arced(self, alloc: Global) -> Result<Rc<AnyArray>, Error>
-        ensures ok { IfOk result (λ r. layout_of r.value ≡ self) }
-        ensures err { IsOkUnless result (Memory alloc_error) }
-    {
-        Ok(Rc::new(alloc, self.boxed())?)
     }
 }
 

@@ -73,10 +73,6 @@ impl<'a, O: Offset> SlotItems for BinarySlots<'a, O> {
     fn item(&self, i: usize) -> Option<&'a [u8]> {
         Slots(self.0).item(i)
     }
-
-    fn is_same_item(&self, other: &BinarySlots<'a, O>, i: usize) -> bool {
-        Slots(self.0).is_same_item(&Slots(other.0), i)
-    }
 }
 
 /// The raw values of an array of bytes, also those under nulls.
@@ -96,10 +92,6 @@ impl<'a, O: Offset> SlotItems for BinaryValues<'a, O> {
 
     fn item(&self, i: usize) -> &'a [u8] {
         Values(self.0).item(i)
-    }
-
-    fn is_same_item(&self, other: &BinaryValues<'a, O>, i: usize) -> bool {
-        Values(self.0).is_same_item(&Values(other.0), i)
     }
 }
 

@@ -73,10 +73,6 @@ impl<'a, O: Offset> SlotItems for Utf8Slots<'a, O> {
     fn item(&self, i: usize) -> Option<&'a str> {
         Slots(self.0).item(i)
     }
-
-    fn is_same_item(&self, other: &Utf8Slots<'a, O>, i: usize) -> bool {
-        Slots(self.0).is_same_item(&Slots(other.0), i)
-    }
 }
 
 /// The raw values of an array of texts, also those under nulls.
@@ -96,10 +92,6 @@ impl<'a, O: Offset> SlotItems for Utf8Values<'a, O> {
 
     fn item(&self, i: usize) -> &'a str {
         Values(self.0).item(i)
-    }
-
-    fn is_same_item(&self, other: &Utf8Values<'a, O>, i: usize) -> bool {
-        Values(self.0).is_same_item(&Values(other.0), i)
     }
 }
 

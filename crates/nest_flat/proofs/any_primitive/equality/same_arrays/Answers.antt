@@ -1,5 +1,5 @@
 use Rattle.nest_flat.specs.AnyPrimitive.{primitive_layout}
-use Rattle.nest_flat.proofs.Alike.{lengths-differ}
+use Rattle.nest_flat.specs.Alike.{lengths-differ}
 use Rattle.nest_flat.proofs.any_primitive.equality.same_arrays.Goals as goal
 
 pub returns-then-len : goal.returns-then-len
