@@ -24,6 +24,12 @@ fn both<A: Drop, B: Drop>(a: Result<A, Error>, b: Result<B, Error>) -> Result<(A
     Ok((a?, b?))
 }
 
+/// Whether both were made and are equal; both are let go.
+fn are_same<A: PartialEq + Drop>(x: Result<A, Error>, y: Result<A, Error>) -> Result<bool, Error> {
+    let (x, y) = both(x, y)?;
+    Ok(x == y)
+}
+
 /// Both items, or the first refusal.
 fn two<T: Drop>(
     alloc: Global,

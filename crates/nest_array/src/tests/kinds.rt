@@ -1,8 +1,8 @@
 //! What each kind of array does by the trait of arrays.
 use super::{
-    both, buffer, int32s, list_array, lists_of_lists, numbers, offsets_of, sizes, structs, truths,
+    are_same, both, buffer, int32s, lists_of_lists, numbers, offsets_of, sizes, structs, truths,
 };
-use crate::{AnyArray, Array, FixedSizeBinaryArray, NullArray};
+use crate::{Array, FixedSizeBinaryArray, NullArray};
 use nest_flat::binary::BinaryArray;
 use nest_flat::utf8::Utf8Array;
 use nest_memory::datatypes::DataType;
@@ -98,9 +98,8 @@ fn arrays_in_their_variants(rt: HostRuntime) {
         counts_of(Array::sliced(&array, rt.alloc(), 3, 1)),
         Some((1, 0))
     );
-    let any = array.boxed();
-    assert_eq!(rt; counts(&any), (4, 1));
-    drop(any);
+    let same = structs::four(rt.alloc(), &[1, 2, 3, 4]).map(|array| array.boxed());
+    assert_eq!(rt; are_same(same, Ok(array.boxed())), Ok(true));
 }
 
 #[test]

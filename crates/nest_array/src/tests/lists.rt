@@ -1,6 +1,7 @@
 //! Lists of numbers and lists of lists, by offsets of both widths.
 use super::{
-    any_list, has_numbers, list_array, list_type, lists_of_lists, lists_under, numbers, offsets_of,
+    any_list, are_same, has_numbers, list_array, list_type, lists_of_lists, lists_under, numbers,
+    offsets_of,
 };
 use crate::{AnyArray, LargeListArray, ListArray};
 use nest_memory::datatypes::DataType;
@@ -18,6 +19,23 @@ fn lists_in_lists(rt: HostRuntime) {
     assert_eq!(rt; items.len(), 3);
     drop(items);
     drop(array);
+    let alloc = rt.alloc();
+    assert_eq!(rt;
+        are_same(lists_of_lists(alloc), lists_of_lists(alloc)),
+        Ok(true)
+    );
+}
+
+#[test]
+fn lists_by_other_offsets(rt: HostRuntime) {
+    let alloc = rt.alloc();
+    let array = list_array(alloc, numbers(alloc, &[1, 2, 3]), &[0, 2, 3], None);
+    let bits = Some([true, true].as_slice());
+    let same = list_array(alloc, numbers(alloc, &[9, 1, 2, 3]), &[1, 3, 4], bits);
+    assert_eq!(rt; are_same(array, same), Ok(true));
+    let array = list_array(alloc, numbers(alloc, &[1, 2, 3]), &[0, 2, 3], None);
+    let other = list_array(alloc, numbers(alloc, &[1, 2, 3]), &[0, 1, 3], None);
+    assert_eq!(rt; are_same(array, other), Ok(false));
 }
 
 /// Lists of the numbers from 1 to 5 by these offsets.

@@ -1,5 +1,5 @@
 //! Records of a truth and a number.
-use super::{both, numbers, truths, two, validity};
+use super::{are_same, both, numbers, truths, two, validity};
 use crate::{AnyArray, StructArray};
 use nest_memory::datatypes::DataType;
 use nest_memory::datatypes::field::Field;
@@ -61,6 +61,15 @@ fn records_of_two_fields(rt: HostRuntime) {
     assert!(rt; cut.is_null(0));
     assert!(rt; cut.is_valid(1));
     drop(cut);
+}
+
+#[test]
+fn numbers_under_a_null(rt: HostRuntime) {
+    let alloc = rt.alloc();
+    let array = four(alloc, &[42, 28, 19, 31]);
+    assert_eq!(rt; are_same(array, four(alloc, &[42, 28, 77, 31])), Ok(true));
+    let array = four(alloc, &[42, 28, 19, 31]);
+    assert_eq!(rt; are_same(array, four(alloc, &[42, 28, 19, 77])), Ok(false));
 }
 
 #[test]

@@ -1,6 +1,7 @@
 //! Windows over arrays.
 use super::{any_list, list_array, numbers};
 use crate::Window;
+use crate::equal::{equal, equal_windows};
 
 #[test]
 fn windows_in_windows(rt: HostRuntime) {
@@ -22,5 +23,8 @@ fn windows_in_windows(rt: HostRuntime) {
     assert!(rt; cut.is_null(0));
     assert!(rt; !cut.is_null(1));
     assert!(rt; cut.cut(2, 0).is_empty());
+    assert!(rt; equal_windows(&cut, &whole.cut(2, 2)));
+    assert!(rt; !equal_windows(&cut, &window));
+    assert!(rt; equal(window.array(), &array));
     drop(array);
 }
