@@ -1,9 +1,8 @@
 //! What each kind of array does by the trait of arrays.
 use super::{
-    are_same, both, buffer, int32s, list_array, lists_of_lists, numbers, offsets_of, sizes,
-    structs, truths,
+    are_same, both, buffer, int32s, lists_of_lists, numbers, offsets_of, sizes, structs, truths,
 };
-use crate::{AnyArray, Array, FixedSizeBinaryArray, NullArray};
+use crate::{Array, FixedSizeBinaryArray, NullArray};
 use nest_flat::binary::BinaryArray;
 use nest_flat::utf8::Utf8Array;
 use nest_memory::datatypes::DataType;

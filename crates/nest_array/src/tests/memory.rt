@@ -29,6 +29,8 @@ fn refused_memory(rt: HostRuntime) {
         assert_eq!(rt; items.len(), 3);
         drop(items);
     }
+    assert_eq!(rt; array.len(), 3);
+    assert_eq!(rt; array.offsets().as_slice(), [0, 2, 5, 6].as_slice());
     assert_eq!(rt; array.values().len(), 6);
     drop(array);
 }

@@ -1,5 +1,5 @@
 //! Lists of one size, and arrays of nulls.
-use super::{both, has_numbers, numbers, validity};
+use super::{has_numbers, numbers, validity};
 use crate::{AnyArray, Array, FixedSizeListArray, NullArray};
 use nest_memory::datatypes::DataType;
 use nest_memory::error::{Argument, Error, Spec};
