@@ -3,6 +3,7 @@
 mod kinds;
 mod lists;
 mod memory;
+mod reads;
 mod sizes;
 mod structs;
 mod windows;
