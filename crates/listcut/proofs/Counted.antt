@@ -6,7 +6,7 @@ use Rattle.std.specs.Borrow.{Bor}
 use Rattle.std.proofs.lemmas.List.{length-map}
 use Rattle.std.proofs.lemmas.Bool.{cases_lt}
 use Rattle.nest_memory.specs.declared.error.Error.{Error}
-use Rattle.nest_array.specs.Items.{item_slot, row_len as len_of_row}
+use Rattle.nest_build.specs.Items.{item_slot, row_len as len_of_row}
 use Rattle.listcut.specs.Rows.{row_len}
 use Rattle.listcut.specs.SeenRow.{seen_row}
 use Rattle.listcut.proofs.Sealed.{unseal-seal}

@@ -4,7 +4,7 @@ use Rattle.std.specs.List.{join_with_byte}
 use Rattle.std.specs.Fmt.{signed_decimal}
 use Rattle.nest_model.specs.Slot as slots
 use Rattle.nest_model.specs.Slot.{Slot, unseal}
-use Rattle.listcut.specs.Rows.{row_len, item_count, IsRow}
+use Rattle.listcut.specs.Rows.{row_len, item_count, IsRow, AreRows}
 
 -- `null`, or a number; other slots are no items
 abbrev pub item_text : Slot → List ℕ
@@ -26,7 +26,7 @@ text_of rows = flat_map (λ row. row_text row ++ 10 ∷ []) rows
 abbrev pub IsTextOf : List ℕ → List Slot → Type 0
 IsTextOf bytes rows = (text_of rows ≡ bytes) ⊎ (text_of rows ≡ bytes ++ 10 ∷ [])
 
--- the first k - 1 lines are the texts of rows, and line k is the text of no row with which there are fewer than 2^31 items
+-- the first k - 1 lines are the texts of rows with fewer than 2^31 items, and line k is the text of no row with which there are so few
 abbrev pub IsFirstFault : List (List ℕ) → ℕ → Type 0
-IsFirstFault lines k = (rows : List Slot) × (line : List ℕ) × (after : List (List ℕ)) × (lines ≡ map row_text rows ++ line ∷ after) × (length rows + 1 ≡ k)
+IsFirstFault lines k = (rows : List Slot) × (line : List ℕ) × (after : List (List ℕ)) × AreRows rows × (lines ≡ map row_text rows ++ line ∷ after) × (length rows + 1 ≡ k)
     × ((row : Slot) → IsRow row → row_text row ≡ line → 2 ^ 31 ≤ item_count rows + row_len row)

@@ -16,7 +16,7 @@ pub fn texts_are_read()
     ensures { (bytes : List ℕ) (rows : List Slot) → (rows_of bytes ≡ Ok rows) ↔ (AreRows rows × IsTextOf bytes rows) }
 {}
 
-/// A line is named only where it is the first at fault.
+/// A line is named exactly where it is the first at fault: the lines before it are rows, and it is none.
 pub fn first_fault()
-    ensures { (bytes : List ℕ) (k : ℕ) → rows_of bytes ≡ Err k → IsFirstFault (lines_of bytes) k }
+    ensures { (bytes : List ℕ) (k : ℕ) → (rows_of bytes ≡ Err k) ↔ IsFirstFault (lines_of bytes) k }
 {}

@@ -1,18 +1,23 @@
 //! Rows from bytes.
-ghost use Rattle.std.specs.Prelude.{◌≡◌, ℕ, ◌+◌, ◌<◌, ◌∷◌, ◌++◌, ◌==◌, false, All, MatchOption, option_map, map, IfOk, IfErr, Ok, length};
+ghost use Rattle.std.specs.Prelude.{◌≡◌, ℕ, ◌+◌, ◌<◌, ◌∷◌, ◌++◌, ◌==◌, [], false, All, MatchOption, option_map, map, IfOk, IfErr, OnOk, Ok, length};
 ghost use Rattle.std.specs.Bool.{then_some};
-ghost use Rattle.nest_array.specs.Items.{item_slot};
+ghost use Rattle.nest_build.specs.Items.{item_slot};
 ghost use Rattle.listcut.specs.SeenRow.{seen_row};
 ghost use Rattle.nest_memory.specs.TypeTree as types;
 ghost use Rattle.nest_model.specs.Layout.{layout_type};
 ghost use Rattle.nest_model.specs.Meaning.{slots_of};
+ghost use Rattle.nest_model.specs.BuilderTree.{builder_type};
+ghost use Rattle.nest_model.specs.BuilderLevels.{own_slots};
+ghost use Rattle.nest_model.specs.BuilderWhole.{IsWhole};
 ghost use Rattle.nest_array.specs.Types.{default_list_type};
+ghost use Rattle.nest_build.specs.Seen.{tree_of, item_count};
 ghost use Rattle.listcut.specs.Outcome.{ReadFault};
 ghost use Rattle.listcut.specs.Grammar.{item_of, items_of, row_of, lines_of, rows_of};
 
 use crate::fault::Fault;
 use crate::numbers::parse_number;
-use nest_array::{ListArray, MutableListArray};
+use nest_array::ListArray;
+use nest_build::list::MutableListArray;
 use nest_memory::error::Error;
 use std::alloc::{AllocError, Global};
 
@@ -95,20 +100,16 @@ fn next_line(bytes: &[u8]) -> (&[u8], &[u8])
     }
 }
 
-/// The array that the bytes spell, of type `List(Int64)`. Lines end with a line feed, which the last may lack.
-/// A line is `null` or `[`, items with `,` between them, `]`; an item is `null` or a whole number of 64 bits.
-///
-/// # Errors
-/// `Line(k)` where line k, from 1, is the first that is no row, or with which there are 2^31 items or more.
-/// `Memory`.
-pub fn read_rows(alloc: Global, bytes: &[u8]) -> Result<ListArray, Fault>
-    ensures rows { IfOk result (λ a. rows_of bytes.now ≡ Ok (slots_of a)) }
-    ensures same_type { IfOk result (λ a. layout_type a ≡ default_list_type types.int64) }
+/// Pushes the rows that the bytes spell into a builder without rows.
+fn push_rows(alloc: Global, rows: &mut MutableListArray, bytes: &[u8]) -> Result<(), Fault>
+    requires whole { IsWhole (tree_of rows.old) }
+    requires no_rows { own_slots (tree_of rows.old) ≡ [] }
+    requires no_items { item_count rows.old ≡ 0 }
+    ensures rows { OnOk result (rows_of bytes.now ≡ Ok (own_slots (tree_of rows.new))) }
+    ensures whole { OnOk result (IsWhole (tree_of rows.new)) }
+    ensures same_type { OnOk result (builder_type (tree_of rows.new) ≡ builder_type (tree_of rows.old)) }
     ensures fault { IfErr result (λ fault. ReadFault fault (rows_of bytes.now)) }
 {
-    let Ok(mut rows) = MutableListArray::new(alloc) else {
-        return Err(Fault::Memory);
-    };
     let mut items = Vec::new(alloc);
     let mut above = 0u64;
     let mut rest = bytes;
@@ -125,8 +126,31 @@ pub fn read_rows(alloc: Global, bytes: &[u8]) -> Result<ListArray, Fault>
         above += 1;
         rest = after;
     }
-    match rows.freeze() {
-        Ok(rows) => Ok(rows),
+    Ok(())
+}
+
+/// The array that the bytes spell, of type `List(Int64)`. Lines end with a line feed, which the last may lack.
+/// A line is `null` or `[`, items with `,` between them, `]`; an item is `null` or a whole number of 64 bits.
+///
+/// # Errors
+/// `Line(k)` where line k, from 1, is the first that is no row, or with which there are 2^31 items or more.
+/// `Memory`.
+pub fn read_rows(alloc: Global, bytes: &[u8]) -> Result<ListArray, Fault>
+    ensures rows { IfOk result (λ a. rows_of bytes.now ≡ Ok (slots_of a)) }
+    ensures same_type { IfOk result (λ a. layout_type a ≡ default_list_type types.int64) }
+    ensures fault { IfErr result (λ fault. ReadFault fault (rows_of bytes.now)) }
+{
+    let Ok(mut rows) = MutableListArray::new(alloc) else {
+        return Err(Fault::Memory);
+    };
+    if let Err(fault) = push_rows(alloc, &mut rows, bytes) {
+        drop(rows);
+        return Err(fault);
+    }
+    let array = rows.freeze();
+    drop(rows);
+    match array {
+        Ok(array) => Ok(array),
         Err(_) => Err(Fault::Memory),
     }
 }

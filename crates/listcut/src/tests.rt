@@ -202,7 +202,9 @@ fn rows_are_arrays(rt: HostRuntime) -> Result<(), Fail> {
     assert_eq!(rt; rows.len(), 4);
     assert!(rt; rows.is_null(1) && !rows.is_null(2));
     let mut out = Vec::new(rt.alloc());
-    write_rows(rt.alloc(), &rows, &mut out)?;
+    let written = write_rows(rt.alloc(), &rows, &mut out);
+    drop(rows);
+    written?;
     assert_eq!(rt; out.as_slice(), ROWS.as_bytes());
     Ok(())
 }

@@ -5,11 +5,12 @@ ghost use Rattle.nest_memory.specs.TypeTree as types;
 ghost use Rattle.nest_memory.specs.TypeTree.{item_type};
 ghost use Rattle.nest_model.specs.Layout.{layout_type};
 ghost use Rattle.nest_model.specs.Meaning.{len, slot, slots_of};
-ghost use Rattle.nest_array.specs.Items.{item_slot};
+ghost use Rattle.nest_build.specs.Items.{item_slot};
 ghost use Rattle.listcut.specs.Spelling.{item_text, row_text, text_of};
 ghost use Rattle.listcut.specs.Outcome.{Writes};
 
 use crate::fault::Fault;
+use crate::int64::numbers;
 use itoa::Buffer;
 use nest_array::ListArray;
 use nest_flat::primitive::PrimitiveArray;
@@ -41,17 +42,19 @@ fn push_items(out: &mut Vec<u8>, items: &PrimitiveArray<i64>) -> Result<(), Allo
 }
 
 fn push_row(alloc: Global, out: &mut Vec<u8>, rows: &ListArray, i: usize) -> Result<(), AllocError>
-    requires { i < len rows.now }
+    requires within { i < len rows.now }
+    requires numbers { item_type (layout_type rows.now) ≡ Some types.int64 }
     ensures { OnOk result (out.new.items ≡ out.old.items ++ row_text (slot rows.now i)) }
 {
     if rows.is_null(i) {
         return out.extend_from_slice(b"null");
     }
     out.push(b'[')?;
+    rows.known();
     let Ok(items) = rows.value(alloc, i) else {
         return Err(AllocError);
     };
-    let pushed = push_items(out, &items);
+    let pushed = push_items(out, numbers(&items));
     drop(items);
     pushed?;
     out.push(b']')?;
@@ -60,6 +63,7 @@ fn push_row(alloc: Global, out: &mut Vec<u8>, rows: &ListArray, i: usize) -> Res
 
 /// The one spelling of the rows.
 fn spell(alloc: Global, rows: &ListArray) -> Result<Vec<u8>, AllocError>
+    requires { item_type (layout_type rows.now) ≡ Some types.int64 }
     ensures { IfOk result (λ out. out.items ≡ text_of (slots_of rows.now)) }
 {
     let mut out = Vec::new(alloc);

@@ -1,6 +1,8 @@
-pub mod Comparing
-pub mod Grown
+pub mod ChildTypes
+pub mod Children
+pub mod FixedSizeBinaries
+pub mod FixedSizes
 pub mod Lists
-pub mod Pushed
-pub mod Rows
-pub mod Spelled
+pub mod NullArrays
+pub mod SameRows
+pub mod Windows

@@ -1,6 +1,12 @@
-pub mod Growth
-pub mod Items
-pub mod Parts
-pub mod SameLists
+pub mod Falls
+pub mod Kinds
+pub mod Refusals
+pub mod RowSlots
 pub mod Seen
+pub mod SeenFixedSizeList
+pub mod SeenLargeList
+pub mod SeenList
+pub mod SeenLists
+pub mod SeenStruct
 pub mod Types
+pub mod WindowParts

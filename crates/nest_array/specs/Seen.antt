@@ -1,27 +1,24 @@
--- A builder of lists as the tree of its levels.
-use Rattle.std.specs.Prelude.{ℕ, false, length}
-use Rattle.nest_model.specs.Layout.{Layout, layout_type}
-use Rattle.nest_model.specs.Meaning.{slots_of}
-use Rattle.nest_model.specs.BuilderTree as builders
-use Rattle.nest_model.specs.BuilderTree.{BuilderTree}
-use Rattle.nest_array.specs.declared.list.mutable.MutableListArray.{MutableListArray}
+-- An array of any kind as its layout.
+use Rattle.std.specs.Prelude.{List as Seq, [], ◌∷◌}
+use Rattle.nest_array.specs.declared.any.AnyArray.{AnyArray}
+use Rattle.nest_array.specs.declared.any.AnyArray.TheVariants.{Null, Boolean, Primitive, Binary, LargeBinary, Utf8, LargeUtf8, FixedSizeBinary, FixedSizeList, List, LargeList, Struct}
+use Rattle.nest_flat.specs.AnyPrimitive.{primitive_layout}
+use Rattle.nest_model.specs.Layout.{Layout, Layouts, no_layouts, more_layouts}
 
--- a builder without children
-abbrev pub items_tree : Layout → BuilderTree
-items_tree a = builders.flat (layout_type a) (slots_of a)
+abbrev pub layout_of : AnyArray → Layout
+layout_of (Null a) = a
+layout_of (Boolean a) = a
+layout_of (Primitive a) = primitive_layout a
+layout_of (Binary a) = a
+layout_of (LargeBinary a) = a
+layout_of (Utf8 a) = a
+layout_of (LargeUtf8 a) = a
+layout_of (FixedSizeBinary a) = a
+layout_of (FixedSizeList a) = a
+layout_of (List a) = a
+layout_of (LargeList a) = a
+layout_of (Struct a) = a
 
--- its rows, and below them the items of its child
-abbrev pub tree_of : MutableListArray → BuilderTree
-tree_of b = builders.list false b.data_type b.rows (items_tree b.values)
-
--- its child
-abbrev pub child_seen : MutableListArray → Layout
-child_seen b = b.values
-
--- how many items its child has
-abbrev pub item_count : MutableListArray → ℕ
-item_count b = length (slots_of b.values)
-
--- the same rows over another child
-abbrev pub with_child : MutableListArray → Layout → MutableListArray
-with_child b c = record b { values = c }
+abbrev pub layouts_of : Seq AnyArray → Layouts
+layouts_of [] = no_layouts
+layouts_of (a ∷ as_) = more_layouts (layout_of a) (layouts_of as_)

@@ -1,9 +1,28 @@
-//! Arrays of lists in the Arrow format, and their builder.
+//! Arrays of any nesting in the Arrow format.
 #![tactic(auto)]
 
-mod growth;
+pub mod any;
+pub mod array;
+pub mod equal;
+pub mod fixed_size_binary;
+pub mod fixed_size_list;
+pub mod generic_binary;
 pub mod list;
-pub mod primitive;
+pub mod null;
+pub mod struct_;
+#[cfg(test)]
+mod tests;
+mod types;
+pub mod window;
 
-pub use list::{ListArray, MutableListArray};
-pub use primitive::MutablePrimitiveArray;
+pub use any::AnyArray;
+pub use array::Array;
+pub use fixed_size_binary::FixedSizeBinaryArray;
+pub use fixed_size_list::FixedSizeListArray;
+pub use generic_binary::{FixedSizeBinaryValues, GenericBinaryArray};
+pub use list::ListArray;
+pub use list::large::LargeListArray;
+pub use list::offset::ListOffset;
+pub use null::NullArray;
+pub use struct_::StructArray;
+pub use window::Window;

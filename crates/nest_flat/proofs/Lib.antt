@@ -1,5 +1,8 @@
+pub mod BytesGrown
 pub mod Cutting
-pub mod NullCounts
+pub mod Extending
+pub mod Grown
+pub mod Passing
+pub mod RawValues
 pub mod SlotRuns
 pub mod TextParts
-pub mod Alike

@@ -1,5 +1,5 @@
 -- Runs of slots: their first, their last and how many they are.
-use Rattle.std.proofs.Common.{◌≡◌, ℕ, zero, suc, ◌+◌, ◌-◌, ◌<◌, List, [], ◌∷◌, ◌++◌, length, refl, ap, sym, ◌∙◌, arith}
+use Rattle.std.proofs.Common.{◌≡◌, ℕ, zero, suc, ◌+◌, ◌-◌, ◌<◌, [], ◌∷◌, ◌++◌, length, ap, ◌∙◌, arith}
 use Rattle.nest_model.specs.Slot.{Slot}
 use Rattle.nest_model.specs.Meaning.{run}
 use Rattle.nest_model.specs.Runs.{length-run}

@@ -1,5 +1,5 @@
 -- Arrays without their validity, of this project: what their raw values are as slots.
-use Rattle.std.specs.Prelude.{Bool, true, false, not, cond, ◌↔◌, IsTrue, Some, None, get_or, map}
+use Rattle.std.specs.Prelude.{Bool, true, false, not, cond, ◌↔◌, IsTrue, None}
 use Rattle.std.specs.List.{count_by, range_with_len}
 use Rattle.std.proofs.Common.{◌≡◌, ℕ, zero, suc, ◌+◌, ◌<◌, refl, ap, sym, ◌∙◌, arith}
 use Rattle.std.proofs.lemmas.List.Sums.{sum_by-cons}
@@ -12,7 +12,6 @@ use Rattle.nest_model.specs.Meaning.{len, slot, slots_of}
 use Rattle.nest_model.specs.Nullness.{is_null_at, null_count}
 use Rattle.nest_model.specs.ValidityLaws.{len-with_validity}
 use Rattle.nest_model.specs.SameArray.{slots-from_places}
-use Rattle.nest_model.specs.Reads.{slot-place}
 
 -- the array without its validity
 abbrev pub bare : Layout → Layout
@@ -80,11 +79,6 @@ slots-bare a h =
     let l : i < len a = omega (arith, len-with_validity a None) in
     slot-bare a i (valid-unless a i (ap (is_null_at a) (let z : i ≡ 0 + i = omega arith in z) ∙ none-counted (is_null_at a) 0 (len a) i h l)))
 
--- lists of slots that are equal are so at each place
-pub same-place : (a b : Layout) (i : ℕ) → slots_of a ≡ slots_of b → i < len a → i < len b → slot a i ≡ slot b i
-same-place a b i e h k =
-    sym (slot-place a i slots.null h) ∙ ap (λ ss. get_or ss i slots.null) e ∙ slot-place b i slots.null k
-
 -- what tests for nulls say of two slots
 pub no-same : (x y : Slot) (m : Bool) → (IsTrue m ↔ (x ≡ slots.null)) → m ≡ true → (y ≡ slots.null → ⊥) → IsTrue false ↔ (x ≡ y)
 no-same x y m e f n = (λ h. cc, λ h. absurd (n (sym h ∙ e.0 f)))
@@ -92,8 +86,5 @@ no-same x y m e f n = (λ h. cc, λ h. absurd (n (sym h ∙ e.0 f)))
 pub not-null : (y : Slot) (m : Bool) → (IsTrue m ↔ (y ≡ slots.null)) → m ≡ false → y ≡ slots.null → ⊥
 not-null y m e f h = let t = e.1 h in cc
 
-pub null-same : (x y : Slot) (m n : Bool) → (IsTrue m ↔ (x ≡ slots.null)) → (IsTrue n ↔ (y ≡ slots.null)) → n ≡ true → IsTrue m ↔ (x ≡ y)
-null-same x y m n e f h = let z = f.0 h in (λ t. e.0 t ∙ sym z, λ p. e.1 (p ∙ z))
-
-pub same-along : (x y x' y' : Slot) (r : Bool) → x ≡ x' → y ≡ y' → (IsTrue r ↔ (x ≡ y)) → IsTrue r ↔ (x' ≡ y')
+pub same-along : {A : Type 0} (x y x' y' : A) (r : Bool) → x ≡ x' → y ≡ y' → (IsTrue r ↔ (x ≡ y)) → IsTrue r ↔ (x' ≡ y')
 same-along x y x' y' r p q e = (λ h. sym p ∙ e.0 h ∙ q, λ h. e.1 (p ∙ h ∙ sym q))

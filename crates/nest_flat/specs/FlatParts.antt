@@ -1,5 +1,5 @@
 -- What every flat array checks, and what its slots are, of this project.
-use Rattle.std.specs.Prelude.{◌≡◌, ℕ, ◌≤◌, not, List, length, count_by, Option, Some, None}
+use Rattle.std.specs.Prelude.{◌≡◌, ℕ, ◌≤◌, not, length, count_by, Option, Some, None}
 use Rattle.nest_memory.specs.TypeTree.{TypeTree}
 use Rattle.nest_memory.specs.Physical.{physical_type}
 use Rattle.nest_memory.specs.declared.datatypes.physical_type.PhysicalType.{PhysicalType}

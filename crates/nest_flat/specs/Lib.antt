@@ -1,5 +1,10 @@
+pub mod Alike
 pub mod AnyPrimitive
 pub mod BareSlots
+pub mod BytesGrowth
 pub mod FlatParts
+pub mod Growth
+pub mod NullCounts
 pub mod NullSlots
 pub mod SameFlat
+pub mod SameRuns

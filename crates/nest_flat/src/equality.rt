@@ -1,16 +1,27 @@
-//! Equality of flat arrays: equal data types and equal slots.
-ghost use Rattle.std.specs.Prelude.{◌≡◌, ◌↔◌, IsTrue};
+//! Equality of flat arrays: equal data types and equal slots, and equal runs of slots.
+ghost use Rattle.std.specs.Prelude.{◌≡◌, ◌↔◌, ◌+◌, ◌≤◌, IsTrue};
+ghost use Rattle.nest_model.specs.Meaning.{len, run, slot};
 ghost use Rattle.nest_model.specs.SameArray.{IsSameArray, same_array};
 
 use crate::binary::BinaryArray;
-use crate::binary::iterator::BytesOf;
 use crate::boolean::BooleanArray;
 use crate::flat_array;
 use crate::primitive::PrimitiveArray;
 use crate::utf8::Utf8Array;
-use crate::utf8::iterator::TextsOf;
 use nest_memory::offset::Offset;
 use nest_memory::types::NativeType;
+
+impl BooleanArray {
+    /// Whether the n slots from place o are those of the other array from place p. Where neither has a validity,
+    /// raw values alone are compared.
+    pub fn same_run(&self, o: usize, other: &BooleanArray, p: usize, n: usize) -> bool
+        requires within { o + n ≤ len self.now }
+        requires other_within { p + n ≤ len other.now }
+        ensures { IsTrue result ↔ (run (slot self.now) o n ≡ run (slot other.now) p n) }
+    {
+        flat_array::same_run(self, o, other, p, n)
+    }
+}
 
 impl PartialEq for BooleanArray {
     ghost use Rattle.std.specs.Cmp.{partial_equiv_from_equiv};
@@ -33,6 +44,18 @@ impl Eq for BooleanArray {
     ghost use Rattle.nest_flat.specs.SameFlat.{same_array-equiv};
 
     ghost laws = { same_array-equiv };
+}
+
+impl<T: NativeType> PrimitiveArray<T> {
+    /// Whether the n slots from place o are those of the other array from place p. Where neither has a validity,
+    /// raw values alone are compared.
+    pub fn same_run(&self, o: usize, other: &PrimitiveArray<T>, p: usize, n: usize) -> bool
+        requires within { o + n ≤ len self.now }
+        requires other_within { p + n ≤ len other.now }
+        ensures { IsTrue result ↔ (run (slot self.now) o n ≡ run (slot other.now) p n) }
+    {
+        flat_array::same_run(self, o, other, p, n)
+    }
 }
 
 impl<T: NativeType> PartialEq for PrimitiveArray<T> {
@@ -58,6 +81,18 @@ impl<T: NativeType> Eq for PrimitiveArray<T> {
     ghost laws = { same_array-equiv };
 }
 
+impl<O: Offset> BinaryArray<O> {
+    /// Whether the n slots from place o are those of the other array from place p. Where neither has a validity,
+    /// raw values alone are compared.
+    pub fn same_run(&self, o: usize, other: &BinaryArray<O>, p: usize, n: usize) -> bool
+        requires within { o + n ≤ len self.now }
+        requires other_within { p + n ≤ len other.now }
+        ensures { IsTrue result ↔ (run (slot self.now) o n ≡ run (slot other.now) p n) }
+    {
+        flat_array::same_run(self, o, other, p, n)
+    }
+}
+
 impl<O: Offset> PartialEq for BinaryArray<O> {
     ghost use Rattle.std.specs.Cmp.{partial_equiv_from_equiv};
     ghost use Rattle.nest_model.specs.SameArray.{same_array};
@@ -71,7 +106,7 @@ impl<O: Offset> PartialEq for BinaryArray<O> {
         ensures computes { result ≡ same_array self.now other.now }
         ensures decides { IsTrue result ↔ IsSameArray self.now other.now }
     {
-        flat_array::same_arrays(BytesOf(self), BytesOf(other))
+        flat_array::same_arrays(self, other)
     }
 }
 
@@ -79,6 +114,18 @@ impl<O: Offset> Eq for BinaryArray<O> {
     ghost use Rattle.nest_flat.specs.SameFlat.{same_array-equiv};
 
     ghost laws = { same_array-equiv };
+}
+
+impl<O: Offset> Utf8Array<O> {
+    /// Whether the n slots from place o are those of the other array from place p. Where neither has a validity,
+    /// raw values alone are compared.
+    pub fn same_run(&self, o: usize, other: &Utf8Array<O>, p: usize, n: usize) -> bool
+        requires within { o + n ≤ len self.now }
+        requires other_within { p + n ≤ len other.now }
+        ensures { IsTrue result ↔ (run (slot self.now) o n ≡ run (slot other.now) p n) }
+    {
+        flat_array::same_run(self, o, other, p, n)
+    }
 }
 
 impl<O: Offset> PartialEq for Utf8Array<O> {
@@ -94,7 +141,7 @@ impl<O: Offset> PartialEq for Utf8Array<O> {
         ensures computes { result ≡ same_array self.now other.now }
         ensures decides { IsTrue result ↔ IsSameArray self.now other.now }
     {
-        flat_array::same_arrays(TextsOf(self), TextsOf(other))
+        flat_array::same_arrays(self, other)
     }
 }
 

@@ -1,9 +1,9 @@
 //! What the flat arrays have in common: a raw value and a bit of validity for each slot.
-ghost use Rattle.std.specs.Prelude.{◌≡◌, ◌↔◌, ◌<◌, IsTrue, None};
+ghost use Rattle.std.specs.Prelude.{◌≡◌, ◌↔◌, ◌+◌, ◌<◌, ◌≤◌, IsTrue, IsSome, None};
 ghost use Rattle.nest_memory.specs.TypeOf.{type_of};
-ghost use Rattle.nest_model.specs.Accessors.{with_validity};
+ghost use Rattle.nest_model.specs.Accessors.{validity_of, with_validity};
 ghost use Rattle.nest_model.specs.Layout.{Layout, layout_type};
-ghost use Rattle.nest_model.specs.Meaning.{len, slot, slots_of};
+ghost use Rattle.nest_model.specs.Meaning.{len, run, slot, slots_of};
 ghost use Rattle.nest_model.specs.Nullness.{is_null_at, null_count};
 ghost use Rattle.nest_model.specs.SameArray.{IsSameArray};
 ghost use Rattle.nest_model.specs.Slot as slots;
@@ -47,17 +47,37 @@ pub trait FlatArray: Copy {
         requires { i < len (layout self.now) }
         ensures { slot_of_value result ≡ slot (with_validity (layout self.now) None) i };
 
-    /// Whether slot i of both arrays has the same raw value.
-    fn is_same_value(&self, other: &Self, i: usize) -> bool
+    /// Whether it has a validity.
+    fn has_validity(&self) -> bool
+        ensures { IsTrue result ↔ IsSome (validity_of (layout self.now)) };
+
+    /// Whether slot i has the same raw value as slot j of the other array.
+    fn is_same_value(&self, i: usize, other: &Self, j: usize) -> bool
         requires within { i < len (layout self.now) }
-        requires other_within { i < len (layout other.now) }
+        requires other_within { j < len (layout other.now) }
         ensures { IsTrue result
-            ↔ (slot (with_validity (layout self.now) None) i ≡ slot (with_validity (layout other.now) None) i) };
+            ↔ (slot (with_validity (layout self.now) None) i ≡ slot (with_validity (layout other.now) None) j) };
+
+    /// Whether the n raw values from place o are those of the other array from place p.
+    fn same_values(&self, o: usize, other: &Self, p: usize, n: usize) -> bool
+        requires within { o + n ≤ len (layout self.now) }
+        requires other_within { p + n ≤ len (layout other.now) }
+        ensures { IsTrue result
+            ↔ (run (slot (with_validity (layout self.now) None)) o n ≡ run (slot (with_validity (layout other.now) None)) p n) }
+    {
+        let _ends = (self.count(), other.count());
+        for k in 0..n {
+            if !self.is_same_value(o + k, other, p + k) {
+                return false;
+            }
+        }
+        true
+    }
 }
 
 /// The slots of an array, `None` where one is null.
 #[derive(Clone, Copy)]
-pub struct Slots<A: FlatArray>(pub(crate) A);
+pub struct Slots<A: FlatArray>(pub A);
 
 impl<A: FlatArray> SlotItems for Slots<A> {
     type Item = Option<A::Value>;
@@ -76,22 +96,11 @@ impl<A: FlatArray> SlotItems for Slots<A> {
         }
         Some(self.0.value_at(i))
     }
-
-    fn is_same_item(&self, other: &Slots<A>, i: usize) -> bool {
-        let null = self.0.is_null_slot(i);
-        if other.0.is_null_slot(i) {
-            return null;
-        }
-        if null {
-            return false;
-        }
-        self.0.is_same_value(&other.0, i)
-    }
 }
 
 /// The raw values of an array, also those under nulls.
 #[derive(Clone, Copy)]
-pub struct Values<A: FlatArray>(pub(crate) A);
+pub struct Values<A: FlatArray>(pub A);
 
 #[tactic(auto, using(crate::specs::BareSlots::len_bare))]
 impl<A: FlatArray> SlotItems for Values<A> {
@@ -111,39 +120,66 @@ impl<A: FlatArray> SlotItems for Values<A> {
     fn item(&self, i: usize) -> A::Value {
         self.0.value_at(i)
     }
-
-    fn is_same_item(&self, other: &Values<A>, i: usize) -> bool {
-        self.0.is_same_value(&other.0, i)
-    }
 }
 
-// Whether items of one number are the same slots.
-fn same_items<S: SlotItems>(a: &S, b: &S) -> bool
-    requires { len (S.array a.now) ≡ len (S.array b.now) }
-    ensures { IsTrue result ↔ (slots_of (S.array a.now) ≡ slots_of (S.array b.now)) }
+// Whether slot i of a is slot j of b.
+fn is_same_slot<A: FlatArray>(a: A, i: usize, b: A, j: usize) -> bool
+    requires within { i < len (A.layout a) }
+    requires other_within { j < len (A.layout b) }
+    ensures { IsTrue result ↔ (slot (A.layout a) i ≡ slot (A.layout b) j) }
 {
-    for i in 0..a.count() {
-        if !a.is_same_item(b, i) {
+    let null = a.is_null_slot(i);
+    if b.is_null_slot(j) {
+        return null;
+    }
+    if null {
+        return false;
+    }
+    a.is_same_value(i, &b, j)
+}
+
+// Whether the n slots of a from place o are those of b from place p, one after another.
+fn each_same_slot<A: FlatArray>(a: A, o: usize, b: A, p: usize, n: usize) -> bool
+    requires within { o + n ≤ len (A.layout a) }
+    requires other_within { p + n ≤ len (A.layout b) }
+    ensures { IsTrue result ↔ (run (slot (A.layout a)) o n ≡ run (slot (A.layout b)) p n) }
+{
+    let _ends = (a.count(), b.count());
+    for k in 0..n {
+        if !is_same_slot(a, o + k, b, p + k) {
             return false;
         }
     }
     true
 }
 
-// Whether arrays of one length have the same slots. Where neither has a null, raw values alone are compared.
-#[tactic(auto, using(crate::specs::BareSlots::len_bare))]
-fn same_slots<A: FlatArray>(a: A, b: A) -> bool
+/// Whether the n slots of a from place o are those of b from place p. Where neither has a validity, raw
+/// values alone are compared.
+pub fn same_run<A: FlatArray>(a: A, o: usize, b: A, p: usize, n: usize) -> bool
+    requires within { o + n ≤ len (A.layout a) }
+    requires other_within { p + n ≤ len (A.layout b) }
+    ensures { IsTrue result ↔ (run (slot (A.layout a)) o n ≡ run (slot (A.layout b)) p n) }
+{
+    if a.has_validity() || b.has_validity() {
+        return each_same_slot(a, o, b, p, n);
+    }
+    a.same_values(o, &b, p, n)
+}
+
+/// Whether arrays of one length have the same slots. Where neither has a null, raw values alone are compared.
+pub(crate) fn same_slots<A: FlatArray>(a: A, b: A) -> bool
     requires { len (A.layout a) ≡ len (A.layout b) }
     ensures { IsTrue result ↔ (slots_of (A.layout a) ≡ slots_of (A.layout b)) }
 {
+    let n = a.count();
     if a.nulls() == 0 && b.nulls() == 0 {
-        return same_items(&Values(a), &Values(b));
+        return a.same_values(0, &b, 0, n);
     }
-    same_items(&Slots(a), &Slots(b))
+    each_same_slot(a, 0, b, 0, n)
 }
 
 /// Whether two arrays have the same data type and the same slots.
-pub(crate) fn same_arrays<A: FlatArray>(a: A, b: A) -> bool
+pub fn same_arrays<A: FlatArray>(a: A, b: A) -> bool
     ensures { IsTrue result ↔ IsSameArray (A.layout a) (A.layout b) }
 {
     let same_type = *a.type_of_slots() == *b.type_of_slots();

@@ -1,5 +1,5 @@
 //! The slots of a flat array one after another, from both ends.
-ghost use Rattle.std.specs.Prelude.{◌≡◌, ◌↔◌, ◌<◌, IsTrue};
+ghost use Rattle.std.specs.Prelude.{◌≡◌, ◌<◌};
 ghost use Rattle.nest_model.specs.Layout.{Layout};
 ghost use Rattle.nest_model.specs.Slot.{Slot};
 ghost use Rattle.nest_model.specs.Meaning.{len, slot, slots_of};
@@ -24,12 +24,6 @@ pub trait SlotItems: Copy {
     fn item(&self, i: usize) -> Self::Item
         requires { i < len (array self.now) }
         ensures { slot_of_item result ≡ slot (array self.now) i };
-
-    /// Whether slot i of both arrays is the same.
-    fn is_same_item(&self, other: &Self, i: usize) -> bool
-        requires within { i < len (array self.now) }
-        requires other_within { i < len (array other.now) }
-        ensures { IsTrue result ↔ (slot (array self.now) i ≡ slot (array other.now) i) };
 }
 
 /// The items of the slots that are still to come, from both ends; contracts see the list of these slots.

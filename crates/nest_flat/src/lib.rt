@@ -6,8 +6,11 @@ pub mod binary;
 pub mod boolean;
 mod equality;
 pub mod flat_array;
+pub mod growth;
 pub mod iterator;
 pub mod primitive;
 mod spans;
+#[cfg(test)]
+mod tests;
 pub mod utf8;
 pub mod validity;

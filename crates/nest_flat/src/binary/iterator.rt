@@ -17,50 +17,52 @@ pub type BinaryIter<'a, O> = SlotsIter<BinarySlots<'a, O>>;
 /// The raw values of an array, also those under nulls.
 pub type BinaryValuesIter<'a, O> = SlotsIter<BinaryValues<'a, O>>;
 
-/// A reference to an array of bytes.
-#[derive(Clone, Copy)]
-pub struct BytesOf<'a, O: Offset>(pub(crate) &'a BinaryArray<O>);
-
-impl<'a, O: Offset> FlatArray for BytesOf<'a, O> {
+impl<'a, O: Offset> FlatArray for &'a BinaryArray<O> {
     type Value = &'a [u8];
 
-    ghost layout = { λ s. s.0.now };
+    ghost layout = { λ s. s.now };
 
     ghost slot_of_value = { λ x. slots.bytes x.now };
 
     fn type_of_slots(&self) -> &DataType {
-        self.0.data_type()
+        self.data_type()
     }
 
     fn count(&self) -> usize {
-        self.0.len()
+        self.len()
     }
 
     fn nulls(&self) -> usize {
-        self.0.null_count()
+        self.null_count()
     }
 
     fn is_null_slot(&self, i: usize) -> bool {
-        self.0.is_null(i)
+        self.is_null(i)
+    }
+
+    fn has_validity(&self) -> bool {
+        self.validity().is_some()
     }
 
     fn value_at(&self, i: usize) -> &'a [u8] {
-        self.0.value(i)
+        self.value(i)
     }
 
-    fn is_same_value(&self, other: &BytesOf<'a, O>, i: usize) -> bool {
-        self.0.value(i) == other.0.value(i)
+    fn is_same_value(&self, i: usize, other: &&'a BinaryArray<O>, j: usize) -> bool {
+        self.value(i) == other.value(j)
     }
 }
 
+// Types of their own, since no proof covers an iterator over `Slots` whose values are references.
+
 /// The slots of an array of bytes, `None` where one is null.
 #[derive(Clone, Copy)]
-pub struct BinarySlots<'a, O: Offset>(BytesOf<'a, O>);
+pub struct BinarySlots<'a, O: Offset>(pub &'a BinaryArray<O>);
 
 impl<'a, O: Offset> SlotItems for BinarySlots<'a, O> {
     type Item = Option<&'a [u8]>;
 
-    ghost array = { λ s. s.0.0.now };
+    ghost array = { λ s. s.0.now };
 
     ghost slot_of_item = { optional (λ x. slots.bytes x.now) };
 
@@ -71,20 +73,16 @@ impl<'a, O: Offset> SlotItems for BinarySlots<'a, O> {
     fn item(&self, i: usize) -> Option<&'a [u8]> {
         Slots(self.0).item(i)
     }
-
-    fn is_same_item(&self, other: &BinarySlots<'a, O>, i: usize) -> bool {
-        Slots(self.0).is_same_item(&Slots(other.0), i)
-    }
 }
 
 /// The raw values of an array of bytes, also those under nulls.
 #[derive(Clone, Copy)]
-pub struct BinaryValues<'a, O: Offset>(BytesOf<'a, O>);
+pub struct BinaryValues<'a, O: Offset>(pub &'a BinaryArray<O>);
 
 impl<'a, O: Offset> SlotItems for BinaryValues<'a, O> {
     type Item = &'a [u8];
 
-    ghost array = { λ s. with_validity s.0.0.now None };
+    ghost array = { λ s. with_validity s.0.now None };
 
     ghost slot_of_item = { λ x. slots.bytes x.now };
 
@@ -95,10 +93,6 @@ impl<'a, O: Offset> SlotItems for BinaryValues<'a, O> {
     fn item(&self, i: usize) -> &'a [u8] {
         Values(self.0).item(i)
     }
-
-    fn is_same_item(&self, other: &BinaryValues<'a, O>, i: usize) -> bool {
-        Values(self.0).is_same_item(&Values(other.0), i)
-    }
 }
 
 impl<O: Offset> BinaryArray<O> {
@@ -106,13 +100,13 @@ impl<O: Offset> BinaryArray<O> {
     pub fn iter(&self) -> BinaryIter<'_, O>
         ensures { result ≡ slots_of self.now }
     {
-        SlotsIter::new(BinarySlots(BytesOf(self)))
+        SlotsIter::new(BinarySlots(self))
     }
 
     /// Its raw values, from both ends.
     pub fn values_iter(&self) -> BinaryValuesIter<'_, O>
         ensures { result ≡ slots_of (with_validity self.now None) }
     {
-        SlotsIter::new(BinaryValues(BytesOf(self)))
+        SlotsIter::new(BinaryValues(self))
     }
 }

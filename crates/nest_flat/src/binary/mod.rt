@@ -1,5 +1,6 @@
 //! Arrays of bytes.
 pub mod iterator;
+pub mod mutable;
 
 ghost use Rattle.std.specs.Prelude.{◌≡◌, ◌+◌, ◌≤◌, ◌<◌, ◌↔◌, IsTrue, IfOk, IsOkUnless, MatchResult, MatchOption, None, option_map, alloc_error};
 ghost use Rattle.nest_memory.specs.declared.error.Error.TheVariants.{Memory};
@@ -69,13 +70,7 @@ fn fault<O: Offset>(
     if spans::last(offsets) > values.len() {
         return Some(Error::OutOfSpec(Spec::OffsetPastChild));
     }
-    if !validity::fits(validity, offsets.len_proxy()) {
-        return Some(Error::OutOfSpec(Spec::ValidityLength));
-    }
-    if data_type.to_physical_type() != physical::<O>() {
-        return Some(Error::OutOfSpec(Spec::WrongType));
-    }
-    None
+    validity::fault(validity, offsets.len_proxy(), data_type, physical::<O>())
 }
 
 // The physical type of such arrays by the width of their offsets.

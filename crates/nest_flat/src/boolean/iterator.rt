@@ -38,12 +38,16 @@ impl<'a> FlatArray for &'a BooleanArray {
         self.is_null(i)
     }
 
+    fn has_validity(&self) -> bool {
+        self.validity().is_some()
+    }
+
     fn value_at(&self, i: usize) -> bool {
         self.value(i)
     }
 
-    fn is_same_value(&self, other: &&'a BooleanArray, i: usize) -> bool {
-        self.value(i) == other.value(i)
+    fn is_same_value(&self, i: usize, other: &&'a BooleanArray, j: usize) -> bool {
+        self.value(i) == other.value(j)
     }
 }
 

@@ -1,5 +1,6 @@
 //! Arrays of booleans.
 pub mod iterator;
+pub mod mutable;
 
 ghost use Rattle.std.specs.Prelude.{◌≡◌, ◌+◌, ◌≤◌, ◌<◌, ◌↔◌, IsTrue, IfOk, IsOkUnless, MatchResult, None, Some, slice_get, option_map, alloc_error};
 ghost use Rattle.nest_memory.specs.declared.error.Error.TheVariants.{Memory};

@@ -1,7 +1,7 @@
 //! The slots and the raw values of an array of native values, from both ends.
-ghost use Rattle.std.specs.Prelude.{◌≡◌, None};
+ghost use Rattle.std.specs.Prelude.{◌≡◌, ◌+◌, ◌≤◌, None, map};
 ghost use Rattle.nest_model.specs.Accessors.{with_validity};
-ghost use Rattle.nest_model.specs.Meaning.{slots_of};
+ghost use Rattle.nest_model.specs.Meaning.{len, run, slot, slots_of};
 ghost use Rattle.nest_model.specs.Slot as slots;
 
 use crate::flat_array::{FlatArray, Slots, Values};
@@ -39,12 +39,20 @@ impl<'a, T: NativeType> FlatArray for &'a PrimitiveArray<T> {
         self.is_null(i)
     }
 
+    fn has_validity(&self) -> bool {
+        self.validity().is_some()
+    }
+
     fn value_at(&self, i: usize) -> T {
         self.value(i)
     }
 
-    fn is_same_value(&self, other: &&'a PrimitiveArray<T>, i: usize) -> bool {
-        self.value(i) == other.value(i)
+    fn is_same_value(&self, i: usize, other: &&'a PrimitiveArray<T>, j: usize) -> bool {
+        self.value(i) == other.value(j)
+    }
+
+    fn same_values(&self, o: usize, other: &&'a PrimitiveArray<T>, p: usize, n: usize) -> bool {
+        self.values_from(o, n) == other.values_from(p, n)
     }
 }
 
@@ -61,5 +69,14 @@ impl<T: NativeType> PrimitiveArray<T> {
         ensures { result ≡ slots_of (with_validity self.now None) }
     {
         SlotsIter::new(Values(self))
+    }
+    // The raw values of the n slots from place o.
+    fn values_from(&self, o: usize, n: usize) -> &[T]
+        requires { o + n ≤ len self.now }
+        ensures { run (slot (with_validity self.now None)) o n ≡ map (λ x. slots.number (T.numbers x)) result.now }
+    {
+        let _end = self.len();
+        let values = self.values.as_slice();
+        &values[o..o + n]
     }
 }

@@ -17,50 +17,52 @@ pub type Utf8Iter<'a, O> = SlotsIter<Utf8Slots<'a, O>>;
 /// The raw values of an array, also those under nulls.
 pub type Utf8ValuesIter<'a, O> = SlotsIter<Utf8Values<'a, O>>;
 
-/// A reference to an array of texts.
-#[derive(Clone, Copy)]
-pub struct TextsOf<'a, O: Offset>(pub(crate) &'a Utf8Array<O>);
-
-impl<'a, O: Offset> FlatArray for TextsOf<'a, O> {
+impl<'a, O: Offset> FlatArray for &'a Utf8Array<O> {
     type Value = &'a str;
 
-    ghost layout = { λ s. s.0.now };
+    ghost layout = { λ s. s.now };
 
     ghost slot_of_value = { λ x. slots.text x.now };
 
     fn type_of_slots(&self) -> &DataType {
-        self.0.data_type()
+        self.data_type()
     }
 
     fn count(&self) -> usize {
-        self.0.len()
+        self.len()
     }
 
     fn nulls(&self) -> usize {
-        self.0.null_count()
+        self.null_count()
     }
 
     fn is_null_slot(&self, i: usize) -> bool {
-        self.0.is_null(i)
+        self.is_null(i)
+    }
+
+    fn has_validity(&self) -> bool {
+        self.validity().is_some()
     }
 
     fn value_at(&self, i: usize) -> &'a str {
-        self.0.value(i)
+        self.value(i)
     }
 
-    fn is_same_value(&self, other: &TextsOf<'a, O>, i: usize) -> bool {
-        self.0.bytes_at(i) == other.0.bytes_at(i)
+    fn is_same_value(&self, i: usize, other: &&'a Utf8Array<O>, j: usize) -> bool {
+        self.bytes_at(i) == other.bytes_at(j)
     }
 }
 
+// Types of their own, since no proof covers an iterator over `Slots` whose values are references.
+
 /// The slots of an array of texts, `None` where one is null.
 #[derive(Clone, Copy)]
-pub struct Utf8Slots<'a, O: Offset>(TextsOf<'a, O>);
+pub struct Utf8Slots<'a, O: Offset>(pub &'a Utf8Array<O>);
 
 impl<'a, O: Offset> SlotItems for Utf8Slots<'a, O> {
     type Item = Option<&'a str>;
 
-    ghost array = { λ s. s.0.0.now };
+    ghost array = { λ s. s.0.now };
 
     ghost slot_of_item = { optional (λ x. slots.text x.now) };
 
@@ -71,20 +73,16 @@ impl<'a, O: Offset> SlotItems for Utf8Slots<'a, O> {
     fn item(&self, i: usize) -> Option<&'a str> {
         Slots(self.0).item(i)
     }
-
-    fn is_same_item(&self, other: &Utf8Slots<'a, O>, i: usize) -> bool {
-        Slots(self.0).is_same_item(&Slots(other.0), i)
-    }
 }
 
 /// The raw values of an array of texts, also those under nulls.
 #[derive(Clone, Copy)]
-pub struct Utf8Values<'a, O: Offset>(TextsOf<'a, O>);
+pub struct Utf8Values<'a, O: Offset>(pub &'a Utf8Array<O>);
 
 impl<'a, O: Offset> SlotItems for Utf8Values<'a, O> {
     type Item = &'a str;
 
-    ghost array = { λ s. with_validity s.0.0.now None };
+    ghost array = { λ s. with_validity s.0.now None };
 
     ghost slot_of_item = { λ x. slots.text x.now };
 
@@ -95,10 +93,6 @@ impl<'a, O: Offset> SlotItems for Utf8Values<'a, O> {
     fn item(&self, i: usize) -> &'a str {
         Values(self.0).item(i)
     }
-
-    fn is_same_item(&self, other: &Utf8Values<'a, O>, i: usize) -> bool {
-        Values(self.0).is_same_item(&Values(other.0), i)
-    }
 }
 
 impl<O: Offset> Utf8Array<O> {
@@ -106,13 +100,13 @@ impl<O: Offset> Utf8Array<O> {
     pub fn iter(&self) -> Utf8Iter<'_, O>
         ensures { result ≡ slots_of self.now }
     {
-        SlotsIter::new(Utf8Slots(TextsOf(self)))
+        SlotsIter::new(Utf8Slots(self))
     }
 
     /// Its raw values, from both ends.
     pub fn values_iter(&self) -> Utf8ValuesIter<'_, O>
         ensures { result ≡ slots_of (with_validity self.now None) }
     {
-        SlotsIter::new(Utf8Values(TextsOf(self)))
+        SlotsIter::new(Utf8Values(self))
     }
 }

@@ -4,32 +4,98 @@ use std::alloc::{AllocError, Global};
 use std::process::Abort;
 use std::test::Fail;
 
-fn list_of(alloc: Global, item: DataType) -> Result<DataType, Error> {
-    let field = Field::new(alloc, "item", item, true)?;
-    Ok(DataType::List(Box::new(alloc, field)?))
+// Data types are let go in generic helpers and by `drop`, which keeps the proofs short.
+
+/// The value where the call on it was accepted.
+fn kept<T: Drop>(value: T, done: Result<(), Error>) -> Result<T, Error> {
+    done?;
+    Ok(value)
+}
+
+fn boxed<T: Drop>(alloc: Global, value: Result<T, Error>) -> Result<Box<T>, Error> {
+    Ok(Box::new(alloc, value?)?)
+}
+
+fn text(alloc: Global, text: &str) -> Result<String, Error> {
+    Ok(String::from_str(alloc, text)?)
+}
+
+/// Both values, or the first refusal.
+fn both<A: Drop, B: Drop>(a: Result<A, Error>, b: Result<B, Error>) -> Result<(A, B), Error> {
+    Ok((a?, b?))
+}
+
+fn two<T: Drop>(
+    alloc: Global,
+    first: Result<T, Error>,
+    second: Result<T, Error>,
+) -> Result<Vec<T>, Error> {
+    let mut items = Vec::with_capacity(alloc, 2)?;
+    items.push(first?)?;
+    items.push(second?)?;
+    Ok(items)
+}
+
+fn field(alloc: Global, name: &str, item: Result<DataType, Error>) -> Result<Field, Error> {
+    item.and_then(|item| Field::new(alloc, name, item, true))
+}
+
+fn tag(alloc: Global, field: &mut Field, key: &str, value: &str) -> Result<(), Error> {
+    let (key, value) = both(text(alloc, key), text(alloc, value))?;
+    field.metadata.insert(key, value)?;
+    Ok(())
+}
+
+fn tagged(alloc: Global, field: Field, key: &str, value: &str) -> Result<Field, Error> {
+    let mut tagged = field;
+    let done = tag(alloc, &mut tagged, key, value);
+    kept(tagged, done)
+}
+
+fn list_of(alloc: Global, item: Result<DataType, Error>) -> Result<DataType, Error> {
+    let item = boxed(alloc, field(alloc, "item", item));
+    item.map(|item| DataType::List(item))
+}
+
+fn extension_of(
+    alloc: Global,
+    name: &str,
+    stored: Result<DataType, Error>,
+    version: Option<String>,
+) -> Result<DataType, Error> {
+    match both(text(alloc, name), boxed(alloc, stored)) {
+        Ok((name, stored)) => Ok(DataType::Extension(name, stored, version)),
+        Err(error) => Err(error),
+    }
+}
+
+fn time(alloc: Global) -> Result<Field, Error> {
+    let zone = String::from_str(alloc, "Europe/Oslo")?;
+    let point = DataType::Timestamp(TimeUnit::Second, Some(zone));
+    let time = Field::new(alloc, "time", point, false);
+    time.and_then(|time| tagged(alloc, time, "source", "clock"))
+}
+
+fn words(alloc: Global) -> Result<DataType, Error> {
+    let texts = boxed(alloc, Ok(DataType::Utf8));
+    texts.map(|texts| DataType::Dictionary(IntegerType::Int8, texts, true))
+}
+
+fn ids(alloc: Global) -> Result<Vec<i32>, Error> {
+    Ok(vec![in alloc; 5, 7]?)
+}
+
+fn union_of(alloc: Global, fields: Result<Vec<Field>, Error>) -> Result<DataType, Error> {
+    let parts = both(fields, ids(alloc));
+    parts.map(|parts| DataType::Union(parts.0, Some(parts.1), UnionMode::Dense))
 }
 
 // A type with text, metadata, ids, boxes and lists of fields in it.
 fn nested(alloc: Global) -> Result<DataType, Error> {
-    let zone = String::from_str(alloc, "Europe/Oslo")?;
-    let mut time = Field::new(
-        alloc,
-        "time",
-        DataType::Timestamp(TimeUnit::Second, Some(zone)),
-        false,
-    )?;
-    let key = String::from_str(alloc, "source")?;
-    let value = String::from_str(alloc, "clock")?;
-    time.metadata.insert(key, value)?;
-    let words = DataType::Dictionary(IntegerType::Int8, Box::new(alloc, DataType::Utf8)?, true);
-    let mut fields = Vec::with_capacity(alloc, 2)?;
-    fields.push(time)?;
-    fields.push(Field::new(alloc, "words", list_of(alloc, words)?, true)?)?;
-    let ids = vec![in alloc; 5, 7]?;
-    let union = DataType::Union(fields, Some(ids), UnionMode::Dense);
-    let name = String::from_str(alloc, "log.entry")?;
     let version = String::from_str(alloc, "1")?;
-    Ok(DataType::Extension(name, Box::new(alloc, union)?, Some(version)))
+    let words = field(alloc, "words", list_of(alloc, words(alloc)));
+    let union = union_of(alloc, two(alloc, time(alloc), words));
+    extension_of(alloc, "log.entry", union, Some(version))
 }
 
 fn expect_parts(rt: &impl Abort, t: &DataType) {
@@ -42,117 +108,153 @@ fn expect_parts(rt: &impl Abort, t: &DataType) {
     assert_eq!(rt; fields[0].metadata.len(), 1);
 }
 
-// Either every part is there, or memory was refused; the source keeps its parts.
-#[test]
-fn a_refused_clone_leaves_its_source(rt: HostRuntime) -> Result<(), Fail> {
-    let source = match nested(rt.alloc()) {
-        Ok(source) => source,
-        Err(refused) => {
-            assert_eq!(rt; refused, Error::Memory(AllocError));
-            return Ok(());
-        }
-    };
-    match source.clone(rt.alloc()) {
+fn expect_copy(rt: &impl Abort, copy: Result<DataType, Error>, source: &DataType) {
+    match copy {
         Ok(copy) => {
-            expect_parts(&rt, &copy);
-            assert!(rt; copy == source);
+            expect_parts(rt, &copy);
+            assert!(rt; copy == *source);
+            drop(copy);
         }
         Err(refused) => assert_eq!(rt; refused, Error::Memory(AllocError)),
     }
-    expect_parts(&rt, &source);
-    Ok(())
 }
 
+// Either every part is there, or memory was refused; the source keeps its parts.
 #[test]
-fn fields_differ_in_each_part(rt: HostRuntime) -> Result<(), Fail> {
-    let alloc = rt.alloc();
-    let field = Field::new(alloc, "item", DataType::Int32, true)?;
-    let mut tagged = field.clone(alloc)?;
-    assert!(rt; tagged == field);
-    tagged.metadata.insert(
-        String::from_str(alloc, "unit")?,
-        String::from_str(alloc, "m")?,
-    )?;
-    assert!(rt; tagged != field);
-    for other in [
-        Field::new(alloc, "items", DataType::Int32, true)?,
-        Field::new(alloc, "item", DataType::Int64, true)?,
-        Field::new(alloc, "item", DataType::Int32, false)?,
-    ] {
-        assert!(rt; other != field);
+fn a_refused_clone_leaves_its_source(rt: HostRuntime) {
+    match nested(rt.alloc()) {
+        Ok(source) => {
+            expect_copy(&rt, source.clone(rt.alloc()), &source);
+            expect_parts(&rt, &source);
+            drop(source);
+        }
+        Err(refused) => assert_eq!(rt; refused, Error::Memory(AllocError)),
     }
-    Ok(())
+}
+
+/// Whether another field, which is let go, is the same.
+fn is_same(field: &Field, other: Result<Field, Error>) -> Result<bool, Error> {
+    match other {
+        Ok(other) => {
+            let same = *field == other;
+            drop(other);
+            Ok(same)
+        }
+        Err(error) => Err(error),
+    }
 }
 
 #[test]
-fn parts_through_extensions(rt: HostRuntime) -> Result<(), Fail> {
+fn fields_differ_in_each_part(rt: HostRuntime) {
     let alloc = rt.alloc();
-    let mut entries = Vec::with_capacity(alloc, 2)?;
-    entries.push(Field::new(alloc, "keys", DataType::Utf8, false)?)?;
-    entries.push(Field::new(alloc, "values", DataType::Int8, true)?)?;
-    let entries = Field::new(alloc, "entries", DataType::Struct(entries), false)?;
-    let map = DataType::Map(Box::new(alloc, entries)?, false);
-    let name = String::from_str(alloc, "map.of.bytes")?;
-    let map = DataType::Extension(name, Box::new(alloc, map)?, None);
+    let field = Field::new(alloc, "item", DataType::Int32, true).expect(&rt, "a field");
+    assert_eq!(rt; is_same(&field, field.clone(alloc)), Ok(true));
+    let other = Field::new(alloc, "items", DataType::Int32, true);
+    assert_eq!(rt; is_same(&field, other), Ok(false));
+    let other = Field::new(alloc, "item", DataType::Int64, true);
+    assert_eq!(rt; is_same(&field, other), Ok(false));
+    let other = Field::new(alloc, "item", DataType::Int32, false);
+    assert_eq!(rt; is_same(&field, other), Ok(false));
+    let other = tagged(alloc, field, "unit", "m").expect(&rt, "a tagged field");
+    let field = Field::new(alloc, "item", DataType::Int32, true);
+    assert_eq!(rt; is_same(&other, field), Ok(false));
+    drop(other);
+}
+
+fn entries(alloc: Global) -> Result<Field, Error> {
+    let keys = Field::new(alloc, "keys", DataType::Utf8, false);
+    let values = Field::new(alloc, "values", DataType::Int8, true);
+    let fields = two(alloc, keys, values);
+    fields.and_then(|fields| Field::new(alloc, "entries", DataType::Struct(fields), false))
+}
+
+#[test]
+fn parts_through_extensions(rt: HostRuntime) {
+    let alloc = rt.alloc();
+    let map = boxed(alloc, entries(alloc)).map(|entries| DataType::Map(entries, false));
+    let map = extension_of(alloc, "map.of.bytes", map, None).expect(&rt, "a map");
     assert!(rt; map.has_pairs());
     assert_eq!(rt; map.to_logical_type().to_physical_type(), PhysicalType::Map);
     assert_eq!(rt; map.item_type().map(|t| t.fields().len()), Some(2));
-    let list = list_of(alloc, DataType::Date32)?;
-    assert!(rt; !list.has_pairs());
-    assert_eq!(rt; list.item_field().map(|f| f.is_nullable), Some(true));
-    assert_eq!(rt; list.size(), None);
-    assert_eq!(rt; DataType::FixedSizeBinary(3).size(), Some(3));
-    Ok(())
+    drop(map);
 }
 
 #[test]
-fn physical_types(rt: HostRuntime) {
-    let natives = [
-        (DataType::Int8, PrimitiveType::Int8),
-        (DataType::Int16, PrimitiveType::Int16),
-        (DataType::Int32, PrimitiveType::Int32),
-        (DataType::Date32, PrimitiveType::Int32),
-        (DataType::Time32(TimeUnit::Second), PrimitiveType::Int32),
+fn parts_of_lists(rt: HostRuntime) {
+    let list = list_of(rt.alloc(), Ok(DataType::Date32)).expect(&rt, "a list");
+    assert!(rt; !list.has_pairs());
+    assert_eq!(rt; list.item_field().map(|f| f.is_nullable), Some(true));
+    assert_eq!(rt; list.size(), None);
+    drop(list);
+    let bytes = DataType::FixedSizeBinary(3);
+    assert_eq!(rt; bytes.size(), Some(3));
+    drop(bytes);
+}
+
+/// The physical type of a data type, which is let go.
+fn physical(t: DataType) -> PhysicalType {
+    let physical = t.to_physical_type();
+    drop(t);
+    physical
+}
+
+#[test]
+fn native_types(rt: HostRuntime) {
+    for (t, native) in [
+        (physical(DataType::Int8), PrimitiveType::Int8),
+        (physical(DataType::Int16), PrimitiveType::Int16),
+        (physical(DataType::Int32), PrimitiveType::Int32),
+        (physical(DataType::Int64), PrimitiveType::Int64),
+        (physical(DataType::UInt32), PrimitiveType::UInt32),
+        (physical(DataType::Float16), PrimitiveType::Float16),
+        (physical(DataType::Decimal(5, 2)), PrimitiveType::Int128),
+        (physical(DataType::Decimal256(50, 2)), PrimitiveType::Int256),
+    ] {
+        assert_eq!(rt; t, PhysicalType::Primitive(native));
+    }
+}
+
+#[test]
+fn times_as_native_types(rt: HostRuntime) {
+    let time = DataType::Time64(TimeUnit::Nanosecond);
+    let point = DataType::Timestamp(TimeUnit::Second, None);
+    let span = DataType::Duration(TimeUnit::Millisecond);
+    for (t, native) in [
+        (physical(DataType::Date32), PrimitiveType::Int32),
         (
-            DataType::Interval(IntervalUnit::YearMonth),
+            physical(DataType::Time32(TimeUnit::Second)),
             PrimitiveType::Int32,
         ),
-        (DataType::Int64, PrimitiveType::Int64),
-        (DataType::Date64, PrimitiveType::Int64),
-        (DataType::Time64(TimeUnit::Nanosecond), PrimitiveType::Int64),
-        (
-            DataType::Timestamp(TimeUnit::Second, None),
-            PrimitiveType::Int64,
-        ),
-        (
-            DataType::Duration(TimeUnit::Millisecond),
-            PrimitiveType::Int64,
-        ),
-        (DataType::Decimal(5, 2), PrimitiveType::Int128),
-        (DataType::Decimal256(50, 2), PrimitiveType::Int256),
-        (
-            DataType::Interval(IntervalUnit::DayTime),
-            PrimitiveType::DaysMs,
-        ),
-        (
-            DataType::Interval(IntervalUnit::MonthDayNano),
-            PrimitiveType::MonthDayNano,
-        ),
-        (DataType::UInt32, PrimitiveType::UInt32),
-        (DataType::Float16, PrimitiveType::Float16),
-    ];
-    for (t, native) in &natives {
-        assert_eq!(rt; t.to_physical_type(), PhysicalType::Primitive(*native));
+        (physical(DataType::Date64), PrimitiveType::Int64),
+        (physical(time), PrimitiveType::Int64),
+        (physical(point), PrimitiveType::Int64),
+        (physical(span), PrimitiveType::Int64),
+    ] {
+        assert_eq!(rt; t, PhysicalType::Primitive(native));
     }
-    let others = [
-        (DataType::Null, PhysicalType::Null),
-        (DataType::Boolean, PhysicalType::Boolean),
-        (DataType::LargeUtf8, PhysicalType::LargeUtf8),
-        (DataType::FixedSizeBinary(2), PhysicalType::FixedSizeBinary),
-    ];
-    for (t, physical) in &others {
-        assert_eq!(rt; t.to_physical_type(), *physical);
+}
+
+#[test]
+fn intervals_as_native_types(rt: HostRuntime) {
+    for (unit, native) in [
+        (IntervalUnit::YearMonth, PrimitiveType::Int32),
+        (IntervalUnit::DayTime, PrimitiveType::DaysMs),
+        (IntervalUnit::MonthDayNano, PrimitiveType::MonthDayNano),
+    ] {
+        assert_eq!(rt;
+            physical(DataType::Interval(unit)),
+            PhysicalType::Primitive(native)
+        );
     }
+}
+
+#[test]
+fn other_physical_types(rt: HostRuntime) {
+    assert_eq!(rt; physical(DataType::Null), PhysicalType::Null);
+    assert_eq!(rt; physical(DataType::Boolean), PhysicalType::Boolean);
+    assert_eq!(rt; physical(DataType::LargeUtf8), PhysicalType::LargeUtf8);
+    let fixed = physical(DataType::FixedSizeBinary(2));
+    assert_eq!(rt; fixed, PhysicalType::FixedSizeBinary);
 }
 
 #[test]
@@ -162,10 +264,14 @@ fn native_data_types(rt: HostRuntime) {
         PrimitiveType::Int256,
         PrimitiveType::DaysMs,
     ] {
-        let t = DataType::from(native);
-        assert_eq!(rt; t.to_physical_type(), PhysicalType::Primitive(native));
+        assert_eq!(rt;
+            physical(DataType::from(native)),
+            PhysicalType::Primitive(native)
+        );
     }
-    assert!(rt; DataType::from(IntegerType::UInt8) == DataType::UInt8);
+    let bytes = DataType::from(IntegerType::UInt8);
+    assert!(rt; bytes == DataType::UInt8);
+    drop(bytes);
 }
 
 #[test]

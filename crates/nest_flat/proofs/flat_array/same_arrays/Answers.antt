@@ -1,4 +1,4 @@
-use Rattle.nest_flat.proofs.Alike.{types-differ, lengths-differ, slots-decide}
+use Rattle.nest_flat.specs.Alike.{types-differ, lengths-differ, slots-decide}
 use Rattle.nest_flat.proofs.flat_array.same_arrays.Goals as goal
 
 pub returns-then-not-same_type : goal.returns-then-not-same_type

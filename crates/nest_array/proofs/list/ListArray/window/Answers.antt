@@ -1,16 +1,10 @@
-use Rattle.nest_array.proofs.Lists.{window-start, window-count, window-within, window-slot}
+use Rattle.std.proofs.Common.{false, rules}
+use Rattle.nest_memory.specs.TypeOf.{type_of}
+use Rattle.nest_array.specs.Seen.{layout_of}
+use Rattle.nest_array.proofs.Lists.{slot-window}
 use Rattle.nest_array.proofs.list.ListArray.window.Goals as goal
 
-pub returns-clause-start : goal.returns-clause-start
-returns-clause-start c = window-start _ _ _ _ _ _ _ c.self.view_is c.start_end-start.ensures.first
-
-pub returns-clause-count : goal.returns-clause-count
-returns-clause-count c = window-count _ _ _ _ _ _ _ _ c.self.view_is c.start_end-start.ensures.first c.start_end-start.ensures.second
-
-pub returns-clause-within : goal.returns-clause-within
-returns-clause-within c = window-within _ _ _ _ _ _ _ _ c.self.view_is c.self.invariant c.requires c.start_end-start.ensures.first c.start_end-start.ensures.second
-
-pub returns-clause-slot : goal.returns-clause-slot
-returns-clause-slot c =
-    window-slot _ _ _ _ _ _ _ _ c.self.view_is (window-start _ _ _ _ _ _ _ c.self.view_is c.start_end-start.ensures.first)
-    (window-count _ _ _ _ _ _ _ _ c.self.view_is c.start_end-start.ensures.first c.start_end-start.ensures.second)
+pub returns-clause-items : goal.returns-clause-items
+returns-clause-items c =
+    slot-window false (type_of c.self.inside.data_type) c.self.inside.ranges.offsets (layout_of c.self.inside.values.value) c.self.inside.ranges.validity c.args.self.now c.new.result c.args.i c.self.view_is
+    c.self.invariant c.requires (search rules)

@@ -1,4 +1,4 @@
-use Rattle.std.proofs.Common.{◌<◌, [], ◌∷◌, ◌++◌, ◌+◌, ◌-◌, ap, sym, ◌∙◌, arith}
+use Rattle.std.proofs.Common.{◌<◌, [], ◌∷◌, ◌++◌, ◌-◌, ap, sym, ◌∙◌, arith}
 use Rattle.nest_model.specs.Meaning.{run, slot}
 use Rattle.nest_flat.proofs.SlotRuns.{run-last}
 use Rattle.nest_flat.proofs.iterator.SlotsIterDoubleEndedIterator.next_back.Goals as goal

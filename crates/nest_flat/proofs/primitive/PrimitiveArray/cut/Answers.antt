@@ -1,7 +1,4 @@
-use Rattle.std.proofs.Common.{◌≡◌, ap, ◌∙◌, map}
-use Rattle.nest_memory.specs.Cut.{cut}
-use Rattle.nest_memory.specs.TypeOf.{type_of}
-use Rattle.nest_model.specs.Cut.{cut_layout}
+use Rattle.std.proofs.Common.{ap, ◌∙◌, map}
 use Rattle.nest_flat.proofs.Cutting.{map-cut}
 use Rattle.nest_flat.proofs.primitive.PrimitiveArray.cut.Goals as goal
 

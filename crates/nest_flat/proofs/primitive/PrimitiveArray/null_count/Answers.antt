@@ -1,6 +1,6 @@
 use Rattle.std.proofs.Common.{ap, ◌∙◌}
 use Rattle.nest_model.specs.Nullness.{null_count}
-use Rattle.nest_flat.proofs.NullCounts.{unset-nulls}
+use Rattle.nest_flat.specs.NullCounts.{unset-nulls}
 use Rattle.nest_flat.proofs.primitive.PrimitiveArray.null_count.Goals as goal
 
 pub returns : goal.returns

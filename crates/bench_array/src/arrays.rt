@@ -1,0 +1,180 @@
+//! The arrays that are measured. Values with a data type are let go by `drop`, which keeps the proofs short.
+use nest_array::any::AnyArray;
+use nest_array::fixed_size_list::FixedSizeListArray;
+use nest_array::list::ListArray;
+use nest_array::struct_::StructArray;
+use nest_flat::any_primitive::AnyPrimitive;
+use nest_flat::primitive::PrimitiveArray;
+use nest_flat::utf8::Utf8Array;
+use nest_memory::bitmap::immutable::Bitmap;
+use nest_memory::bitmap::mutable::MutableBitmap;
+use nest_memory::buffer::Buffer;
+use nest_memory::datatypes::DataType;
+use nest_memory::datatypes::field::Field;
+use nest_memory::error::Error;
+use nest_memory::offsets::{Offsets, OffsetsBuffer};
+use std::alloc::Global;
+
+const TEXT: [u8; 8] = *b"nineteen";
+
+/// Bits, every tenth of them unset.
+fn tenth_unset(alloc: Global, n: usize) -> Result<Bitmap, Error> {
+    let mut bits = MutableBitmap::new(alloc);
+    for i in 0..n {
+        bits.push(i % 10 != 9)?;
+    }
+    bits.freeze()
+}
+
+/// The validity of n slots, of which every tenth is null or none.
+fn validity(alloc: Global, n: usize, nulls: bool) -> Result<Option<Bitmap>, Error> {
+    if nulls {
+        return Ok(Some(tenth_unset(alloc, n)?));
+    }
+    Ok(None)
+}
+
+/// The offsets of n slots of so many items each.
+fn offsets(alloc: Global, n: usize, size: usize) -> Result<OffsetsBuffer<i32>, Error> {
+    let mut offsets = Offsets::new(alloc)?;
+    for _ in 0..n {
+        offsets.try_push_usize(size)?;
+    }
+    offsets.freeze()
+}
+
+fn some_values(alloc: Global, n: usize) -> Result<Buffer<i64>, Error> {
+    let mut values = Vec::with_capacity(alloc, n)?;
+    for i in 0..n {
+        values.push((i % 1000) as i64)?;
+    }
+    Buffer::from_vec(alloc, values)
+}
+
+fn some_bytes(alloc: Global, n: usize) -> Result<Buffer<u8>, Error> {
+    let mut bytes = Vec::new(alloc);
+    for _ in 0..n {
+        bytes.extend_from_slice(&TEXT)?;
+    }
+    Buffer::from_vec(alloc, bytes)
+}
+
+/// Numbers of 64 bits.
+pub fn numbers(alloc: Global, n: usize, nulls: bool) -> Result<AnyArray, Error> {
+    let values = some_values(alloc, n)?;
+    let validity = validity(alloc, n, nulls)?;
+    let array = PrimitiveArray::try_new(DataType::Int64, values, validity)?;
+    Ok(AnyArray::Primitive(AnyPrimitive::Int64(array)))
+}
+
+/// Texts of eight bytes.
+fn texts(alloc: Global, n: usize) -> Result<AnyArray, Error> {
+    let offsets = offsets(alloc, n, TEXT.len())?;
+    let bytes = some_bytes(alloc, n)?;
+    let array = Utf8Array::try_new(DataType::Utf8, offsets, bytes, None)?;
+    Ok(AnyArray::Utf8(array))
+}
+
+fn list_type(alloc: Global, items: &AnyArray) -> Result<DataType, Error> {
+    let item_type = items.data_type().clone(alloc)?;
+    ListArray::default_datatype(alloc, item_type)
+}
+
+/// What n lists of so many items each have beside their items.
+fn list_parts(
+    alloc: Global,
+    n: usize,
+    size: usize,
+    nulls: bool,
+    items: &AnyArray,
+) -> Result<(DataType, OffsetsBuffer<i32>, Option<Bitmap>), Error> {
+    let offsets = offsets(alloc, n, size)?;
+    let validity = validity(alloc, n, nulls)?;
+    let data_type = list_type(alloc, items)?;
+    Ok((data_type, offsets, validity))
+}
+
+/// n lists of so many of these items each.
+pub fn lists(
+    alloc: Global,
+    n: usize,
+    size: usize,
+    nulls: bool,
+    items: AnyArray,
+) -> Result<AnyArray, Error> {
+    match list_parts(alloc, n, size, nulls, &items) {
+        Ok((data_type, offsets, validity)) => {
+            let array = ListArray::try_new(alloc, data_type, offsets, items, validity)?;
+            Ok(AnyArray::List(array))
+        }
+        Err(error) => {
+            drop(items);
+            Err(error)
+        }
+    }
+}
+
+/// What n lists of one size have beside their items.
+fn fixed_size_list_parts(
+    alloc: Global,
+    n: usize,
+    size: usize,
+    nulls: bool,
+    items: &AnyArray,
+) -> Result<(DataType, Option<Bitmap>), Error> {
+    let validity = validity(alloc, n, nulls)?;
+    let item_type = items.data_type().clone(alloc)?;
+    let data_type = FixedSizeListArray::default_datatype(alloc, item_type, size)?;
+    Ok((data_type, validity))
+}
+
+/// n lists of one size of these items.
+pub fn fixed_size_lists(
+    alloc: Global,
+    n: usize,
+    size: usize,
+    nulls: bool,
+    items: AnyArray,
+) -> Result<AnyArray, Error> {
+    match fixed_size_list_parts(alloc, n, size, nulls, &items) {
+        Ok((data_type, validity)) => {
+            let array = FixedSizeListArray::try_new(alloc, data_type, items, validity)?;
+            Ok(AnyArray::FixedSizeList(array))
+        }
+        Err(error) => {
+            drop(items);
+            Err(error)
+        }
+    }
+}
+
+fn record_type(alloc: Global) -> Result<DataType, Error> {
+    let mut fields = Vec::with_capacity(alloc, 2)?;
+    fields.push(Field::new(alloc, "number", DataType::Int64, true)?)?;
+    fields.push(Field::new(alloc, "text", DataType::Utf8, true)?)?;
+    Ok(DataType::Struct(fields))
+}
+
+fn record_children(alloc: Global, n: usize) -> Result<Vec<AnyArray>, Error> {
+    let mut children = Vec::with_capacity(alloc, 2)?;
+    children.push(numbers(alloc, n, false)?)?;
+    children.push(texts(alloc, n)?)?;
+    Ok(children)
+}
+
+/// Records of a number and a text.
+pub fn records(alloc: Global, n: usize, nulls: bool) -> Result<AnyArray, Error> {
+    let validity = validity(alloc, n, nulls)?;
+    let children = record_children(alloc, n)?;
+    match record_type(alloc) {
+        Ok(data_type) => {
+            let array = StructArray::try_new(data_type, children, validity)?;
+            Ok(AnyArray::Struct(array))
+        }
+        Err(error) => {
+            drop(children);
+            drop(validity);
+            Err(error)
+        }
+    }
+}

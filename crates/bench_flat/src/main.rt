@@ -1,0 +1,225 @@
+//! What pushing, walking and comparing slots of flat arrays costs, in nanoseconds a slot: `bench_flat run`.
+//! Without that word the same work is done on a few slots, and only what it gives is printed.
+#![tactic(auto)]
+
+use anyhow::Result;
+use nest_flat::primitive::PrimitiveArray;
+use nest_flat::primitive::mutable::MutablePrimitiveArray;
+use nest_flat::utf8::Utf8Array;
+use nest_flat::utf8::mutable::MutableUtf8Array;
+use nest_memory::error::Error;
+use std::alloc::Global;
+use std::fmt::Display;
+use std::rt::{Clock, Env};
+use std::time::Instant;
+use std::{env, io};
+
+const FEW: usize = 1000;
+
+const NUMBERS: usize = 10_000_000;
+
+const TEXTS: usize = 1_000_000;
+
+const WORDS: [&str; 4] = ["nineteen", "thirteen", "eighteen", "fourteen"];
+
+/// Pushes numbers, every tenth of them null where `nulls` says so.
+fn push_numbers(
+    builder: &mut MutablePrimitiveArray<i64>,
+    n: usize,
+    nulls: bool,
+) -> Result<(), Error> {
+    for i in 0..n {
+        let item = if nulls && i % 10 == 9 {
+            None
+        } else {
+            Some((i % 1000) as i64)
+        };
+        builder.try_push(item)?;
+    }
+    Ok(())
+}
+
+/// Numbers pushed one by one and frozen.
+fn numbers(alloc: Global, n: usize, nulls: bool) -> Result<PrimitiveArray<i64>, Error> {
+    let mut builder = MutablePrimitiveArray::new(alloc);
+    let frozen = match push_numbers(&mut builder, n, nulls) {
+        Ok(()) => builder.freeze(),
+        Err(error) => Err(error),
+    };
+    drop(builder);
+    frozen
+}
+
+/// Pushes texts of eight bytes.
+fn push_texts(builder: &mut MutableUtf8Array<i32>, n: usize) -> Result<(), Error> {
+    for i in 0..n {
+        builder.try_push(Some(WORDS[i % 4]))?;
+    }
+    Ok(())
+}
+
+/// Texts pushed one by one and frozen.
+fn texts(alloc: Global, n: usize) -> Result<Utf8Array<i32>, Error> {
+    let mut builder = MutableUtf8Array::new(alloc)?;
+    let frozen = match push_texts(&mut builder, n) {
+        Ok(()) => builder.freeze(),
+        Err(error) => Err(error),
+    };
+    drop(builder);
+    frozen
+}
+
+/// The raw values added up, by their iterator.
+fn sum_of_values(array: &PrimitiveArray<i64>) -> i64 {
+    let mut sum = 0i64;
+    for value in array.values_iter() {
+        sum = sum.wrapping_add(value);
+    }
+    sum
+}
+
+/// The values of the slots that are not null added up, by their iterator.
+fn sum_of_slots(array: &PrimitiveArray<i64>) -> i64 {
+    let mut sum = 0i64;
+    for item in array.iter() {
+        if let Some(value) = item {
+            sum = sum.wrapping_add(value);
+        }
+    }
+    sum
+}
+
+/// The values of the slots that are not null added up, by their places.
+fn sum_of_places(array: &PrimitiveArray<i64>) -> i64 {
+    let mut sum = 0i64;
+    for i in 0..array.len() {
+        if array.is_valid(i) {
+            sum = sum.wrapping_add(array.value(i));
+        }
+    }
+    sum
+}
+
+/// Prints what a piece of work gave, and where it was measured the time of a slot.
+fn tell<R: Clock + Print>(
+    rt: &R,
+    work: &str,
+    given: impl Display + Drop,
+    begun: Option<Instant>,
+    n: usize,
+) -> io::Result<()> {
+    let Some(begun) = begun else {
+        return println!(rt; "{work}: {given}");
+    };
+    let nanos = begun.elapsed(rt)?.as_nanos();
+    let thousandths = nanos.saturating_mul(1000) / (n as u128).max(1);
+    let whole = thousandths / 1000;
+    let rest = thousandths % 1000;
+    println!(rt; "{work}: {given}, {whole}.{rest:03} ns each")
+}
+
+fn begin(rt: &impl Clock, measured: bool) -> io::Result<Option<Instant>> {
+    if measured {
+        return Ok(Some(Instant::now(rt)?));
+    }
+    Ok(None)
+}
+
+/// Walks an array of numbers in three ways.
+fn walk<R: Clock + Print>(rt: &R, array: &PrimitiveArray<i64>, measured: bool) -> io::Result<()> {
+    let n = array.len();
+    let begun = begin(rt, measured)?;
+    let sum = sum_of_values(array);
+    tell(rt, "  sum of the raw values", sum, begun, n)?;
+    let begun = begin(rt, measured)?;
+    let sum = sum_of_slots(array);
+    tell(rt, "  sum of the slots", sum, begun, n)?;
+    let begun = begin(rt, measured)?;
+    let sum = sum_of_places(array);
+    tell(rt, "  sum of the slots by their places", sum, begun, n)
+}
+
+/// Compares arrays of numbers, once as arrays and once as runs of slots.
+fn compare<R: Clock + Print>(
+    rt: &R,
+    left: &PrimitiveArray<i64>,
+    right: &PrimitiveArray<i64>,
+    measured: bool,
+) -> io::Result<()> {
+    let n = left.len().min(right.len());
+    let begun = begin(rt, measured)?;
+    let same = left == right;
+    tell(rt, "  arrays found equal", same, begun, n)?;
+    let begun = begin(rt, measured)?;
+    let same = left.same_run(0, right, 0, n);
+    tell(rt, "  runs found equal", same, begun, n)
+}
+
+/// Walks an array of numbers, and compares it with one that is made like it.
+fn walk_and_compare<R: Clock + Print + AllocGlobal>(
+    rt: &R,
+    array: &PrimitiveArray<i64>,
+    nulls: bool,
+    measured: bool,
+) -> Result<()> {
+    walk(rt, array, measured)?;
+    let other = numbers(rt.alloc(), array.len(), nulls)?;
+    let told = compare(rt, array, &other, measured);
+    drop(other);
+    told?;
+    Ok(())
+}
+
+/// Pushes numbers, walks and compares them.
+fn run_numbers<R: Clock + Print + AllocGlobal>(
+    rt: &R,
+    work: &str,
+    nulls: bool,
+    measured: bool,
+) -> Result<()> {
+    let n = if measured { NUMBERS } else { FEW };
+    let begun = begin(rt, measured)?;
+    let array = numbers(rt.alloc(), n, nulls)?;
+    let told = tell(rt, work, array.null_count(), begun, n);
+    let done = match told {
+        Ok(()) => walk_and_compare(rt, &array, nulls, measured),
+        Err(error) => Err(error.into()),
+    };
+    drop(array);
+    done
+}
+
+/// Pushes texts.
+fn run_texts<R: Clock + Print + AllocGlobal>(rt: &R, measured: bool) -> Result<()> {
+    let n = if measured { TEXTS } else { FEW };
+    let begun = begin(rt, measured)?;
+    let array = texts(rt.alloc(), n)?;
+    let bytes = array.values().len();
+    drop(array);
+    tell(rt, "texts pushed and frozen, their bytes", bytes, begun, n)?;
+    Ok(())
+}
+
+fn run<R: Clock + Print + AllocGlobal>(rt: &R, measured: bool) -> Result<()> {
+    run_numbers(
+        rt,
+        "numbers pushed and frozen, their nulls",
+        false,
+        measured,
+    )?;
+    run_numbers(
+        rt,
+        "numbers and nulls pushed and frozen, their nulls",
+        true,
+        measured,
+    )?;
+    run_texts(rt, measured)
+}
+
+fn main(rt: HostRuntime) -> Result<()> {
+    let mut measured = false;
+    for word in env::args(&rt)?.skip(1) {
+        measured = word.as_str() == "run";
+    }
+    run(&rt, measured)
+}

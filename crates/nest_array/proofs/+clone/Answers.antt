@@ -1,0 +1,16 @@
+use Rattle.std.proofs.Common.{◌≡◌, ◌+◌, ◌≤◌, ◌<◌, length, get_or, ap, sym, ◌∙◌, arith}
+use Rattle.nest_model.specs.LayoutCode.{weight}
+use Rattle.nest_array.specs.Seen.{layout_of}
+use Rattle.nest_array.proofs.Children.{weight-at, same-all}
+use Rattle.nest_array.proofs.+clone.Goals as goal
+
+pub struct_::clone_all-clone-requires : goal.struct_::clone_all-clone-requires
+struct_::clone_all-clone-requires t c =
+    let e = ap (λ a. weight (layout_of a)) c.index-children-i.is in
+    let w = weight-at c.args.children.now c.loop-i.i c.index-children-i.result (omega arith) in
+    (omega arith, tt)
+
+pub struct_::clone_all-returns-clause-ok : goal.struct_::clone_all-returns-clause-ok
+struct_::clone_all-returns-clause-ok t c =
+    let l : length c.loop-i.copies.items ≡ length c.args.children.now = omega (arith, c.loop-i.invariant.same_length) in
+    same-all c.loop-i.copies.items c.args.children.now l (λ k d h. c.loop-i.invariant.done k d (omega arith))

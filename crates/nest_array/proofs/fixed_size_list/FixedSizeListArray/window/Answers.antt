@@ -1,0 +1,9 @@
+use Rattle.std.proofs.Common.{rules}
+use Rattle.nest_memory.specs.TypeOf.{type_of}
+use Rattle.nest_array.specs.Seen.{layout_of}
+use Rattle.nest_array.proofs.FixedSizes.{size-window}
+use Rattle.nest_array.proofs.fixed_size_list.FixedSizeListArray.window.Goals as goal
+
+pub returns-clause-items : goal.returns-clause-items
+returns-clause-items c =
+    size-window (type_of c.self.inside.data_type) (layout_of c.self.inside.values.value) c.self.inside.validity c.args.self.now c.new.result c.args.i c.self.view_is c.requires (search rules)

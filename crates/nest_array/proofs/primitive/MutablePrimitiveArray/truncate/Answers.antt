@@ -1,5 +1,0 @@
-use Rattle.nest_array.proofs.Grown.{numbers-short}
-use Rattle.nest_array.proofs.primitive.MutablePrimitiveArray.truncate.Goals as goal
-
-pub returns-clause-slots : goal.returns-clause-slots
-returns-clause-slots c = numbers-short _ c.self.inside.values.items _ c.self.inside.validity _ c.args.n _ c.self.view_is c.truncate.ensures.items c.truncate-2.ensures c.requires

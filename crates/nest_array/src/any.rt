@@ -1,0 +1,229 @@
+//! An array of any kind.
+ghost use Rattle.std.specs.Prelude.{◌≡◌, ◌+◌, ◌≤◌, ◌<◌, ◌↔◌, IsTrue, IfOk, IsOkUnless, MatchResult, not, option_map, alloc_error};
+ghost use Rattle.nest_memory.specs.declared.error.Error.TheVariants.{Memory};
+ghost use Rattle.nest_memory.specs.Cut.{cut};
+ghost use Rattle.nest_memory.specs.TypeOf.{type_of};
+ghost use Rattle.nest_model.specs.Accessors.{validity_of, with_validity};
+ghost use Rattle.nest_model.specs.Array.{TopFits};
+ghost use Rattle.nest_model.specs.Checks.{Pass};
+ghost use Rattle.nest_model.specs.Cut.{cut_layout};
+ghost use Rattle.nest_model.specs.Fits.{validity_checks, ValidityFault};
+ghost use Rattle.nest_model.specs.Layout.{layout_type};
+ghost use Rattle.nest_model.specs.Meaning.{len, slot, slots_of};
+ghost use Rattle.nest_model.specs.Nullness.{is_null_at, null_count};
+ghost use Rattle.nest_model.specs.Slot as slots;
+ghost use Rattle.nest_array.specs.Seen.{layout_of};
+
+use crate::fixed_size_binary::FixedSizeBinaryArray;
+use crate::fixed_size_list::FixedSizeListArray;
+use crate::list::ListArray;
+use crate::list::large::LargeListArray;
+use crate::null::NullArray;
+use crate::struct_::StructArray;
+use nest_flat::any_primitive::AnyPrimitive;
+use nest_flat::binary::BinaryArray;
+use nest_flat::boolean::BooleanArray;
+use nest_flat::utf8::Utf8Array;
+use nest_memory::bitmap::immutable::Bitmap;
+use nest_memory::datatypes::DataType;
+use nest_memory::error::{Argument, Error};
+use std::alloc::Global;
+
+/// An array, in the variant of its data type's physical type. It stands in the place of arrow2's `Box<dyn Array>`.
+#[cycle(array)]
+#[derive(Drop)]
+pub enum AnyArray {
+    Null(NullArray),
+    Boolean(BooleanArray),
+    Primitive(AnyPrimitive),
+    Binary(BinaryArray<i32>),
+    LargeBinary(BinaryArray<i64>),
+    Utf8(Utf8Array<i32>),
+    LargeUtf8(Utf8Array<i64>),
+    FixedSizeBinary(FixedSizeBinaryArray),
+    FixedSizeList(FixedSizeListArray),
+    List(ListArray),
+    LargeList(LargeListArray),
+    Struct(StructArray),
+}
+
+// The same expression over the array of each variant.
+macro_rules! each_array {
+    ($any:expr, $array:ident => $body:expr) => {
+        match $any {
+            AnyArray::Null($array) => $body,
+            AnyArray::Boolean($array) => $body,
+            AnyArray::Primitive($array) => $body,
+            AnyArray::Binary($array) => $body,
+            AnyArray::LargeBinary($array) => $body,
+            AnyArray::Utf8($array) => $body,
+            AnyArray::LargeUtf8($array) => $body,
+            AnyArray::FixedSizeBinary($array) => $body,
+            AnyArray::FixedSizeList($array) => $body,
+            AnyArray::List($array) => $body,
+            AnyArray::LargeList($array) => $body,
+            AnyArray::Struct($array) => $body,
+        }
+    };
+}
+
+// A new validity for an array whose kind its layout shows.
+macro_rules! with_known {
+    ($array:ident, $validity:ident) => {{
+        $array.known();
+        $array.set_validity($validity)
+    }};
+}
+
+impl AnyArray {
+    /// What holds of every array at its top level: its parts fit, so its variant is that of its data type.
+    pub fn known(&self)
+        ensures { TopFits (layout_of self.now) }
+    {
+        each_array!(self, array => array.known())
+    }
+
+    /// How many slots it has.
+    pub fn len(&self) -> usize
+        ensures { result ≡ len (layout_of self.now) }
+    {
+        each_array!(self, array => array.len())
+    }
+
+    /// Whether it has no slot.
+    pub fn is_empty(&self) -> bool
+        ensures { IsTrue result ↔ (len (layout_of self.now) ≡ 0) }
+    {
+        self.len() == 0
+    }
+
+    /// Its data type.
+    pub fn data_type(&self) -> &DataType
+        ensures { type_of result.now ≡ layout_type (layout_of self.now) }
+    {
+        each_array!(self, array => array.data_type())
+    }
+
+    /// Which slots are valid, a bit a slot; without it all are.
+    pub fn validity(&self) -> Option<&Bitmap>
+        ensures { option_map (λ b. b.now) result ≡ validity_of (layout_of self.now) }
+    {
+        each_array!(self, array => array.validity())
+    }
+
+    /// Whether slot i is null.
+    pub fn is_null(&self, i: usize) -> bool
+        requires { i < len (layout_of self.now) }
+        ensures slot { IsTrue result ↔ (slot (layout_of self.now) i ≡ slots.null) }
+        ensures place { result ≡ is_null_at (layout_of self.now) i }
+    {
+        each_array!(self, array => array.is_null(i))
+    }
+
+    /// Whether slot i is not null.
+    pub fn is_valid(&self, i: usize) -> bool
+        requires { i < len (layout_of self.now) }
+        ensures { result ≡ not (is_null_at (layout_of self.now) i) }
+    {
+        !self.is_null(i)
+    }
+
+    /// How many slots are null.
+    pub fn null_count(&self) -> usize
+        ensures { result ≡ null_count (layout_of self.now) }
+    {
+        each_array!(self, array => array.null_count())
+    }
+
+    /// Keeps the n slots from place o.
+    pub fn slice(&mut self, o: usize, n: usize)
+        requires { o + n ≤ len (layout_of self.old) }
+        ensures parts { layout_of self.new ≡ cut_layout (layout_of self.old) o n }
+        ensures slots { slots_of (layout_of self.new) ≡ cut (slots_of (layout_of self.old)) o n }
+        ensures same_type { layout_type (layout_of self.new) ≡ layout_type (layout_of self.old) }
+    {
+        self.cut(o, n);
+    }
+
+    /// The n slots from place o.
+    pub fn sliced(self, o: usize, n: usize) -> AnyArray
+        requires { o + n ≤ len (layout_of self) }
+        ensures parts { layout_of result ≡ cut_layout (layout_of self) o n }
+        ensures slots { slots_of (layout_of result) ≡ cut (slots_of (layout_of self)) o n }
+        ensures same_type { layout_type (layout_of result) ≡ layout_type (layout_of self) }
+    {
+        let mut cut = self;
+        cut.slice(o, n);
+        cut
+    }
+
+    /// Takes a new validity. `NoValidity` for a null array, `ValidityLength` where it has not a bit for each slot;
+    /// the array stays as it was then.
+    pub fn set_validity(&mut self, validity: Option<Bitmap>) -> Result<(), Error>
+        ensures { MatchResult result
+            (λ _. Pass (validity_checks (layout_of self.old) validity) × (layout_of self.new ≡ with_validity (layout_of self.old) validity))
+            (λ e. ValidityFault e (layout_of self.old) validity × (layout_of self.new ≡ layout_of self.old)) }
+    {
+        match self {
+            AnyArray::Null(array) => {
+                array.known();
+                drop(validity);
+                Err(Error::InvalidArgumentError(Argument::NoValidity))
+            }
+            AnyArray::Boolean(array) => with_known!(array, validity),
+            AnyArray::Primitive(array) => with_known!(array, validity),
+            AnyArray::Binary(array) => with_known!(array, validity),
+            AnyArray::LargeBinary(array) => with_known!(array, validity),
+            AnyArray::Utf8(array) => with_known!(array, validity),
+            AnyArray::LargeUtf8(array) => with_known!(array, validity),
+            AnyArray::FixedSizeBinary(array) => with_known!(array, validity),
+            AnyArray::FixedSizeList(array) => with_known!(array, validity),
+            AnyArray::List(array) => with_known!(array, validity),
+            AnyArray::LargeList(array) => with_known!(array, validity),
+            AnyArray::Struct(array) => with_known!(array, validity),
+        }
+    }
+
+    #[cycle(cut)]
+    pub(crate) fn cut(&mut self, o: usize, n: usize)
+        requires { o + n ≤ len (layout_of self.old) }
+        ensures { layout_of self.new ≡ cut_layout (layout_of self.old) o n }
+    {
+        match self {
+            AnyArray::Null(array) => array.slice(o, n),
+            AnyArray::Boolean(array) => array.slice(o, n),
+            AnyArray::Primitive(array) => array.slice(o, n),
+            AnyArray::Binary(array) => array.slice(o, n),
+            AnyArray::LargeBinary(array) => array.slice(o, n),
+            AnyArray::Utf8(array) => array.slice(o, n),
+            AnyArray::LargeUtf8(array) => array.slice(o, n),
+            AnyArray::FixedSizeBinary(array) => array.slice(o, n),
+            AnyArray::FixedSizeList(array) => array.cut(o, n),
+            AnyArray::List(array) => array.slice(o, n),
+            AnyArray::LargeList(array) => array.slice(o, n),
+            AnyArray::Struct(array) => array.cut(o, n),
+        }
+    }
+
+    /// The same array, on shared memory.
+    #[cycle(clone)]
+    pub fn clone(&self, alloc: Global) -> Result<AnyArray, Error>
+        ensures ok { IfOk result (λ a. layout_of a ≡ layout_of self.now) }
+        ensures err { IsOkUnless result (Memory alloc_error) }
+    {
+        match self {
+            AnyArray::Null(array) => Ok(AnyArray::Null(array.clone(alloc)?)),
+            AnyArray::Boolean(array) => Ok(AnyArray::Boolean(array.clone(alloc)?)),
+            AnyArray::Primitive(array) => Ok(AnyArray::Primitive(array.clone(alloc)?)),
+            AnyArray::Binary(array) => Ok(AnyArray::Binary(array.clone(alloc)?)),
+            AnyArray::LargeBinary(array) => Ok(AnyArray::LargeBinary(array.clone(alloc)?)),
+            AnyArray::Utf8(array) => Ok(AnyArray::Utf8(array.clone(alloc)?)),
+            AnyArray::LargeUtf8(array) => Ok(AnyArray::LargeUtf8(array.clone(alloc)?)),
+            AnyArray::FixedSizeBinary(array) => Ok(AnyArray::FixedSizeBinary(array.clone(alloc)?)),
+            AnyArray::FixedSizeList(array) => Ok(AnyArray::FixedSizeList(array.clone(alloc)?)),
+            AnyArray::List(array) => Ok(AnyArray::List(array.clone(alloc)?)),
+            AnyArray::LargeList(array) => Ok(AnyArray::LargeList(array.clone(alloc)?)),
+            AnyArray::Struct(array) => Ok(AnyArray::Struct(array.clone(alloc)?)),
+        }
+    }
+}

@@ -1,0 +1,147 @@
+//! What every array does: arrow2's trait `Array`.
+mod flat;
+mod nested;
+mod primitive;
+
+ghost use Rattle.std.specs.Prelude.{◌≡◌, ◌+◌, ◌≤◌, ◌<◌, ◌↔◌, ◌⊎◌, IsTrue, IfOk, IsOkUnless, MatchResult, not, option_map, alloc_error};
+ghost use Rattle.nest_memory.specs.declared.error.Error.TheVariants.{Memory};
+ghost use Rattle.nest_memory.specs.Cut.{cut};
+ghost use Rattle.nest_memory.specs.TypeOf.{type_of};
+ghost use Rattle.nest_model.specs.Accessors.{validity_of, with_validity};
+ghost use Rattle.nest_model.specs.Checks.{Pass};
+ghost use Rattle.nest_model.specs.Cut.{cut_layout};
+ghost use Rattle.nest_model.specs.Fits.{validity_checks, ValidityFault};
+ghost use Rattle.nest_model.specs.Layout.{Layout, layout_type};
+ghost use Rattle.nest_model.specs.Meaning.{len, slot, slots_of};
+ghost use Rattle.nest_model.specs.Nullness.{is_null_at, null_count};
+ghost use Rattle.nest_model.specs.Slot as slots;
+ghost use Rattle.nest_array.specs.Seen.{layout_of};
+
+use crate::any::AnyArray;
+use nest_memory::bitmap::immutable::Bitmap;
+use nest_memory::datatypes::DataType;
+use nest_memory::error::Error;
+use std::alloc::Global;
+
+/// An array of any kind.
+pub trait Array {
+    /// Its parts, as its accessors show them after its cuts.
+    ghost layout: { Self → Layout };
+
+    /// How many slots it has.
+    fn len(&self) -> usize
+        ensures { result ≡ len (layout self.now) };
+
+    /// Whether it has no slot.
+    fn is_empty(&self) -> bool
+        ensures { IsTrue result ↔ (len (layout self.now) ≡ 0) }
+    {
+        self.len() == 0
+    }
+
+    /// Its data type.
+    fn data_type(&self) -> &DataType
+        ensures { type_of result.now ≡ layout_type (layout self.now) };
+
+    /// Which slots are valid, a bit a slot; without it all are.
+    fn validity(&self) -> Option<&Bitmap>
+        ensures { option_map (λ b. b.now) result ≡ validity_of (layout self.now) };
+
+    /// Whether slot i is null.
+    fn is_null(&self, i: usize) -> bool
+        requires { i < len (layout self.now) }
+        ensures slot { IsTrue result ↔ (slot (layout self.now) i ≡ slots.null) }
+        ensures place { result ≡ is_null_at (layout self.now) i };
+
+    /// Whether slot i is not null.
+    fn is_valid(&self, i: usize) -> bool
+        requires { i < len (layout self.now) }
+        ensures { result ≡ not (is_null_at (layout self.now) i) }
+    {
+        !self.is_null(i)
+    }
+
+    /// How many slots are null.
+    fn null_count(&self) -> usize
+        ensures { result ≡ null_count (layout self.now) };
+
+    /// Keeps the n slots from place o. No memory is taken.
+    fn slice(&mut self, o: usize, n: usize)
+        requires { o + n ≤ len (layout self.old) }
+        ensures parts { layout self.new ≡ cut_layout (layout self.old) o n }
+        ensures slots { slots_of (layout self.new) ≡ cut (slots_of (layout self.old)) o n }
+        ensures same_type { layout_type (layout self.new) ≡ layout_type (layout self.old) };
+
+    /// The same array in its variant, on shared memory.
+    fn to_boxed(&self, alloc: Global) -> Result<AnyArray, Error>
+        ensures ok { IfOk result (λ a. layout_of a ≡ layout self.now) }
+        ensures err { IsOkUnless result (Memory alloc_error) };
+
+    /// The n slots from place o, on shared memory.
+    fn sliced(&self, alloc: Global, o: usize, n: usize) -> Result<AnyArray, Error>
+        requires { o + n ≤ len (layout self.now) }
+        ensures parts { IfOk result (λ a. layout_of a ≡ cut_layout (layout self.now) o n) }
+        ensures slots { IfOk result (λ a. slots_of (layout_of a) ≡ cut (slots_of (layout self.now)) o n) }
+        ensures same_type { IfOk result (λ a. layout_type (layout_of a) ≡ layout_type (layout self.now)) }
+        ensures err { IsOkUnless result (Memory alloc_error) }
+    {
+        let mut array = self.to_boxed(alloc)?;
+        array.slice(o, n);
+        Ok(array)
+    }
+
+    /// The array under a new validity, on shared memory. `NoValidity` for a null array, `ValidityLength` where the
+    /// validity has not a bit for each slot, `Memory`.
+    fn with_validity(&self, alloc: Global, validity: Option<Bitmap>) -> Result<AnyArray, Error>
+        ensures { MatchResult result
+            (λ a. Pass (validity_checks (layout self.now) validity) × (layout_of a ≡ with_validity (layout self.now) validity))
+            (λ e. ValidityFault e (layout self.now) validity ⊎ (e ≡ Memory alloc_error)) }
+    {
+        let mut array = match self.to_boxed(alloc) {
+            Ok(array) => array,
+            Err(error) => {
+                drop(validity);
+                return Err(error);
+            }
+        };
+        match array.set_validity(validity) {
+            Ok(()) => Ok(array),
+            Err(error) => {
+                drop(array);
+                Err(error)
+            }
+        }
+    }
+}
+
+impl Array for AnyArray {
+    ghost layout = { layout_of };
+
+    fn len(&self) -> usize {
+        AnyArray::len(self)
+    }
+
+    fn data_type(&self) -> &DataType {
+        AnyArray::data_type(self)
+    }
+
+    fn validity(&self) -> Option<&Bitmap> {
+        AnyArray::validity(self)
+    }
+
+    fn is_null(&self, i: usize) -> bool {
+        AnyArray::is_null(self, i)
+    }
+
+    fn null_count(&self) -> usize {
+        AnyArray::null_count(self)
+    }
+
+    fn slice(&mut self, o: usize, n: usize) {
+        AnyArray::slice(self, o, n)
+    }
+
+    fn to_boxed(&self, alloc: Global) -> Result<AnyArray, Error> {
+        self.clone(alloc)
+    }
+}

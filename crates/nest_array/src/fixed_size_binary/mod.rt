@@ -1,0 +1,320 @@
+//! Arrays of byte strings of one size.
+mod equality;
+mod rows;
+#[cfg(test)]
+mod tests;
+
+ghost use Rattle.std.specs.Prelude.{◌≡◌, ◌+◌, ◌*◌, ◌≤◌, ◌<◌, ◌↔◌, IsTrue, IfOk, IsOkUnless, MatchResult, MatchOption, None, option_map, alloc_error};
+ghost use Rattle.nest_memory.specs.declared.error.Error.TheVariants.{Memory};
+ghost use Rattle.nest_memory.specs.Cut.{cut};
+ghost use Rattle.nest_memory.specs.TypeOf.{type_of};
+ghost use Rattle.nest_memory.specs.TypeTree.{size_of};
+ghost use Rattle.nest_model.specs.Accessors.{validity_of, bytes_of, with_validity};
+ghost use Rattle.nest_model.specs.Array.{TopFits};
+ghost use Rattle.nest_model.specs.Cut.{cut_layout};
+ghost use Rattle.nest_model.specs.Fits.{Fits, FirstFault, ValidityFits, ValidityFault};
+ghost use Rattle.nest_model.specs.Layout as layouts;
+ghost use Rattle.nest_model.specs.Layout.{layout_type};
+ghost use Rattle.nest_model.specs.Meaning.{len, slot, slots_of};
+ghost use Rattle.nest_model.specs.Nullness.{is_null_at, null_count};
+ghost use Rattle.nest_model.specs.Part.{valid_at};
+ghost use Rattle.nest_model.specs.Reads.{where_valid};
+ghost use Rattle.nest_model.specs.Slot as slots;
+ghost use Rattle.nest_flat.specs.FlatParts.{optional};
+ghost use Rattle.nest_array.specs.Seen.{layout_of};
+
+use crate::any::AnyArray;
+use nest_flat::validity;
+use nest_memory::bitmap::immutable::Bitmap;
+use nest_memory::buffer::Buffer;
+use nest_memory::datatypes::DataType;
+use nest_memory::datatypes::physical_type::PhysicalType;
+use nest_memory::error::{Error, Spec};
+use std::alloc::Global;
+use std::marker::Model;
+use std::rc::Rc;
+
+/// An array of byte strings of one size, at least 1: the Fixed-Size Primitive Layout of the Arrow format, of so many
+/// bytes a slot.
+#[derive(Drop)]
+pub struct FixedSizeBinaryArray {
+    // The data type's, which may lie below extensions.
+    size: usize,
+    data_type: DataType,
+    values: Buffer<u8>,
+    validity: Option<Bitmap>,
+}
+
+impl Model for FixedSizeBinaryArray {
+    ghost use Rattle.std.specs.Prelude.{◌≡◌};
+    ghost use Rattle.nest_model.specs.Layout as layouts;
+    ghost use Rattle.nest_model.specs.Layout.{Layout};
+    ghost use Rattle.nest_model.specs.LayoutCode.{coded_layout};
+
+    ghost Value = { Layout };
+
+    ghost coded = { coded_layout };
+
+    ghost use Rattle.nest_memory.specs.TypeOf.{type_of};
+    ghost use Rattle.nest_memory.specs.TypeTree.{size_of};
+    ghost use Rattle.nest_model.specs.Array.{TopFits};
+
+    ghost view = { λ a. layouts.fixed_size_binary (type_of a.data_type) a.values a.validity };
+
+    ghost invariant = { λ a. TopFits (layouts.fixed_size_binary (type_of a.data_type) a.values a.validity) × (a.size ≡ size_of (type_of a.data_type)) };
+}
+
+impl FixedSizeBinaryArray {
+    /// The array of these parts.
+    ///
+    /// # Errors
+    /// `WrongType` where the physical type isn't `FixedSizeBinary`, `ZeroSize` where its size is 0, `NotMultiple` where the
+    /// number of bytes is no multiple of it, `ValidityLength` where the validity has another length: the first of these.
+    pub fn try_new(
+        data_type: DataType,
+        values: Buffer<u8>,
+        validity: Option<Bitmap>,
+    ) -> Result<FixedSizeBinaryArray, Error>
+        ensures { let parts = layouts.fixed_size_binary (type_of data_type) values validity in
+            MatchResult result (λ a. Fits parts × (a ≡ parts)) (λ e. FirstFault e parts) }
+    {
+        if let Some(error) = fault(&data_type, &values, &validity) {
+            return Err(error);
+        }
+        Ok(FixedSizeBinaryArray::new(data_type, values, validity))
+    }
+
+    /// The array of parts that fit.
+    pub fn new(
+        data_type: DataType,
+        values: Buffer<u8>,
+        validity: Option<Bitmap>,
+    ) -> FixedSizeBinaryArray
+        requires { Fits (layouts.fixed_size_binary (type_of data_type) values validity) }
+        ensures { result ≡ layouts.fixed_size_binary (type_of data_type) values validity }
+    {
+        FixedSizeBinaryArray {
+            size: slot_size(&data_type),
+            data_type,
+            values,
+            validity,
+        }
+    }
+
+    /// What holds of every such array.
+    pub fn known(&self)
+        ensures fits { TopFits self.now }
+        ensures kind { self.now ≡ layouts.fixed_size_binary (layout_type self.now) (bytes_of self.now) (validity_of self.now) }
+    {
+        let _ = &self.data_type;
+    }
+
+    /// How many slots it has.
+    pub fn len(&self) -> usize
+        ensures { result ≡ len self.now }
+    {
+        self.values.len() / self.size
+    }
+
+    /// Whether it has no slot.
+    pub fn is_empty(&self) -> bool
+        ensures { IsTrue result ↔ (len self.now ≡ 0) }
+    {
+        self.len() == 0
+    }
+
+    /// Its data type.
+    pub fn data_type(&self) -> &DataType
+        ensures { type_of result.now ≡ layout_type self.now }
+    {
+        &self.data_type
+    }
+
+    /// How many bytes each slot has.
+    pub fn size(&self) -> usize
+        ensures typed { result ≡ size_of (layout_type self.now) }
+        ensures some { 0 < result }
+    {
+        self.size
+    }
+
+    /// Which slots are valid, a bit a slot; without it all are.
+    pub fn validity(&self) -> Option<&Bitmap>
+        ensures { option_map (λ b. b.now) result ≡ validity_of self.now }
+    {
+        self.validity.as_ref()
+    }
+
+    /// The bytes of all slots, one after another, also those under nulls.
+    pub fn values(&self) -> &Buffer<u8>
+        ensures { result.now ≡ bytes_of self.now }
+    {
+        &self.values
+    }
+
+    /// Whether slot i is not null.
+    pub fn is_valid(&self, i: usize) -> bool
+        requires { i < len self.now }
+        ensures { result ≡ valid_at (validity_of self.now) i }
+    {
+        validity::is_valid(&self.validity, i)
+    }
+
+    /// Whether slot i is null.
+    pub fn is_null(&self, i: usize) -> bool
+        requires { i < len self.now }
+        ensures slot { IsTrue result ↔ (slot self.now i ≡ slots.null) }
+        ensures place { result ≡ is_null_at self.now i }
+    {
+        !validity::is_valid(&self.validity, i)
+    }
+
+    /// How many slots are null.
+    pub fn null_count(&self) -> usize
+        ensures { result ≡ null_count self.now }
+    {
+        validity::null_count(&self.validity)
+    }
+
+    /// The bytes of slot i, which mean nothing where the slot is null.
+    pub fn value(&self, i: usize) -> &[u8]
+        requires { i < len self.now }
+        ensures raw { result.now ≡ cut (bytes_of self.now) (i * size_of (layout_type self.now)) (size_of (layout_type self.now)) }
+        ensures slot { slot self.now i ≡ where_valid (validity_of self.now) i (slots.bytes result.now) }
+        ensures unmasked { slot (with_validity self.now None) i ≡ slots.bytes result.now }
+    {
+        let values = &self.values;
+        let _bytes = values.len();
+        let start = i * self.size;
+        &values.as_slice()[start..start + self.size]
+    }
+
+    /// The bytes of slot i, `None` where it is null.
+    pub fn get(&self, i: usize) -> Option<&[u8]>
+        requires { i < len self.now }
+        ensures { optional (λ x. slots.bytes x.now) result ≡ slot self.now i }
+    {
+        if self.is_valid(i) {
+            Some(self.value(i))
+        } else {
+            None
+        }
+    }
+
+    /// Keeps the n slots from place o.
+    pub fn slice(&mut self, o: usize, n: usize)
+        requires { o + n ≤ len self.old }
+        ensures parts { self.new ≡ cut_layout self.old o n }
+        ensures slots { slots_of self.new ≡ cut (slots_of self.old) o n }
+        ensures same_type { layout_type self.new ≡ layout_type self.old }
+    {
+        self.cut(o, n);
+    }
+
+    fn cut(&mut self, o: usize, n: usize)
+        requires { o + n ≤ len self.old }
+        ensures { self.new ≡ cut_layout self.old o n }
+    {
+        let _bytes = self.values.len();
+        self.values.slice(o * self.size, n * self.size);
+        validity::slice(&mut self.validity, o, n);
+    }
+
+    /// The n slots from place o.
+    pub fn sliced(self, o: usize, n: usize) -> FixedSizeBinaryArray
+        requires { o + n ≤ len self }
+        ensures parts { result ≡ cut_layout self o n }
+        ensures slots { slots_of result ≡ cut (slots_of self) o n }
+        ensures same_type { layout_type result ≡ layout_type self }
+    {
+        let mut cut = self;
+        cut.slice(o, n);
+        cut
+    }
+
+    /// Takes a new validity. `ValidityLength` where it has not a bit for each slot; the array stays
+    /// as it was then.
+    pub fn set_validity(&mut self, validity: Option<Bitmap>) -> Result<(), Error>
+        ensures { MatchResult result
+            (λ _. ValidityFits validity (len self.old) × (self.new ≡ with_validity self.old validity))
+            (λ e. ValidityFault e self.old validity × (self.new ≡ self.old)) }
+    {
+        if !validity::fits(&validity, self.len()) {
+            return Err(Error::OutOfSpec(Spec::ValidityLength));
+        }
+        self.validity = validity;
+        Ok(())
+    }
+
+    /// The array under a new validity, or as it was beside the refusal.
+    pub fn with_validity(
+        self,
+        validity: Option<Bitmap>,
+    ) -> Result<FixedSizeBinaryArray, (FixedSizeBinaryArray, Error)>
+        ensures { MatchResult result
+            (λ a. ValidityFits validity (len self) × (a ≡ with_validity self validity))
+            (λ r. ValidityFault r.1 self validity × (r.0 ≡ self)) }
+    {
+        let mut array = self;
+        match array.set_validity(validity) {
+            Ok(()) => Ok(array),
+            Err(e) => Err((array, e)),
+        }
+    }
+
+    /// The same array, on shared memory.
+    pub fn clone(&self, alloc: Global) -> Result<FixedSizeBinaryArray, Error>
+        ensures ok { IfOk result (λ a. a ≡ self.now) }
+        ensures err { IsOkUnless result (Memory alloc_error) }
+    {
+        Ok(FixedSizeBinaryArray {
+            size: self.size,
+            data_type: self.data_type.clone(alloc)?,
+            values: self.values.clone()?,
+            validity: validity::clone(&self.validity)?,
+        })
+    }
+
+    /// The same array in its variant.
+    pub fn boxed(self) -> AnyArray
+        ensures { layout_of result ≡ self }
+    {
+        AnyArray::FixedSizeBinary(self)
+    }
+
+    /// The same array, owned by what shares it.
+    pub fn arced(self, alloc: Global) -> Result<Rc<AnyArray>, Error>
+        ensures ok { IfOk result (λ r. layout_of r.value ≡ self) }
+        ensures err { IsOkUnless result (Memory alloc_error) }
+    {
+        Ok(Rc::new(alloc, self.boxed())?)
+    }
+}
+
+/// The size that a data type states, 0 where it states none.
+fn slot_size(data_type: &DataType) -> usize
+    ensures { result ≡ size_of (type_of data_type.now) }
+{
+    data_type.size().unwrap_or(0)
+}
+
+/// The first check of an array's parts that fails.
+fn fault(data_type: &DataType, values: &Buffer<u8>, validity: &Option<Bitmap>) -> Option<Error>
+    ensures { let parts = layouts.fixed_size_binary (type_of data_type.now) values.now validity.now in
+        MatchOption result (Fits parts) (λ e. FirstFault e parts) }
+{
+    if data_type.to_physical_type() != PhysicalType::FixedSizeBinary {
+        return Some(Error::OutOfSpec(Spec::WrongType));
+    }
+    let size = slot_size(data_type);
+    if size == 0 {
+        return Some(Error::OutOfSpec(Spec::ZeroSize));
+    }
+    if values.len() % size != 0 {
+        return Some(Error::OutOfSpec(Spec::NotMultiple));
+    }
+    if !validity::fits(validity, values.len() / size) {
+        return Some(Error::OutOfSpec(Spec::ValidityLength));
+    }
+    None
+}

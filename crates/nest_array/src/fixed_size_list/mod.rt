@@ -1,0 +1,337 @@
+//! Arrays of lists of one size.
+mod copies;
+
+ghost use Rattle.std.specs.Prelude.{◌≡◌, ◌+◌, ◌*◌, ◌≤◌, ◌<◌, ◌↔◌, IsTrue, IfOk, IsOkUnless, MatchResult, MatchOption, option_map, alloc_error};
+ghost use Rattle.nest_memory.specs.declared.error.Error.TheVariants.{Memory};
+ghost use Rattle.nest_memory.specs.Cut.{cut};
+ghost use Rattle.nest_memory.specs.TypeOf.{type_of};
+ghost use Rattle.nest_memory.specs.TypeTree.{size_of};
+ghost use Rattle.nest_model.specs.Accessors.{validity_of, child_of, with_validity};
+ghost use Rattle.nest_model.specs.Array.{TopFits};
+ghost use Rattle.nest_model.specs.Cut.{cut_layout};
+ghost use Rattle.nest_model.specs.Fits.{Fits, FirstFault, ValidityFits, ValidityFault};
+ghost use Rattle.nest_model.specs.Layout as layouts;
+ghost use Rattle.nest_model.specs.Layout.{layout_type};
+ghost use Rattle.nest_model.specs.Meaning.{len, slot, slots_of};
+ghost use Rattle.nest_model.specs.Nullness.{is_null_at, null_count};
+ghost use Rattle.nest_model.specs.Part.{valid_at};
+ghost use Rattle.nest_model.specs.Reads.{where_valid};
+ghost use Rattle.nest_model.specs.Slot as slots;
+ghost use Rattle.nest_model.specs.Slot.{seal};
+ghost use Rattle.nest_array.specs.Refusals.{RefusesOrMemory};
+ghost use Rattle.nest_flat.specs.FlatParts.{optional};
+ghost use Rattle.nest_array.specs.Seen.{layout_of};
+ghost use Rattle.nest_array.specs.Types.{default_fixed_size_list_type};
+ghost use Rattle.nest_array.specs.WindowParts.{window_parts, window_slots};
+
+use crate::any::AnyArray;
+use crate::types::{default_child, has_items};
+use crate::window::Window;
+use nest_flat::validity;
+use nest_memory::bitmap::immutable::Bitmap;
+use nest_memory::datatypes::DataType;
+use nest_memory::datatypes::physical_type::PhysicalType;
+use nest_memory::error::{Error, Spec};
+use std::alloc::Global;
+use std::marker::Model;
+use std::rc::Rc;
+
+/// Lists of as many items each: the Fixed-Size List Layout of the Arrow format.
+#[cycle(array)]
+#[derive(Drop)]
+pub struct FixedSizeListArray {
+    data_type: DataType,
+    size: usize,
+    count: usize,
+    values: Box<AnyArray>,
+    validity: Option<Bitmap>,
+}
+
+impl Model for FixedSizeListArray {
+    ghost use Rattle.nest_model.specs.Layout.{Layout};
+    ghost use Rattle.nest_model.specs.LayoutCode.{coded_layout, weight};
+
+    ghost Value = { Layout };
+
+    ghost coded = { coded_layout };
+
+    ghost use Rattle.std.specs.Prelude.{◌≡◌};
+    ghost use Rattle.nest_memory.specs.TypeOf.{type_of};
+    ghost use Rattle.nest_memory.specs.TypeTree.{size_of};
+    ghost use Rattle.nest_model.specs.Array.{TopFits};
+    ghost use Rattle.nest_model.specs.Meaning.{len};
+    ghost use Rattle.nest_array.specs.SeenFixedSizeList.{fixed_size_list_seen};
+
+    ghost view = { fixed_size_list_seen };
+
+    ghost invariant = { λ a. TopFits (fixed_size_list_seen a) × ((a.size ≡ size_of (type_of a.data_type)) × (a.count ≡ len (fixed_size_list_seen a))) };
+
+    ghost size = { weight };
+
+    ghost use Rattle.std.proofs.Common.{arith};
+    ghost use Rattle.nest_array.specs.Falls.{deep-size};
+
+    ghost size_decreases = { λ a h. Prim.omega (arith, deep-size a.values.value) };
+}
+
+impl FixedSizeListArray {
+    /// The array of these parts.
+    ///
+    /// # Errors
+    /// `WrongType` where the physical type isn't `FixedSizeList`, `ZeroSize` where its size is 0, `ChildType` where the
+    /// items have another data type than its field, `NotMultiple` where they are no multiple of the size,
+    /// `ValidityLength` where the validity has another length: the first of these. Then `Memory`, for the box of
+    /// the items.
+    pub fn try_new(
+        alloc: Global,
+        data_type: DataType,
+        values: AnyArray,
+        validity: Option<Bitmap>,
+    ) -> Result<FixedSizeListArray, Error>
+        ensures { let parts = layouts.fixed_size_list (type_of data_type) (layout_of values) validity in
+            MatchResult result (λ a. Fits parts × (a ≡ parts)) (λ e. RefusesOrMemory e parts) }
+    {
+        if let Some(error) = fault(&data_type, &values, &validity) {
+            drop(validity);
+            drop(values);
+            drop(data_type);
+            return Err(error);
+        }
+        FixedSizeListArray::of(alloc, data_type, values, validity)
+    }
+
+    /// The array of parts that fit. `Memory` alone is refused.
+    pub fn new(
+        alloc: Global,
+        data_type: DataType,
+        values: AnyArray,
+        validity: Option<Bitmap>,
+    ) -> Result<FixedSizeListArray, Error>
+        requires { Fits (layouts.fixed_size_list (type_of data_type) (layout_of values) validity) }
+        ensures ok { IfOk result (λ a. a ≡ layouts.fixed_size_list (type_of data_type) (layout_of values) validity) }
+        ensures err { IsOkUnless result (Memory alloc_error) }
+    {
+        FixedSizeListArray::of(alloc, data_type, values, validity)
+    }
+
+    // The array of parts that were checked.
+    fn of(
+        alloc: Global,
+        data_type: DataType,
+        values: AnyArray,
+        validity: Option<Bitmap>,
+    ) -> Result<FixedSizeListArray, Error>
+        requires { TopFits (layouts.fixed_size_list (type_of data_type) (layout_of values) validity) }
+        ensures ok { IfOk result (λ a. a ≡ layouts.fixed_size_list (type_of data_type) (layout_of values) validity) }
+        ensures err { IsOkUnless result (Memory alloc_error) }
+    {
+        let size = data_type.size().unwrap_or(0);
+        let count = values.len() / size;
+        match Box::new(alloc, values) {
+            Ok(values) => Ok(FixedSizeListArray {
+                data_type,
+                size,
+                count,
+                values,
+                validity,
+            }),
+            Err(error) => {
+                drop(validity);
+                drop(data_type);
+                Err(error.into())
+            }
+        }
+    }
+
+    /// The type of lists of so many such items: the field is named "item" and nullable.
+    pub fn default_datatype(
+        alloc: Global,
+        data_type: DataType,
+        size: usize,
+    ) -> Result<DataType, Error>
+        ensures ok { IfOk result (λ t. type_of t ≡ default_fixed_size_list_type (type_of data_type) size) }
+        ensures err { IsOkUnless result (Memory alloc_error) }
+    {
+        let field = default_child(alloc, data_type)?;
+        Ok(DataType::FixedSizeList(Box::new(alloc, field)?, size))
+    }
+
+    /// What holds of every such array.
+    pub fn known(&self)
+        ensures fits { TopFits self.now }
+        ensures kind { self.now ≡ layouts.fixed_size_list (layout_type self.now) (child_of self.now) (validity_of self.now) }
+    {
+        let _ = &self.data_type;
+    }
+
+    /// How many slots it has.
+    pub fn len(&self) -> usize
+        ensures { result ≡ len self.now }
+    {
+        self.count
+    }
+
+    /// Whether it has no slot.
+    pub fn is_empty(&self) -> bool
+        ensures { IsTrue result ↔ (len self.now ≡ 0) }
+    {
+        self.len() == 0
+    }
+
+    /// Its data type.
+    pub fn data_type(&self) -> &DataType
+        ensures { type_of result.now ≡ layout_type self.now }
+    {
+        &self.data_type
+    }
+
+    /// How many items each slot has.
+    pub fn size(&self) -> usize
+        ensures size { result ≡ size_of (layout_type self.now) }
+        ensures some { 0 < result }
+    {
+        self.size
+    }
+
+    /// The items of all slots.
+    pub fn values(&self) -> &AnyArray
+        ensures { layout_of result.now ≡ child_of self.now }
+    {
+        &self.values
+    }
+
+    /// Which slots are valid, a bit a slot; without it all are.
+    pub fn validity(&self) -> Option<&Bitmap>
+        ensures { option_map (λ b. b.now) result ≡ validity_of self.now }
+    {
+        self.validity.as_ref()
+    }
+
+    /// Whether slot i is not null.
+    pub fn is_valid(&self, i: usize) -> bool
+        requires { i < len self.now }
+        ensures { result ≡ valid_at (validity_of self.now) i }
+    {
+        validity::is_valid(&self.validity, i)
+    }
+
+    /// Whether slot i is null.
+    pub fn is_null(&self, i: usize) -> bool
+        requires { i < len self.now }
+        ensures slot { IsTrue result ↔ (slot self.now i ≡ slots.null) }
+        ensures place { result ≡ is_null_at self.now i }
+    {
+        !validity::is_valid(&self.validity, i)
+    }
+
+    /// How many slots are null.
+    pub fn null_count(&self) -> usize
+        ensures { result ≡ null_count self.now }
+    {
+        validity::null_count(&self.validity)
+    }
+
+    /// Where the items of slot i begin.
+    pub(crate) fn start(&self, i: usize) -> usize
+        requires { i < len self.now }
+        ensures start { result ≡ i * size_of (layout_type self.now) }
+        ensures within { result + size_of (layout_type self.now) ≤ len (child_of self.now) }
+    {
+        let _items = self.values.len();
+        i * self.size
+    }
+
+    /// The items of slot i, also under a null.
+    pub fn value(&self, alloc: Global, i: usize) -> Result<AnyArray, Error>
+        requires { i < len self.now }
+        ensures parts { IfOk result (λ a. layout_of a ≡ cut_layout (child_of self.now) (i * size_of (layout_type self.now)) (size_of (layout_type self.now))) }
+        ensures items { IfOk result (λ a. slot self.now i ≡ where_valid (validity_of self.now) i (slots.list (seal (slots_of (layout_of a))))) }
+        ensures err { IsOkUnless result (Memory alloc_error) }
+    {
+        let start = self.start(i);
+        let mut items = self.values.clone(alloc)?;
+        items.slice(start, self.size);
+        Ok(items)
+    }
+
+    /// The items of slot i, `None` where it is null.
+    pub fn get(&self, alloc: Global, i: usize) -> Result<Option<AnyArray>, Error>
+        requires { i < len self.now }
+        ensures ok { IfOk result (λ items. optional (λ a. slots.list (seal (slots_of (layout_of a)))) items ≡ slot self.now i) }
+        ensures err { IsOkUnless result (Memory alloc_error) }
+    {
+        if self.is_null(i) {
+            return Ok(None);
+        }
+        Ok(Some(self.value(alloc, i)?))
+    }
+
+    /// The items of slot i, also under a null, borrowed.
+    pub fn window(&self, i: usize) -> Window<'_>
+        requires { i < len self.now }
+        ensures parts { result ≡ window_parts (child_of self.now) (i * size_of (layout_type self.now)) (size_of (layout_type self.now)) }
+        ensures items { slot self.now i ≡ where_valid (validity_of self.now) i (slots.list (seal (window_slots result))) }
+    {
+        let start = self.start(i);
+        let values: &AnyArray = &self.values;
+        Window::new(values, start, self.size)
+    }
+
+    /// Keeps the n slots from place o.
+    pub fn slice(&mut self, o: usize, n: usize)
+        requires { o + n ≤ len self.old }
+        ensures parts { self.new ≡ cut_layout self.old o n }
+        ensures slots { slots_of self.new ≡ cut (slots_of self.old) o n }
+        ensures same_type { layout_type self.new ≡ layout_type self.old }
+    {
+        self.cut(o, n);
+    }
+
+    #[cycle(cut)]
+    pub(crate) fn cut(&mut self, o: usize, n: usize)
+        requires { o + n ≤ len self.old }
+        ensures { self.new ≡ cut_layout self.old o n }
+    {
+        let _items = self.values.len();
+        self.values.cut(o * self.size, n * self.size);
+        self.count = n;
+        validity::slice(&mut self.validity, o, n);
+    }
+
+    /// The n slots from place o.
+    pub fn sliced(self, o: usize, n: usize) -> FixedSizeListArray
+        requires { o + n ≤ len self }
+        ensures parts { result ≡ cut_layout self o n }
+        ensures slots { slots_of result ≡ cut (slots_of self) o n }
+        ensures same_type { layout_type result ≡ layout_type self }
+    {
+        let mut cut = self;
+        cut.slice(o, n);
+        cut
+    }
+}
+
+/// The first check of an array's parts that fails.
+fn fault(data_type: &DataType, values: &AnyArray, validity: &Option<Bitmap>) -> Option<Error>
+    ensures { let parts = layouts.fixed_size_list (type_of data_type.now) (layout_of values.now) validity.now in
+        MatchOption result (Fits parts) (λ e. FirstFault e parts) }
+{
+    if data_type.to_physical_type() != PhysicalType::FixedSizeList {
+        return Some(Error::OutOfSpec(Spec::WrongType));
+    }
+    let size = data_type.size().unwrap_or(0);
+    if size == 0 {
+        return Some(Error::OutOfSpec(Spec::ZeroSize));
+    }
+    if !has_items(data_type, values.data_type()) {
+        return Some(Error::OutOfSpec(Spec::ChildType));
+    }
+    let items = values.len();
+    if items % size != 0 {
+        return Some(Error::OutOfSpec(Spec::NotMultiple));
+    }
+    if !validity::fits(validity, items / size) {
+        return Some(Error::OutOfSpec(Spec::ValidityLength));
+    }
+    None
+}

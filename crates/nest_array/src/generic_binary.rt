@@ -1,0 +1,87 @@
+//! What arrays of bytes have in common: their bytes, and where each slot lies in them.
+ghost use Rattle.std.specs.Prelude.{◌≡◌, ◌≤◌, ◌<◌, ◌%◌, length};
+ghost use Rattle.nest_memory.specs.Rising.{numbers};
+ghost use Rattle.nest_memory.specs.TypeTree.{size_of};
+ghost use Rattle.nest_model.specs.Accessors.{bytes_of, offsets_of};
+ghost use Rattle.nest_model.specs.Array.{AreOffsets};
+ghost use Rattle.nest_model.specs.Layout.{Layout, layout_type};
+ghost use Rattle.nest_model.specs.Part.{last_offset};
+
+#[cfg(test)]
+mod tests;
+
+use crate::fixed_size_binary::FixedSizeBinaryArray;
+use nest_flat::binary::BinaryArray;
+use nest_flat::utf8::Utf8Array;
+use nest_memory::offset::Offset;
+
+/// Arrays of bytes or of texts, which lie between offsets. arrow2's `GenericBinaryArray`.
+pub trait GenericBinaryArray<O: Offset> {
+    /// The array.
+    ghost layout: { Self → Layout };
+
+    /// The bytes, also those of no slot.
+    fn values(&self) -> &[u8]
+        ensures { result.now ≡ bytes_of (layout self.now) };
+
+    /// Where the bytes of each slot begin and end: at least one offset. They never fall, and the last one is within the bytes.
+    fn offsets(&self) -> &[O]
+        ensures shown { numbers O.value result.now ≡ offsets_of (layout self.now) }
+        ensures rising { AreOffsets (offsets_of (layout self.now)) }
+        ensures within { last_offset (offsets_of (layout self.now)) ≤ length (bytes_of (layout self.now)) };
+}
+
+impl<O: Offset> GenericBinaryArray<O> for BinaryArray<O> {
+    ghost layout = { λ a. a };
+
+    fn values(&self) -> &[u8] {
+        BinaryArray::values(self).as_slice()
+    }
+
+    fn offsets(&self) -> &[O] {
+        self.known();
+        BinaryArray::offsets(self).as_slice()
+    }
+}
+
+impl<O: Offset> GenericBinaryArray<O> for Utf8Array<O> {
+    ghost layout = { λ a. a };
+
+    fn values(&self) -> &[u8] {
+        Utf8Array::values(self).as_slice()
+    }
+
+    fn offsets(&self) -> &[O] {
+        self.known();
+        Utf8Array::offsets(self).as_slice()
+    }
+}
+
+/// Arrays of byte strings of one size, one after another. arrow2's `FixedSizeBinaryValues`.
+pub trait FixedSizeBinaryValues {
+    /// The array.
+    ghost layout: { Self → Layout };
+
+    /// The bytes of all slots, also those under nulls.
+    fn values(&self) -> &[u8]
+        ensures bytes { result.now ≡ bytes_of (layout self.now) }
+        ensures whole { length result.now % size_of (layout_type (layout self.now)) ≡ 0 };
+
+    /// How many bytes each slot has.
+    fn size(&self) -> usize
+        ensures typed { result ≡ size_of (layout_type (layout self.now)) }
+        ensures some { 0 < result };
+}
+
+impl FixedSizeBinaryValues for FixedSizeBinaryArray {
+    ghost layout = { λ a. a };
+
+    fn values(&self) -> &[u8] {
+        self.known();
+        FixedSizeBinaryArray::values(self).as_slice()
+    }
+
+    fn size(&self) -> usize {
+        FixedSizeBinaryArray::size(self)
+    }
+}

@@ -1,0 +1,272 @@
+//! Arrays of lists by large offsets.
+mod copies;
+
+ghost use Rattle.std.specs.Prelude.{◌≡◌, ◌+◌, ◌≤◌, ◌<◌, ◌↔◌, true, IsTrue, IfOk, IsOkUnless, MatchResult, option_map, alloc_error};
+ghost use Rattle.nest_memory.specs.declared.error.Error.TheVariants.{Memory};
+ghost use Rattle.nest_memory.specs.Cut.{cut};
+ghost use Rattle.nest_memory.specs.TypeOf.{type_of};
+ghost use Rattle.nest_model.specs.Accessors.{validity_of, offsets_of, child_of, with_validity};
+ghost use Rattle.nest_model.specs.Array.{TopFits};
+ghost use Rattle.nest_model.specs.Cut.{cut_layout};
+ghost use Rattle.nest_model.specs.Fits.{Fits, ValidityFits, ValidityFault};
+ghost use Rattle.nest_model.specs.Layout as layouts;
+ghost use Rattle.nest_model.specs.Layout.{layout_type};
+ghost use Rattle.nest_model.specs.Meaning.{len, slot, slots_of};
+ghost use Rattle.nest_model.specs.Nullness.{is_null_at, null_count};
+ghost use Rattle.nest_model.specs.Part.{begin, extent, valid_at};
+ghost use Rattle.nest_model.specs.Reads.{where_valid};
+ghost use Rattle.nest_model.specs.Slot as slots;
+ghost use Rattle.nest_model.specs.Slot.{seal};
+ghost use Rattle.nest_array.specs.Refusals.{RefusesOrMemory};
+ghost use Rattle.nest_array.specs.Seen.{layout_of};
+ghost use Rattle.nest_array.specs.WindowParts.{window_parts, window_slots};
+
+use crate::any::AnyArray;
+use crate::list::ranges::{self, Ranges};
+use crate::window::Window;
+use nest_flat::validity;
+use nest_memory::bitmap::immutable::Bitmap;
+use nest_memory::datatypes::DataType;
+use nest_memory::error::{Error, Spec};
+use nest_memory::offsets::OffsetsBuffer;
+use std::alloc::Global;
+use std::marker::Model;
+use std::rc::Rc;
+
+/// Lists of items of any kind, by offsets of 64 bits: the Variable-size List Layout of the Arrow format.
+#[cycle(array)]
+#[derive(Drop)]
+pub struct LargeListArray {
+    data_type: DataType,
+    ranges: Ranges<i64>,
+    values: Box<AnyArray>,
+}
+
+impl Model for LargeListArray {
+    ghost use Rattle.nest_model.specs.Layout.{Layout};
+    ghost use Rattle.nest_model.specs.LayoutCode.{coded_layout, weight};
+
+    ghost Value = { Layout };
+
+    ghost coded = { coded_layout };
+
+    ghost use Rattle.nest_model.specs.Array.{TopFits};
+    ghost use Rattle.nest_array.specs.SeenLargeList.{large_list_seen};
+
+    ghost view = { large_list_seen };
+
+    ghost invariant = { λ a. TopFits (large_list_seen a) };
+
+    ghost size = { weight };
+
+    ghost use Rattle.std.proofs.Common.{arith};
+    ghost use Rattle.nest_array.specs.Falls.{deep-size};
+
+    ghost size_decreases = { λ a h. Prim.omega (arith, deep-size a.values.value) };
+}
+
+impl LargeListArray {
+    /// The array of these parts.
+    ///
+    /// # Errors
+    /// `OffsetPastChild` where the last offset is past the items, `ValidityLength` where the validity has another
+    /// length, `WrongType` where the physical type isn't `LargeList`, `ChildType` where the items have another data type than
+    /// its field: the first of these. Then `Memory`, for the box of the items.
+    pub fn try_new(
+        alloc: Global,
+        data_type: DataType,
+        offsets: OffsetsBuffer<i64>,
+        values: AnyArray,
+        validity: Option<Bitmap>,
+    ) -> Result<LargeListArray, Error>
+        ensures { let parts = layouts.list true (type_of data_type) offsets (layout_of values) validity in
+            MatchResult result (λ a. Fits parts × (a ≡ parts)) (λ e. RefusesOrMemory e parts) }
+    {
+        let ranges = Ranges { offsets, validity };
+        if let Some(error) = ranges::fault(&data_type, &ranges, &values) {
+            drop(values);
+            drop(ranges);
+            drop(data_type);
+            return Err(error);
+        }
+        LargeListArray::of(alloc, data_type, ranges, values)
+    }
+
+    /// The array of parts that fit. `Memory` alone is refused.
+    pub fn new(
+        alloc: Global,
+        data_type: DataType,
+        offsets: OffsetsBuffer<i64>,
+        values: AnyArray,
+        validity: Option<Bitmap>,
+    ) -> Result<LargeListArray, Error>
+        requires { Fits (layouts.list true (type_of data_type) offsets (layout_of values) validity) }
+        ensures ok { IfOk result (λ a. a ≡ layouts.list true (type_of data_type) offsets (layout_of values) validity) }
+        ensures err { IsOkUnless result (Memory alloc_error) }
+    {
+        offsets.known();
+        LargeListArray::of(alloc, data_type, Ranges { offsets, validity }, values)
+    }
+
+    // The array of parts that were checked.
+    fn of(
+        alloc: Global,
+        data_type: DataType,
+        ranges: Ranges<i64>,
+        values: AnyArray,
+    ) -> Result<LargeListArray, Error>
+        requires { TopFits (layouts.list true (type_of data_type) ranges.offsets (layout_of values) ranges.validity) }
+        ensures ok { IfOk result (λ a. a ≡ layouts.list true (type_of data_type) ranges.offsets (layout_of values) ranges.validity) }
+        ensures err { IsOkUnless result (Memory alloc_error) }
+    {
+        match Box::new(alloc, values) {
+            Ok(values) => Ok(LargeListArray {
+                data_type,
+                ranges,
+                values,
+            }),
+            Err(error) => {
+                drop(ranges);
+                drop(data_type);
+                Err(error.into())
+            }
+        }
+    }
+
+    /// What holds of every such array.
+    pub fn known(&self)
+        ensures fits { TopFits self.now }
+        ensures kind { self.now ≡ layouts.list true (layout_type self.now) (offsets_of self.now) (child_of self.now) (validity_of self.now) }
+    {
+        let _ = &self.data_type;
+    }
+
+    /// How many slots it has.
+    pub fn len(&self) -> usize
+        ensures { result ≡ len self.now }
+    {
+        self.ranges.len()
+    }
+
+    /// Whether it has no slot.
+    pub fn is_empty(&self) -> bool
+        ensures { IsTrue result ↔ (len self.now ≡ 0) }
+    {
+        self.len() == 0
+    }
+
+    /// Its data type.
+    pub fn data_type(&self) -> &DataType
+        ensures { type_of result.now ≡ layout_type self.now }
+    {
+        &self.data_type
+    }
+
+    /// Its offsets, one more than slots.
+    pub fn offsets(&self) -> &OffsetsBuffer<i64>
+        ensures { result.now ≡ offsets_of self.now }
+    {
+        &self.ranges.offsets
+    }
+
+    /// The items of all slots.
+    pub fn values(&self) -> &AnyArray
+        ensures { layout_of result.now ≡ child_of self.now }
+    {
+        &self.values
+    }
+
+    /// Which slots are valid, a bit a slot; without it all are.
+    pub fn validity(&self) -> Option<&Bitmap>
+        ensures { option_map (λ b. b.now) result ≡ validity_of self.now }
+    {
+        self.ranges.validity.as_ref()
+    }
+
+    /// Whether slot i is not null.
+    pub fn is_valid(&self, i: usize) -> bool
+        requires { i < len self.now }
+        ensures { result ≡ valid_at (validity_of self.now) i }
+    {
+        validity::is_valid(&self.ranges.validity, i)
+    }
+
+    /// Whether slot i is null.
+    pub fn is_null(&self, i: usize) -> bool
+        requires { i < len self.now }
+        ensures slot { IsTrue result ↔ (slot self.now i ≡ slots.null) }
+        ensures place { result ≡ is_null_at self.now i }
+    {
+        !validity::is_valid(&self.ranges.validity, i)
+    }
+
+    /// How many slots are null.
+    pub fn null_count(&self) -> usize
+        ensures { result ≡ null_count self.now }
+    {
+        validity::null_count(&self.ranges.validity)
+    }
+
+    /// Where the items of slot i begin, and how many there are.
+    pub(crate) fn range(&self, i: usize) -> (usize, usize)
+        requires { i < len self.now }
+        ensures start { result.0 ≡ begin (offsets_of self.now) i }
+        ensures count { result.1 ≡ extent (offsets_of self.now) i }
+        ensures within { result.0 + result.1 ≤ len (child_of self.now) }
+    {
+        self.ranges.range(i)
+    }
+
+    /// The items of slot i, also under a null.
+    pub fn value(&self, alloc: Global, i: usize) -> Result<AnyArray, Error>
+        requires { i < len self.now }
+        ensures parts { IfOk result (λ a. layout_of a ≡ cut_layout (child_of self.now) (begin (offsets_of self.now) i) (extent (offsets_of self.now) i)) }
+        ensures items { IfOk result (λ a. slot self.now i ≡ where_valid (validity_of self.now) i (slots.list (seal (slots_of (layout_of a))))) }
+        ensures err { IsOkUnless result (Memory alloc_error) }
+    {
+        let (start, count) = self.range(i);
+        let mut items = self.values.clone(alloc)?;
+        items.slice(start, count);
+        Ok(items)
+    }
+
+    /// The items of slot i, also under a null, borrowed.
+    pub fn window(&self, i: usize) -> Window<'_>
+        requires { i < len self.now }
+        ensures parts { result ≡ window_parts (child_of self.now) (begin (offsets_of self.now) i) (extent (offsets_of self.now) i) }
+        ensures items { slot self.now i ≡ where_valid (validity_of self.now) i (slots.list (seal (window_slots result))) }
+    {
+        let (start, count) = self.range(i);
+        let values: &AnyArray = &self.values;
+        Window::new(values, start, count)
+    }
+
+    /// Keeps the n slots from place o.
+    pub fn slice(&mut self, o: usize, n: usize)
+        requires { o + n ≤ len self.old }
+        ensures parts { self.new ≡ cut_layout self.old o n }
+        ensures slots { slots_of self.new ≡ cut (slots_of self.old) o n }
+        ensures same_type { layout_type self.new ≡ layout_type self.old }
+    {
+        self.cut(o, n);
+    }
+
+    fn cut(&mut self, o: usize, n: usize)
+        requires { o + n ≤ len self.old }
+        ensures { self.new ≡ cut_layout self.old o n }
+    {
+        self.ranges.slice(o, n);
+    }
+
+    /// The n slots from place o.
+    pub fn sliced(self, o: usize, n: usize) -> LargeListArray
+        requires { o + n ≤ len self }
+        ensures parts { result ≡ cut_layout self o n }
+        ensures slots { slots_of result ≡ cut (slots_of self) o n }
+        ensures same_type { layout_type result ≡ layout_type self }
+    {
+        let mut cut = self;
+        cut.slice(o, n);
+        cut
+    }
+}

@@ -1,0 +1,116 @@
+//! Where the items of each list lie, and which lists are valid: what lists of both widths of offsets have in common.
+ghost use Rattle.std.specs.Prelude.{◌≡◌, ◌+◌, ◌≤◌, ◌<◌, IfOk, IsOkUnless, MatchOption, alloc_error};
+ghost use Rattle.nest_memory.specs.declared.error.Error.TheVariants.{Memory};
+ghost use Rattle.nest_memory.specs.Cut.{cut};
+ghost use Rattle.nest_memory.specs.Physical.{list_of_width};
+ghost use Rattle.nest_memory.specs.TypeOf.{type_of};
+ghost use Rattle.nest_model.specs.Array.{AreOffsets};
+ghost use Rattle.nest_model.specs.Fits.{Fits, FirstFault, ValidityFits};
+ghost use Rattle.nest_model.specs.Layout as layouts;
+ghost use Rattle.nest_model.specs.Part.{begin, extent, rows, last_offset, cut_validity};
+ghost use Rattle.nest_array.specs.Seen.{layout_of};
+
+use crate::any::AnyArray;
+use crate::types::has_items;
+use nest_flat::validity;
+use nest_memory::bitmap::immutable::Bitmap;
+use nest_memory::datatypes::DataType;
+use nest_memory::datatypes::physical_type::PhysicalType;
+use nest_memory::error::{Error, Spec};
+use nest_memory::offset::Offset;
+use nest_memory::offsets::OffsetsBuffer;
+
+/// The offsets of some lists and their validity.
+#[derive(Drop)]
+pub(crate) struct Ranges<O: Offset> {
+    pub(crate) offsets: OffsetsBuffer<O>,
+    pub(crate) validity: Option<Bitmap>,
+}
+
+impl<O: Offset> Ranges<O> {
+    /// How many lists there are.
+    pub(crate) fn len(&self) -> usize
+        ensures { result ≡ rows self.now.offsets }
+    {
+        self.offsets.len_proxy()
+    }
+
+    /// Where the last list ends.
+    pub(crate) fn end(&self) -> usize
+        ensures last { result ≡ last_offset self.now.offsets }
+        ensures rising { AreOffsets self.now.offsets }
+    {
+        self.offsets.known();
+        self.offsets.last()
+    }
+
+    /// Where the items of list i begin, and how many there are.
+    pub(crate) fn range(&self, i: usize) -> (usize, usize)
+        requires { i < rows self.now.offsets }
+        ensures start { result.0 ≡ begin self.now.offsets i }
+        ensures count { result.1 ≡ extent self.now.offsets i }
+    {
+        let _lists = self.offsets.len_proxy();
+        let (start, end) = self.offsets.start_end(i);
+        (start, end - start)
+    }
+
+    /// Keeps the n lists from place o.
+    pub(crate) fn slice(&mut self, o: usize, n: usize)
+        requires within { o + n ≤ rows self.old.offsets }
+        requires bits { ValidityFits self.old.validity (rows self.old.offsets) }
+        ensures offsets { self.new.offsets ≡ cut self.old.offsets o (n + 1) }
+        ensures validity { self.new.validity ≡ cut_validity self.old.validity o n }
+    {
+        self.offsets.known();
+        let _lists = self.offsets.len_proxy();
+        self.offsets.slice(o, n + 1);
+        validity::slice(&mut self.validity, o, n);
+    }
+
+    /// The same offsets and validity, on shared memory.
+    pub(crate) fn clone(&self) -> Result<Ranges<O>, Error>
+        ensures ok { IfOk result (λ r. (r.offsets ≡ self.now.offsets) × (r.validity ≡ self.now.validity)) }
+        ensures err { IsOkUnless result (Memory alloc_error) }
+    {
+        Ok(Ranges {
+            offsets: self.offsets.clone()?,
+            validity: validity::clone(&self.validity)?,
+        })
+    }
+}
+
+/// The physical type of lists by the width of their offsets.
+fn physical<O: Offset>() -> PhysicalType
+    ensures { result ≡ list_of_width O.IS_LARGE }
+{
+    if O::IS_LARGE {
+        PhysicalType::LargeList
+    } else {
+        PhysicalType::List
+    }
+}
+
+/// The first check of a list array's parts that fails.
+pub(crate) fn fault<O: Offset>(
+    data_type: &DataType,
+    ranges: &Ranges<O>,
+    values: &AnyArray,
+) -> Option<Error>
+    ensures { let parts = layouts.list O.IS_LARGE (type_of data_type.now) ranges.now.offsets (layout_of values.now) ranges.now.validity in
+        MatchOption result (AreOffsets ranges.now.offsets × Fits parts) (λ e. FirstFault e parts) }
+{
+    if ranges.end() > values.len() {
+        return Some(Error::OutOfSpec(Spec::OffsetPastChild));
+    }
+    if !validity::fits(&ranges.validity, ranges.len()) {
+        return Some(Error::OutOfSpec(Spec::ValidityLength));
+    }
+    if data_type.to_physical_type() != physical::<O>() {
+        return Some(Error::OutOfSpec(Spec::WrongType));
+    }
+    if !has_items(data_type, values.data_type()) {
+        return Some(Error::OutOfSpec(Spec::ChildType));
+    }
+    None
+}

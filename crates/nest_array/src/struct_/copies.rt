@@ -1,0 +1,116 @@
+//! New validities and copies of arrays of records.
+ghost use Rattle.std.specs.Prelude.{◌≡◌, ◌+◌, ◌≤◌, ◌<◌, ◌↔◌, IsTrue, IfOk, IsOkUnless, MatchResult, MatchOption, option_map, length, alloc_error};
+ghost use Rattle.nest_memory.specs.declared.error.Error.TheVariants.{Memory};
+ghost use Rattle.nest_memory.specs.Cut.{cut};
+ghost use Rattle.nest_memory.specs.TypeOf.{type_of, field_list_of};
+ghost use Rattle.nest_memory.specs.TypeTree.{fields_of};
+ghost use Rattle.nest_memory.specs.Physical.{physical_type};
+ghost use Rattle.nest_memory.specs.declared.datatypes.physical_type.PhysicalType.TheVariants as physical;
+ghost use Rattle.nest_model.specs.Accessors.{validity_of, children_of, with_validity};
+ghost use Rattle.nest_model.specs.Array.{TopFits};
+ghost use Rattle.nest_model.specs.Cut.{cut_layout, cut_layouts};
+ghost use Rattle.nest_model.specs.Fits.{Fits, FirstFault, ValidityFits, ValidityFault, EachType, EachLen, EachCovers};
+ghost use Rattle.nest_model.specs.Layout as layouts;
+ghost use Rattle.nest_model.specs.Layout.{layout_type};
+ghost use Rattle.nest_model.specs.Meaning.{len, first_len, slot, slots_of};
+ghost use Rattle.nest_model.specs.Nullness.{is_null_at, null_count};
+ghost use Rattle.nest_model.specs.Part.{valid_at};
+ghost use Rattle.nest_model.specs.Slot as slots;
+ghost use Rattle.nest_array.specs.Seen.{layout_of, layouts_of};
+
+use crate::any::AnyArray;
+use crate::struct_::{StructArray, clone_all};
+use nest_flat::validity;
+use nest_memory::bitmap::immutable::Bitmap;
+use nest_memory::datatypes::DataType;
+use nest_memory::datatypes::field::Field;
+use nest_memory::datatypes::physical_type::PhysicalType;
+use nest_memory::error::{Error, Spec};
+use std::alloc::Global;
+use std::marker::Model;
+use std::rc::Rc;
+
+impl StructArray {
+    /// Takes a new validity. `ValidityLength` where it has not a bit for each slot; the array stays
+    /// as it was then.
+    pub fn set_validity(&mut self, validity: Option<Bitmap>) -> Result<(), Error>
+        ensures { MatchResult result
+            (λ _. ValidityFits validity (len self.old) × (self.new ≡ with_validity self.old validity))
+            (λ e. ValidityFault e self.old validity × (self.new ≡ self.old)) }
+    {
+        if !validity::fits(&validity, self.len()) {
+            return Err(Error::OutOfSpec(Spec::ValidityLength));
+        }
+        self.validity = validity;
+        Ok(())
+    }
+
+    /// The array under a new validity, or as it was beside the refusal.
+    pub fn with_validity(
+        self,
+        validity: Option<Bitmap>,
+    ) -> Result<StructArray, (StructArray, Error)>
+        ensures { MatchResult result
+            (λ a. ValidityFits validity (len self) × (a ≡ with_validity self validity))
+            (λ r. ValidityFault r.1 self validity × (r.0 ≡ self)) }
+    {
+        let mut array = self;
+        match array.set_validity(validity) {
+            Ok(()) => Ok(array),
+            Err(e) => Err((array, e)),
+        }
+    }
+
+    /// The same array, on shared memory.
+    #[cycle(clone)]
+    pub fn clone(&self, alloc: Global) -> Result<StructArray, Error>
+        ensures ok { IfOk result (λ a. a ≡ self.now) }
+        ensures err { IsOkUnless result (Memory alloc_error) }
+    {
+        let values = clone_all(alloc, &self.values)?;
+        StructArray::again(alloc, &self.data_type, values, &self.validity)
+    }
+
+    // The array of a type and a validity that are shared, and of children.
+    fn again(
+        alloc: Global,
+        data_type: &DataType,
+        values: Vec<AnyArray>,
+        validity: &Option<Bitmap>,
+    ) -> Result<StructArray, Error>
+        requires { TopFits (layouts.struct (type_of data_type.now) (layouts_of values.items) validity.now) }
+        ensures ok { IfOk result (λ a. a ≡ layouts.struct (type_of data_type.now) (layouts_of values.items) validity.now) }
+        ensures err { IsOkUnless result (Memory alloc_error) }
+    {
+        let validity = match validity::clone(validity) {
+            Ok(validity) => validity,
+            Err(error) => {
+                drop(values);
+                return Err(error);
+            }
+        };
+        match data_type.clone(alloc) {
+            Ok(data_type) => Ok(StructArray::new(data_type, values, validity)),
+            Err(error) => {
+                drop(validity);
+                drop(values);
+                Err(error)
+            }
+        }
+    }
+
+    /// The same array in its variant.
+    pub fn boxed(self) -> AnyArray
+        ensures { layout_of result ≡ self }
+    {
+        AnyArray::Struct(self)
+    }
+
+    /// The same array, owned by what shares it.
+    pub fn arced(self, alloc: Global) -> Result<Rc<AnyArray>, Error>
+        ensures ok { IfOk result (λ r. layout_of r.value ≡ self) }
+        ensures err { IsOkUnless result (Memory alloc_error) }
+    {
+        Ok(Rc::new(alloc, self.boxed())?)
+    }
+}

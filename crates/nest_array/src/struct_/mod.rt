@@ -1,0 +1,335 @@
+//! Arrays of records.
+mod copies;
+
+ghost use Rattle.std.specs.Prelude.{◌≡◌, ◌+◌, ◌≤◌, ◌<◌, ◌↔◌, IsTrue, IfOk, IsOkUnless, MatchResult, MatchOption, option_map, length, alloc_error};
+ghost use Rattle.nest_memory.specs.declared.error.Error.TheVariants.{Memory};
+ghost use Rattle.nest_memory.specs.Cut.{cut};
+ghost use Rattle.nest_memory.specs.TypeOf.{type_of, field_list_of};
+ghost use Rattle.nest_memory.specs.TypeTree.{fields_of};
+ghost use Rattle.nest_memory.specs.Physical.{physical_type};
+ghost use Rattle.nest_memory.specs.declared.datatypes.physical_type.PhysicalType.TheVariants as physical;
+ghost use Rattle.nest_model.specs.Accessors.{validity_of, children_of, with_validity};
+ghost use Rattle.nest_model.specs.Array.{TopFits};
+ghost use Rattle.nest_model.specs.Cut.{cut_layout, cut_layouts};
+ghost use Rattle.nest_model.specs.Fits.{Fits, FirstFault, ValidityFits, ValidityFault, EachType, EachLen, EachCovers};
+ghost use Rattle.nest_model.specs.Layout as layouts;
+ghost use Rattle.nest_model.specs.Layout.{layout_type};
+ghost use Rattle.nest_model.specs.Meaning.{len, first_len, slot, slots_of};
+ghost use Rattle.nest_model.specs.Nullness.{is_null_at, null_count};
+ghost use Rattle.nest_model.specs.Part.{valid_at};
+ghost use Rattle.nest_model.specs.Slot as slots;
+ghost use Rattle.nest_array.specs.Seen.{layout_of, layouts_of};
+
+use crate::any::AnyArray;
+use nest_flat::validity;
+use nest_memory::bitmap::immutable::Bitmap;
+use nest_memory::datatypes::DataType;
+use nest_memory::datatypes::field::Field;
+use nest_memory::datatypes::physical_type::PhysicalType;
+use nest_memory::error::{Error, Spec};
+use std::alloc::Global;
+use std::marker::Model;
+use std::rc::Rc;
+
+/// Records of one child for each field: the Struct Layout of the Arrow format.
+#[cycle(array)]
+#[derive(Drop)]
+pub struct StructArray {
+    data_type: DataType,
+    count: usize,
+    values: Vec<AnyArray>,
+    validity: Option<Bitmap>,
+}
+
+impl Model for StructArray {
+    ghost use Rattle.nest_model.specs.Layout.{Layout};
+    ghost use Rattle.nest_model.specs.LayoutCode.{coded_layout, weight};
+
+    ghost Value = { Layout };
+
+    ghost coded = { coded_layout };
+
+    ghost use Rattle.std.specs.Prelude.{◌≡◌};
+    ghost use Rattle.nest_model.specs.Array.{TopFits};
+    ghost use Rattle.nest_model.specs.Meaning.{first_len};
+    ghost use Rattle.nest_array.specs.Seen.{layouts_of};
+    ghost use Rattle.nest_array.specs.SeenStruct.{struct_seen};
+
+    ghost view = { struct_seen };
+
+    ghost invariant = { λ a. TopFits (struct_seen a) × (a.count ≡ first_len (layouts_of a.values.items)) };
+
+    ghost size = { weight };
+
+    ghost use Rattle.std.proofs.Common.{arith};
+    ghost use Rattle.nest_array.specs.Falls.{most-size};
+
+    ghost size_decreases = { λ a h. Prim.omega (arith, most-size a.values.items) };
+}
+
+impl StructArray {
+    /// The array of these parts.
+    ///
+    /// # Errors
+    /// `WrongType` where the physical type isn't `Struct`, `NoFields` where it has no field, `FieldCount` where there are
+    /// not as many children as fields, `ChildType` where a child has another data type than its field, `ChildLength`
+    /// where a child has another length than the first, `ValidityLength` where the validity has another length: the first
+    /// of these.
+    pub fn try_new(
+        data_type: DataType,
+        values: Vec<AnyArray>,
+        validity: Option<Bitmap>,
+    ) -> Result<StructArray, Error>
+        ensures { let parts = layouts.struct (type_of data_type) (layouts_of values.items) validity in
+            MatchResult result (λ a. Fits parts × (a ≡ parts)) (λ e. FirstFault e parts) }
+    {
+        if let Some(error) = fault(&data_type, &values, &validity) {
+            drop(validity);
+            drop(values);
+            drop(data_type);
+            return Err(error);
+        }
+        let count = first_count(&values);
+        Ok(StructArray {
+            data_type,
+            count,
+            values,
+            validity,
+        })
+    }
+
+    /// The array of parts that fit.
+    pub fn new(data_type: DataType, values: Vec<AnyArray>, validity: Option<Bitmap>) -> StructArray
+        requires { Fits (layouts.struct (type_of data_type) (layouts_of values.items) validity) }
+        ensures { result ≡ layouts.struct (type_of data_type) (layouts_of values.items) validity }
+    {
+        let count = first_count(&values);
+        StructArray {
+            data_type,
+            count,
+            values,
+            validity,
+        }
+    }
+
+    /// What holds of every such array.
+    pub fn known(&self)
+        ensures fits { TopFits self.now }
+        ensures kind { self.now ≡ layouts.struct (layout_type self.now) (children_of self.now) (validity_of self.now) }
+    {
+        let _ = &self.data_type;
+    }
+
+    /// How many slots it has.
+    pub fn len(&self) -> usize
+        ensures { result ≡ len self.now }
+    {
+        self.count
+    }
+
+    /// Whether it has no slot.
+    pub fn is_empty(&self) -> bool
+        ensures { IsTrue result ↔ (len self.now ≡ 0) }
+    {
+        self.len() == 0
+    }
+
+    /// Its data type.
+    pub fn data_type(&self) -> &DataType
+        ensures { type_of result.now ≡ layout_type self.now }
+    {
+        &self.data_type
+    }
+
+    /// Its children, one for each field.
+    pub fn values(&self) -> &[AnyArray]
+        ensures { layouts_of result.now ≡ children_of self.now }
+    {
+        &self.values
+    }
+
+    /// The fields of its data type.
+    pub fn fields(&self) -> &[Field]
+        ensures { field_list_of result.now ≡ fields_of (layout_type self.now) }
+    {
+        self.data_type.fields()
+    }
+
+    /// The fields of a data type of records.
+    pub fn get_fields(data_type: &DataType) -> &[Field]
+        requires { physical_type (type_of data_type.now) ≡ physical.Struct }
+        ensures { field_list_of result.now ≡ fields_of (type_of data_type.now) }
+    {
+        data_type.fields()
+    }
+
+    /// Its fields, its children and its validity.
+    pub fn into_data(self) -> (Vec<Field>, Vec<AnyArray>, Option<Bitmap>)
+        ensures fields { field_list_of result.0.items ≡ fields_of (layout_type self) }
+        ensures children { layouts_of result.1.items ≡ children_of self }
+        ensures validity { result.2 ≡ validity_of self }
+    {
+        let StructArray {
+            data_type,
+            count: _,
+            values,
+            validity,
+        } = self;
+        match data_type.into_fields() {
+            Some(fields) => (fields, values, validity),
+            None => unreachable!(),
+        }
+    }
+
+    /// Which slots are valid, a bit a slot; without it all are.
+    pub fn validity(&self) -> Option<&Bitmap>
+        ensures { option_map (λ b. b.now) result ≡ validity_of self.now }
+    {
+        self.validity.as_ref()
+    }
+
+    /// Whether slot i is not null.
+    pub fn is_valid(&self, i: usize) -> bool
+        requires { i < len self.now }
+        ensures { result ≡ valid_at (validity_of self.now) i }
+    {
+        validity::is_valid(&self.validity, i)
+    }
+
+    /// Whether slot i is null.
+    pub fn is_null(&self, i: usize) -> bool
+        requires { i < len self.now }
+        ensures slot { IsTrue result ↔ (slot self.now i ≡ slots.null) }
+        ensures place { result ≡ is_null_at self.now i }
+    {
+        !validity::is_valid(&self.validity, i)
+    }
+
+    /// How many slots are null.
+    pub fn null_count(&self) -> usize
+        ensures { result ≡ null_count self.now }
+    {
+        validity::null_count(&self.validity)
+    }
+
+    /// Keeps the n slots from place o.
+    pub fn slice(&mut self, o: usize, n: usize)
+        requires { o + n ≤ len self.old }
+        ensures parts { self.new ≡ cut_layout self.old o n }
+        ensures slots { slots_of self.new ≡ cut (slots_of self.old) o n }
+        ensures same_type { layout_type self.new ≡ layout_type self.old }
+    {
+        self.cut(o, n);
+    }
+
+    #[cycle(cut)]
+    pub(crate) fn cut(&mut self, o: usize, n: usize)
+        requires { o + n ≤ len self.old }
+        ensures { self.new ≡ cut_layout self.old o n }
+    {
+        cut_all(&mut self.values, o, n);
+        self.count = n;
+        validity::slice(&mut self.validity, o, n);
+    }
+
+    /// The n slots from place o.
+    pub fn sliced(self, o: usize, n: usize) -> StructArray
+        requires { o + n ≤ len self }
+        ensures parts { result ≡ cut_layout self o n }
+        ensures slots { slots_of result ≡ cut (slots_of self) o n }
+        ensures same_type { layout_type result ≡ layout_type self }
+    {
+        let mut cut = self;
+        cut.slice(o, n);
+        cut
+    }
+}
+
+/// The first check of an array's parts that fails.
+fn fault(data_type: &DataType, values: &[AnyArray], validity: &Option<Bitmap>) -> Option<Error>
+    ensures { let parts = layouts.struct (type_of data_type.now) (layouts_of values.now) validity.now in
+        MatchOption result (Fits parts) (λ e. FirstFault e parts) }
+{
+    if data_type.to_physical_type() != PhysicalType::Struct {
+        return Some(Error::OutOfSpec(Spec::WrongType));
+    }
+    let fields = data_type.fields();
+    if fields.is_empty() {
+        return Some(Error::OutOfSpec(Spec::NoFields));
+    }
+    if fields.len() != values.len() {
+        return Some(Error::OutOfSpec(Spec::FieldCount));
+    }
+    if !have_types(fields, values) {
+        return Some(Error::OutOfSpec(Spec::ChildType));
+    }
+    let count = first_count(values);
+    if !have_len(values, count) {
+        return Some(Error::OutOfSpec(Spec::ChildLength));
+    }
+    if !validity::fits(validity, count) {
+        return Some(Error::OutOfSpec(Spec::ValidityLength));
+    }
+    None
+}
+
+/// Whether the children have the types of the fields, in order.
+fn have_types(fields: &[Field], children: &[AnyArray]) -> bool
+    requires { length fields.now ≡ length children.now }
+    ensures { IsTrue result ↔ EachType (field_list_of fields.now) (layouts_of children.now) }
+{
+    for i in 0..fields.len() {
+        let field = &fields[i];
+        let same = *field.data_type() == *children[i].data_type();
+        if !same {
+            return false;
+        }
+    }
+    true
+}
+
+/// Whether each child has n slots.
+fn have_len(children: &[AnyArray], n: usize) -> bool
+    ensures { IsTrue result ↔ EachLen (layouts_of children.now) n }
+{
+    for i in 0..children.len() {
+        if children[i].len() != n {
+            return false;
+        }
+    }
+    true
+}
+
+/// How many slots the first child has.
+fn first_count(children: &[AnyArray]) -> usize
+    ensures { result ≡ first_len (layouts_of children.now) }
+{
+    match children {
+        [] => 0,
+        [first, ..] => first.len(),
+    }
+}
+
+/// Cuts each child.
+#[cycle(cut)]
+fn cut_all(children: &mut [AnyArray], o: usize, n: usize)
+    requires { EachCovers (layouts_of children.old) (o + n) }
+    ensures { layouts_of children.new ≡ cut_layouts (layouts_of children.old) o n }
+{
+    for i in 0..children.len() {
+        children[i].cut(o, n);
+    }
+}
+
+/// The same children, on shared memory.
+#[cycle(clone)]
+fn clone_all(alloc: Global, children: &[AnyArray]) -> Result<Vec<AnyArray>, Error>
+    ensures ok { IfOk result (λ v. layouts_of v.items ≡ layouts_of children.now) }
+    ensures err { IsOkUnless result (Memory alloc_error) }
+{
+    let mut copies = Vec::with_capacity(alloc, children.len())?;
+    for i in 0..children.len() {
+        copies.push(children[i].clone(alloc)?)?;
+    }
+    Ok(copies)
+}

@@ -1,0 +1,120 @@
+//! A part of an array, borrowed.
+ghost use Rattle.std.specs.Prelude.{◌≡◌, ◌+◌, ◌≤◌, ◌<◌, ◌↔◌, IsTrue};
+ghost use Rattle.nest_memory.specs.Cut.{cut};
+ghost use Rattle.nest_model.specs.Meaning.{len, slot, slots_of};
+ghost use Rattle.nest_model.specs.Slot as slots;
+ghost use Rattle.nest_array.specs.Seen.{layout_of};
+ghost use Rattle.nest_array.specs.WindowParts.{window_parts, window_slots};
+
+use crate::any::AnyArray;
+use std::marker::Model;
+
+/// Some slots of an array that stand side by side. No call takes memory.
+#[derive(Drop)]
+pub struct Window<'a> {
+    array: &'a AnyArray,
+    offset: usize,
+    count: usize,
+}
+
+impl<'a> Model for Window<'a> {
+    ghost use Rattle.nest_array.specs.WindowParts.{WindowParts, coded_window};
+
+    ghost Value = { WindowParts };
+
+    ghost coded = { coded_window };
+
+    ghost use Rattle.std.specs.Prelude.{◌+◌, ◌≤◌};
+    ghost use Rattle.nest_model.specs.Meaning.{len};
+    ghost use Rattle.nest_array.specs.Seen.{layout_of};
+    ghost use Rattle.nest_array.specs.WindowParts.{window_parts};
+
+    ghost view = { λ w. window_parts (layout_of w.array.now) w.offset w.count };
+
+    ghost invariant = { λ w. w.offset + w.count ≤ len (layout_of w.array.now) };
+}
+
+impl<'a> Window<'a> {
+    /// The n slots from place o.
+    pub fn new(array: &'a AnyArray, o: usize, n: usize) -> Window<'a>
+        requires { o + n ≤ len (layout_of array.now) }
+        ensures parts { result ≡ window_parts (layout_of array.now) o n }
+        ensures slots { window_slots result ≡ cut (slots_of (layout_of array.now)) o n }
+    {
+        Window {
+            array,
+            offset: o,
+            count: n,
+        }
+    }
+
+    /// All slots of an array.
+    pub fn of(array: &'a AnyArray) -> Window<'a>
+        ensures parts { result ≡ window_parts (layout_of array.now) 0 (len (layout_of array.now)) }
+        ensures slots { window_slots result ≡ slots_of (layout_of array.now) }
+    {
+        Window {
+            array,
+            offset: 0,
+            count: array.len(),
+        }
+    }
+
+    /// What holds of every window: it lies within its array.
+    pub fn known(&self)
+        ensures { self.now.offset + self.now.count ≤ len self.now.array }
+    {
+        let _ = &self.array;
+    }
+
+    /// The array, whole.
+    pub fn array(&self) -> &'a AnyArray
+        ensures { layout_of result.now ≡ self.now.array }
+    {
+        self.array
+    }
+
+    /// Where it begins in the array.
+    pub fn offset(&self) -> usize
+        ensures { result ≡ self.now.offset }
+    {
+        self.offset
+    }
+
+    /// How many slots it has.
+    pub fn len(&self) -> usize
+        ensures { result ≡ self.now.count }
+    {
+        self.count
+    }
+
+    /// Whether it has no slot.
+    pub fn is_empty(&self) -> bool
+        ensures { IsTrue result ↔ (self.now.count ≡ 0) }
+    {
+        self.count == 0
+    }
+
+    /// Whether its slot i is null.
+    pub fn is_null(&self, i: usize) -> bool
+        requires { i < self.now.count }
+        ensures { IsTrue result ↔ (slot self.now.array (self.now.offset + i) ≡ slots.null) }
+    {
+        let _end = self.array.len();
+        self.array.is_null(self.offset + i)
+    }
+
+    /// Its n slots from place o.
+    pub fn cut(&self, o: usize, n: usize) -> Window<'a>
+        requires { o + n ≤ self.now.count }
+        ensures parts { result ≡ window_parts self.now.array (self.now.offset + o) n }
+        ensures slots { window_slots result ≡ cut (window_slots self.now) o n }
+    {
+        let _end = self.array.len();
+        Window {
+            array: self.array,
+            offset: self.offset + o,
+            count: n,
+        }
+    }
+}

@@ -1,0 +1,3 @@
+pub mod Pushed
+pub mod Rows
+pub mod Spelled

@@ -1,0 +1,31 @@
+use Rattle.std.proofs.Common.{◌≡◌, ◌+◌, length, ◌∙◌, refl, arith}
+use Rattle.std.proofs.lemmas.Result.{on_ok_weaker}
+use Rattle.nest_model.specs.Meaning.{slots_of}
+use Rattle.nest_build.proofs.Pushed.{slots-count, never-overflow}
+use Rattle.nest_build.proofs.list.mutable.MutableListArray.push_items.Goals as goal
+
+pub returns-then-end-gt-LARGEST_OFFSET-clause-overflow :
+    goal.returns-then-end-gt-LARGEST_OFFSET-clause-overflow
+returns-then-end-gt-LARGEST_OFFSET-clause-overflow c =
+    let n = slots-count c.args.self.now.values c.len.result c.len.ensures in
+    let s = c.saturating_add-end.ensures in
+    (λ e. omega arith, λ h. refl)
+
+pub push_within-requires-clause-ends : goal.push_within-requires-clause-ends
+push_within-requires-clause-ends c =
+    let n = slots-count c.args.self.now.values c.len.result c.len.ensures in
+    let s = c.saturating_add-end.ensures in
+    omega arith
+
+pub returns-clause-items : goal.returns-clause-items
+returns-clause-items c =
+    let n = slots-count c.args.self.now.values c.len.result c.len.ensures in
+    let s = c.saturating_add-end.ensures in
+    let end : c.saturating_add-end.result ≡ length (slots_of c.args.self.now.values) + length c.args.items.now = omega arith in
+    on_ok_weaker c.push_within.result (λ e. e ∙ end) c.push_within.ensures.items
+
+pub returns-clause-overflow : goal.returns-clause-overflow
+returns-clause-overflow c =
+    let n = slots-count c.args.self.now.values c.len.result c.len.ensures in
+    let s = c.saturating_add-end.ensures in
+    (λ e. absurd (never-overflow c.push_within.result c.push_within.ensures.memory e), λ h. absurd (omega arith))

@@ -1,0 +1,4 @@
+pub mod ChildRow
+pub mod Items
+pub mod Rows
+pub mod Seen

@@ -1,0 +1,4 @@
+//! Builders of nested arrays in the Arrow format.
+#![tactic(auto)]
+
+pub mod list;

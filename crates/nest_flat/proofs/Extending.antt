@@ -1,0 +1,56 @@
+-- Items that a builder took one after another.
+use Rattle.std.specs.Prelude.{map}
+use Rattle.std.proofs.Common.{◌≡◌, ℕ, ◌+◌, Bool, List, [], ◌∷◌, ◌++◌, length, refl, ap, sym, ◌∙◌, arith, append_assoc}
+use Rattle.std.proofs.lemmas.List.{length-append, append-nil, map_push}
+use Rattle.nest_model.specs.Slot.{Slot}
+use Rattle.nest_model.specs.Layout.{Layout}
+use Rattle.nest_model.specs.Meaning.{len, slots_of}
+use Rattle.nest_model.specs.Reads.{slots-length}
+use Rattle.nest_flat.specs.Growth.{pushed_all, Extended, Grew, is_masked, taken_back}
+
+pub grew-len : (ss : List Slot) (a b : Layout) → Grew ss a b → len b ≡ len a + length ss
+grew-len ss a b h = omega (arith, slots-length a, slots-length b, ap length h.slots, length-append (slots_of a) ss)
+
+pub grew-none : (a : Layout) → Grew [] a a
+grew-none a = record {
+  slots = sym (append-nil (slots_of a));
+  same_type = refl;
+  masked = λ h. h;
+  back = λ n m k h. refl;
+}
+
+pub grew-more : (ss rs : List Slot) (a b c : Layout) → Grew ss a b → Grew rs b c → Grew (ss ++ rs) a c
+grew-more ss rs a b c h k = record {
+  slots = k.slots ∙ ap (λ xs. xs ++ rs) h.slots ∙ append_assoc (slots_of a) ss rs;
+  same_type = k.same_type ∙ h.same_type;
+  masked = λ e. k.masked (h.masked e);
+  back = λ n m l e. k.back n m (omega (arith, grew-len ss a b h)) (λ f. h.masked (e f)) ∙ h.back n m l e;
+}
+
+pushed-last : {A : Type 0} (pushed : Layout → A → Layout) (xs : List A) (x : A) (a : Layout) → pushed_all pushed a (xs ++ x ∷ []) ≡ pushed (pushed_all pushed a xs) x
+pushed-last pushed [] x a = refl
+pushed-last pushed (y ∷ xs) x a = pushed-last pushed xs x (pushed a y)
+
+-- the items that were taken so far
+pub record Took {A : Type 0} (pushed : Layout → A → Layout) (slot_of_item : A → Slot) (xs : List A) (old new : Layout) : Type 0 where
+  pub parts : new ≡ pushed_all pushed old xs
+  pub grew : Grew (map slot_of_item xs) old new
+
+pub took-none : {A : Type 0} (pushed : Layout → A → Layout) (slot_of_item : A → Slot) (a : Layout) → Took pushed slot_of_item [] a a
+took-none pushed slot_of_item a = record { parts = refl; grew = grew-none a }
+
+pub took-more : {A : Type 0} (pushed : Layout → A → Layout) (slot_of_item : A → Slot) (xs : List A) (x : A) (a b c : Layout) → Took pushed slot_of_item xs a b
+    → c ≡ pushed b x → Grew (slot_of_item x ∷ []) b c → Took pushed slot_of_item (xs ++ x ∷ []) a c
+took-more pushed slot_of_item xs x a b c h e g = record {
+  parts = e ∙ ap (λ l. pushed l x) h.parts ∙ sym (pushed-last pushed xs x a);
+  grew = rw (map_push slot_of_item xs x) (grew-more (map slot_of_item xs) (slot_of_item x ∷ []) a b c h.grew g);
+}
+
+pub took-extended : {A : Type 0} (pushed : Layout → A → Layout) (slot_of_item : A → Slot) (xs : List A) (a b : Layout) → Took pushed slot_of_item xs a b → Extended pushed slot_of_item xs a b
+took-extended pushed slot_of_item xs a b h = record { parts = h.parts; slots = h.grew.slots }
+
+-- all of them taken back
+pub took-back : {A : Type 0} (pushed : Layout → A → Layout) (slot_of_item : A → Slot) (xs : List A) (a b c : Layout) (n : ℕ) (m : Bool) → Took pushed slot_of_item xs a b
+    → n ≡ len a → m ≡ is_masked a → taken_back a (len a) (is_masked a) ≡ a → c ≡ taken_back b n m → c ≡ a
+took-back pushed slot_of_item xs a b c n m h e f w k =
+    k ∙ h.grew.back n m (omega arith) (λ g. sym f ∙ g) ∙ ap (λ i. taken_back a i m) e ∙ ap (taken_back a (len a)) f ∙ w

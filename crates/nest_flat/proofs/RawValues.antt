@@ -1,0 +1,64 @@
+-- Native values as slots: the runs of an array without validity, and when such runs are the same.
+use Rattle.std.specs.Prelude.{Bool, ◌↔◌, IsTrue, None, map}
+use Rattle.std.specs.Bool.{Decides}
+use Rattle.std.proofs.Common.{◌≡◌, ℕ, ◌+◌, ◌-◌, ◌≤◌, ℤ, List, [], ◌∷◌, length, take, drop, refl, ap, sym, ◌∙◌, arith}
+use Rattle.std.proofs.lemmas.List.{length-map}
+use Rattle.nest_memory.specs.Cut.{cut}
+use Rattle.nest_memory.specs.TypeTree.{TypeTree}
+use Rattle.nest_memory.specs.declared.datatypes.physical_type.PrimitiveType.{PrimitiveType}
+use Rattle.nest_model.specs.Part.{Validity}
+use Rattle.nest_model.specs.Layout.{Layout, primitive}
+use Rattle.nest_model.specs.Slot as slots
+use Rattle.nest_model.specs.Slot.{Slot}
+use Rattle.nest_model.specs.Meaning.{len, run, slot}
+use Rattle.nest_model.specs.Reads.{items-cut}
+use Rattle.nest_model.specs.FlatReads.{primitive-slots}
+use Rattle.nest_flat.specs.BareSlots.{bare}
+use Rattle.nest_flat.proofs.Cutting.{map-cut}
+
+map-map : {A B C : Type 0} (f : B → C) (g : A → B) (xs : List A) → map f (map g xs) ≡ map (λ x. f (g x)) xs
+map-map f g [] = refl
+map-map f g (x ∷ xs) = ap (λ ys. f (g x) ∷ ys) (map-map f g xs)
+
+map-one : {A B : Type 0} (f : A → B) → ((a b : A) → f a ≡ f b → a ≡ b) → (xs ys : List A) → map f xs ≡ map f ys → xs ≡ ys
+map-one f h [] [] e = refl
+map-one f h [] (y ∷ ys) e = cc
+map-one f h (x ∷ xs) [] e = cc
+map-one f h (x ∷ xs) (y ∷ ys) e =
+    let first : f x ≡ f y = cc in
+    let rest : map f xs ≡ map f ys = cc in
+    let p = h x y first in
+    let q = map-one f h xs ys rest in
+    λ i. p i ∷ q i
+
+module _ {A : Type 0} (numbers : A → List ℤ) where
+  -- the slots of raw values
+  pub values-run : (k : PrimitiveType) (t : TypeTree) (xs : List A) (o n : ℕ) → o + n ≤ length xs
+      → run (slot (primitive k t (map numbers xs) None)) o n ≡ map (λ x. slots.number (numbers x)) (cut xs o n)
+  values-run k t xs o n h =
+      let a = primitive k t (map numbers xs) None in
+      items-cut a o n (omega (arith, h, length-map xs numbers))
+      ∙ ap (λ ss. cut ss o n) (primitive-slots k t (map numbers xs) None ∙ map-map slots.number numbers xs)
+      ∙ sym (map-cut (λ x. slots.number (numbers x)) xs o n)
+
+  -- so of an array under its validity, whose values a slice shows
+  pub values-shown : (k : PrimitiveType) (t : TypeTree) (va : Validity) (a : Layout) (xs ys : List A) (o n : ℕ) → primitive k t (map numbers xs) va ≡ a → ys ≡ xs → o + n ≤ len a
+      → run (slot (bare a)) o n ≡ map (λ x. slots.number (numbers x)) (take (o + n - o) (drop o ys))
+  values-shown k t va a xs ys o n e f h =
+      let m : n ≡ o + n - o = omega arith in
+      ap (λ b. run (slot (bare b)) o n) (sym e)
+      ∙ values-run k t xs o n (omega (arith, h, ap len e, length-map xs numbers))
+      ∙ (λ i. map (λ x. slots.number (numbers x)) (take (m i) (drop o (sym f i))))
+
+  number-one : (zs ys : List ℤ) → slots.number zs ≡ slots.number ys → zs ≡ ys
+  number-one zs ys e = cc
+
+  -- values that their numbers tell apart are the same where their slots are
+  pub values-same : ((a b : A) → numbers a ≡ numbers b → a ≡ b) → (ss rs : List Slot) (xs ys : List A) (r : Bool)
+      → ss ≡ map (λ x. slots.number (numbers x)) xs → rs ≡ map (λ x. slots.number (numbers x)) ys → Decides r (xs ≡ ys) → IsTrue r ↔ (ss ≡ rs)
+  values-same one ss rs xs ys r p q d =
+      (λ h. p ∙ ap (map (λ x. slots.number (numbers x))) (d.0 h) ∙ sym q, λ e. d.1 (map-one (λ x. slots.number (numbers x)) (λ a b f. one a b (number-one (numbers a) (numbers b) f)) xs ys (sym p ∙ e ∙ q)))
+
+  -- equality by the numbers is equality
+  pub numbers-decide : ((a b : A) → numbers a ≡ numbers b → a ≡ b) → (E : A → A → Bool) → ((a b : A) → Decides (E a b) (numbers a ≡ numbers b)) → (a b : A) → Decides (E a b) (a ≡ b)
+  numbers-decide one E d a b = (λ h. one a b ((d a b).0 h), λ e. (d a b).1 (ap numbers e))

@@ -1,0 +1,89 @@
+-- Builders of bytes and of texts: the parts of their slots, and what each call makes of them.
+use Rattle.std.specs.Prelude.{◌≡◌, ◌⊎◌, ◌<◌, ℕ, ◌+◌, List, [], ◌∷◌, ◌++◌, map, take, drop, length, Option, Some, None, is_some, Bool, if◌then◌else◌, alloc_error}
+use Rattle.nest_memory.specs.declared.error.Error.{Error}
+use Rattle.nest_memory.specs.declared.error.Error.TheVariants.{Memory, Overflow}
+use Rattle.nest_memory.specs.TypeTree as types
+use Rattle.nest_memory.specs.TypeTree.{TypeTree}
+use Rattle.nest_model.specs.Part.{Validity, rows, begin, last_offset, cut_validity}
+use Rattle.nest_model.specs.Fits.{ValidityFits}
+use Rattle.nest_model.specs.Array.{AreOffsets}
+use Rattle.nest_model.specs.Accessors.{validity_of, offsets_of, bytes_of}
+use Rattle.nest_model.specs.Layout.{Layout, binary, text}
+use Rattle.nest_flat.specs.Growth.{pushed_validity, joined_validity}
+
+-- Variable-size Binary Layout: where the slots end, their bytes, which of them are valid
+pub record Spans : Type 0 where
+  pub offsets : List ℕ
+  pub bytes : List ℕ
+  pub validity : Validity
+
+abbrev pub spans : List ℕ → List ℕ → Validity → Spans
+spans os bs va = record { offsets = os; bytes = bs; validity = va }
+
+-- no slot, and no validity
+abbrev pub no_spans : Spans
+no_spans = spans (0 ∷ []) [] None
+
+-- what holds of a builder's: the first slot begins with the bytes, and the last ends with them
+pub record AreSpans (s : Spans) : Type 0 where
+  pub rising : AreOffsets s.offsets
+  pub first : begin s.offsets 0 ≡ 0
+  pub ends : last_offset s.offsets ≡ length s.bytes
+  pub fits : ValidityFits s.validity (rows s.offsets)
+
+-- the bytes of an item: a null has none
+abbrev pub item_bytes : Option (List ℕ) → List ℕ
+item_bytes None = []
+item_bytes (Some xs) = xs
+
+-- one slot more
+abbrev pub pushed_span : Option (List ℕ) → Spans → Spans
+pushed_span item s = record {
+  offsets = s.offsets ++ (last_offset s.offsets + length (item_bytes item)) ∷ [];
+  bytes = s.bytes ++ item_bytes item;
+  validity = pushed_validity s.validity (rows s.offsets) (is_some item);
+}
+
+-- the slots of another behind these
+abbrev pub joined_spans : Spans → Spans → Spans
+joined_spans s t = record {
+  offsets = s.offsets ++ map (λ e. last_offset s.offsets + e) (drop 1 t.offsets);
+  bytes = s.bytes ++ t.bytes;
+  validity = joined_validity s.validity (rows s.offsets) t.validity (rows t.offsets);
+}
+
+-- the first n slots
+abbrev pub first_spans : ℕ → Spans → Spans
+first_spans n s = record {
+  offsets = take (n + 1) s.offsets;
+  bytes = take (begin s.offsets n) s.bytes;
+  validity = cut_validity s.validity 0 n;
+}
+
+-- the same without a validity
+abbrev pub bare_spans : Spans → Spans
+bare_spans s = spans s.offsets s.bytes None
+
+-- the parts of an array of bytes or of texts, and such an array of other parts
+abbrev pub spans_of : Layout → Spans
+spans_of a = record { offsets = offsets_of a; bytes = bytes_of a; validity = validity_of a }
+
+abbrev pub with_spans : Layout → Spans → Layout
+with_spans (binary l t os bs va) s = binary l t s.offsets s.bytes s.validity
+with_spans (text l t os bs va) s = text l t s.offsets s.bytes s.validity
+with_spans a s = a
+
+-- a builder's parts with an item more
+abbrev pub pushed_item : Layout → Option (List ℕ) → Layout
+pushed_item a item = with_spans a (pushed_span item (spans_of a))
+
+-- why an item is refused: its end is past the largest offset, or memory is wanting
+abbrev pub HasPushCause : ℕ → Error → Layout → Option (List ℕ) → Type 0
+HasPushCause largest e a item = ((e ≡ Overflow) × (largest < last_offset (offsets_of a) + length (item_bytes item))) ⊎ (e ≡ Memory alloc_error)
+
+-- the types that builders of bytes and of texts begin with, by the width of their offsets
+abbrev pub binary_tree : Bool → TypeTree
+binary_tree large = if large then types.large_binary else types.binary
+
+abbrev pub text_tree : Bool → TypeTree
+text_tree large = if large then types.large_utf8 else types.utf8

@@ -1,0 +1,86 @@
+-- Builders of flat arrays: what pushed and joined slots add to the parts of an array, of this project.
+use Rattle.std.specs.Prelude.{◌≡◌, ℕ, ◌+◌, ◌≤◌, ℤ, pos, Bool, true, false, List as Seq, [], ◌∷◌, ◌++◌, length, map, take, replicate, Option, Some, None, is_some, if◌then◌else◌}
+use Rattle.std.specs.Option.{unwrap_or}
+use Rattle.std.specs.Iterator.{Count, IsFinite}
+use Rattle.nest_memory.specs.Native.{parts_of}
+use Rattle.nest_memory.specs.declared.datatypes.physical_type.PrimitiveType.{PrimitiveType}
+use Rattle.nest_model.specs.Part.{Validity, begin, cut_validity}
+use Rattle.nest_model.specs.Slot.{Slot}
+use Rattle.nest_model.specs.Layout.{Layout, boolean, primitive, binary, text, layout_type}
+use Rattle.nest_model.specs.Accessors.{validity_of, with_validity}
+use Rattle.nest_model.specs.Meaning.{len, slots_of}
+use Rattle.nest_model.specs.Cut.{cut_layout}
+use Rattle.nest_model.specs.BuilderSpells.{Begins}
+use Rattle.nest_model.specs.BuilderTree.{IsPast}
+
+-- Validity bitmaps: one place more after n others; the bits are made at the first null
+abbrev pub pushed_validity : Validity → ℕ → Bool → Validity
+pushed_validity None n true = None
+pushed_validity None n false = Some (replicate n true ++ false ∷ [])
+pushed_validity (Some bits) n valid = Some (bits ++ valid ∷ [])
+
+-- Validity bitmaps: m places more after n others; the bits are made where either has some
+abbrev pub joined_validity : Validity → ℕ → Validity → ℕ → Validity
+joined_validity None n None m = None
+joined_validity None n (Some more) m = Some (replicate n true ++ more)
+joined_validity (Some bits) n None m = Some (bits ++ replicate m true)
+joined_validity (Some bits) n (Some more) m = Some (bits ++ more)
+
+-- the native value whose numbers are all 0
+abbrev pub zeros : PrimitiveType → Seq ℤ
+zeros k = replicate (parts_of k) (pos 0)
+
+-- Fixed-Size Primitive Layout: a slot more, false under a null
+abbrev pub pushed_truth : Layout → Option Bool → Layout
+pushed_truth (boolean t bs va) x = boolean t (bs ++ unwrap_or x false ∷ []) (pushed_validity va (length bs) (is_some x))
+pushed_truth a x = a
+
+-- Fixed-Size Primitive Layout: a slot more, zero under a null
+abbrev pub pushed_native : Layout → Option (Seq ℤ) → Layout
+pushed_native (primitive k t vs va) x = primitive k t (vs ++ unwrap_or x (zeros k) ∷ []) (pushed_validity va (length vs) (is_some x))
+pushed_native a x = a
+
+-- the slots of an array behind those of another of its kind
+abbrev pub joined_parts : Layout → Layout → Layout
+joined_parts (boolean t bs va) (boolean u more vb) = boolean t (bs ++ more) (joined_validity va (length bs) vb (length more))
+joined_parts (primitive k t vs va) (primitive j u more vb) = primitive k t (vs ++ more) (joined_validity va (length vs) vb (length more))
+joined_parts a b = a
+
+-- items that are pushed in order
+abbrev pub pushed_all : {A : Type 0} → (Layout → A → Layout) → Layout → Seq A → Layout
+pushed_all pushed a [] = a
+pushed_all pushed a (x ∷ xs) = pushed_all pushed (pushed a x) xs
+
+-- the items were pushed in order: the parts, and the slots that they stand for
+pub record Extended {A : Type 0} (pushed : Layout → A → Layout) (slot_of_item : A → Slot) (xs : Seq A) (old new : Layout) : Type 0 where
+  pub parts : new ≡ pushed_all pushed old xs
+  pub slots : slots_of new ≡ slots_of old ++ map slot_of_item xs
+
+-- whether a validity is there
+abbrev pub is_masked : Layout → Bool
+is_masked a = is_some (validity_of a)
+
+-- the first n slots; no byte is left behind the last of them
+abbrev pub first_slots : Layout → ℕ → Layout
+first_slots (binary l t os bs va) n = binary l t (take (n + 1) os) (take (begin os n) bs) (cut_validity va 0 n)
+first_slots (text l t os bs va) n = text l t (take (n + 1) os) (take (begin os n) bs) (cut_validity va 0 n)
+first_slots a n = cut_layout a 0 n
+
+-- the first n slots, without a validity where none was there
+abbrev pub taken_back : Layout → ℕ → Bool → Layout
+taken_back a n masked = if masked then first_slots a n else with_validity (first_slots a n) None
+
+-- these slots stand behind the old ones, and can be taken back
+pub record Grew (ss : Seq Slot) (old new : Layout) : Type 0 where
+  pub slots : slots_of new ≡ slots_of old ++ ss
+  pub same_type : layout_type new ≡ layout_type old
+  pub masked : is_masked old ≡ true → is_masked new ≡ true
+  pub back : (n : ℕ) (m : Bool) → n ≤ len old → (m ≡ true → is_masked old ≡ true) → taken_back new n m ≡ taken_back old n m
+
+-- whatever u becomes may be called, and ends
+abbrev pub CanDrain : {U T : Type 0} → (U → T → Type 0) → (T → Type 0) → (T → Count) → U → Type 0
+CanDrain {U} {T} becomes can left u = (it : T) → becomes u it → can it × IsFinite (left it)
+
+-- after n slots, a beginning of what u gives passes the limit of a length
+abbrev pub BeginningPasses : {U T A : Type 0} → (U → T → Type 0) → (T → Option A → T → Type 0) → ℕ → U → Type 0
+BeginningPasses {U} {T} {A} becomes steps n u = (xs : Seq A) × Begins becomes steps u xs × IsPast (n + length xs)

@@ -1,0 +1,166 @@
+//! Arrays of native values of any kind.
+mod equality;
+mod native;
+
+ghost use Rattle.std.specs.Prelude.{◌≡◌, ◌+◌, ◌≤◌, ◌<◌, ◌↔◌, IsTrue, IfOk, IsOkUnless, MatchResult, option_map, alloc_error};
+ghost use Rattle.nest_memory.specs.declared.error.Error.TheVariants.{Memory};
+ghost use Rattle.nest_memory.specs.Cut.{cut};
+ghost use Rattle.nest_memory.specs.TypeOf.{type_of};
+ghost use Rattle.nest_memory.specs.Physical.{physical_type};
+ghost use Rattle.nest_memory.specs.declared.datatypes.physical_type.PhysicalType.TheVariants as physical;
+ghost use Rattle.nest_model.specs.Accessors.{natives_of, validity_of, with_validity};
+ghost use Rattle.nest_model.specs.Array.{TopFits};
+ghost use Rattle.nest_model.specs.Cut.{cut_layout};
+ghost use Rattle.nest_model.specs.Fits.{ValidityFits, ValidityFault};
+ghost use Rattle.nest_model.specs.Layout as layouts;
+ghost use Rattle.nest_model.specs.Layout.{layout_type};
+ghost use Rattle.nest_model.specs.Meaning.{len, slot, slots_of};
+ghost use Rattle.nest_model.specs.Nullness.{is_null_at, null_count};
+ghost use Rattle.nest_model.specs.Slot as slots;
+ghost use Rattle.nest_flat.specs.AnyPrimitive.{primitive_kind, primitive_layout};
+
+use crate::primitive::PrimitiveArray;
+pub use equality::same_run;
+pub use native::Native;
+use nest_memory::bitmap::immutable::Bitmap;
+use nest_memory::datatypes::DataType;
+use nest_memory::error::Error;
+use nest_memory::types::{NativeType, days_ms, i256, months_days_ns};
+use std::alloc::Global;
+
+/// An array of native values, in the variant of its kind.
+#[derive(Drop)]
+pub enum AnyPrimitive {
+    Int8(PrimitiveArray<i8>),
+    Int16(PrimitiveArray<i16>),
+    Int32(PrimitiveArray<i32>),
+    Int64(PrimitiveArray<i64>),
+    Int128(PrimitiveArray<i128>),
+    Int256(PrimitiveArray<i256>),
+    UInt8(PrimitiveArray<u8>),
+    UInt16(PrimitiveArray<u16>),
+    UInt32(PrimitiveArray<u32>),
+    UInt64(PrimitiveArray<u64>),
+    DaysMs(PrimitiveArray<days_ms>),
+    MonthDayNano(PrimitiveArray<months_days_ns>),
+}
+
+// What is the same for each kind.
+macro_rules! each_kind {
+    ($any:expr, $array:ident => $body:expr) => {
+        match $any {
+            AnyPrimitive::Int8($array) => $body,
+            AnyPrimitive::Int16($array) => $body,
+            AnyPrimitive::Int32($array) => $body,
+            AnyPrimitive::Int64($array) => $body,
+            AnyPrimitive::Int128($array) => $body,
+            AnyPrimitive::Int256($array) => $body,
+            AnyPrimitive::UInt8($array) => $body,
+            AnyPrimitive::UInt16($array) => $body,
+            AnyPrimitive::UInt32($array) => $body,
+            AnyPrimitive::UInt64($array) => $body,
+            AnyPrimitive::DaysMs($array) => $body,
+            AnyPrimitive::MonthDayNano($array) => $body,
+        }
+    };
+}
+
+// What holds of every array of native values, by its kind.
+fn known<T: NativeType>(array: &PrimitiveArray<T>)
+    ensures fits { TopFits array.now }
+    ensures kind { physical_type (layout_type array.now) ≡ physical.Primitive T.PRIMITIVE }
+    ensures parts { array.now ≡ layouts.primitive T.PRIMITIVE (layout_type array.now) (natives_of array.now) (validity_of array.now) }
+{
+    array.known();
+}
+
+impl AnyPrimitive {
+    /// What holds of every such array.
+    pub fn known(&self)
+        ensures fits { TopFits (primitive_layout self.now) }
+        ensures kind { physical_type (layout_type (primitive_layout self.now)) ≡ physical.Primitive (primitive_kind self.now) }
+        ensures parts { primitive_layout self.now ≡ layouts.primitive (primitive_kind self.now) (layout_type (primitive_layout self.now)) (natives_of (primitive_layout self.now)) (validity_of (primitive_layout self.now)) }
+    {
+        each_kind!(self, array => known(array))
+    }
+
+    /// How many slots it has.
+    pub fn len(&self) -> usize
+        ensures { result ≡ len (primitive_layout self.now) }
+    {
+        each_kind!(self, array => array.len())
+    }
+
+    /// Its data type.
+    pub fn data_type(&self) -> &DataType
+        ensures { type_of result.now ≡ layout_type (primitive_layout self.now) }
+    {
+        each_kind!(self, array => array.data_type())
+    }
+
+    /// Which slots are valid, a bit a slot; without it all are.
+    pub fn validity(&self) -> Option<&Bitmap>
+        ensures { option_map (λ b. b.now) result ≡ validity_of (primitive_layout self.now) }
+    {
+        each_kind!(self, array => array.validity())
+    }
+
+    /// Whether slot i is null.
+    pub fn is_null(&self, i: usize) -> bool
+        requires { i < len (primitive_layout self.now) }
+        ensures slot { IsTrue result ↔ (slot (primitive_layout self.now) i ≡ slots.null) }
+        ensures place { result ≡ is_null_at (primitive_layout self.now) i }
+    {
+        each_kind!(self, array => array.is_null(i))
+    }
+
+    /// How many slots are null.
+    pub fn null_count(&self) -> usize
+        ensures { result ≡ null_count (primitive_layout self.now) }
+    {
+        each_kind!(self, array => array.null_count())
+    }
+
+    /// Keeps the n slots from place o.
+    pub fn slice(&mut self, o: usize, n: usize)
+        requires { o + n ≤ len (primitive_layout self.old) }
+        ensures parts { primitive_layout self.new ≡ cut_layout (primitive_layout self.old) o n }
+        ensures slots { slots_of (primitive_layout self.new) ≡ cut (slots_of (primitive_layout self.old)) o n }
+        ensures same_type { layout_type (primitive_layout self.new) ≡ layout_type (primitive_layout self.old) }
+    {
+        each_kind!(self, array => array.slice(o, n))
+    }
+
+    /// Takes a new validity. `ValidityLength` where it has not a bit for each slot; the array stays
+    /// as it was then.
+    pub fn set_validity(&mut self, validity: Option<Bitmap>) -> Result<(), Error>
+        ensures { MatchResult result
+            (λ _. ValidityFits validity (len (primitive_layout self.old)) × (primitive_layout self.new ≡ with_validity (primitive_layout self.old) validity))
+            (λ e. ValidityFault e (primitive_layout self.old) validity × (primitive_layout self.new ≡ primitive_layout self.old)) }
+    {
+        each_kind!(self, array => array.set_validity(validity))
+    }
+
+    /// The same array, on shared memory.
+    pub fn clone(&self, alloc: Global) -> Result<AnyPrimitive, Error>
+        ensures ok { IfOk result (λ a. primitive_layout a ≡ primitive_layout self.now) }
+        ensures err { IsOkUnless result (Memory alloc_error) }
+    {
+        match self {
+            AnyPrimitive::Int8(array) => Ok(AnyPrimitive::Int8(array.clone(alloc)?)),
+            AnyPrimitive::Int16(array) => Ok(AnyPrimitive::Int16(array.clone(alloc)?)),
+            AnyPrimitive::Int32(array) => Ok(AnyPrimitive::Int32(array.clone(alloc)?)),
+            AnyPrimitive::Int64(array) => Ok(AnyPrimitive::Int64(array.clone(alloc)?)),
+            AnyPrimitive::Int128(array) => Ok(AnyPrimitive::Int128(array.clone(alloc)?)),
+            AnyPrimitive::Int256(array) => Ok(AnyPrimitive::Int256(array.clone(alloc)?)),
+            AnyPrimitive::UInt8(array) => Ok(AnyPrimitive::UInt8(array.clone(alloc)?)),
+            AnyPrimitive::UInt16(array) => Ok(AnyPrimitive::UInt16(array.clone(alloc)?)),
+            AnyPrimitive::UInt32(array) => Ok(AnyPrimitive::UInt32(array.clone(alloc)?)),
+            AnyPrimitive::UInt64(array) => Ok(AnyPrimitive::UInt64(array.clone(alloc)?)),
+            AnyPrimitive::DaysMs(array) => Ok(AnyPrimitive::DaysMs(array.clone(alloc)?)),
+            AnyPrimitive::MonthDayNano(array) => Ok(AnyPrimitive::MonthDayNano(array.clone(
+                alloc,
+            )?)),
+        }
+    }
+}

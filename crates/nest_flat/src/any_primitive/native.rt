@@ -1,0 +1,243 @@
+//! The native types, and arrays of each among arrays of any kind.
+ghost use Rattle.std.specs.Prelude.{◌≡◌};
+ghost use Rattle.nest_memory.specs.Physical.{physical_type};
+ghost use Rattle.nest_memory.specs.declared.datatypes.physical_type.PhysicalType.TheVariants as physical;
+ghost use Rattle.nest_model.specs.Layout.{Layout, layout_type};
+ghost use Rattle.nest_flat.specs.AnyPrimitive.{primitive_layout};
+
+use crate::any_primitive::AnyPrimitive;
+use crate::primitive::PrimitiveArray;
+use nest_memory::types::{NativeType, days_ms, i256, months_days_ns};
+
+/// The twelve native types.
+pub trait Native: NativeType {
+    /// `PrimitiveArray<Self>`.
+    type Array;
+
+    ghost layout_of_array: { Self.Array → Layout };
+
+    /// The same array in the variant of its kind.
+    fn wrap(array: Self::Array) -> AnyPrimitive
+        ensures { primitive_layout result ≡ layout_of_array array };
+
+    /// The array of this kind in an array whose data type is of this kind.
+    fn of(any: &AnyPrimitive) -> &Self::Array
+        requires { physical_type (layout_type (primitive_layout any.now)) ≡ physical.Primitive Self.PRIMITIVE }
+        ensures { layout_of_array result.now ≡ primitive_layout any.now };
+}
+
+impl Native for i8 {
+    type Array = PrimitiveArray<i8>;
+
+    ghost layout_of_array = { λ a. a };
+
+    fn wrap(array: PrimitiveArray<i8>) -> AnyPrimitive {
+        AnyPrimitive::Int8(array)
+    }
+
+    fn of(any: &AnyPrimitive) -> &PrimitiveArray<i8> {
+        any.known();
+        match any {
+            AnyPrimitive::Int8(array) => array,
+            _ => unreachable!(),
+        }
+    }
+}
+
+impl Native for i16 {
+    type Array = PrimitiveArray<i16>;
+
+    ghost layout_of_array = { λ a. a };
+
+    fn wrap(array: PrimitiveArray<i16>) -> AnyPrimitive {
+        AnyPrimitive::Int16(array)
+    }
+
+    fn of(any: &AnyPrimitive) -> &PrimitiveArray<i16> {
+        any.known();
+        match any {
+            AnyPrimitive::Int16(array) => array,
+            _ => unreachable!(),
+        }
+    }
+}
+
+impl Native for i32 {
+    type Array = PrimitiveArray<i32>;
+
+    ghost layout_of_array = { λ a. a };
+
+    fn wrap(array: PrimitiveArray<i32>) -> AnyPrimitive {
+        AnyPrimitive::Int32(array)
+    }
+
+    fn of(any: &AnyPrimitive) -> &PrimitiveArray<i32> {
+        any.known();
+        match any {
+            AnyPrimitive::Int32(array) => array,
+            _ => unreachable!(),
+        }
+    }
+}
+
+impl Native for i64 {
+    type Array = PrimitiveArray<i64>;
+
+    ghost layout_of_array = { λ a. a };
+
+    fn wrap(array: PrimitiveArray<i64>) -> AnyPrimitive {
+        AnyPrimitive::Int64(array)
+    }
+
+    fn of(any: &AnyPrimitive) -> &PrimitiveArray<i64> {
+        any.known();
+        match any {
+            AnyPrimitive::Int64(array) => array,
+            _ => unreachable!(),
+        }
+    }
+}
+
+impl Native for i128 {
+    type Array = PrimitiveArray<i128>;
+
+    ghost layout_of_array = { λ a. a };
+
+    fn wrap(array: PrimitiveArray<i128>) -> AnyPrimitive {
+        AnyPrimitive::Int128(array)
+    }
+
+    fn of(any: &AnyPrimitive) -> &PrimitiveArray<i128> {
+        any.known();
+        match any {
+            AnyPrimitive::Int128(array) => array,
+            _ => unreachable!(),
+        }
+    }
+}
+
+impl Native for i256 {
+    type Array = PrimitiveArray<i256>;
+
+    ghost layout_of_array = { λ a. a };
+
+    fn wrap(array: PrimitiveArray<i256>) -> AnyPrimitive {
+        AnyPrimitive::Int256(array)
+    }
+
+    fn of(any: &AnyPrimitive) -> &PrimitiveArray<i256> {
+        any.known();
+        match any {
+            AnyPrimitive::Int256(array) => array,
+            _ => unreachable!(),
+        }
+    }
+}
+
+impl Native for u8 {
+    type Array = PrimitiveArray<u8>;
+
+    ghost layout_of_array = { λ a. a };
+
+    fn wrap(array: PrimitiveArray<u8>) -> AnyPrimitive {
+        AnyPrimitive::UInt8(array)
+    }
+
+    fn of(any: &AnyPrimitive) -> &PrimitiveArray<u8> {
+        any.known();
+        match any {
+            AnyPrimitive::UInt8(array) => array,
+            _ => unreachable!(),
+        }
+    }
+}
+
+impl Native for u16 {
+    type Array = PrimitiveArray<u16>;
+
+    ghost layout_of_array = { λ a. a };
+
+    fn wrap(array: PrimitiveArray<u16>) -> AnyPrimitive {
+        AnyPrimitive::UInt16(array)
+    }
+
+    fn of(any: &AnyPrimitive) -> &PrimitiveArray<u16> {
+        any.known();
+        match any {
+            AnyPrimitive::UInt16(array) => array,
+            _ => unreachable!(),
+        }
+    }
+}
+
+impl Native for u32 {
+    type Array = PrimitiveArray<u32>;
+
+    ghost layout_of_array = { λ a. a };
+
+    fn wrap(array: PrimitiveArray<u32>) -> AnyPrimitive {
+        AnyPrimitive::UInt32(array)
+    }
+
+    fn of(any: &AnyPrimitive) -> &PrimitiveArray<u32> {
+        any.known();
+        match any {
+            AnyPrimitive::UInt32(array) => array,
+            _ => unreachable!(),
+        }
+    }
+}
+
+impl Native for u64 {
+    type Array = PrimitiveArray<u64>;
+
+    ghost layout_of_array = { λ a. a };
+
+    fn wrap(array: PrimitiveArray<u64>) -> AnyPrimitive {
+        AnyPrimitive::UInt64(array)
+    }
+
+    fn of(any: &AnyPrimitive) -> &PrimitiveArray<u64> {
+        any.known();
+        match any {
+            AnyPrimitive::UInt64(array) => array,
+            _ => unreachable!(),
+        }
+    }
+}
+
+impl Native for days_ms {
+    type Array = PrimitiveArray<days_ms>;
+
+    ghost layout_of_array = { λ a. a };
+
+    fn wrap(array: PrimitiveArray<days_ms>) -> AnyPrimitive {
+        AnyPrimitive::DaysMs(array)
+    }
+
+    fn of(any: &AnyPrimitive) -> &PrimitiveArray<days_ms> {
+        any.known();
+        match any {
+            AnyPrimitive::DaysMs(array) => array,
+            _ => unreachable!(),
+        }
+    }
+}
+
+impl Native for months_days_ns {
+    type Array = PrimitiveArray<months_days_ns>;
+
+    ghost layout_of_array = { λ a. a };
+
+    fn wrap(array: PrimitiveArray<months_days_ns>) -> AnyPrimitive {
+        AnyPrimitive::MonthDayNano(array)
+    }
+
+    fn of(any: &AnyPrimitive) -> &PrimitiveArray<months_days_ns> {
+        any.known();
+        match any {
+            AnyPrimitive::MonthDayNano(array) => array,
+            _ => unreachable!(),
+        }
+    }
+}

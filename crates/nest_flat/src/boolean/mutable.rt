@@ -1,0 +1,316 @@
+//! The builder of arrays of booleans.
+ghost use Rattle.std.specs.Prelude.{◌≡◌, ◌≢◌, ◌+◌, ◌^◌, ◌≤◌, ◌<◌, ◌↔◌, ◌⊎◌, ◌++◌, ◌∷◌, [], List, Option, Bool, IsTrue, IfOk, IfErr, OnOk, OnErr, IsOkUnless, IsErrOf, None, Some, option_map, alloc_error};
+ghost use Rattle.nest_memory.specs.Cut.{cut};
+ghost use Rattle.nest_memory.specs.Physical.{physical_type};
+ghost use Rattle.nest_memory.specs.TypeOf.{type_of};
+ghost use Rattle.nest_memory.specs.TypeTree as types;
+ghost use Rattle.nest_memory.specs.declared.datatypes.physical_type.PhysicalType.TheVariants as physical;
+ghost use Rattle.nest_memory.specs.declared.error.Argument.TheVariants.{ItemType};
+ghost use Rattle.nest_memory.specs.declared.error.Error.TheVariants.{InvalidArgumentError, Memory, Overflow};
+ghost use Rattle.nest_model.specs.Accessors.{validity_of, bits_of, with_type};
+ghost use Rattle.nest_model.specs.Array.{TopFits};
+ghost use Rattle.nest_model.specs.BuilderSpells.{Gives};
+ghost use Rattle.nest_model.specs.BuilderTree.{IsPast};
+ghost use Rattle.nest_model.specs.Cut.{cut_layout};
+ghost use Rattle.nest_model.specs.Layout as layouts;
+ghost use Rattle.nest_model.specs.Layout.{layout_type};
+ghost use Rattle.nest_model.specs.Meaning.{len, slots_of};
+ghost use Rattle.nest_model.specs.Part.{valid_at};
+ghost use Rattle.nest_model.specs.Slot as slots;
+ghost use Rattle.nest_flat.specs.FlatParts.{optional};
+ghost use Rattle.nest_flat.specs.Growth.{BeginningPasses, CanDrain, Extended, Grew, joined_parts, pushed_truth};
+
+use crate::boolean::BooleanArray;
+use crate::growth::extend::{Grow, extend_by_push};
+use crate::growth::{bits, validity};
+use nest_memory::bitmap::mutable::MutableBitmap;
+use nest_memory::datatypes::DataType;
+use nest_memory::error::{Argument, Error};
+use std::alloc::Global;
+use std::marker::Model;
+use std::mem;
+
+/// Booleans and nulls that are pushed one after another, and then frozen into a `BooleanArray`. arrow2's
+/// `MutableBooleanArray`.
+///
+/// Under a null lies false. A validity is made at the first null. A call that answers `Err` changes nothing, but for
+/// `freeze`, which empties the builder either way.
+#[derive(Drop)]
+pub struct MutableBooleanArray {
+    data_type: DataType,
+    values: MutableBitmap,
+    validity: Option<MutableBitmap>,
+    alloc: Global,
+}
+
+impl Model for MutableBooleanArray {
+    ghost use Rattle.nest_model.specs.Layout as layouts;
+    ghost use Rattle.nest_model.specs.Layout.{Layout};
+    ghost use Rattle.nest_model.specs.LayoutCode.{coded_layout};
+
+    ghost Value = { Layout };
+
+    ghost coded = { coded_layout };
+
+    ghost use Rattle.nest_memory.specs.TypeOf.{type_of};
+    ghost use Rattle.nest_model.specs.Array.{TopFits};
+
+    ghost view = { λ b. layouts.boolean (type_of b.data_type) b.values b.validity };
+
+    ghost invariant = { λ b. TopFits (layouts.boolean (type_of b.data_type) b.values b.validity) };
+}
+
+impl MutableBooleanArray {
+    /// No slot, of the type Boolean, and no memory taken.
+    pub fn new(alloc: Global) -> MutableBooleanArray
+        ensures { result ≡ layouts.boolean types.boolean [] None }
+    {
+        MutableBooleanArray {
+            data_type: DataType::Boolean,
+            values: MutableBitmap::new(alloc),
+            validity: None,
+            alloc,
+        }
+    }
+
+    /// The same slots under another data type of booleans.
+    pub fn to(self, data_type: DataType) -> MutableBooleanArray
+        requires { physical_type (type_of data_type) ≡ physical.Boolean }
+        ensures { result ≡ with_type self (type_of data_type) }
+    {
+        let mut builder = self;
+        let old = mem::replace(&mut builder.data_type, data_type);
+        drop(old);
+        builder
+    }
+
+    /// What holds of every such builder.
+    pub fn known(&self)
+        ensures fits { TopFits self.now }
+        ensures kind { self.now ≡ layouts.boolean (layout_type self.now) (bits_of self.now) (validity_of self.now) }
+    {
+        let _ = &self.data_type;
+    }
+
+    /// How many slots it has.
+    pub fn len(&self) -> usize
+        ensures { result ≡ len self.now }
+    {
+        self.values.len()
+    }
+
+    /// Whether it has no slot.
+    pub fn is_empty(&self) -> bool
+        ensures { IsTrue result ↔ (len self.now ≡ 0) }
+    {
+        self.len() == 0
+    }
+
+    /// Its data type.
+    pub fn data_type(&self) -> &DataType
+        ensures { type_of result.now ≡ layout_type self.now }
+    {
+        &self.data_type
+    }
+
+    /// Which slots are valid, a bit a slot; without it all are.
+    pub fn validity(&self) -> Option<&MutableBitmap>
+        ensures { option_map (λ b. b.now) result ≡ validity_of self.now }
+    {
+        self.validity.as_ref()
+    }
+
+    /// Whether slot i is not null.
+    pub fn is_valid(&self, i: usize) -> bool
+        requires { i < len self.now }
+        ensures { result ≡ valid_at (validity_of self.now) i }
+    {
+        validity::is_valid(&self.validity, i)
+    }
+
+    /// Its raw values, also those under nulls.
+    pub fn values(&self) -> &MutableBitmap
+        ensures { result.now ≡ bits_of self.now }
+    {
+        &self.values
+    }
+
+    /// Adds a slot: the boolean, or null.
+    ///
+    /// # Errors
+    /// `Overflow` where the length would pass a `usize`; `Memory`.
+    pub fn try_push(&mut self, item: Option<bool>) -> Result<(), Error>
+        ensures parts { OnOk result (self.new ≡ pushed_truth self.old item) }
+        ensures slots { OnOk result (slots_of self.new ≡ slots_of self.old ++ optional slots.truth item ∷ []) }
+        ensures err { OnErr result (self.new ≡ self.old) }
+        ensures same_type { layout_type self.new ≡ layout_type self.old }
+        ensures overflow { IsErrOf result Overflow ↔ IsPast (len self.old + 1) }
+        ensures errors { IfErr result (λ e. (e ≡ Overflow) ⊎ (e ≡ Memory alloc_error)) }
+    {
+        self.push(item)
+    }
+
+    fn push(&mut self, item: Option<bool>) -> Result<(), Error>
+        ensures parts { OnOk result (self.new ≡ pushed_truth self.old item) }
+        ensures grew { OnOk result (Grew (optional slots.truth item ∷ []) self.old self.new) }
+        ensures err { OnErr result (self.new ≡ self.old) }
+        ensures overflow { IsErrOf result Overflow ↔ IsPast (len self.old + 1) }
+        ensures errors { IfErr result (λ e. (e ≡ Overflow) ⊎ (e ≡ Memory alloc_error)) }
+    {
+        let len = self.values.len();
+        self.values.push(item.unwrap_or(false))?;
+        let _more = self.values.len();
+        if let Err(error) = validity::push(self.alloc, &mut self.validity, len, item.is_some()) {
+            self.values.truncate(len);
+            return Err(error);
+        }
+        Ok(())
+    }
+
+    /// Adds a slot for each item, all of them or none.
+    ///
+    /// # Errors
+    /// `Overflow` where the length would pass a `usize`; `Memory`.
+    pub fn try_extend<I: IntoIterator<Item = Option<bool>>>(
+        &mut self,
+        items: I,
+    ) -> Result<(), Error>
+        requires { CanDrain I.into_iter_gives I.IntoIter.can_next I.IntoIter.remaining items }
+        ensures ok { OnOk result ((xs : List (Option Bool)) × Gives I.into_iter_gives I.IntoIter.next_gives items xs
+            × Extended pushed_truth (optional slots.truth) xs self.old self.new) }
+        ensures err { OnErr result (self.new ≡ self.old) }
+        ensures same_type { layout_type self.new ≡ layout_type self.old }
+        ensures errors { IfErr result (λ e.
+            ((e ≡ Overflow) × BeginningPasses {A = Option Bool} I.into_iter_gives I.IntoIter.next_gives (len self.old) items) ⊎ (e ≡ Memory alloc_error)) }
+    {
+        extend_by_push(self, items)
+    }
+
+    /// Adds the slots of another builder, all of them or none.
+    ///
+    /// # Errors
+    /// `ItemType` where the data types differ; then `Overflow` where the length would pass a `usize`; `Memory`.
+    pub fn try_extend_from_self(&mut self, other: &MutableBooleanArray) -> Result<(), Error>
+        ensures parts { OnOk result (self.new ≡ joined_parts self.old other.now) }
+        ensures slots { OnOk result (slots_of self.new ≡ slots_of self.old ++ slots_of other.now) }
+        ensures err { OnErr result (self.new ≡ self.old) }
+        ensures same_type { layout_type self.new ≡ layout_type self.old }
+        ensures item_type { IsErrOf result (InvalidArgumentError ItemType) ↔ layout_type self.old ≢ layout_type other.now }
+        ensures overflow { IsErrOf result Overflow
+            ↔ (layout_type self.old ≡ layout_type other.now) × IsPast (len self.old + len other.now) }
+        ensures errors { IfErr result (λ e. (e ≡ InvalidArgumentError ItemType) ⊎ ((e ≡ Overflow) ⊎ (e ≡ Memory alloc_error))) }
+    {
+        let same_type = *self.data_type() == *other.data_type();
+        if !same_type {
+            return Err(Error::InvalidArgumentError(Argument::ItemType));
+        }
+        if self.len().checked_add(other.len()).is_none() {
+            return Err(Error::Overflow);
+        }
+        self.append(other)
+    }
+
+    fn append(&mut self, other: &MutableBooleanArray) -> Result<(), Error>
+        requires { len self.old + len other.now < 2 ^ 64 }
+        ensures parts { OnOk result (self.new ≡ joined_parts self.old other.now) }
+        ensures grew { OnOk result (Grew (slots_of other.now) self.old self.new) }
+        ensures err { OnErr result (self.new ≡ self.old) }
+        ensures memory { IsOkUnless result (Memory alloc_error) }
+    {
+        let len = self.values.len();
+        let more = other.values.len();
+        bits::append(&mut self.values, &other.values)?;
+        if let Err(error) = validity::join(
+            self.alloc,
+            &mut self.validity,
+            len,
+            &other.validity,
+            more,
+        ) {
+            self.values.truncate(len);
+            return Err(error);
+        }
+        Ok(())
+    }
+
+    /// Keeps the first n slots.
+    pub fn truncate(&mut self, n: usize)
+        requires { n ≤ len self.old }
+        ensures parts { self.new ≡ cut_layout self.old 0 n }
+        ensures slots { slots_of self.new ≡ cut (slots_of self.old) 0 n }
+        ensures same_type { layout_type self.new ≡ layout_type self.old }
+    {
+        self.cut(n);
+    }
+
+    fn cut(&mut self, n: usize)
+        requires { n ≤ len self.old }
+        ensures { self.new ≡ cut_layout self.old 0 n }
+    {
+        self.values.truncate(n);
+        validity::truncate(&mut self.validity, n);
+    }
+
+    /// Room for so many slots more.
+    ///
+    /// # Errors
+    /// `Memory`.
+    pub fn reserve(&mut self, additional: usize) -> Result<(), Error>
+        ensures same { self.new ≡ self.old }
+        ensures memory { IsOkUnless result (Memory alloc_error) }
+    {
+        self.values.reserve(additional)?;
+        validity::reserve(&mut self.validity, additional)
+    }
+
+    /// Gives back memory that holds no slot, where a smaller block is there.
+    pub fn shrink_to_fit(&mut self)
+        ensures { self.new ≡ self.old }
+    {
+        self.values.shrink_to_fit();
+        validity::shrink_to_fit(&mut self.validity);
+    }
+
+    /// The array of the slots. The builder keeps its data type and has no slot and no validity then, also where this
+    /// answers `Err`.
+    ///
+    /// # Errors
+    /// `Memory`.
+    pub fn freeze(&mut self) -> Result<BooleanArray, Error>
+        ensures ok { IfOk result (λ a. a ≡ self.old) }
+        ensures emptied { self.new ≡ layouts.boolean (layout_type self.old) [] None }
+        ensures memory { IsOkUnless result (Memory alloc_error) }
+    {
+        let values = self.values.freeze();
+        let validity = validity::freeze(&mut self.validity);
+        let data_type = self.data_type.clone(self.alloc);
+        BooleanArray::try_new(data_type?, values?, validity?)
+    }
+}
+
+impl Grow<Option<bool>> for MutableBooleanArray {
+    ghost layout = { λ b. b };
+
+    ghost slot_of_item = { optional slots.truth };
+
+    ghost pushed = { pushed_truth };
+
+    ghost refuses = { λ e a x. ((e ≡ Overflow) × IsPast (len a + 1)) ⊎ (e ≡ Memory alloc_error) };
+
+    fn count(&self) -> usize {
+        self.values.len()
+    }
+
+    fn has_validity(&self) -> bool {
+        self.validity.is_some()
+    }
+
+    fn push_item(&mut self, item: Option<bool>) -> Result<(), Error> {
+        self.push(item)
+    }
+
+    fn take_back(&mut self, n: usize, masked: bool) {
+        self.values.truncate(n);
+        validity::take_back(&mut self.validity, n, masked);
+    }
+}

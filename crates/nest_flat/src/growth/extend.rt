@@ -1,0 +1,68 @@
+//! Items pushed one after another, all or none.
+ghost use Rattle.std.specs.Prelude.{◌≡◌, ◌≤◌, ◌∷◌, ◌++◌, [], List, OnOk, OnErr, IfErr};
+ghost use Rattle.nest_memory.specs.declared.error.Error.{Error};
+ghost use Rattle.nest_model.specs.BuilderSpells.{Gives, Begins};
+ghost use Rattle.nest_model.specs.Layout.{Layout, layout_type};
+ghost use Rattle.nest_model.specs.Meaning.{len};
+ghost use Rattle.nest_model.specs.Slot.{Slot};
+ghost use Rattle.nest_flat.specs.Growth.{CanDrain, Extended, Grew, is_masked, pushed_all, taken_back};
+
+use nest_memory::error::Error;
+
+/// A builder of a flat array that takes items of one type.
+pub(crate) trait Grow<A> {
+    /// The parts of the array so far.
+    ghost layout: { Self → Layout };
+
+    /// The slot that an item is.
+    ghost slot_of_item: { A → Slot };
+
+    /// The parts with an item more.
+    ghost pushed: { Layout → A → Layout };
+
+    /// The errors that may refuse an item.
+    ghost refuses: { Error → Layout → A → Type 0 };
+
+    /// How many slots there are.
+    fn count(&self) -> usize
+        ensures { result ≡ len (layout self.now) };
+
+    /// Whether a validity is there.
+    fn has_validity(&self) -> bool
+        ensures masked { result ≡ is_masked (layout self.now) }
+        ensures whole { taken_back (layout self.now) (len (layout self.now)) (is_masked (layout self.now)) ≡ layout self.now };
+
+    /// Adds a slot.
+    fn push_item(&mut self, item: A) -> Result<(), Error>
+        ensures parts { OnOk result (layout self.new ≡ pushed (layout self.old) item) }
+        ensures grew { OnOk result (Grew (slot_of_item item ∷ []) (layout self.old) (layout self.new)) }
+        ensures err { OnErr result (layout self.new ≡ layout self.old) }
+        ensures cause { IfErr result (λ e. refuses e (layout self.old) item) };
+
+    /// Keeps the first n slots, and drops the validity where none was there.
+    fn take_back(&mut self, n: usize, masked: bool)
+        requires { n ≤ len (layout self.old) }
+        ensures { layout self.new ≡ taken_back (layout self.old) n masked };
+}
+
+/// Pushes each item, and takes all of them back where one is refused.
+pub(crate) fn extend_by_push<A, B: Grow<A>, I: IntoIterator<Item = A>>(
+    builder: &mut B,
+    items: I,
+) -> Result<(), Error>
+    requires { CanDrain I.into_iter_gives I.IntoIter.can_next I.IntoIter.remaining items }
+    ensures ok { OnOk result ((xs : List A) × Gives I.into_iter_gives I.IntoIter.next_gives items xs × Extended B.pushed B.slot_of_item xs (B.layout builder.old) (B.layout builder.new)) }
+    ensures same_type { layout_type (B.layout builder.new) ≡ layout_type (B.layout builder.old) }
+    ensures err { OnErr result (B.layout builder.new ≡ B.layout builder.old) }
+    ensures cause { IfErr result (λ e. (xs : List A) × (x : A) × Begins I.into_iter_gives I.IntoIter.next_gives items (xs ++ x ∷ []) × B.refuses e (pushed_all B.pushed (B.layout builder.old) xs) x) }
+{
+    let len = builder.count();
+    let masked = builder.has_validity();
+    for item in items {
+        if let Err(error) = builder.push_item(item) {
+            builder.take_back(len, masked);
+            return Err(error);
+        }
+    }
+    Ok(())
+}

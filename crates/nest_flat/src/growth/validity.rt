@@ -1,0 +1,151 @@
+//! The bits of a builder's places, which are there from the first null on.
+ghost use Rattle.std.specs.Prelude.{◌≡◌, ◌+◌, ◌^◌, ◌<◌, ◌++◌, ◌∷◌, [], length, true, false, None, OnOk, OnErr, IfOk, replicate, IsOkUnless, alloc_error, ◌≤◌, if◌then◌else◌};
+ghost use Rattle.nest_memory.specs.declared.error.Error.TheVariants.{Memory};
+ghost use Rattle.nest_model.specs.Fits.{ValidityFits};
+ghost use Rattle.nest_model.specs.Part.{cut_validity, valid_at};
+ghost use Rattle.nest_flat.specs.FlatParts.{ValidityCovers};
+ghost use Rattle.nest_flat.specs.Growth.{joined_validity, pushed_validity};
+
+use crate::growth::bits;
+use nest_memory::bitmap::immutable::Bitmap;
+use nest_memory::bitmap::mutable::MutableBitmap;
+use nest_memory::error::Error;
+use std::alloc::Global;
+
+/// The bits of n valid places and a null one.
+fn first_null(alloc: Global, n: usize) -> Result<MutableBitmap, Error>
+    requires { n + 1 < 2 ^ 64 }
+    ensures ok { IfOk result (λ bits. bits ≡ replicate n true ++ false ∷ []) }
+    ensures err { IsOkUnless result (Memory alloc_error) }
+{
+    let mut bits = MutableBitmap::new(alloc);
+    bits.extend_constant(n, true)?;
+    bits.push(false)?;
+    Ok(bits)
+}
+
+/// Adds the bit of one place more, after `len` others.
+pub fn push(
+    alloc: Global,
+    validity: &mut Option<MutableBitmap>,
+    len: usize,
+    valid: bool,
+) -> Result<(), Error>
+    requires fits { ValidityFits validity.old len }
+    requires room { len + 1 < 2 ^ 64 }
+    ensures ok { OnOk result (validity.new ≡ pushed_validity validity.old len valid) }
+    ensures err { OnErr result (validity.new ≡ validity.old) }
+    ensures memory { IsOkUnless result (Memory alloc_error) }
+{
+    if let Some(bits) = validity {
+        return bits.push(valid);
+    }
+    if !valid {
+        *validity = Some(first_null(alloc, len)?);
+    }
+    Ok(())
+}
+
+/// The bits of n valid places, and others behind them.
+fn valid_before(alloc: Global, n: usize, more: &MutableBitmap) -> Result<MutableBitmap, Error>
+    requires { n + length more.now < 2 ^ 64 }
+    ensures ok { IfOk result (λ bits. bits ≡ replicate n true ++ more.now) }
+    ensures err { IsOkUnless result (Memory alloc_error) }
+{
+    let mut bits = MutableBitmap::new(alloc);
+    bits.extend_constant(n, true)?;
+    bits::append(&mut bits, more)?;
+    Ok(bits)
+}
+
+/// Adds the bits of m places more, after n others.
+pub fn join(
+    alloc: Global,
+    validity: &mut Option<MutableBitmap>,
+    n: usize,
+    more: &Option<MutableBitmap>,
+    m: usize,
+) -> Result<(), Error>
+    requires fits { ValidityFits validity.old n }
+    requires more_fits { ValidityFits more.now m }
+    requires room { n + m < 2 ^ 64 }
+    ensures ok { OnOk result (validity.new ≡ joined_validity validity.old n more.now m) }
+    ensures err { OnErr result (validity.new ≡ validity.old) }
+    ensures memory { IsOkUnless result (Memory alloc_error) }
+{
+    if let Some(bits) = validity {
+        return match more {
+            None => bits.extend_constant(m, true),
+            Some(more) => bits::append(bits, more),
+        };
+    }
+    if let Some(more) = more {
+        *validity = Some(valid_before(alloc, n, more)?);
+    }
+    Ok(())
+}
+
+/// Keeps the bits of the first n places.
+pub fn truncate(validity: &mut Option<MutableBitmap>, n: usize)
+    requires { ValidityCovers validity.old n }
+    ensures { validity.new ≡ cut_validity validity.old 0 n }
+{
+    if let Some(bits) = validity {
+        bits.truncate(n);
+    }
+}
+
+/// Keeps the bits of the first n places, or none at all.
+pub fn take_back(validity: &mut Option<MutableBitmap>, n: usize, masked: bool)
+    requires { ValidityCovers validity.old n }
+    ensures { validity.new ≡ (if masked then cut_validity validity.old 0 n else None) }
+{
+    if masked {
+        truncate(validity, n);
+    } else {
+        drop(validity.take());
+    }
+}
+
+/// Whether place i is valid.
+pub fn is_valid(validity: &Option<MutableBitmap>, i: usize) -> bool
+    requires { ValidityCovers validity.now (i + 1) }
+    ensures { result ≡ valid_at validity.now i }
+{
+    match validity {
+        None => true,
+        Some(bits) => bits.get(i),
+    }
+}
+
+/// Room for the bits of so many places more.
+pub fn reserve(validity: &mut Option<MutableBitmap>, additional: usize) -> Result<(), Error>
+    ensures same { validity.new ≡ validity.old }
+    ensures memory { IsOkUnless result (Memory alloc_error) }
+{
+    match validity {
+        None => Ok(()),
+        Some(bits) => bits.reserve(additional),
+    }
+}
+
+/// Gives back memory that holds no bit, where a smaller block is there.
+pub fn shrink_to_fit(validity: &mut Option<MutableBitmap>)
+    ensures { validity.new ≡ validity.old }
+{
+    if let Some(bits) = validity {
+        bits.shrink_to_fit();
+    }
+}
+
+/// The bits, shared. None are left.
+pub fn freeze(validity: &mut Option<MutableBitmap>) -> Result<Option<Bitmap>, Error>
+    ensures ok { IfOk result (λ frozen. frozen ≡ validity.old) }
+    ensures emptied { validity.new ≡ None }
+    ensures memory { IsOkUnless result (Memory alloc_error) }
+{
+    match validity.take() {
+        None => Ok(None),
+        Some(mut bits) => Ok(Some(bits.freeze()?)),
+    }
+}

@@ -1,0 +1,303 @@
+//! The builder of arrays of native values.
+ghost use Rattle.std.specs.Prelude.{◌≡◌, ◌≢◌, ◌+◌, ◌≤◌, ◌<◌, ◌↔◌, ◌++◌, ◌∷◌, [], List, Option, IsTrue, IfOk, IfErr, ◌⊎◌, OnOk, OnErr, IsOkUnless, IsErrOf, None, Some, option_map, map, alloc_error};
+ghost use Rattle.std.specs.Option.{unwrap_or};
+ghost use Rattle.nest_memory.specs.Cut.{cut};
+ghost use Rattle.nest_memory.specs.Physical.{physical_type, primitive_tree};
+ghost use Rattle.nest_memory.specs.TypeOf.{type_of};
+ghost use Rattle.nest_memory.specs.declared.datatypes.physical_type.PhysicalType.TheVariants as physical;
+ghost use Rattle.nest_memory.specs.declared.error.Argument.TheVariants.{ItemType};
+ghost use Rattle.nest_memory.specs.declared.error.Error.TheVariants.{InvalidArgumentError, Memory};
+ghost use Rattle.nest_model.specs.Accessors.{validity_of, natives_of, with_type};
+ghost use Rattle.nest_model.specs.Array.{TopFits};
+ghost use Rattle.nest_model.specs.BuilderSpells.{Gives};
+ghost use Rattle.nest_model.specs.Cut.{cut_layout};
+ghost use Rattle.nest_model.specs.Layout as layouts;
+ghost use Rattle.nest_model.specs.Layout.{layout_type};
+ghost use Rattle.nest_model.specs.Meaning.{len, slots_of};
+ghost use Rattle.nest_model.specs.Part.{valid_at};
+ghost use Rattle.nest_model.specs.Slot as slots;
+ghost use Rattle.nest_flat.specs.FlatParts.{optional};
+ghost use Rattle.nest_flat.specs.Growth.{CanDrain, Extended, Grew, joined_parts, pushed_native, zeros};
+
+use crate::growth::extend::{Grow, extend_by_push};
+use crate::growth::validity;
+use crate::primitive::PrimitiveArray;
+use nest_memory::bitmap::mutable::MutableBitmap;
+use nest_memory::buffer::Buffer;
+use nest_memory::datatypes::DataType;
+use nest_memory::error::{Argument, Error};
+use nest_memory::types::NativeType;
+use std::alloc::Global;
+use std::marker::Model;
+use std::mem;
+
+/// Native values and nulls that are pushed one after another, and then frozen into a `PrimitiveArray`.
+/// arrow2's `MutablePrimitiveArray`.
+///
+/// Under a null lies the value whose numbers are all 0. A validity is made at the first null. A call that answers
+/// `Err` changes nothing, but for `freeze`, which empties the builder either way.
+#[derive(Drop)]
+pub struct MutablePrimitiveArray<T: NativeType> {
+    data_type: DataType,
+    values: Vec<T>,
+    validity: Option<MutableBitmap>,
+}
+
+impl<T: NativeType> Model for MutablePrimitiveArray<T> {
+    ghost use Rattle.std.specs.Prelude.{map};
+    ghost use Rattle.nest_model.specs.Layout as layouts;
+    ghost use Rattle.nest_model.specs.Layout.{Layout};
+    ghost use Rattle.nest_model.specs.LayoutCode.{coded_layout};
+
+    ghost Value = { Layout };
+
+    ghost coded = { coded_layout };
+
+    ghost use Rattle.nest_memory.specs.TypeOf.{type_of};
+    ghost use Rattle.nest_model.specs.Array.{TopFits};
+
+    ghost view = { λ b. layouts.primitive T.PRIMITIVE (type_of b.data_type) (map T.numbers b.values.items) b.validity };
+
+    ghost invariant = { λ b. TopFits (layouts.primitive T.PRIMITIVE (type_of b.data_type) (map T.numbers b.values.items) b.validity) };
+}
+
+impl<T: NativeType> MutablePrimitiveArray<T> {
+    /// No slot, of the data type that stands for such values, and no memory taken.
+    pub fn new(alloc: Global) -> MutablePrimitiveArray<T>
+        ensures { result ≡ layouts.primitive T.PRIMITIVE (primitive_tree T.PRIMITIVE) [] None }
+    {
+        MutablePrimitiveArray {
+            data_type: DataType::from(T::PRIMITIVE),
+            values: Vec::new(alloc),
+            validity: None,
+        }
+    }
+
+    /// The same slots under another data type of such values.
+    pub fn to(self, data_type: DataType) -> MutablePrimitiveArray<T>
+        requires { physical_type (type_of data_type) ≡ physical.Primitive T.PRIMITIVE }
+        ensures { result ≡ with_type self (type_of data_type) }
+    {
+        let mut builder = self;
+        let old = mem::replace(&mut builder.data_type, data_type);
+        drop(old);
+        builder
+    }
+
+    /// What holds of every such builder.
+    pub fn known(&self)
+        ensures fits { TopFits self.now }
+        ensures kind { self.now ≡ layouts.primitive T.PRIMITIVE (layout_type self.now) (natives_of self.now) (validity_of self.now) }
+    {
+        let _ = &self.data_type;
+    }
+
+    /// How many slots it has.
+    pub fn len(&self) -> usize
+        ensures { result ≡ len self.now }
+    {
+        self.values.len()
+    }
+
+    /// Whether it has no slot.
+    pub fn is_empty(&self) -> bool
+        ensures { IsTrue result ↔ (len self.now ≡ 0) }
+    {
+        self.len() == 0
+    }
+
+    /// Its data type.
+    pub fn data_type(&self) -> &DataType
+        ensures { type_of result.now ≡ layout_type self.now }
+    {
+        &self.data_type
+    }
+
+    /// Which slots are valid, a bit a slot; without it all are.
+    pub fn validity(&self) -> Option<&MutableBitmap>
+        ensures { option_map (λ b. b.now) result ≡ validity_of self.now }
+    {
+        self.validity.as_ref()
+    }
+
+    /// Whether slot i is not null.
+    pub fn is_valid(&self, i: usize) -> bool
+        requires { i < len self.now }
+        ensures { result ≡ valid_at (validity_of self.now) i }
+    {
+        validity::is_valid(&self.validity, i)
+    }
+
+    /// Its raw values, also those under nulls.
+    pub fn values(&self) -> &Vec<T>
+        ensures { map T.numbers result.now.items ≡ natives_of self.now }
+    {
+        &self.values
+    }
+
+    /// Adds a slot: the value, or null.
+    ///
+    /// # Errors
+    /// `Memory`.
+    pub fn try_push(&mut self, item: Option<T>) -> Result<(), Error>
+        ensures parts { OnOk result (self.new ≡ pushed_native self.old (option_map T.numbers item)) }
+        ensures slots { OnOk result (slots_of self.new ≡ slots_of self.old ++ optional (λ x. slots.number (T.numbers x)) item ∷ []) }
+        ensures err { OnErr result (self.new ≡ self.old) }
+        ensures same_type { layout_type self.new ≡ layout_type self.old }
+        ensures memory { IsOkUnless result (Memory alloc_error) }
+    {
+        self.push_item(item)
+    }
+
+    /// Adds a slot for each item, all of them or none.
+    ///
+    /// # Errors
+    /// `Memory`.
+    pub fn try_extend<I: IntoIterator<Item = Option<T>>>(&mut self, items: I) -> Result<(), Error>
+        requires { CanDrain I.into_iter_gives I.IntoIter.can_next I.IntoIter.remaining items }
+        ensures ok { OnOk result ((xs : List (Option T)) × Gives I.into_iter_gives I.IntoIter.next_gives items xs
+            × Extended (λ a x. pushed_native a (option_map T.numbers x)) (optional (λ x. slots.number (T.numbers x))) xs self.old self.new) }
+        ensures err { OnErr result (self.new ≡ self.old) }
+        ensures same_type { layout_type self.new ≡ layout_type self.old }
+        ensures memory { IsOkUnless result (Memory alloc_error) }
+    {
+        extend_by_push(self, items)
+    }
+
+    /// Adds the slots of another builder, all of them or none.
+    ///
+    /// # Errors
+    /// `ItemType` where the data types differ; `Memory`.
+    pub fn try_extend_from_self(&mut self, other: &MutablePrimitiveArray<T>) -> Result<(), Error>
+        ensures parts { OnOk result (self.new ≡ joined_parts self.old other.now) }
+        ensures slots { OnOk result (slots_of self.new ≡ slots_of self.old ++ slots_of other.now) }
+        ensures err { OnErr result (self.new ≡ self.old) }
+        ensures same_type { layout_type self.new ≡ layout_type self.old }
+        ensures item_type { IsErrOf result (InvalidArgumentError ItemType) ↔ layout_type self.old ≢ layout_type other.now }
+        ensures errors { IfErr result (λ e. (e ≡ InvalidArgumentError ItemType) ⊎ (e ≡ Memory alloc_error)) }
+    {
+        let same_type = *self.data_type() == *other.data_type();
+        if !same_type {
+            return Err(Error::InvalidArgumentError(Argument::ItemType));
+        }
+        self.append(other)
+    }
+
+    fn append(&mut self, other: &MutablePrimitiveArray<T>) -> Result<(), Error>
+        ensures parts { OnOk result (self.new ≡ joined_parts self.old other.now) }
+        ensures grew { OnOk result (Grew (slots_of other.now) self.old self.new) }
+        ensures err { OnErr result (self.new ≡ self.old) }
+        ensures memory { IsOkUnless result (Memory alloc_error) }
+    {
+        let alloc = *self.values.allocator();
+        let len = self.values.len();
+        self.values.extend_from_slice(other.values.as_slice())?;
+        let _more = self.values.len();
+        let more = other.values.len();
+        if let Err(error) = validity::join(alloc, &mut self.validity, len, &other.validity, more) {
+            self.values.truncate(len);
+            return Err(error);
+        }
+        Ok(())
+    }
+
+    /// Keeps the first n slots.
+    pub fn truncate(&mut self, n: usize)
+        requires { n ≤ len self.old }
+        ensures parts { self.new ≡ cut_layout self.old 0 n }
+        ensures slots { slots_of self.new ≡ cut (slots_of self.old) 0 n }
+        ensures same_type { layout_type self.new ≡ layout_type self.old }
+    {
+        self.cut(n);
+    }
+
+    fn cut(&mut self, n: usize)
+        requires { n ≤ len self.old }
+        ensures { self.new ≡ cut_layout self.old 0 n }
+    {
+        self.values.truncate(n);
+        validity::truncate(&mut self.validity, n);
+    }
+
+    /// Room for so many slots more.
+    ///
+    /// # Errors
+    /// `Memory`.
+    pub fn reserve(&mut self, additional: usize) -> Result<(), Error>
+        ensures same { self.new ≡ self.old }
+        ensures memory { IsOkUnless result (Memory alloc_error) }
+    {
+        self.values.reserve(additional)?;
+        validity::reserve(&mut self.validity, additional)
+    }
+
+    /// Gives back memory that holds no slot, where a smaller block is there.
+    pub fn shrink_to_fit(&mut self)
+        ensures { self.new ≡ self.old }
+    {
+        self.values.shrink_to_fit();
+        validity::shrink_to_fit(&mut self.validity);
+    }
+
+    /// The array of the slots. The builder keeps its data type and has no slot and no validity then, also where this
+    /// answers `Err`.
+    ///
+    /// # Errors
+    /// `Memory`.
+    pub fn freeze(&mut self) -> Result<PrimitiveArray<T>, Error>
+        ensures ok { IfOk result (λ a. a ≡ self.old) }
+        ensures emptied { self.new ≡ layouts.primitive T.PRIMITIVE (layout_type self.old) [] None }
+        ensures memory { IsOkUnless result (Memory alloc_error) }
+    {
+        let alloc = *self.values.allocator();
+        let values = mem::replace(&mut self.values, Vec::new(alloc));
+        let validity = validity::freeze(&mut self.validity);
+        let data_type = self.data_type.clone(alloc);
+        PrimitiveArray::try_new(data_type?, Buffer::from_vec(alloc, values)?, validity?)
+    }
+}
+
+impl<T: NativeType> Grow<Option<T>> for MutablePrimitiveArray<T> {
+    ghost layout = { λ b. b };
+
+    ghost slot_of_item = { optional (λ x. slots.number (T.numbers x)) };
+
+    ghost pushed = { λ a x. pushed_native a (option_map T.numbers x) };
+
+    ghost refuses = { λ e a x. e ≡ Memory alloc_error };
+
+    fn count(&self) -> usize {
+        self.values.len()
+    }
+
+    fn has_validity(&self) -> bool {
+        self.validity.is_some()
+    }
+
+    fn push_item(&mut self, item: Option<T>) -> Result<(), Error> {
+        let alloc = *self.values.allocator();
+        let len = self.values.len();
+        self.values.push(value_or_zero(item))?;
+        let _more = self.values.len();
+        if let Err(error) = validity::push(alloc, &mut self.validity, len, item.is_some()) {
+            self.values.truncate(len);
+            return Err(error);
+        }
+        Ok(())
+    }
+
+    fn take_back(&mut self, n: usize, masked: bool) {
+        self.values.truncate(n);
+        validity::take_back(&mut self.validity, n, masked);
+    }
+}
+
+/// The raw value of an item: the one whose numbers are all 0 under a null.
+fn value_or_zero<T: NativeType>(item: Option<T>) -> T
+    ensures { T.numbers result ≡ unwrap_or (option_map T.numbers item) (zeros T.PRIMITIVE) }
+{
+    match item {
+        Some(value) => value,
+        None => T::zero(),
+    }
+}

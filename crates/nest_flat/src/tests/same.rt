@@ -1,0 +1,68 @@
+//! Arrays are equal where their data types and their slots are; what lies under a null does not count.
+use super::{binaries, numbers, texts, truths};
+use nest_memory::datatypes::DataType;
+use nest_memory::error::Error;
+
+/// Whether both were made and are equal; both are let go.
+fn are_same<A: PartialEq + Drop>(x: Result<A, Error>, y: Result<A, Error>) -> Result<bool, Error> {
+    let (x, y) = super::both(x, y)?;
+    Ok(x == y)
+}
+
+#[test]
+fn numbers_under_nulls(rt: HostRuntime) {
+    let alloc = rt.alloc();
+    let bits = Some([true, false].as_slice());
+    let array = numbers(alloc, DataType::Int32, &[1, 2], bits);
+    let same = numbers(alloc, DataType::Int32, &[1, 9], bits);
+    assert_eq!(rt; are_same(array, same), Ok(true));
+    let array = numbers(alloc, DataType::Int32, &[1, 2], bits);
+    let valid = numbers(alloc, DataType::Int32, &[1, 2], None);
+    assert_eq!(rt; are_same(array, valid), Ok(false));
+    let array = numbers(alloc, DataType::Int32, &[1, 2], bits);
+    let dates = numbers(alloc, DataType::Date32, &[1, 2], bits);
+    assert_eq!(rt; are_same(array, dates), Ok(false));
+    let array = numbers(alloc, DataType::Int32, &[1, 2], None);
+    let other = numbers(alloc, DataType::Int32, &[1, 3], None);
+    assert_eq!(rt; are_same(array, other), Ok(false));
+}
+
+#[test]
+fn truths_under_nulls(rt: HostRuntime) {
+    let alloc = rt.alloc();
+    let bits = Some([true, false].as_slice());
+    let array = truths(alloc, &[true, false], bits);
+    assert_eq!(rt;
+        are_same(array, truths(alloc, &[true, true], bits)),
+        Ok(true)
+    );
+    let array = truths(alloc, &[true, false], bits);
+    assert_eq!(rt;
+        are_same(array, truths(alloc, &[false, false], bits)),
+        Ok(false)
+    );
+}
+
+#[test]
+fn bytes_by_other_offsets(rt: HostRuntime) {
+    let alloc = rt.alloc();
+    let bits = Some([true, false].as_slice());
+    let array = binaries(alloc, &[4, 5], &[0, 1, 2], bits);
+    let same = binaries(alloc, &[9, 4], &[1, 2, 2], bits);
+    assert_eq!(rt; are_same(array, same), Ok(true));
+    let array = binaries(alloc, &[4, 5], &[0, 1, 2], bits);
+    let other = binaries(alloc, &[4, 5], &[0, 2, 2], bits);
+    assert_eq!(rt; are_same(array, other), Ok(false));
+}
+
+#[test]
+fn texts_by_other_offsets(rt: HostRuntime) {
+    let alloc = rt.alloc();
+    let bits = Some([true, false].as_slice());
+    let array = texts(alloc, b"ab", &[0, 1, 2], bits);
+    let same = texts(alloc, b"xa", &[1, 2, 2], bits);
+    assert_eq!(rt; are_same(array, same), Ok(true));
+    let array = texts(alloc, b"ab", &[0, 1, 2], None);
+    let other = texts(alloc, b"ac", &[0, 1, 2], None);
+    assert_eq!(rt; are_same(array, other), Ok(false));
+}

@@ -1,0 +1,329 @@
+//! The builder of arrays of texts.
+ghost use Rattle.std.specs.Prelude.{◌≡◌, ◌≢◌, ◌↔◌, ◌⊎◌, ◌+◌, ◌≤◌, ◌<◌, ◌++◌, ◌∷◌, [], ℕ, List, Option, IsTrue, IfOk, IfErr, OnOk, OnErr, IsErrOf, IsOkUnless, None, length, option_map, alloc_error, IsUtf8};
+ghost use Rattle.std.specs.Borrow.{Bor};
+ghost use Rattle.std.specs.Option.{option_copied};
+ghost use Rattle.nest_memory.specs.Cut.{cut};
+ghost use Rattle.nest_memory.specs.TypeOf.{type_of};
+ghost use Rattle.nest_memory.specs.Physical.{physical_type, text_of_width};
+ghost use Rattle.nest_memory.specs.declared.error.Argument.TheVariants.{ItemType};
+ghost use Rattle.nest_memory.specs.declared.error.Error.TheVariants.{InvalidArgumentError, Memory, Overflow};
+ghost use Rattle.nest_model.specs.Accessors.{validity_of, offsets_of, bytes_of};
+ghost use Rattle.nest_model.specs.Array.{TopFits};
+ghost use Rattle.nest_model.specs.BuilderSpells.{Gives, Begins};
+ghost use Rattle.nest_model.specs.Layout as layouts;
+ghost use Rattle.nest_model.specs.Layout.{layout_type};
+ghost use Rattle.nest_model.specs.Meaning.{len, slot, slots_of};
+ghost use Rattle.nest_model.specs.Part.{valid_at, begin, extent, last_offset};
+ghost use Rattle.nest_model.specs.Reads.{where_valid};
+ghost use Rattle.nest_model.specs.Slot as slots;
+ghost use Rattle.nest_flat.specs.FlatParts.{optional};
+ghost use Rattle.nest_flat.specs.Growth.{CanDrain, Extended, Grew, first_slots, is_masked, pushed_all, taken_back};
+ghost use Rattle.nest_flat.specs.BytesGrowth.{AreSpans, HasPushCause, text_tree, item_bytes, joined_spans, pushed_item, spans_of, with_spans};
+
+use crate::growth::bytes::BytesBuilder;
+use crate::growth::extend::{Grow, extend_by_push};
+use crate::spans;
+use crate::utf8::Utf8Array;
+use nest_memory::bitmap::mutable::MutableBitmap;
+use nest_memory::datatypes::DataType;
+use nest_memory::error::{Argument, Error};
+use nest_memory::offset::Offset;
+use nest_memory::offsets::Offsets;
+use std::alloc::Global;
+use std::marker::Model;
+
+/// Texts and nulls that are pushed one after another, and then frozen into a `Utf8Array`.
+/// arrow2's `MutableUtf8Array`.
+///
+/// A null has no bytes. A validity is made at the first null. A call that answers `Err` changes nothing, but for
+/// `freeze`, which empties the builder either way.
+#[derive(Drop)]
+pub struct MutableUtf8Array<O: Offset> {
+    data_type: DataType,
+    spans: BytesBuilder<O>,
+}
+
+impl<O: Offset> Model for MutableUtf8Array<O> {
+    ghost use Rattle.nest_model.specs.Layout as layouts;
+    ghost use Rattle.nest_model.specs.Layout.{Layout};
+    ghost use Rattle.nest_model.specs.LayoutCode.{coded_layout};
+
+    ghost Value = { Layout };
+
+    ghost coded = { coded_layout };
+
+    ghost use Rattle.std.specs.Prelude.{◌≡◌};
+    ghost use Rattle.nest_memory.specs.TypeOf.{type_of};
+    ghost use Rattle.nest_memory.specs.Physical.{physical_type, text_of_width};
+    ghost use Rattle.nest_model.specs.Fits.{EachText};
+
+    ghost view = { λ b. layouts.text O.IS_LARGE (type_of b.data_type) b.spans.offsets b.spans.bytes b.spans.validity };
+
+    ghost invariant = { λ b. (physical_type (type_of b.data_type) ≡ text_of_width O.IS_LARGE) × EachText b.spans.offsets b.spans.bytes };
+}
+
+// The type of such arrays by the width of their offsets.
+fn type_of_width<O: Offset>() -> DataType
+    ensures { type_of result ≡ text_tree O.IS_LARGE }
+{
+    if O::IS_LARGE {
+        DataType::LargeUtf8
+    } else {
+        DataType::Utf8
+    }
+}
+
+// The bytes of a text.
+fn bytes_of(item: Option<&str>) -> Option<&[u8]>
+    ensures same { option_copied result ≡ option_copied item.entry }
+    ensures text { IsUtf8 (item_bytes (option_copied item.entry)) }
+{
+    match item {
+        Some(text) => Some(text.as_bytes()),
+        None => None,
+    }
+}
+
+impl<O: Offset> MutableUtf8Array<O> {
+    /// No slot, of the type `LargeUtf8` or `Utf8` by the width of the offsets.
+    ///
+    /// # Errors
+    /// `Memory`.
+    pub fn new(alloc: Global) -> Result<MutableUtf8Array<O>, Error>
+        ensures ok { IfOk result (λ b. b ≡ layouts.text O.IS_LARGE (text_tree O.IS_LARGE) (0 ∷ []) [] None) }
+        ensures memory { IsOkUnless result (Memory alloc_error) }
+    {
+        let spans = BytesBuilder::new(alloc)?;
+        Ok(MutableUtf8Array {
+            data_type: type_of_width::<O>(),
+            spans,
+        })
+    }
+
+    /// What holds of every such builder.
+    pub fn known(&self)
+        ensures fits { TopFits self.now }
+        ensures kind { self.now ≡ layouts.text O.IS_LARGE (layout_type self.now) (offsets_of self.now) (bytes_of self.now) (validity_of self.now) }
+        ensures spans { AreSpans (spans_of self.now) }
+        ensures room { last_offset (offsets_of self.now) ≤ O.largest }
+    {
+        let _ = &self.data_type;
+        self.spans.known();
+    }
+
+    /// How many slots it has.
+    pub fn len(&self) -> usize
+        ensures { result ≡ len self.now }
+    {
+        self.spans.len()
+    }
+
+    /// Whether it has no slot.
+    pub fn is_empty(&self) -> bool
+        ensures { IsTrue result ↔ (len self.now ≡ 0) }
+    {
+        self.len() == 0
+    }
+
+    /// Its data type.
+    pub fn data_type(&self) -> &DataType
+        ensures { type_of result.now ≡ layout_type self.now }
+    {
+        &self.data_type
+    }
+
+    /// Which slots are valid, a bit a slot; without it all are.
+    pub fn validity(&self) -> Option<&MutableBitmap>
+        ensures { option_map (λ b. b.now) result ≡ validity_of self.now }
+    {
+        self.spans.validity()
+    }
+
+    /// Where the bytes of each slot begin and end.
+    pub fn offsets(&self) -> &Offsets<O>
+        ensures { result.now ≡ offsets_of self.now }
+    {
+        self.spans.offsets()
+    }
+
+    /// Its bytes.
+    pub fn values(&self) -> &Vec<u8>
+        ensures { result.now.items ≡ bytes_of self.now }
+    {
+        self.spans.bytes()
+    }
+
+    /// Whether slot i is not null.
+    pub fn is_valid(&self, i: usize) -> bool
+        requires { i < len self.now }
+        ensures { result ≡ valid_at (validity_of self.now) i }
+    {
+        self.spans.is_valid(i)
+    }
+
+    /// The raw value of slot i: an empty text where the slot is null.
+    pub fn value(&self, i: usize) -> &str
+        requires { i < len self.now }
+        ensures raw { result.now ≡ cut (bytes_of self.now) (begin (offsets_of self.now) i) (extent (offsets_of self.now) i) }
+        ensures slot { slot self.now i ≡ where_valid (validity_of self.now) i (slots.text result.now) }
+    {
+        spans::text_of(self.spans.value(i))
+    }
+
+    /// Adds a slot: the text, or null.
+    ///
+    /// # Errors
+    /// `Overflow` where no offset can stand for its end, `Memory`.
+    pub fn try_push(&mut self, item: Option<&str>) -> Result<(), Error>
+        ensures parts { OnOk result (self.new ≡ pushed_item self.old (option_copied item.entry)) }
+        ensures slots { OnOk result (slots_of self.new ≡ slots_of self.old ++ optional slots.text (option_copied item.entry) ∷ []) }
+        ensures err { OnErr result (self.new ≡ self.old) }
+        ensures same_type { layout_type self.new ≡ layout_type self.old }
+        ensures overflow { IsErrOf result Overflow ↔ (O.largest < last_offset (offsets_of self.old) + length (item_bytes (option_copied item.entry))) }
+        ensures errors { IfErr result (λ e. (e ≡ Overflow) ⊎ (e ≡ Memory alloc_error)) }
+    {
+        self.spans.known();
+        self.spans.try_push(bytes_of(item))
+    }
+
+    /// Adds the slots of another builder, all of them or none.
+    ///
+    /// # Errors
+    /// `ItemType` where the data types differ, `Overflow` where no offset can stand for the last end, `Memory`.
+    pub fn try_extend_from_self(&mut self, other: &MutableUtf8Array<O>) -> Result<(), Error>
+        ensures parts { OnOk result (self.new ≡ with_spans self.old (joined_spans (spans_of self.old) (spans_of other.now))) }
+        ensures slots { OnOk result (slots_of self.new ≡ slots_of self.old ++ slots_of other.now) }
+        ensures err { OnErr result (self.new ≡ self.old) }
+        ensures same_type { layout_type self.new ≡ layout_type self.old }
+        ensures item_type { IsErrOf result (InvalidArgumentError ItemType) ↔ layout_type self.old ≢ layout_type other.now }
+        ensures overflow { IsErrOf result Overflow
+            ↔ (layout_type self.old ≡ layout_type other.now) × (O.largest < last_offset (offsets_of self.old) + last_offset (offsets_of other.now)) }
+        ensures errors { IfErr result (λ e. (e ≡ InvalidArgumentError ItemType) ⊎ ((e ≡ Overflow) ⊎ (e ≡ Memory alloc_error))) }
+    {
+        let same_type = *self.data_type() == *other.data_type();
+        if !same_type {
+            return Err(Error::InvalidArgumentError(Argument::ItemType));
+        }
+        self.append(other)
+    }
+
+    fn append(&mut self, other: &MutableUtf8Array<O>) -> Result<(), Error>
+        ensures parts { OnOk result (self.new ≡ with_spans self.old (joined_spans (spans_of self.old) (spans_of other.now))) }
+        ensures slots { OnOk result (slots_of self.new ≡ slots_of self.old ++ slots_of other.now) }
+        ensures err { OnErr result (self.new ≡ self.old) }
+        ensures same_type { layout_type self.new ≡ layout_type self.old }
+        ensures overflow { IsErrOf result Overflow ↔ (O.largest < last_offset (offsets_of self.old) + last_offset (offsets_of other.now)) }
+        ensures errors { IfErr result (λ e. (e ≡ Overflow) ⊎ (e ≡ Memory alloc_error)) }
+    {
+        self.spans.known();
+        other.spans.known();
+        self.spans.try_extend_from_self(&other.spans)
+    }
+
+    /// Adds a slot for each item, all of them or none.
+    ///
+    /// # Errors
+    /// `Overflow` where no offset can stand for the end of an item, `Memory`.
+    pub fn try_extend<'a, I: IntoIterator<Item = Option<&'a str>>>(
+        &mut self,
+        items: I,
+    ) -> Result<(), Error>
+        requires { CanDrain I.into_iter_gives I.IntoIter.can_next I.IntoIter.remaining items }
+        ensures ok { OnOk result ((xs : List (Option (Bor (List ℕ)))) × Gives I.into_iter_gives I.IntoIter.next_gives items xs
+            × Extended (λ a x. pushed_item a (option_copied x)) (λ x. optional slots.text (option_copied x)) xs self.old self.new) }
+        ensures err { OnErr result (self.new ≡ self.old) }
+        ensures same_type { layout_type self.new ≡ layout_type self.old }
+        ensures cause { IfErr result (λ e. (xs : List (Option (Bor (List ℕ)))) × (x : Option (Bor (List ℕ))) × Begins I.into_iter_gives I.IntoIter.next_gives items (xs ++ x ∷ [])
+            × HasPushCause O.largest e (pushed_all (λ a y. pushed_item a (option_copied y)) self.old xs) (option_copied x)) }
+    {
+        extend_by_push(self, items)
+    }
+
+    /// Keeps the first n slots.
+    pub fn truncate(&mut self, n: usize)
+        requires { n ≤ len self.old }
+        ensures parts { self.new ≡ first_slots self.old n }
+        ensures slots { slots_of self.new ≡ cut (slots_of self.old) 0 n }
+        ensures same_type { layout_type self.new ≡ layout_type self.old }
+    {
+        self.spans.known();
+        self.spans.take_back(n, true);
+    }
+
+    /// Room for so many slots more, but for their bytes.
+    ///
+    /// # Errors
+    /// `Memory`.
+    pub fn reserve(&mut self, additional: usize) -> Result<(), Error>
+        ensures same { self.new ≡ self.old }
+        ensures memory { IsOkUnless result (Memory alloc_error) }
+    {
+        self.spans.reserve(additional)
+    }
+
+    /// Gives back memory that holds no slot, where a smaller block is there.
+    pub fn shrink_to_fit(&mut self)
+        ensures { self.new ≡ self.old }
+    {
+        self.spans.shrink_to_fit();
+    }
+
+    /// The array of the slots. The builder keeps its data type and has no slot and no validity then, also where this
+    /// answers `Err`.
+    ///
+    /// # Errors
+    /// `Memory`.
+    pub fn freeze(&mut self) -> Result<Utf8Array<O>, Error>
+        ensures ok { IfOk result (λ a. a ≡ self.old) }
+        ensures emptied { self.new ≡ layouts.text O.IS_LARGE (layout_type self.old) (0 ∷ []) [] None }
+        ensures memory { IsOkUnless result (Memory alloc_error) }
+    {
+        self.spans.known();
+        let alloc = self.spans.allocator();
+        let (offsets, values, validity) = self.spans.freeze()?;
+        let data_type = self.data_type.clone(alloc)?;
+        Ok(Utf8Array {
+            data_type,
+            offsets,
+            values,
+            validity,
+        })
+    }
+}
+
+impl<'a, O: Offset> Grow<Option<&'a str>> for MutableUtf8Array<O> {
+    ghost layout = { λ b. b };
+
+    ghost slot_of_item = { λ x. optional slots.text (option_copied x) };
+
+    ghost pushed = { λ a x. pushed_item a (option_copied x) };
+
+    ghost refuses = { λ e a x. HasPushCause O.largest e a (option_copied x) };
+
+    fn count(&self) -> usize
+        ensures { result ≡ len self.now }
+    {
+        self.spans.len()
+    }
+
+    fn has_validity(&self) -> bool
+        ensures masked { result ≡ is_masked self.now }
+        ensures whole { taken_back self.now (len self.now) (is_masked self.now) ≡ self.now }
+    {
+        self.spans.known();
+        self.spans.validity().is_some()
+    }
+
+    fn push_item(&mut self, item: Option<&'a str>) -> Result<(), Error> {
+        self.spans.known();
+        self.spans.try_push(bytes_of(item))
+    }
+
+    fn take_back(&mut self, n: usize, masked: bool)
+        requires { n ≤ len self.old }
+        ensures { self.new ≡ taken_back self.old n masked }
+    {
+        self.spans.known();
+        self.spans.take_back(n, masked);
+    }
+}
