@@ -5,7 +5,7 @@ use Rattle.std.proofs.Common.{◌≡◌, ℕ, zero, suc, ◌+◌, ◌-◌, ◌<�
 use Rattle.std.proofs.lemmas.List.{length-append, length-map, length-drop, length-take-le, get_or-take, get_or_append_left, get_or-append-add, get_or-map, get_or-drop, drop-drop, drop-append-le, take-append-le, take_all}
 use Rattle.std.proofs.Math.Seq.{drop-append_seam, take-length}
 use Rattle.nest_memory.specs.Cut.{cut}
-use Rattle.nest_memory.specs.Rising.{last_of, last_of-index, NeverFalls}
+use Rattle.nest_memory.specs.Rising.{last_of, NeverFalls}
 use Rattle.nest_memory.specs.TypeTree.{TypeTree}
 use Rattle.nest_memory.specs.declared.error.Error.{Error}
 use Rattle.nest_memory.specs.declared.error.Error.TheVariants.{Memory, Overflow}
@@ -256,8 +256,7 @@ pub parts-taken : (s : Spans) (os bs : List ℕ) (va : Validity) (n last : ℕ) 
     → va ≡ (if m then cut_validity s.validity 0 n else None) → spans os bs va ≡ (if m then first_spans n s else bare_spans (first_spans n s))
 parts-taken s os bs va n last m h k e f g v =
     let z = h.rising.0 in
-    let p : 0 < length os = omega (arith, ap length e, length-take-le (n + 1) s.offsets (omega arith)) in
-    let l : last ≡ begin s.offsets n = f ∙ last_of-index os 0 p ∙ ap last_offset e ∙ last-first s.offsets n z k in
+    let l : last ≡ begin s.offsets n = f ∙ ap last_of e ∙ last-first s.offsets n z k in
     let b : bs ≡ take (begin s.offsets n) s.bytes = g ∙ ap (λ i. take i s.bytes) l in
     by-mask m v e b
   where
