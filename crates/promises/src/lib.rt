@@ -1,0 +1,4 @@
+//! Promises.
+#![tactic(auto)]
+
+pub mod memory;
