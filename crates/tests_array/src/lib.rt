@@ -4,8 +4,16 @@
 #[cfg(test)]
 mod arrays;
 #[cfg(test)]
+mod calls;
+#[cfg(test)]
+mod copies;
+#[cfg(test)]
 mod fixed_size_binaries;
 #[cfg(test)]
 mod generic_binaries;
 #[cfg(test)]
 mod nulls;
+#[cfg(test)]
+mod refusals;
+#[cfg(test)]
+mod rows;

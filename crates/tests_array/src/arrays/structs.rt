@@ -44,7 +44,7 @@ fn records(
 }
 
 /// Four records, of which the third is null.
-pub(super) fn four(alloc: Global, items: &[i32]) -> Result<StructArray, Error> {
+pub(crate) fn four(alloc: Global, items: &[i32]) -> Result<StructArray, Error> {
     let bits = [true, true, false, true].as_slice();
     records(alloc, &[false, false, true, true], items, Some(bits))
 }
