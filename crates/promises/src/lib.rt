@@ -1,4 +1,5 @@
 //! Promises.
 #![tactic(auto)]
 
+pub mod flat;
 pub mod memory;

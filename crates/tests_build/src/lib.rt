@@ -3,3 +3,5 @@
 
 #[cfg(test)]
 mod lists;
+#[cfg(test)]
+mod rows;

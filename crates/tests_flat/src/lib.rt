@@ -7,3 +7,5 @@ mod arrays;
 mod bytes_growth;
 #[cfg(test)]
 mod growth;
+#[cfg(test)]
+mod no_nulls;
