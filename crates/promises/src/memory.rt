@@ -168,10 +168,10 @@ pub fn are_same_types(a: &DataType, b: &DataType) -> bool
 }
 
 /// Fields are equal exactly where name, type, flag and metadata are.
-pub fn are_same_fields(a: &Field, b: &Field) -> bool
-    ensures { IsTrue result ↔ (field_of a.now ≡ field_of b.now) }
+pub fn are_same_fields(field: &Field, other: &Field) -> bool
+    ensures { IsTrue result ↔ (field_of field.now ≡ field_of other.now) }
 {
-    *a == *b
+    *field == *other
 }
 
 /// A copy of a data type has all its parts.
