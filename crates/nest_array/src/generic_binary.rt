@@ -7,9 +7,6 @@ ghost use Rattle.nest_model.specs.Array.{AreOffsets};
 ghost use Rattle.nest_model.specs.Layout.{Layout, layout_type};
 ghost use Rattle.nest_model.specs.Part.{last_offset};
 
-#[cfg(test)]
-mod tests;
-
 use crate::fixed_size_binary::FixedSizeBinaryArray;
 use nest_flat::binary::BinaryArray;
 use nest_flat::utf8::Utf8Array;

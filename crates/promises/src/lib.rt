@@ -1,0 +1,5 @@
+//! Promises.
+#![tactic(auto)]
+
+pub mod flat;
+pub mod memory;
