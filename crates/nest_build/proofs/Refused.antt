@@ -33,9 +33,9 @@ pub null-fits : (t : TypeTree) (rows : List Row) (c : BuilderTree) → length ro
 null-fits t rows c l = rw (within (length rows + 1) l) refl
 
 -- a call that lacks memory alone is refused for nothing else
-pub memory-alone : {T : Type 0} {P : Error → Type 0} (r : Result T Error) → IsOkUnless r (Memory alloc_error) → IfErr r (λ e. (e ≡ Memory alloc_error) ⊎ P e)
-memory-alone (Ok x) h = tt
-memory-alone (Err x) h = inl h
+pub memory-alone : {T : Type 0} (P : Error → Type 0) (r : Result T Error) → IsOkUnless r (Memory alloc_error) → IfErr r (λ e. (e ≡ Memory alloc_error) ⊎ P e)
+memory-alone P (Ok x) h = tt
+memory-alone P (Err x) h = inl h
 
 -- a told row that is not ready, or passes its limit
 pub row-unready : (t : TypeTree) (rows : List Row) (c : BuilderTree) → IsWhole c → RisesFrom 0 rows → (IsReady (list false t rows c) → ⊥) → FailFirst (InvalidArgumentError Unfinished) (row_checks (list false t rows c))

@@ -42,4 +42,4 @@ returns-then-end-gt-LARGEST_OFFSET-clause-refused c =
     inr (row-past (layout_type b.values) p b.data_type b.rows (slots_of b.values) c.args.items.now (omega arith) (omega arith))
 
 pub returns-clause-refused : goal.returns-clause-refused
-returns-clause-refused c = memory-alone c.push_within.result c.push_within.ensures.memory
+returns-clause-refused c = memory-alone _ c.push_within.result c.push_within.ensures.memory
