@@ -61,11 +61,7 @@ value_refusal v (flat t xs) =
 value_refusal v (list large t rows c) = Some (InvalidArgumentError ItemType)
 value_refusal v (fixed_size_list t bits c) = Some (InvalidArgumentError ItemType)
 value_refusal v (dictionary k t keys c) =
-    first_of
-    (if is_known c v then None else
-    (refuse_if (leb (key_count k) (builder_len c)) Overflow
-    (refuse_if (not (takes c v)) (InvalidArgumentError ItemType)
-    (value_refusal v c))))
+    first_of (if is_known c v then None else refuse_if (leb (key_count k) (builder_len c)) Overflow (refuse_if (not (takes c v)) (InvalidArgumentError ItemType) (value_refusal v c)))
     (refuse_if (is_past (length keys + 1)) Overflow None)
 value_refusal v (struct t bits cs) = Some (InvalidArgumentError ItemType)
 
