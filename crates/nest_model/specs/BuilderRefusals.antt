@@ -1,5 +1,5 @@
 -- What refuses a pushed item: the first of its checks that fails, here or at a level below.
-use Rattle.std.specs.Prelude.{ℕ, ◌+◌, ◌*◌, Bool, true, false, not, ◌&&◌, ◌||◌, nat_eq, leb, ltb, is_some, if◌then◌else◌, List, length, Option, Some, None}
+use Rattle.std.specs.Prelude.{ℕ, ◌+◌, ◌*◌, Bool, true, false, not, ◌&&◌, ◌||◌, nat_eq, leb, ltb, is_some, if◌then◌else◌, length, Option, Some, None}
 use Rattle.nest_memory.specs.TypeTree.{TypeTree, size_of}
 use Rattle.nest_memory.specs.Physical.{physical_type}
 use Rattle.nest_memory.specs.declared.error.Error.{Error}
@@ -8,7 +8,6 @@ use Rattle.nest_memory.specs.declared.error.Argument.TheVariants.{ItemSize, Item
 use Rattle.nest_memory.specs.declared.datatypes.physical_type.PhysicalType.{PhysicalType}
 use Rattle.nest_memory.specs.declared.datatypes.physical_type.PhysicalType.TheVariants as physical
 use Rattle.nest_memory.specs.Rising.{largest_offset}
-use Rattle.nest_model.specs.Slot.{Slot}
 use Rattle.nest_model.specs.Checks.{refuse_if, first_of, is_past}
 use Rattle.nest_model.specs.BuilderTree.{BuilderTree, BuilderTrees, flat, list, fixed_size_list, dictionary, struct, no_builders, more_builders, builder_len, key_count}
 use Rattle.nest_model.specs.BuilderLevels.{own_slots}

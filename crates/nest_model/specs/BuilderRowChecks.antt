@@ -1,7 +1,6 @@
 -- Why rows are refused that are told over the items that wait in the children, and rows that are joined.
 use Rattle.std.specs.Prelude.{◌≡◌, ℕ, ◌+◌, ◌*◌, ◌≤◌, ◌||◌, Bool, false, ltb, List, length, Option, Some}
 use Rattle.nest_memory.specs.TypeTree.{TypeTree, item_type, fields_of, size_of}
-use Rattle.nest_memory.specs.Physical.{physical_type}
 use Rattle.nest_memory.specs.declared.error.Error.TheVariants.{InvalidArgumentError, Overflow}
 use Rattle.nest_memory.specs.declared.error.Argument.TheVariants.{ItemSize, ItemType, Unfinished, LengthsSum}
 use Rattle.nest_memory.specs.Rising.{largest_offset}

@@ -1,6 +1,6 @@
 //! Worked examples: what builders refuse, and why.
 
-ghost use Rattle.std.specs.Prelude.{◌≡◌, ℕ, ◌+◌, ◌-◌, ◌^◌, pos, Bool, true, false, List, [], ◌∷◌, length, Some, None};
+ghost use Rattle.std.specs.Prelude.{◌≡◌, ◌+◌, ◌-◌, ◌^◌, pos, Bool, true, false, List, [], ◌∷◌, length, Some, None};
 ghost use Rattle.nest_memory.specs.TypeTree as types;
 ghost use Rattle.nest_memory.specs.TypeTree.{TypeTree};
 ghost use Rattle.nest_memory.specs.declared.datatypes.IntegerType.TheVariants as integers;

@@ -1,6 +1,6 @@
 //! Laws of what refuses a push, a told row, lengths and a join.
 
-ghost use Rattle.std.specs.Prelude.{◌≡◌, ◌↔◌, ◌||◌, ℕ, ◌+◌, true, false, List, [], ◌∷◌, ◌++◌, length, Option, Some, None};
+ghost use Rattle.std.specs.Prelude.{◌≡◌, ◌↔◌, ◌||◌, ℕ, ◌+◌, true, false, List, ◌∷◌, ◌++◌, length, Option, Some, None};
 ghost use Rattle.nest_memory.specs.declared.error.Error.{Error};
 ghost use Rattle.nest_model.specs.Checks.{Pass, HaveOneOutcome, first_of};
 ghost use Rattle.nest_model.specs.BuilderTree.{BuilderTree};
