@@ -64,7 +64,7 @@ lengths_ready-pass ns (dictionary i k keys c) w l = absurd w
 lengths_ready-pass ns (struct k bits cs) w l = absurd w
 
 -- rows of two builders of the same kinds pass a limit exactly where the joined builder does
-bytes_held-append : (xs ys : List Slot) → bytes_held (xs ++ ys) ≡ bytes_held xs + bytes_held ys
+pub bytes_held-append : (xs ys : List Slot) → bytes_held (xs ++ ys) ≡ bytes_held xs + bytes_held ys
 bytes_held-append [] ys = omega arith
 bytes_held-append (x ∷ xs) ys = omega (arith, bytes_held-append xs ys)
 

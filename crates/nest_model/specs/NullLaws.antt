@@ -33,7 +33,7 @@ use Rattle.nest_model.specs.Runs.{product-exact}
 use Rattle.nest_model.specs.Fits.{Fits, ValidityFits, EachType, EachLen, EachCovers, Names, MeansField, EachMeansField, IdsCount, IdsInRange, OffsetsCount, OffsetsByMode, SlotsThere, child_len}
 use Rattle.nest_model.specs.FitsLaws.{fits-keeps}
 use Rattle.nest_model.specs.Array.{AreOffsets, AreKeys, PartsHold, ChildrenFit, AreArrays, IsArray}
-use Rattle.nest_model.specs.Decide.{refuse-none, first-none}
+use Rattle.nest_model.specs.Decide.{refuse-none, first-none, not-false}
 use Rattle.nest_model.specs.Nulls.{null_field, null_slot, null_pick, null_slots, is_id, are_ids, ids_count_differs, has_bad_id, fault_of, field_fault, fields_fault, type_fault, empty_fault}
 use Rattle.nest_model.specs.NullLayout.{zero_value, native_of_key, type_of_key, none_valid, native_nulls, null_type, null_offsets, null_array, null_item, null_children, null_layout, empty_layout}
 
@@ -61,10 +61,6 @@ is-array t n a r = ((r.parts, fits-keeps a r.parts r.fits), r.children)
 positive : (s : ℕ) → nat_eq s 0 ≡ false → 0 < s
 positive zero h = cc
 positive (suc s) h = omega arith
-
-not-false : (b : Bool) → not b ≡ false → b ≡ true
-not-false true h = refl
-not-false false h = cc
 
 same-number : (m n : ℕ) → nat_eq m n ≡ true → m ≡ n
 same-number m n h = grind (arith)

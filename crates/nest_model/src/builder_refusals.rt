@@ -17,6 +17,11 @@ pub fn accepted_unless_refused()
     ensures { (x : Item) (t : BuilderTree) → IsWhole t → item_refusal x t ≡ None → Accepted x t (appended x t) }
 {}
 
+/// What nothing refuses leaves no level past a limit.
+pub fn accepted_within_limits()
+    ensures { (x : Item) (t : BuilderTree) → over_limits t ≡ false → item_refusal x t ≡ None → over_limits (appended x t) ≡ false }
+{}
+
 /// A value is refused by a push and by a push that checks its kind first, or by neither.
 pub fn refused_alike()
     ensures { (v : PlainValue) (t : BuilderTree) → (value_refusal v t ≡ None) ↔ (plain_refusal v t ≡ None) }
