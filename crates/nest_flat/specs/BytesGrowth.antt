@@ -1,10 +1,11 @@
 -- Builders of bytes and of texts: the parts of their slots, and what each call makes of them.
-use Rattle.std.specs.Prelude.{◌≡◌, ◌⊎◌, ◌<◌, ℕ, ◌+◌, List, [], ◌∷◌, ◌++◌, map, take, drop, length, Option, Some, None, is_some, Bool, if◌then◌else◌, alloc_error}
+use Rattle.std.specs.Prelude.{◌≡◌, nat_lt, ℕ, ◌+◌, List, [], ◌∷◌, ◌++◌, map, take, drop, length, Option, Some, None, is_some, Bool, if◌then◌else◌}
 use Rattle.nest_memory.specs.declared.error.Error.{Error}
-use Rattle.nest_memory.specs.declared.error.Error.TheVariants.{Memory, Overflow}
+use Rattle.nest_memory.specs.declared.error.Error.TheVariants.{Overflow}
 use Rattle.nest_memory.specs.TypeTree as types
 use Rattle.nest_memory.specs.TypeTree.{TypeTree}
 use Rattle.nest_model.specs.Part.{Validity, rows, begin, last_offset, cut_validity}
+use Rattle.nest_model.specs.Checks.{refuse_if}
 use Rattle.nest_model.specs.Fits.{ValidityFits}
 use Rattle.nest_model.specs.Array.{AreOffsets}
 use Rattle.nest_model.specs.Accessors.{validity_of, offsets_of, bytes_of}
@@ -77,9 +78,9 @@ with_spans a s = a
 abbrev pub pushed_item : Layout → Option (List ℕ) → Layout
 pushed_item a item = with_spans a (pushed_span item (spans_of a))
 
--- why an item is refused: its end is past the largest offset, or memory is wanting
-abbrev pub HasPushCause : ℕ → Error → Layout → Option (List ℕ) → Type 0
-HasPushCause largest e a item = ((e ≡ Overflow) × (largest < last_offset (offsets_of a) + length (item_bytes item))) ⊎ (e ≡ Memory alloc_error)
+-- why an item more is refused: its end is past the largest offset
+abbrev pub item_refusal : ℕ → Layout → Option (List ℕ) → Option Error
+item_refusal largest a item = refuse_if (nat_lt largest (last_offset (offsets_of a) + length (item_bytes item))) Overflow None
 
 -- the types that builders of bytes and of texts begin with, by the width of their offsets
 abbrev pub binary_tree : Bool → TypeTree

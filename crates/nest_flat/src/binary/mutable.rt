@@ -9,7 +9,7 @@ ghost use Rattle.nest_memory.specs.declared.error.Argument.TheVariants.{ItemType
 ghost use Rattle.nest_memory.specs.declared.error.Error.TheVariants.{InvalidArgumentError, Memory, Overflow};
 ghost use Rattle.nest_model.specs.Accessors.{validity_of, offsets_of, bytes_of};
 ghost use Rattle.nest_model.specs.Array.{TopFits};
-ghost use Rattle.nest_model.specs.BuilderSpells.{Gives, Begins};
+ghost use Rattle.nest_model.specs.BuilderSpells.{Gives};
 ghost use Rattle.nest_model.specs.Layout as layouts;
 ghost use Rattle.nest_model.specs.Layout.{layout_type};
 ghost use Rattle.nest_model.specs.Meaning.{len, slot, slots_of};
@@ -17,8 +17,8 @@ ghost use Rattle.nest_model.specs.Part.{valid_at, begin, extent, last_offset};
 ghost use Rattle.nest_model.specs.Reads.{where_valid};
 ghost use Rattle.nest_model.specs.Slot as slots;
 ghost use Rattle.nest_flat.specs.FlatParts.{optional};
-ghost use Rattle.nest_flat.specs.Growth.{CanDrain, Extended, Grew, first_slots, is_masked, pushed_all, taken_back};
-ghost use Rattle.nest_flat.specs.BytesGrowth.{AreSpans, HasPushCause, binary_tree, item_bytes, joined_spans, pushed_item, spans_of, with_spans};
+ghost use Rattle.nest_flat.specs.Growth.{CanDrain, Extended, Grew, RefusesBeginning, first_slots, is_masked, taken_back};
+ghost use Rattle.nest_flat.specs.BytesGrowth.{AreSpans, binary_tree, item_bytes, item_refusal, joined_spans, pushed_item, spans_of, with_spans};
 
 use crate::binary::BinaryArray;
 use crate::growth::bytes::BytesBuilder;
@@ -217,11 +217,11 @@ impl<O: Offset> MutableBinaryArray<O> {
     ) -> Result<(), Error>
         requires { CanDrain I.into_iter_gives I.IntoIter.can_next I.IntoIter.remaining items }
         ensures ok { OnOk result ((xs : List (Option (Bor (List ℕ)))) × Gives I.into_iter_gives I.IntoIter.next_gives items xs
-            × Extended (λ a x. pushed_item a (option_copied x)) (λ x. optional slots.bytes (option_copied x)) xs self.old self.new) }
+            × Extended (λ a x. pushed_item a (option_copied x)) (λ a x. item_refusal O.largest a (option_copied x)) (λ x. optional slots.bytes (option_copied x)) xs self.old self.new) }
         ensures err { OnErr result (self.new ≡ self.old) }
         ensures same_type { layout_type self.new ≡ layout_type self.old }
-        ensures cause { IfErr result (λ e. (xs : List (Option (Bor (List ℕ)))) × (x : Option (Bor (List ℕ))) × Begins I.into_iter_gives I.IntoIter.next_gives items (xs ++ x ∷ [])
-            × HasPushCause O.largest e (pushed_all (λ a y. pushed_item a (option_copied y)) self.old xs) (option_copied x)) }
+        ensures cause { IfErr result (λ e. RefusesBeginning I.into_iter_gives I.IntoIter.next_gives
+            (λ a x. pushed_item a (option_copied x)) (λ a x. item_refusal O.largest a (option_copied x)) items self.old e) }
     {
         extend_by_push(self, items)
     }
@@ -285,7 +285,7 @@ impl<'a, O: Offset> Grow<Option<&'a [u8]>> for MutableBinaryArray<O> {
 
     ghost pushed = { λ a x. pushed_item a (option_copied x) };
 
-    ghost refuses = { λ e a x. HasPushCause O.largest e a (option_copied x) };
+    ghost refusal = { λ a x. item_refusal O.largest a (option_copied x) };
 
     fn count(&self) -> usize
         ensures { result ≡ len self.now }
