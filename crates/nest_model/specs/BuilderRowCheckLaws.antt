@@ -6,12 +6,13 @@ use Rattle.std.proofs.lemmas.List.{length-append, length-map}
 use Rattle.std.specs.Coded.{coded_option, coded_list}
 use Rattle.nest_memory.specs.TypeTree.{TypeTree, item_type, fields_of, size_of}
 use Rattle.nest_memory.specs.TypeCode.{coded_type}
+use Rattle.nest_memory.specs.Rising.{largest_offset}
 use Rattle.nest_model.specs.Slot.{Slot}
 use Rattle.nest_model.specs.Checks.{Pass, HaveOneOutcome}
 use Rattle.nest_model.specs.Decide.{Decided, decide_both, decide_number, one-outcome}
 use Rattle.nest_model.specs.DecideType.{decide_type, decide_by}
 use Rattle.nest_model.specs.BuilderRow.{Row, told_row, end_from, RisesFrom}
-use Rattle.nest_model.specs.BuilderTree.{BuilderTree, BuilderTrees, flat, list, fixed_size_list, dictionary, struct, no_builders, more_builders, builder_type, builder_types, builder_len, field_types, largest_offset}
+use Rattle.nest_model.specs.BuilderTree.{BuilderTree, BuilderTrees, flat, list, fixed_size_list, dictionary, struct, no_builders, more_builders, builder_type, builder_types, builder_len, field_types}
 use Rattle.nest_model.specs.BuilderWhole.{IsWhole, AreWhole}
 use Rattle.nest_model.specs.BuilderItem.{byte_count, bytes_held}
 use Rattle.nest_model.specs.BuilderAppend.{items_told, IsReady}

@@ -4,9 +4,10 @@ use Rattle.nest_memory.specs.TypeTree.{item_type, fields_of, size_of}
 use Rattle.nest_memory.specs.Physical.{physical_type}
 use Rattle.nest_memory.specs.declared.error.Error.TheVariants.{InvalidArgumentError, Overflow}
 use Rattle.nest_memory.specs.declared.error.Argument.TheVariants.{ItemSize, ItemType, Unfinished, LengthsSum}
+use Rattle.nest_memory.specs.Rising.{largest_offset}
 use Rattle.nest_model.specs.Checks.{Checks, done, check}
 use Rattle.nest_model.specs.BuilderRow.{end_from, RisesFrom}
-use Rattle.nest_model.specs.BuilderTree.{BuilderTree, BuilderTrees, flat, list, fixed_size_list, dictionary, struct, no_builders, more_builders, builder_type, builder_len, builder_types, field_types, largest_offset, key_count}
+use Rattle.nest_model.specs.BuilderTree.{BuilderTree, BuilderTrees, flat, list, fixed_size_list, dictionary, struct, no_builders, more_builders, builder_type, builder_len, builder_types, field_types, key_count}
 use Rattle.nest_model.specs.Checks.{largest_length}
 use Rattle.nest_model.specs.BuilderWhole.{IsWhole}
 use Rattle.nest_model.specs.BuilderItem.{bytes_held}

@@ -62,10 +62,6 @@ field_types (more_fields f fs) = field_type f ∷ field_types fs
 abbrev pub IsPast : ℕ → Type 0
 IsPast n = largest_length < n
 
--- Variable-size List Layout: offsets are signed numbers of 32 bits, or of 64
-abbrev pub largest_offset : Bool → ℕ
-largest_offset large = if large then 2 ^ 63 - 1 else 2 ^ 31 - 1
-
 -- Dictionary-encoded Layout: how many values the keys of a type can name
 abbrev pub key_count : IntegerType → ℕ
 key_count integers.Int8 = 2 ^ 7

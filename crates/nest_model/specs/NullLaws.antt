@@ -22,7 +22,8 @@ use Rattle.nest_memory.specs.TypeTree as types
 use Rattle.nest_memory.specs.TypeTree.{Letters, Entries, TypeTree, FieldTree, field, FieldTrees, no_fields, more_fields, field_type, count_fields, item_type, size_of, is_dense_mode, is_pair, has_pairs}
 use Rattle.nest_memory.specs.Physical.{physical_type, list_of_width, binary_of_width, text_of_width}
 use Rattle.nest_memory.specs.Cut.{cut}
-use Rattle.nest_model.specs.Part.{valid_at, begin, extent, rows, last_offset, place, last_place, field_named}
+use Rattle.nest_memory.specs.Rising.{last_of}
+use Rattle.nest_model.specs.Part.{valid_at, begin, extent, rows, place, last_place, field_named}
 use Rattle.nest_model.specs.Slot as slots
 use Rattle.nest_model.specs.Slot.{Slot}
 use Rattle.nest_model.specs.Layout.{Layout, Layouts, null, boolean, primitive, binary, text, fixed_size_binary, fixed_size_list, list, struct, union, dictionary, no_layouts, more_layouts, layout_type, count_layouts}
@@ -107,7 +108,7 @@ zero-offsets n = (
 zero-rows : (n : ℕ) → rows (replicate (suc n) 0) ≡ n
 zero-rows n = let e = length-replicate {A = ℕ} (suc n) 0 in omega arith
 
-zero-last : (n m : ℕ) → last_offset (replicate (suc n) 0) ≤ m
+zero-last : (n m : ℕ) → last_of (replicate (suc n) 0) ≤ m
 zero-last n m = let e = zero-at (suc n) (length {A = ℕ} (replicate (suc n) 0) - 1) in omega arith
 
 -- flat arrays
