@@ -7,13 +7,14 @@ ghost use Rattle.nest_memory.specs.TypeOf.{type_of};
 ghost use Rattle.nest_memory.specs.Physical.{physical_type, binary_of_width};
 ghost use Rattle.nest_memory.specs.declared.error.Argument.TheVariants.{ItemType};
 ghost use Rattle.nest_memory.specs.declared.error.Error.TheVariants.{InvalidArgumentError, Memory, Overflow};
+ghost use Rattle.nest_memory.specs.Rising.{last_of};
 ghost use Rattle.nest_model.specs.Accessors.{validity_of, offsets_of, bytes_of};
 ghost use Rattle.nest_model.specs.Array.{TopFits};
 ghost use Rattle.nest_model.specs.BuilderSpells.{Gives};
 ghost use Rattle.nest_model.specs.Layout as layouts;
 ghost use Rattle.nest_model.specs.Layout.{layout_type};
 ghost use Rattle.nest_model.specs.Meaning.{len, slot, slots_of};
-ghost use Rattle.nest_model.specs.Part.{valid_at, begin, extent, last_offset};
+ghost use Rattle.nest_model.specs.Part.{valid_at, begin, extent};
 ghost use Rattle.nest_model.specs.Reads.{where_valid};
 ghost use Rattle.nest_model.specs.Slot as slots;
 ghost use Rattle.nest_flat.specs.FlatParts.{optional};
@@ -92,7 +93,7 @@ impl<O: Offset> MutableBinaryArray<O> {
         ensures fits { TopFits self.now }
         ensures kind { self.now ≡ layouts.binary O.IS_LARGE (layout_type self.now) (offsets_of self.now) (bytes_of self.now) (validity_of self.now) }
         ensures spans { AreSpans (spans_of self.now) }
-        ensures room { last_offset (offsets_of self.now) ≤ O.largest }
+        ensures room { last_of (offsets_of self.now) ≤ O.largest }
     {
         let _ = &self.data_type;
         self.spans.known();
@@ -166,7 +167,7 @@ impl<O: Offset> MutableBinaryArray<O> {
         ensures slots { OnOk result (slots_of self.new ≡ slots_of self.old ++ optional slots.bytes (option_copied item.entry) ∷ []) }
         ensures err { OnErr result (self.new ≡ self.old) }
         ensures same_type { layout_type self.new ≡ layout_type self.old }
-        ensures overflow { IsErrOf result Overflow ↔ (O.largest < last_offset (offsets_of self.old) + length (item_bytes (option_copied item.entry))) }
+        ensures overflow { IsErrOf result Overflow ↔ (O.largest < last_of (offsets_of self.old) + length (item_bytes (option_copied item.entry))) }
         ensures errors { IfErr result (λ e. (e ≡ Overflow) ⊎ (e ≡ Memory alloc_error)) }
     {
         self.spans.known();
@@ -184,7 +185,7 @@ impl<O: Offset> MutableBinaryArray<O> {
         ensures same_type { layout_type self.new ≡ layout_type self.old }
         ensures item_type { IsErrOf result (InvalidArgumentError ItemType) ↔ layout_type self.old ≢ layout_type other.now }
         ensures overflow { IsErrOf result Overflow
-            ↔ (layout_type self.old ≡ layout_type other.now) × (O.largest < last_offset (offsets_of self.old) + last_offset (offsets_of other.now)) }
+            ↔ (layout_type self.old ≡ layout_type other.now) × (O.largest < last_of (offsets_of self.old) + last_of (offsets_of other.now)) }
         ensures errors { IfErr result (λ e. (e ≡ InvalidArgumentError ItemType) ⊎ ((e ≡ Overflow) ⊎ (e ≡ Memory alloc_error))) }
     {
         let same_type = *self.data_type() == *other.data_type();
@@ -199,7 +200,7 @@ impl<O: Offset> MutableBinaryArray<O> {
         ensures slots { OnOk result (slots_of self.new ≡ slots_of self.old ++ slots_of other.now) }
         ensures err { OnErr result (self.new ≡ self.old) }
         ensures same_type { layout_type self.new ≡ layout_type self.old }
-        ensures overflow { IsErrOf result Overflow ↔ (O.largest < last_offset (offsets_of self.old) + last_offset (offsets_of other.now)) }
+        ensures overflow { IsErrOf result Overflow ↔ (O.largest < last_of (offsets_of self.old) + last_of (offsets_of other.now)) }
         ensures errors { IfErr result (λ e. (e ≡ Overflow) ⊎ (e ≡ Memory alloc_error)) }
     {
         self.spans.known();
