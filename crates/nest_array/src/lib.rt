@@ -15,7 +15,7 @@ mod tests;
 mod types;
 pub mod window;
 
-pub use any::AnyArray;
+pub use any::{AnyArray, clone};
 pub use array::Array;
 pub use fixed_size_binary::FixedSizeBinaryArray;
 pub use fixed_size_list::FixedSizeListArray;

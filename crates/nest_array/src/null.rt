@@ -94,13 +94,6 @@ impl NullArray {
         self.count
     }
 
-    /// Whether it has no slot.
-    pub fn is_empty(&self) -> bool
-        ensures { IsTrue result ↔ (len self.now ≡ 0) }
-    {
-        self.count == 0
-    }
-
     /// Its data type.
     pub fn data_type(&self) -> &DataType
         ensures { type_of result.now ≡ layout_type self.now }

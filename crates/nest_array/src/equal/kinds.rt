@@ -5,6 +5,7 @@ ghost use Rattle.nest_memory.specs.declared.datatypes.physical_type.PhysicalType
 ghost use Rattle.nest_model.specs.Layout.{layout_type};
 ghost use Rattle.nest_flat.specs.AnyPrimitive.{primitive_layout};
 ghost use Rattle.nest_array.specs.Kinds.{physical_kind, IsPrimitive};
+ghost use Rattle.nest_array.specs.RowSlots.{Alike};
 ghost use Rattle.nest_array.specs.Seen.{layout_of};
 
 use crate::any::AnyArray;
@@ -37,6 +38,15 @@ pub(crate) fn kind(a: &AnyArray)
         AnyArray::LargeList(x) => x.known(),
         AnyArray::Struct(x) => x.known(),
     }
+}
+
+/// Arrays whose data types are equal but for their outer extensions have one physical type.
+pub(crate) fn same_kind(a: &AnyArray, b: &AnyArray)
+    requires { Alike (layout_of a.now) (layout_of b.now) }
+    ensures { physical_type (layout_type (layout_of a.now)) ≡ physical_type (layout_type (layout_of b.now)) }
+{
+    kind(a);
+    kind(b);
 }
 
 /// The array whose data type is that of nulls.

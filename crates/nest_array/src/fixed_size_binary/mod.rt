@@ -116,13 +116,6 @@ impl FixedSizeBinaryArray {
         self.values.len() / self.size
     }
 
-    /// Whether it has no slot.
-    pub fn is_empty(&self) -> bool
-        ensures { IsTrue result ↔ (len self.now ≡ 0) }
-    {
-        self.len() == 0
-    }
-
     /// Its data type.
     pub fn data_type(&self) -> &DataType
         ensures { type_of result.now ≡ layout_type self.now }
@@ -150,14 +143,6 @@ impl FixedSizeBinaryArray {
         ensures { result.now ≡ bytes_of self.now }
     {
         &self.values
-    }
-
-    /// Whether slot i is not null.
-    pub fn is_valid(&self, i: usize) -> bool
-        requires { i < len self.now }
-        ensures { result ≡ valid_at (validity_of self.now) i }
-    {
-        validity::is_valid(&self.validity, i)
     }
 
     /// Whether slot i is null.
@@ -194,10 +179,10 @@ impl FixedSizeBinaryArray {
         requires { i < len self.now }
         ensures { optional (λ x. slots.bytes x.now) result ≡ slot self.now i }
     {
-        if self.is_valid(i) {
-            Some(self.value(i))
-        } else {
+        if self.is_null(i) {
             None
+        } else {
+            Some(self.value(i))
         }
     }
 

@@ -21,7 +21,7 @@ use std::alloc::Global;
 
 impl FixedSizeBinaryArray {
     /// The type of byte strings of this size.
-    pub fn default_data_type(size: usize) -> DataType
+    pub fn default_datatype(size: usize) -> DataType
         ensures { type_of result ≡ types.fixed_size_binary size }
     {
         DataType::FixedSizeBinary(size)
@@ -45,7 +45,7 @@ impl FixedSizeBinaryArray {
             return Err(Error::Overflow);
         }
         let values = joined(alloc, rows)?;
-        let data_type = FixedSizeBinaryArray::default_data_type(N);
+        let data_type = FixedSizeBinaryArray::default_datatype(N);
         Ok(FixedSizeBinaryArray::new(data_type, values, None))
     }
 

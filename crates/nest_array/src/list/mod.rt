@@ -152,13 +152,6 @@ impl ListArray {
         self.ranges.len()
     }
 
-    /// Whether it has no slot.
-    pub fn is_empty(&self) -> bool
-        ensures { IsTrue result ↔ (len self.now ≡ 0) }
-    {
-        self.len() == 0
-    }
-
     /// Its data type.
     pub fn data_type(&self) -> &DataType
         ensures { type_of result.now ≡ layout_type self.now }
@@ -185,14 +178,6 @@ impl ListArray {
         ensures { option_map (λ b. b.now) result ≡ validity_of self.now }
     {
         self.ranges.validity.as_ref()
-    }
-
-    /// Whether slot i is not null.
-    pub fn is_valid(&self, i: usize) -> bool
-        requires { i < len self.now }
-        ensures { result ≡ valid_at (validity_of self.now) i }
-    {
-        validity::is_valid(&self.ranges.validity, i)
     }
 
     /// Whether slot i is null.
