@@ -157,8 +157,8 @@ none-left (z ∷ zs) (w ∷ ws) o p n t (inr e) = absurd (omega arith)
 pub window-run : (w : WindowParts) (a : Layout) (o n : ℕ) → a ≡ w.array → o ≡ w.offset → n ≡ w.count → w.offset + w.count ≤ len w.array → run (slot a) o n ≡ window_slots w
 window-run w a o n e f g h = (λ i. run (slot (e i)) (f i) (g i)) ∙ items-cut w.array w.offset w.count h
 
-pub windows-differ : (v w : WindowParts) (T : Type 0) (m n : ℕ) → v.offset + v.count ≤ len v.array → w.offset + w.count ≤ len w.array → m ≡ v.count → n ≡ w.count → (m ≡ n → ⊥) → IsTrue false ↔ (T × (window_slots v ≡ window_slots w))
-windows-differ v w T m n h k p q d =
+pub windows-length : (v w : WindowParts) → v.offset + v.count ≤ len v.array → w.offset + w.count ≤ len w.array → window_slots v ≡ window_slots w → v.count ≡ w.count
+windows-length v w h k e =
     let a = length-cut (slots_of v.array) v.offset v.count (omega (arith, h, slots-length v.array)) in
     let b = length-cut (slots_of w.array) w.offset w.count (omega (arith, k, slots-length w.array)) in
-    (λ t. cc, λ e. absurd (d (p ∙ sym a ∙ ap length e.1 ∙ b ∙ sym q)))
+    sym a ∙ ap length e ∙ b
