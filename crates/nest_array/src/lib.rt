@@ -10,8 +10,6 @@ pub mod generic_binary;
 pub mod list;
 pub mod null;
 pub mod struct_;
-#[cfg(test)]
-mod tests;
 mod types;
 pub mod window;
 

@@ -13,10 +13,6 @@ ghost use Rattle.nest_model.specs.Meaning.{len, slot, slots_of};
 ghost use Rattle.nest_model.specs.Nullness.{is_null_at, null_count};
 ghost use Rattle.nest_model.specs.SameArray.{IsSameArray, same_array};
 ghost use Rattle.nest_model.specs.Slot as slots;
-
-#[cfg(test)]
-mod tests;
-
 ghost use Rattle.nest_array.specs.Seen.{layout_of};
 
 use crate::any::AnyArray;

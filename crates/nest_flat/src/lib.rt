@@ -10,7 +10,5 @@ pub mod growth;
 pub mod iterator;
 pub mod primitive;
 mod spans;
-#[cfg(test)]
-mod tests;
 pub mod utf8;
 pub mod validity;

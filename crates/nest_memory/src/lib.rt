@@ -5,8 +5,6 @@ pub mod bitmap;
 pub mod buffer;
 pub mod datatypes;
 pub mod error;
-#[cfg(test)]
-mod memory_tests;
 pub mod offset;
 pub mod offsets;
 pub mod types;

@@ -1,6 +1,4 @@
 //! The native types of primitive arrays, after `types` of arrow2.
-#[cfg(test)]
-mod tests;
 
 ghost use Rattle.std.specs.Prelude.{◌≡◌, ℕ, ℤ, pos, List, [], ◌∷◌, replicate, length};
 ghost use Rattle.std.specs.Bool.{Decides};

@@ -28,7 +28,7 @@ use Rattle.nest_model.specs.Slot.{Slot}
 use Rattle.nest_model.specs.Layout.{Layout, Layouts, null, boolean, primitive, binary, text, fixed_size_binary, fixed_size_list, list, struct, union, dictionary, no_layouts, more_layouts, layout_type, count_layouts}
 use Rattle.nest_model.specs.Layout as layouts
 use Rattle.nest_model.specs.Accessors.{with_type, key_type_of}
-use Rattle.nest_model.specs.Meaning.{run, len, first_len, union_place, slot, picked, slots_of}
+use Rattle.nest_model.specs.Meaning.{run, len, first_len, union_place, slot, of_field, picked, slots_of}
 use Rattle.nest_model.specs.Runs.{product-exact}
 use Rattle.nest_model.specs.Fits.{Fits, ValidityFits, EachType, EachLen, EachCovers, Names, MeansField, EachMeansField, IdsCount, IdsInRange, OffsetsCount, OffsetsByMode, SlotsThere, child_len}
 use Rattle.nest_model.specs.FitsLaws.{fits-keeps}
@@ -51,7 +51,7 @@ pub record AreNullArrays (fs : FieldTrees) (n : ℕ) (cs : Layouts) : Type 0 whe
   pub as_many : count_layouts cs ≡ count_fields fs
   pub long : EachLen cs n
   pub first_long : 0 < count_fields fs → first_len cs ≡ n
-  pub picks : (f i : ℕ) → f < count_fields fs → i < n → picked cs (Some f) i ≡ null_pick fs (Some f)
+  pub picks : (f k i : ℕ) → k < count_fields fs → i < n → picked f cs k i ≡ null_pick f fs k
   pub arrays : AreArrays cs
 
 pub is-array : (t : TypeTree) (n : ℕ) (a : Layout) → IsNullArray t n a → IsArray a
@@ -365,11 +365,11 @@ union-null fs ids mode n cs many count range some r =
       long = l;
       nulls = λ i j.
           let q = means-null ids (count_fields fs) count (has-field (count_fields fs) n some (omega arith)) in
-          ap (λ k. picked cs (field_named ids k) (union_place (null_offsets mode n) 0 i)) (get_or-replicate n i (null_type ids) (pos 0) j)
-          ∙ ap (λ o. picked cs o (union_place (null_offsets mode n) 0 i)) q.1.named
-          ∙ ap (picked cs (Some q.0)) (null-place mode n i j)
-          ∙ r.picks q.0 i q.1.there j
-          ∙ ap (null_pick fs) (sym q.1.chosen);
+          ap (λ k. of_field (field_named ids k) (λ f. picked f cs f (union_place (null_offsets mode n) 0 i))) (get_or-replicate n i (null_type ids) (pos 0) j)
+          ∙ ap (λ o. of_field o (λ f. picked f cs f (union_place (null_offsets mode n) 0 i))) q.1.named
+          ∙ ap (picked q.0 cs q.0) (null-place mode n i j)
+          ∙ r.picks q.0 q.0 i q.1.there j
+          ∙ ap (λ o. of_field o (λ f. null_pick f fs f)) (sym q.1.chosen);
       parts = tt;
       fits = (
         refl,
@@ -462,9 +462,9 @@ more-null (field x t b es) fs n c cs r rs =
     }
   where
     more-picks : (x : Letters) (t : TypeTree) (b : Bool) (es : Entries) (fs : FieldTrees) (n : ℕ) (c : Layout) (cs : Layouts) → IsNullArray t n c → AreNullArrays fs n cs
-        → (f i : ℕ) → f < suc (count_fields fs) → i < n → picked (more_layouts c cs) (Some f) i ≡ null_pick (more_fields (field x t b es) fs) (Some f)
-    more-picks x t b es fs n c cs r rs zero i j k = let p = r.typed in let q = r.nulls i k in λ w. slots.pick (p w) (q w)
-    more-picks x t b es fs n c cs r rs (suc f) i j k = rs.picks f i (omega arith) k
+        → (f k i : ℕ) → k < suc (count_fields fs) → i < n → picked f (more_layouts c cs) k i ≡ null_pick f (more_fields (field x t b es) fs) k
+    more-picks x t b es fs n c cs r rs f zero i j l = let p = r.typed in let q = r.nulls i l in λ w. slots.pick f (p w) (q w)
+    more-picks x t b es fs n c cs r rs f (suc k) i j l = rs.picks f k i (omega arith) l
 
 mutual
   null-array : (t : TypeTree) (n d : ℕ) → (0 < n → 0 < d) → fault_of t n d ≡ None → IsNullArray t n (null_array t n d)

@@ -5,6 +5,7 @@ use Rattle.nest_memory.specs.TypeTree.{TypeTree, FieldTree, field, FieldTrees, n
 use Rattle.nest_model.specs.Part.{last_place}
 use Rattle.nest_model.specs.Slot as slots
 use Rattle.nest_model.specs.Slot.{Slot}
+use Rattle.nest_model.specs.Meaning.{of_field}
 use Rattle.nest_memory.specs.declared.error.Spec.TheVariants as spec
 use Rattle.nest_memory.specs.declared.error.Argument.TheVariants as argument
 use Rattle.nest_memory.specs.declared.error.Error.{Error}
@@ -16,21 +17,21 @@ null_field None = Some 0
 null_field (Some []) = None
 null_field (Some (z ∷ zs)) = last_place (z ∷ zs) z
 
--- a null slot: of a union the pick of a null slot of one field, else Null
+-- a null slot: of a union the pick of one field and of a null slot of it, else Null
 abbrev mutual
   pub null_slot : TypeTree → Slot
-  null_slot (types.union fs ids mode) = null_pick fs (null_field ids)
+  null_slot (types.union fs ids mode) = of_field (null_field ids) (λ f. null_pick f fs f)
   null_slot (types.extension n t m) = null_slot t
   null_slot t = slots.null
 
-  pub null_pick : FieldTrees → Option ℕ → Slot
-  null_pick no_fields f = slots.null
-  null_pick (more_fields g fs) None = slots.null
-  null_pick (more_fields g fs) (Some zero) = null_of g
-  null_pick (more_fields g fs) (Some (suc f)) = null_pick fs (Some f)
+  -- the null pick of field f, which is field k of these
+  pub null_pick : ℕ → FieldTrees → ℕ → Slot
+  null_pick f no_fields k = slots.null
+  null_pick f (more_fields g fs) zero = null_of f g
+  null_pick f (more_fields g fs) (suc k) = null_pick f fs k
 
-  pub null_of : FieldTree → Slot
-  null_of (field n t b es) = slots.pick t (null_slot t)
+  pub null_of : ℕ → FieldTree → Slot
+  null_of f (field n t b es) = slots.pick f t (null_slot t)
 
 abbrev pub null_slots : TypeTree → ℕ → List Slot
 null_slots t n = replicate n (null_slot t)

@@ -2,8 +2,6 @@
 
 mod mutable;
 mod rows;
-#[cfg(test)]
-mod tests;
 
 pub use mutable::MutableListArray;
 pub use rows::ListRows;

@@ -5,8 +5,6 @@ mod equality;
 pub mod field;
 mod parts;
 pub mod physical_type;
-#[cfg(test)]
-mod tests;
 
 ghost use Rattle.std.specs.Prelude.{◌≡◌, ◌↔◌, IsTrue};
 ghost use Rattle.nest_memory.specs.declared.datatypes.UnionMode.TheVariants.{Sparse};

@@ -1,0 +1,222 @@
+//! Arrays of byte strings by their worked rows. Values with a data type are let go by `drop`, which keeps the proofs short.
+
+use nest_array::FixedSizeBinaryArray;
+use nest_flat::binary::BinaryArray;
+use nest_memory::bitmap::immutable::Bitmap;
+use nest_memory::buffer::Buffer;
+use nest_memory::datatypes::DataType;
+use nest_memory::datatypes::physical_type::PhysicalType;
+use nest_memory::error::{Error, Spec};
+use nest_memory::offsets::OffsetsBuffer;
+use std::alloc::Global;
+use std::test::Fail;
+
+const ROWS: [[u8; 2]; 3] = [*b"ab", *b"cd", *b"ef"];
+
+const OTHER_ROWS: [[u8; 2]; 3] = [*b"ab", *b"xy", *b"ef"];
+
+fn bits_of(alloc: Global, bits: Option<&[bool]>) -> Result<Option<Bitmap>, Error> {
+    match bits {
+        None => Ok(None),
+        Some(bits) => Ok(Some(Bitmap::from_bools(alloc, bits)?)),
+    }
+}
+
+fn bytes_of(alloc: Global, bytes: &[u8]) -> Result<Buffer<u8>, Error> {
+    Buffer::from_vec(alloc, Vec::from_slice(alloc, bytes)?)
+}
+
+/// What the parts are refused for, of the type of byte strings of this size.
+fn refused(
+    alloc: Global,
+    size: usize,
+    bytes: &[u8],
+    bits: Option<&[bool]>,
+) -> Result<Option<Error>, Error> {
+    let values = bytes_of(alloc, bytes)?;
+    let validity = bits_of(alloc, bits)?;
+    let data_type = FixedSizeBinaryArray::default_data_type(size);
+    Ok(refusal(FixedSizeBinaryArray::try_new(data_type, values, validity)))
+}
+
+/// What a call refused.
+fn refusal(array: Result<FixedSizeBinaryArray, Error>) -> Option<Error> {
+    match array {
+        Err(error) => Some(error),
+        Ok(array) => {
+            drop(array);
+            None
+        }
+    }
+}
+
+#[test]
+fn the_first_failed_check_answers(rt: HostRuntime) -> Result<(), Fail> {
+    let bits = [true, false].as_slice();
+    let table = [
+        (0usize, Spec::ZeroSize),
+        (4, Spec::NotMultiple),
+        (2, Spec::ValidityLength),
+    ];
+    for (size, fault) in table {
+        let found = refused(rt.alloc(), size, b"abcdef", Some(bits))?;
+        assert_eq!(rt; found, Some(Error::OutOfSpec(fault)));
+    }
+    assert_eq!(rt; refused(rt.alloc(), 3, b"abcdef", Some(bits))?, None);
+    let values = bytes_of(rt.alloc(), b"abcdef")?;
+    let other = FixedSizeBinaryArray::try_new(DataType::Binary, values, None);
+    assert_eq!(rt; refusal(other), Some(Error::OutOfSpec(Spec::WrongType)));
+    Ok(())
+}
+
+/// The rows, of which those with a bit that is 0 are null.
+fn pairs(alloc: Global, rows: &[[u8; 2]], bits: &[bool]) -> Result<FixedSizeBinaryArray, Error> {
+    let validity = bits_of(alloc, Some(bits))?;
+    let mut array = FixedSizeBinaryArray::from_slice(alloc, rows)?;
+    match array.set_validity(validity) {
+        Ok(()) => Ok(array),
+        Err(error) => {
+            drop(array);
+            Err(error)
+        }
+    }
+}
+
+/// Whether slot i is there, and is these bytes.
+fn has(array: &FixedSizeBinaryArray, i: usize, bytes: &[u8]) -> bool {
+    if i >= array.len() {
+        return false;
+    }
+    array.get(i) == Some(bytes)
+}
+
+/// Whether the slots from place 1 are a null and ef, the bytes under the null are cd, and a cut at the end has no slot.
+fn holds_the_rest(array: FixedSizeBinaryArray) -> bool {
+    if array.len() != 3 {
+        drop(array);
+        return false;
+    }
+    let under_null = array.get(1).is_none() && array.value(1) == b"cd".as_slice();
+    let mut cut = array.sliced(1, 2);
+    let holds = cut.is_null(0) && has(&cut, 1, b"ef") && cut.null_count() == 1;
+    cut.slice(2, 0);
+    let empty = cut.is_empty();
+    drop(cut);
+    under_null && holds && empty
+}
+
+#[test]
+fn rows_are_the_slots(rt: HostRuntime) -> Result<(), Fail> {
+    let array = pairs(rt.alloc(), ROWS.as_slice(), [true, false, true].as_slice())?;
+    assert!(rt; has(&array, 0, b"ab"));
+    assert!(rt; holds_the_rest(array));
+    let short = pairs(rt.alloc(), ROWS.as_slice(), [true, false].as_slice());
+    assert_eq!(rt;
+        refusal(short),
+        Some(Error::OutOfSpec(Spec::ValidityLength))
+    );
+    Ok(())
+}
+
+/// A type of the user's over byte strings of two bytes.
+fn extension(alloc: Global) -> Result<DataType, Error> {
+    let name = String::from_str(alloc, "pair")?;
+    let inner = FixedSizeBinaryArray::default_data_type(2);
+    Ok(DataType::Extension(name, Box::new(alloc, inner)?, None))
+}
+
+/// The array under another type, where that is one of the same size.
+fn retyped(array: FixedSizeBinaryArray, data_type: DataType) -> FixedSizeBinaryArray {
+    let same_kind = data_type.to_physical_type() == PhysicalType::FixedSizeBinary;
+    if same_kind && data_type.size().unwrap_or(0) == array.size() {
+        return array.to(data_type);
+    }
+    drop(data_type);
+    array
+}
+
+/// A clone under a type of the user's.
+fn extended(alloc: Global, array: &FixedSizeBinaryArray) -> Result<FixedSizeBinaryArray, Error> {
+    let data_type = extension(alloc)?;
+    match array.clone(alloc) {
+        Ok(copy) => Ok(retyped(copy, data_type)),
+        Err(error) => {
+            drop(data_type);
+            Err(error)
+        }
+    }
+}
+
+/// Whether the other array is equal, and then let go.
+fn is_same(array: &FixedSizeBinaryArray, other: Result<FixedSizeBinaryArray, Error>) -> bool {
+    match other {
+        Err(_) => false,
+        Ok(other) => {
+            let same = *array == other;
+            drop(other);
+            same
+        }
+    }
+}
+
+#[test]
+fn nulls_and_types_tell_arrays_apart(rt: HostRuntime) -> Result<(), Fail> {
+    let bits = [true, false, true].as_slice();
+    let array = pairs(rt.alloc(), ROWS.as_slice(), bits)?;
+    assert!(rt; is_same(&array, array.clone(rt.alloc())));
+    assert!(rt; is_same(&array, pairs(rt.alloc(), OTHER_ROWS.as_slice(), bits)));
+    assert!(rt;
+        !is_same(
+            &array,
+            pairs(rt.alloc(), ROWS.as_slice(), [true, true, true].as_slice())
+        )
+    );
+    assert!(rt; !is_same(&array, extended(rt.alloc(), &array)));
+    drop(array);
+    Ok(())
+}
+
+/// An array of bytes with these offsets and bits.
+fn binary(
+    alloc: Global,
+    bytes: &[u8],
+    offsets: &[i32],
+    bits: &[bool],
+) -> Result<BinaryArray<i32>, Error> {
+    let offsets = OffsetsBuffer::try_new(alloc, Vec::from_slice(alloc, offsets)?)?;
+    let values = bytes_of(alloc, bytes)?;
+    let validity = bits_of(alloc, Some(bits))?;
+    BinaryArray::try_new(DataType::Binary, offsets, values, validity)
+}
+
+fn are_same(x: &Result<BinaryArray<i32>, Error>, y: &Result<BinaryArray<i32>, Error>) -> bool {
+    match x {
+        Err(_) => false,
+        Ok(x) => match y {
+            Err(_) => false,
+            Ok(y) => x == y,
+        },
+    }
+}
+
+#[test]
+fn equal_arrays_have_equal_slots(rt: HostRuntime) {
+    let two = [true, false, false, true, false, false].as_slice();
+    let three = [true, true, false, true, false, false].as_slice();
+    let hello = binary(
+        rt.alloc(),
+        b"helloworld",
+        [0i32, 5, 5, 5, 10, 10, 10].as_slice(),
+        two,
+    );
+    let offsets = [0i32, 5, 8, 8, 13, 13, 13].as_slice();
+    let foo = binary(rt.alloc(), b"hellofooworld", offsets, three);
+    let under_null = binary(rt.alloc(), b"hellofooworld", offsets, two);
+    assert!(rt; are_same(&hello, &hello));
+    assert!(rt; are_same(&foo, &foo));
+    assert!(rt; !are_same(&hello, &foo));
+    assert!(rt; are_same(&hello, &under_null));
+    drop(hello);
+    drop(foo);
+    drop(under_null);
+}

@@ -1,0 +1,64 @@
+//! The happy path of each type, its refusals, and what a refused request for memory leaves. A failed `expect` ends the
+//! test, so it lets no value go, which keeps the proofs short.
+mod bitmaps;
+mod growing;
+mod offsets;
+
+use nest_memory::buffer::Buffer;
+use nest_memory::error::Error;
+use std::alloc::{AllocError, Global};
+use std::process::Abort;
+
+/// What a call gave, or `None` where memory was refused; nothing else may be.
+fn unless_refused<T>(rt: &impl Abort, outcome: Result<T, Error>) -> Option<T> {
+    match outcome {
+        Ok(value) => Some(value),
+        Err(error) => {
+            assert_eq!(rt; error, Error::Memory(AllocError));
+            None
+        }
+    }
+}
+
+fn buffer_of(alloc: Global, items: &[u16]) -> Result<Buffer<u16>, Error> {
+    Buffer::from_vec(alloc, Vec::from_slice(alloc, items)?)
+}
+
+#[test]
+fn buffers(rt: HostRuntime) {
+    let none = Buffer::<u16>::new(rt.alloc()).expect(&rt, "no item");
+    assert!(rt; none.is_empty());
+    let whole = buffer_of(rt.alloc(), &[5, 6, 7, 8]).expect(&rt, "four items");
+    assert_eq!(rt; whole.len(), 4);
+    assert_eq!(rt; whole.get(3), 8);
+    drop(none);
+    drop(whole);
+}
+
+#[test]
+fn cuts_of_a_shared_buffer(rt: HostRuntime) {
+    let whole = buffer_of(rt.alloc(), &[5, 6, 7, 8]).expect(&rt, "four items");
+    let mut copy = whole.clone().expect(&rt, "a second owner");
+    assert_eq!(rt; whole.len(), 4);
+    let cut = whole.sliced(1, 2);
+    assert_eq!(rt; cut.as_slice(), [6, 7].as_slice());
+    assert_eq!(rt; copy.as_slice(), [5, 6, 7, 8].as_slice());
+    copy.slice(1, 3);
+    copy.slice(1, 2);
+    assert_eq!(rt; copy.as_slice(), [7, 8].as_slice());
+    drop(cut);
+    drop(copy);
+}
+
+// Passes whichever request for memory is refused.
+#[test]
+fn buffers_without_memory(rt: HostRuntime) {
+    if let Some(none) = unless_refused(&rt, Buffer::<u8>::new(rt.alloc())) {
+        assert!(rt; none.is_empty());
+        drop(none);
+    }
+    if let Some(some) = unless_refused(&rt, buffer_of(rt.alloc(), &[1, 2])) {
+        assert_eq!(rt; some.len(), 2);
+        drop(some);
+    }
+}

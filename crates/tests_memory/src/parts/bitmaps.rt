@@ -1,0 +1,164 @@
+//! Bits, pushed and frozen.
+use super::unless_refused;
+use nest_memory::bitmap::immutable::Bitmap;
+use nest_memory::bitmap::mutable::MutableBitmap;
+use nest_memory::error::{Error, Spec};
+use std::alloc::Global;
+
+fn bitmap_of(alloc: Global, bytes: &[u8], len: usize) -> Result<Bitmap, Error> {
+    Bitmap::try_new(alloc, Vec::from_slice(alloc, bytes)?, len)
+}
+
+#[test]
+fn bits_lie_least_significant_first(rt: HostRuntime) {
+    let bits = bitmap_of(rt.alloc(), &[0b0000_0101, 0b1000_0000], 16).expect(&rt, "two bytes");
+    assert!(rt; !bits.is_empty());
+    assert_eq!(rt; bits.len(), 16);
+    for i in 0..16usize {
+        if i < bits.len() {
+            assert_eq!(rt; bits.get_bit(i), i == 0 || i == 2 || i == 15);
+        }
+    }
+    assert_eq!(rt; bits.unset_bits(), 13);
+    drop(bits);
+}
+
+#[test]
+fn cuts_of_shared_bits(rt: HostRuntime) {
+    let mut bits = bitmap_of(rt.alloc(), &[0b0000_0101, 0b1000_0000], 16).expect(&rt, "two bytes");
+    let shared = bits.clone().expect(&rt, "a second owner");
+    assert_eq!(rt; bits.len(), 16);
+    bits.slice(1, 15);
+    assert_eq!(rt; bits.unset_bits(), 13);
+    assert_eq!(rt; bits.len(), 15);
+    let end = bits.sliced(13, 2);
+    assert_eq!(rt; end.unset_bits(), 1);
+    assert_eq!(rt; shared.unset_bits(), 13);
+    drop(end);
+    drop(shared);
+}
+
+#[test]
+fn short_bitmap(rt: HostRuntime) {
+    let refused = bitmap_of(rt.alloc(), &[1], 9).err();
+    assert_eq!(rt; refused, Some(Error::OutOfSpec(Spec::ValidityLength)));
+}
+
+#[test]
+fn bits_from_both_ends(rt: HostRuntime) {
+    let bools = [true, true, false, true, false, false, false, false, true];
+    let mut bits = Bitmap::from_bools(rt.alloc(), &bools).expect(&rt, "nine bits");
+    assert_eq!(rt; bits.len(), 9);
+    bits.slice(1, 8);
+    let mut iter = bits.iter();
+    assert_eq!(rt; iter.len(), 8);
+    assert_eq!(rt; iter.next_back(), Some(true));
+    assert_eq!(rt; iter.next(), Some(true));
+    assert_eq!(rt; iter.next(), Some(false));
+    assert_eq!(rt; iter.len(), 5);
+    assert_eq!(rt; iter.filter(|bit| *bit).count(), 1);
+    drop(bits);
+}
+
+#[test]
+fn pushed_bits_from_both_ends(rt: HostRuntime) {
+    let mut grown = MutableBitmap::new(rt.alloc());
+    assert_eq!(rt; grown.push(true), Ok(()));
+    let mut iter = grown.iter();
+    assert_eq!(rt; iter.next(), Some(true));
+    assert_eq!(rt; iter.next_back(), None);
+    drop(grown);
+}
+
+/// Bits 0, 3, 6 and 9 of eleven are 1; then thirty are 1 and twenty 0.
+fn grow(bits: &mut MutableBitmap) -> Result<(), Error> {
+    for i in 0..11u32 {
+        bits.push(i % 3 == 0)?;
+    }
+    bits.extend_constant(30, true)?;
+    bits.extend_constant(20, false)
+}
+
+fn grown(alloc: Global) -> Result<MutableBitmap, Error> {
+    let mut bits = MutableBitmap::with_capacity(alloc, 11)?;
+    match grow(&mut bits) {
+        Ok(()) => Ok(bits),
+        Err(error) => Err(error),
+    }
+}
+
+#[test]
+fn growing_bitmaps(rt: HostRuntime) {
+    let mut bits = grown(rt.alloc()).expect(&rt, "61 bits");
+    assert_eq!(rt; bits.len(), 61);
+    assert_eq!(rt; bits.unset_bits(), 27);
+    bits.set(0, false);
+    assert!(rt; !bits.get(0));
+    assert_eq!(rt; bits.reserve(1000), Ok(()));
+    bits.truncate(41);
+    bits.shrink_to_fit();
+    assert_eq!(rt; bits.unset_bits(), 8);
+    assert_eq!(rt;
+        bits.extend_constant(usize::MAX, true),
+        Err(Error::Overflow)
+    );
+    assert_eq!(rt; bits.len(), 41);
+    drop(bits);
+}
+
+#[test]
+fn frozen_bits(rt: HostRuntime) {
+    let mut bits = grown(rt.alloc()).expect(&rt, "61 bits");
+    let frozen = bits.freeze().expect(&rt, "the same bits");
+    assert!(rt; bits.is_empty());
+    assert_eq!(rt; frozen.len(), 61);
+    assert_eq!(rt; frozen.unset_bits(), 27);
+    drop(bits);
+    drop(frozen);
+}
+
+// The next three pass whichever request for memory is refused: a refused call changes nothing, and a freeze leaves its
+// object empty.
+#[test]
+fn bits_grow_without_memory(rt: HostRuntime) {
+    let mut grown = MutableBitmap::new(rt.alloc());
+    let mut accepted = 0usize;
+    for _i in 0..40u32 {
+        if unless_refused(&rt, grown.push(true)).is_some() {
+            accepted = accepted.saturating_add(1);
+        }
+        assert_eq!(rt; grown.len(), accepted);
+    }
+    unless_refused(&rt, grown.reserve(1000));
+    assert_eq!(rt; grown.len(), accepted);
+    if unless_refused(&rt, grown.extend_constant(5000, false)).is_some() {
+        assert_eq!(rt; grown.unset_bits(), 5000);
+    }
+    drop(grown);
+}
+
+#[test]
+fn bits_freeze_without_memory(rt: HostRuntime) {
+    let mut grown = MutableBitmap::new(rt.alloc());
+    unless_refused(&rt, grown.extend_constant(40, true));
+    let before = grown.len();
+    if let Some(frozen) = unless_refused(&rt, grown.freeze()) {
+        assert_eq!(rt; frozen.len(), before);
+        drop(frozen);
+    }
+    assert!(rt; grown.is_empty());
+    drop(grown);
+}
+
+#[test]
+fn bitmaps_without_memory(rt: HostRuntime) {
+    drop(unless_refused(&rt, MutableBitmap::with_capacity(rt.alloc(), 9)));
+    if let Some(bits) = unless_refused(&rt, Bitmap::from_bools(rt.alloc(), &[true, false])) {
+        assert_eq!(rt; bits.unset_bits(), 1);
+        drop(bits);
+    }
+    if let Some(bits) = unless_refused(&rt, bitmap_of(rt.alloc(), &[], 0)) {
+        assert!(rt; bits.is_empty());
+        drop(bits);
+    }
+}
