@@ -1,10 +1,11 @@
 //! What arrays of bytes have in common: their bytes, and where each slot lies in them.
 ghost use Rattle.std.specs.Prelude.{◌≡◌, ◌≤◌, ◌<◌, ◌%◌, length};
-ghost use Rattle.nest_memory.specs.Rising.{last_of, numbers};
+ghost use Rattle.nest_memory.specs.Rising.{numbers};
 ghost use Rattle.nest_memory.specs.TypeTree.{size_of};
 ghost use Rattle.nest_model.specs.Accessors.{bytes_of, offsets_of};
 ghost use Rattle.nest_model.specs.Array.{AreOffsets};
 ghost use Rattle.nest_model.specs.Layout.{Layout, layout_type};
+ghost use Rattle.nest_model.specs.Part.{last_offset};
 
 use crate::array::Array;
 use crate::fixed_size_binary::FixedSizeBinaryArray;
@@ -22,7 +23,7 @@ pub trait GenericBinaryArray<O: Offset>: Array {
     fn offsets(&self) -> &[O]
         ensures shown { numbers O.value result.now ≡ offsets_of (Self.layout self.now) }
         ensures rising { AreOffsets (offsets_of (Self.layout self.now)) }
-        ensures within { last_of (offsets_of (Self.layout self.now)) ≤ length (bytes_of (Self.layout self.now)) };
+        ensures within { last_offset (offsets_of (Self.layout self.now)) ≤ length (bytes_of (Self.layout self.now)) };
 }
 
 impl GenericBinaryArray<i32> for BinaryArray<i32> {

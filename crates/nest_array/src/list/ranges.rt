@@ -7,8 +7,7 @@ ghost use Rattle.nest_memory.specs.TypeOf.{type_of};
 ghost use Rattle.nest_model.specs.Array.{AreOffsets};
 ghost use Rattle.nest_model.specs.Fits.{Fits, FirstFault, ValidityFits};
 ghost use Rattle.nest_model.specs.Layout as layouts;
-ghost use Rattle.nest_memory.specs.Rising.{last_of};
-ghost use Rattle.nest_model.specs.Part.{begin, extent, rows, cut_validity};
+ghost use Rattle.nest_model.specs.Part.{begin, extent, rows, last_offset, cut_validity};
 ghost use Rattle.nest_array.specs.Seen.{layout_of};
 
 use crate::any::AnyArray;
@@ -38,7 +37,7 @@ impl<O: Offset> Ranges<O> {
 
     /// Where the last list ends.
     pub(crate) fn end(&self) -> usize
-        ensures last { result ≡ last_of self.now.offsets }
+        ensures last { result ≡ last_offset self.now.offsets }
         ensures rising { AreOffsets self.now.offsets }
     {
         self.offsets.known();
