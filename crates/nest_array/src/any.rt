@@ -1,20 +1,10 @@
 //! An array of any kind.
 ghost use Rattle.std.specs.Prelude.{◌≡◌, ◌+◌, ◌≤◌, ◌<◌, ◌↔◌, false, IsTrue, IfOk, IsOkUnless, MatchOption, MatchResult, option_map, alloc_error};
-ghost use Rattle.nest_memory.specs.declared.error.Error.TheVariants.{Memory};
-ghost use Rattle.nest_memory.specs.Cut.{cut};
-ghost use Rattle.nest_memory.specs.Physical.{physical_type};
-ghost use Rattle.nest_memory.specs.TypeOf.{type_of};
 ghost use Rattle.nest_memory.specs.declared.datatypes.physical_type.PhysicalType.TheVariants as physical;
-ghost use Rattle.nest_model.specs.Accessors.{validity_of, with_validity};
-ghost use Rattle.nest_model.specs.Array.{TopFits};
 ghost use Rattle.nest_model.specs.Checks.{Pass};
-ghost use Rattle.nest_model.specs.Cut.{cut_layout};
-ghost use Rattle.nest_model.specs.Fits.{validity_checks, ValidityFault};
-ghost use Rattle.nest_model.specs.Layout.{layout_type};
-ghost use Rattle.nest_model.specs.Meaning.{len, slot, slots_of};
-ghost use Rattle.nest_model.specs.Nullness.{has_keys, is_null_at, null_count};
+ghost use Rattle.nest_model.specs.Fits.{validity_checks};
 ghost use Rattle.nest_model.specs.Slot as slots;
-ghost use Rattle.nest_array.specs.Seen.{layout_of};
+ghost use Rattle.nest_array.specs.Words.{Memory, TopFits, ValidityFault, cut, cut_layout, has_keys, is_null_at, layout_of, layout_type, len, null_count, physical_type, slot, slots_of, type_of, validity_of, with_validity};
 
 use crate::equal::kinds::as_primitive;
 use crate::fixed_size_binary::FixedSizeBinaryArray;

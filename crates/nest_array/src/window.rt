@@ -1,11 +1,7 @@
 //! A part of an array, borrowed.
 ghost use Rattle.std.specs.Prelude.{◌≡◌, ◌+◌, ◌≤◌, ◌<◌, ◌↔◌, false, IsTrue};
-ghost use Rattle.nest_memory.specs.Cut.{cut};
-ghost use Rattle.nest_model.specs.Meaning.{len, slot, slots_of};
-ghost use Rattle.nest_model.specs.Nullness.{has_keys, is_null_at};
 ghost use Rattle.nest_model.specs.Slot as slots;
-ghost use Rattle.nest_array.specs.Seen.{layout_of};
-ghost use Rattle.nest_array.specs.WindowParts.{window_parts, window_slots};
+ghost use Rattle.nest_array.specs.Words.{cut, has_keys, is_null_at, layout_of, len, slot, slots_of, window_parts, window_slots};
 
 use crate::any::AnyArray;
 use std::marker::Model;

@@ -4,18 +4,10 @@ mod nested;
 mod primitive;
 
 ghost use Rattle.std.specs.Prelude.{◌≡◌, ◌+◌, ◌≤◌, ◌<◌, ◌↔◌, ◌⊎◌, false, IsTrue, IfOk, IsOkUnless, MatchResult, not, option_map, alloc_error};
-ghost use Rattle.nest_memory.specs.declared.error.Error.TheVariants.{Memory};
-ghost use Rattle.nest_memory.specs.Cut.{cut};
-ghost use Rattle.nest_memory.specs.TypeOf.{type_of};
-ghost use Rattle.nest_model.specs.Accessors.{validity_of, with_validity};
 ghost use Rattle.nest_model.specs.Checks.{Pass};
-ghost use Rattle.nest_model.specs.Cut.{cut_layout};
-ghost use Rattle.nest_model.specs.Fits.{validity_checks, ValidityFault};
-ghost use Rattle.nest_model.specs.Layout.{Layout, layout_type};
-ghost use Rattle.nest_model.specs.Meaning.{len, slot, slots_of};
-ghost use Rattle.nest_model.specs.Nullness.{has_keys, is_null_at, null_count};
+ghost use Rattle.nest_model.specs.Fits.{validity_checks};
 ghost use Rattle.nest_model.specs.Slot as slots;
-ghost use Rattle.nest_array.specs.Seen.{layout_of};
+ghost use Rattle.nest_array.specs.Words.{Layout, Memory, ValidityFault, cut, cut_layout, has_keys, is_null_at, layout_of, layout_type, len, null_count, slot, slots_of, type_of, validity_of, with_validity};
 
 use crate::any::AnyArray;
 use nest_memory::bitmap::immutable::Bitmap;

@@ -6,14 +6,9 @@ mod rows;
 mod whole;
 
 ghost use Rattle.std.specs.Prelude.{◌≡◌, ◌↔◌, ◌+◌, ◌≤◌, IsTrue};
-ghost use Rattle.nest_memory.specs.TypeOf.{type_of};
-ghost use Rattle.nest_model.specs.Layout.{layout_type};
-ghost use Rattle.nest_model.specs.Meaning.{len, run, slot};
-ghost use Rattle.nest_model.specs.SameArray.{IsSameArray};
-ghost use Rattle.nest_array.specs.RowSlots.{Alike, IsWithin, row_slot};
-ghost use Rattle.nest_array.specs.Seen.{layout_of};
+ghost use Rattle.nest_array.specs.RowSlots.{IsWithin, row_slot};
 ghost use Rattle.nest_array.specs.SeenLists.{lists_layout};
-ghost use Rattle.nest_array.specs.WindowParts.{window_slots};
+ghost use Rattle.nest_array.specs.Words.{Alike, IsSameArray, layout_of, layout_type, len, run, slot, type_of, window_slots};
 
 use crate::any::AnyArray;
 use crate::null::NullArray;

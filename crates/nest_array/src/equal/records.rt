@@ -1,10 +1,8 @@
 //! Equality of runs of records.
 ghost use Rattle.std.specs.Prelude.{◌≡◌, ◌↔◌, ◌+◌, ◌≤◌, ◌<◌, IsTrue, IsSome};
-ghost use Rattle.nest_model.specs.Accessors.{validity_of};
 ghost use Rattle.nest_model.specs.Fits.{EachCovers};
-ghost use Rattle.nest_model.specs.Meaning.{len, run, slot};
-ghost use Rattle.nest_array.specs.RowSlots.{Alike, SameTypes, SameChildren};
-ghost use Rattle.nest_array.specs.Seen.{layouts_of};
+ghost use Rattle.nest_array.specs.RowSlots.{SameTypes, SameChildren};
+ghost use Rattle.nest_array.specs.Words.{Alike, layouts_of, len, run, slot, validity_of};
 
 use crate::any::AnyArray;
 use crate::equal::same_run;

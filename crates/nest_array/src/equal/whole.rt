@@ -1,9 +1,6 @@
 //! Equality of whole arrays: of any kind, and of each kind that has children.
 ghost use Rattle.std.specs.Prelude.{◌≡◌, ◌↔◌, ◌+◌, ◌≤◌, IsTrue};
-ghost use Rattle.nest_model.specs.Meaning.{len, run, slot};
-ghost use Rattle.nest_model.specs.SameArray.{IsSameArray, same_array};
-ghost use Rattle.nest_array.specs.RowSlots.{Alike};
-ghost use Rattle.nest_array.specs.Seen.{layout_of};
+ghost use Rattle.nest_array.specs.Words.{Alike, IsSameArray, layout_of, len, run, same_array, slot};
 
 use crate::any::AnyArray;
 use crate::array::Array;

@@ -3,23 +3,11 @@ mod equality;
 mod rows;
 
 ghost use Rattle.std.specs.Prelude.{◌≡◌, ◌+◌, ◌*◌, ◌≤◌, ◌<◌, ◌↔◌, IsTrue, IfOk, IsOkUnless, MatchResult, MatchOption, None, option_map, alloc_error};
-ghost use Rattle.nest_memory.specs.declared.error.Error.TheVariants.{Memory};
-ghost use Rattle.nest_memory.specs.Cut.{cut};
-ghost use Rattle.nest_memory.specs.TypeOf.{type_of};
-ghost use Rattle.nest_memory.specs.TypeTree.{size_of};
-ghost use Rattle.nest_model.specs.Accessors.{validity_of, bytes_of, with_validity};
-ghost use Rattle.nest_model.specs.Array.{TopFits};
-ghost use Rattle.nest_model.specs.Cut.{cut_layout};
-ghost use Rattle.nest_model.specs.Fits.{Fits, FirstFault, ValidityFits, ValidityFault};
+ghost use Rattle.nest_model.specs.Accessors.{bytes_of};
 ghost use Rattle.nest_model.specs.Layout as layouts;
-ghost use Rattle.nest_model.specs.Layout.{layout_type};
-ghost use Rattle.nest_model.specs.Meaning.{len, slot, slots_of};
-ghost use Rattle.nest_model.specs.Nullness.{is_null_at, null_count};
-ghost use Rattle.nest_model.specs.Part.{valid_at};
-ghost use Rattle.nest_model.specs.Reads.{where_valid};
 ghost use Rattle.nest_model.specs.Slot as slots;
 ghost use Rattle.nest_flat.specs.FlatParts.{optional};
-ghost use Rattle.nest_array.specs.Seen.{layout_of};
+ghost use Rattle.nest_array.specs.Words.{FirstFault, Fits, Memory, TopFits, ValidityFault, ValidityFits, cut, cut_layout, is_null_at, layout_of, layout_type, len, null_count, size_of, slot, slots_of, type_of, validity_of, where_valid, with_validity};
 
 use crate::any::AnyArray;
 use nest_flat::validity;
