@@ -1,5 +1,6 @@
 -- Unset bits, counted by whole bytes.
-use Rattle.std.proofs.Common.{◌≡◌, ℕ, zero, suc, ◌+◌, ◌-◌, ◌*◌, ◌/◌, ◌%◌, ◌^◌, ◌≤◌, ◌<◌, Bool, true, false, not, cond, List, [], ◌∷◌, ◌++◌, map, arith, ap, sym, ◌∙◌, refl, nat_eq, get_or, count_by, take, replicate, IsTrue}
+use Rattle.std.proofs.Common.{◌≡◌, ℕ, zero, suc, ◌+◌, ◌-◌, ◌*◌, ◌/◌, ◌%◌, ◌^◌, ◌≤◌, ◌<◌, Bool, true, false, not, cond, List, [], ◌∷◌, ◌++◌, map, arith, ap, sym, ◌∙◌, refl, nat_eq, get_or, count_by, take, replicate, IsTrue, ◌⊎◌, inl, inr}
+use Rattle.std.specs.Prelude.{Option, None, Some, IfSome}
 use Rattle.std.specs.List.{range_with_len}
 use Rattle.std.specs.Int.{bit_at, w8, count_zeros}
 use lib.Count.{ones, ones_step, ones-le}
@@ -90,6 +91,28 @@ pub unset_more_no : (bytes : List ℕ) (o n : ℕ) → not (bit bytes (o + n)) �
 unset_more_no bytes o n e =
     let d : cond (not (bit bytes (o + n))) 1 0 ≡ zero = ap (λ b. cond b 1 0) e in
     omega (arith, unset_append bytes o n 1, unset_one bytes (o + n), d)
+
+-- Of a part: all of a window has the window's unset bits, and a part has none where the window has none.
+unset_whole : (bytes : List ℕ) (o n a m : ℕ) → a + m ≤ n → m ≡ n → count_by not (bits_from bytes (o + a) m) ≡ count_by not (bits_from bytes o n)
+unset_whole bytes o n a m h e =
+    let s : o + a ≡ o = omega arith in
+    λ i. count_by not (bits_from bytes (s i) (e i))
+
+unset_within : (bytes : List ℕ) (o n a m : ℕ) → a + m ≤ n → count_by not (bits_from bytes (o + a) m) ≤ count_by not (bits_from bytes o n)
+unset_within bytes o n a m h =
+    let e : n ≡ a + (m + (n - a - m)) = omega arith in
+    let t = ap (λ k. count_by not (bits_from bytes o k)) e in
+    omega (arith, t, unset_append bytes o a (m + (n - a - m)), unset_append bytes (o + a) m (n - a - m))
+
+pub unset_of_part : (bytes : List ℕ) (o n a m : ℕ) (was is : Option ℕ) (whole : Type 0) → a + m ≤ n → (whole → m ≡ n) → IfSome was (λ k. k ≡ count_by not (bits_from bytes o n)) → IfSome is (λ k. (was ≡ Some k) × (whole ⊎ (k ≡ 0))) → IfSome is (λ k. k ≡ count_by not (bits_from bytes (o + a) m))
+unset_of_part bytes o n a m was None whole h all kept known = tt
+unset_of_part bytes o n a m None (Some k) whole h all kept known = absurd cc
+unset_of_part bytes o n a m (Some j) (Some k) whole h all kept known =
+    let e : j ≡ k = cc in
+    elim known.1 [
+      | inl w ↦ sym e ∙ kept ∙ sym (unset_whole bytes o n a m h (all w))
+      | inr z ↦ omega (arith, e, z, kept, unset_within bytes o n a m h)
+    ]
 
 -- one byte more
 pub unset_byte_more : (bytes : List ℕ) (first i b : ℕ) → get_or bytes (first + i) 0 ≡ b → b < 256 → count_by not (bits_from bytes (8 * first) (8 * (i + 1))) ≡ count_by not (bits_from bytes (8 * first) (8 * i)) + count_zeros w8 b

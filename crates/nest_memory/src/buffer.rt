@@ -4,7 +4,7 @@ ghost use Rattle.nest_memory.specs.declared.error.Error.TheVariants.{Memory};
 ghost use Rattle.nest_memory.specs.Cut.{cut};
 
 use crate::error::Error;
-use std::alloc::{AllocError, Global};
+use std::alloc::Global;
 use std::marker::Model;
 use std::rc::Rc;
 
@@ -101,9 +101,10 @@ impl<T: Copy> Buffer<T> {
         cut
     }
 
-    /// Another owner of the same values; none is copied. `Err` where the owners can't be counted.
-    pub fn clone(&self) -> Result<Buffer<T>, AllocError>
-        ensures { IfOk result (λ b. b ≡ self.now) }
+    /// Another owner of the same values; none is copied. `Memory` where the owners can't be counted.
+    pub fn clone(&self) -> Result<Buffer<T>, Error>
+        ensures ok { IfOk result (λ b. b ≡ self.now) }
+        ensures err { IsOkUnless result (Memory alloc_error) }
     {
         Ok(Buffer {
             data: self.data.clone()?,

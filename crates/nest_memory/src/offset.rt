@@ -1,6 +1,6 @@
 //! The numbers that stand as offsets.
 ghost use Rattle.std.specs.Prelude.{◌≡◌, ◌<◌, ◌≤◌, ◌^◌, ℕ, ℤ, pos, Bool, true, false, MatchOption};
-ghost use Rattle.nest_memory.specs.Rising.{below_zero};
+ghost use Rattle.nest_memory.specs.Rising.{below_zero, largest_offset};
 
 /// An integer type of offsets: `i32` in the small layouts, `i64` in the large ones
 /// ("Variable-size Binary Layout" and "Variable-size List Layout" of the Arrow columnar format). arrow2's `Offset`.
@@ -29,6 +29,9 @@ pub trait Offset: Copy {
         ensures { MatchOption result (largest < n) (λ o. (value o ≡ pos n) × (n ≤ largest)) };
 
     ghost small: { largest < 2 ^ 63 };
+
+    // The width alone tells which offset is the largest.
+    ghost largest_is: { largest ≡ largest_offset IS_LARGE };
 }
 
 impl Offset for i32 {
@@ -40,9 +43,11 @@ impl Offset for i32 {
 
     const IS_LARGE: bool = false;
 
-    ghost use Rattle.std.proofs.Common.{lit<};
+    ghost use Rattle.std.proofs.Common.{lit<, refl};
 
     ghost small = { lit< tt };
+
+    ghost largest_is = { refl };
 
     fn is_negative(&self) -> bool {
         *self < 0
@@ -66,9 +71,11 @@ impl Offset for i64 {
 
     const IS_LARGE: bool = true;
 
-    ghost use Rattle.std.proofs.Common.{lit<};
+    ghost use Rattle.std.proofs.Common.{lit<, refl};
 
     ghost small = { lit< tt };
+
+    ghost largest_is = { refl };
 
     fn is_negative(&self) -> bool {
         *self < 0

@@ -8,7 +8,7 @@ ghost use Rattle.nest_memory.specs.declared.error.Spec.TheVariants.{Offsets as W
 use crate::buffer::Buffer;
 use crate::error::{Error, Spec};
 use crate::offset::Offset;
-use std::alloc::{AllocError, Global};
+use std::alloc::Global;
 use std::marker::Model;
 use std::mem;
 
@@ -199,9 +199,10 @@ impl<O: Offset> OffsetsBuffer<O> {
         cut
     }
 
-    /// Another owner of the same offsets; none is copied. `Err` where the owners can't be counted.
-    pub fn clone(&self) -> Result<OffsetsBuffer<O>, AllocError>
-        ensures { IfOk result (λ b. b ≡ self.now) }
+    /// Another owner of the same offsets; none is copied. `Memory` where the owners can't be counted.
+    pub fn clone(&self) -> Result<OffsetsBuffer<O>, Error>
+        ensures ok { IfOk result (λ b. b ≡ self.now) }
+        ensures err { IsOkUnless result (Memory alloc_error) }
     {
         Ok(OffsetsBuffer {
             buffer: self.buffer.clone()?,

@@ -1,5 +1,5 @@
 //! A window of bits that several bitmaps share.
-ghost use Rattle.std.specs.Prelude.{◌≡◌, ℕ, ◌+◌, ◌*◌, ◌<◌, ◌≤◌, ◌↔◌, ◌⊎◌, List, [], IfOk, IfErr, IsErrOf, IsOkUnless, IsTrue, length, slice_get, Some, count_by, not, vec_len, alloc_error};
+ghost use Rattle.std.specs.Prelude.{◌≡◌, ℕ, ◌+◌, ◌*◌, ◌<◌, ◌≤◌, ◌↔◌, ◌⊎◌, List, [], IfOk, IfErr, IfSome, IsErrOf, IsOkUnless, IsTrue, length, slice_get, Some, count_by, not, vec_len, alloc_error};
 ghost use Rattle.nest_memory.specs.Bits.{bits_from};
 ghost use Rattle.nest_memory.specs.Cut.{cut};
 ghost use Rattle.nest_memory.specs.declared.error.Error.TheVariants.{OutOfSpec, Memory};
@@ -9,7 +9,7 @@ use crate::bitmap::bits;
 use crate::bitmap::iterator::BitmapIter;
 use crate::bitmap::mutable::MutableBitmap;
 use crate::error::{Error, Spec};
-use std::alloc::{AllocError, Global};
+use std::alloc::Global;
 use std::marker::Model;
 use std::rc::Rc;
 
@@ -21,22 +21,36 @@ pub struct Bitmap {
     bytes: Rc<Vec<u8>>,
     offset: usize,
     len: usize,
+    // How many of the bits are 0, where that is known.
+    unset: Option<usize>,
 }
 
 impl Model for Bitmap {
-    ghost use Rattle.std.specs.Prelude.{List, Bool, ◌+◌, ◌*◌, ◌^◌, ◌<◌, ◌≤◌, length};
+    ghost use Rattle.std.specs.Prelude.{◌≡◌, List, Bool, ◌+◌, ◌*◌, ◌^◌, ◌<◌, ◌≤◌, length, count_by, not, IfSome};
     ghost use Rattle.nest_memory.specs.Bits.{bits_from};
 
     ghost Value = { List Bool };
 
     ghost view = { λ b. bits_from b.bytes.value.items b.offset b.len };
 
-    ghost invariant = { λ b. (b.offset + b.len ≤ 8 * length b.bytes.value.items) × (b.offset + b.len < 2 ^ 64) };
+    ghost invariant = { λ b. (b.offset + b.len ≤ 8 * length b.bytes.value.items) × ((b.offset + b.len < 2 ^ 64) × IfSome b.unset (λ n. n ≡ count_by not (bits_from b.bytes.value.items b.offset b.len))) };
+}
+
+// What is known of a part's unset bits, from those of the whole: the same of all of it, none where there was none.
+fn unset_of_part(unset: Option<usize>, is_whole: bool) -> Option<usize>
+    ensures { IfSome result (λ n. (unset ≡ Some n) × (IsTrue is_whole ⊎ (n ≡ 0))) }
+{
+    match unset {
+        Some(n) if is_whole || n == 0 => unset,
+        _ => None,
+    }
 }
 
 #[tactic(auto, using(crate::proofs::BitLists::bit_lists))]
 impl Bitmap {
     /// The first `length` bits of `bytes`. `OutOfSpec(ValidityLength)` where the bytes have fewer.
+    ///
+    /// The unset bits are counted once, in one pass over the bytes; clones keep the count.
     pub fn try_new(alloc: Global, bytes: Vec<u8>, length: usize) -> Result<Bitmap, Error>
         ensures ok { IfOk result (λ b. b ≡ bits_from bytes.items 0 length) }
         ensures short { IsErrOf result (OutOfSpec ValidityLength) ↔ (8 * vec_len bytes < length) }
@@ -45,11 +59,13 @@ impl Bitmap {
         if bytes.len().saturating_mul(8) < length {
             return Err(Error::OutOfSpec(Spec::ValidityLength));
         }
+        let unset = bits::unset_bits(bytes.as_slice(), 0, length);
         let bytes = Rc::new(alloc, bytes)?;
         Ok(Bitmap {
             bytes,
             offset: 0,
             len: length,
+            unset: Some(unset),
         })
     }
 
@@ -87,18 +103,23 @@ impl Bitmap {
         bits::get_bit(self.bytes.as_slice(), self.offset + i)
     }
 
-    /// How many bits are 0, counted by whole bytes.
+    /// How many bits are 0. That is known of a bitmap that was never cut to a part of itself, and of cuts of one
+    /// where none is 0; else they are counted at each call, by whole bytes.
     pub fn unset_bits(&self) -> usize
         ensures { result ≡ count_by not self.now }
     {
-        bits::unset_bits(self.bytes.as_slice(), self.offset, self.len)
+        match self.unset {
+            Some(unset) => unset,
+            None => bits::unset_bits(self.bytes.as_slice(), self.offset, self.len),
+        }
     }
 
-    /// Keeps the `len` bits from place `offset`; no bit moves.
+    /// Keeps the `len` bits from place `offset`; no bit moves, and none is counted.
     pub fn slice(&mut self, offset: usize, len: usize)
         requires { offset + len ≤ length self.old }
         ensures { self.new ≡ cut self.old offset len }
     {
+        self.unset = unset_of_part(self.unset, len == self.len);
         self.offset += offset;
         self.len = len;
     }
@@ -120,14 +141,16 @@ impl Bitmap {
         BitmapIter::new(self.bytes.as_slice(), self.offset, self.len)
     }
 
-    /// Another owner of the same bits; no bit is copied. `Err` where the owners can't be counted.
-    pub fn clone(&self) -> Result<Bitmap, AllocError>
-        ensures { IfOk result (λ b. b ≡ self.now) }
+    /// Another owner of the same bits; no bit is copied. `Memory` where the owners can't be counted.
+    pub fn clone(&self) -> Result<Bitmap, Error>
+        ensures ok { IfOk result (λ b. b ≡ self.now) }
+        ensures err { IsOkUnless result (Memory alloc_error) }
     {
         Ok(Bitmap {
             bytes: self.bytes.clone()?,
             offset: self.offset,
             len: self.len,
+            unset: self.unset,
         })
     }
 }

@@ -1,10 +1,11 @@
 //! Copies of data types and fields, written out since a derived `clone` says nothing of a type that holds itself.
-ghost use Rattle.std.specs.Prelude.{◌≡◌, IfOk, IsOkUnless, alloc_error, option_map};
+ghost use Rattle.std.specs.Prelude.{◌≡◌, IfOk, IsOkUnless, alloc_error, option_map, string_bytes};
+ghost use Rattle.nest_memory.specs.TypeTree as types;
 ghost use Rattle.nest_memory.specs.TypeOf.{type_of, field_of, field_list_of, entries_of, text_of};
 ghost use Rattle.nest_memory.specs.declared.error.Error.TheVariants.{Memory};
 
-use crate::datatypes::DataType;
 use crate::datatypes::field::{Field, Metadata};
+use crate::datatypes::{DataType, IntegerType, TimeUnit, UnionMode};
 use crate::error::Error;
 use std::alloc::{AllocError, Global};
 
@@ -28,6 +29,7 @@ impl Field {
     }
 }
 
+// The types with parts are copied out of line: else the room for all their parts would be cleared for a plain type too.
 #[cycle(cloning)]
 fn copy(alloc: Global, source: &DataType) -> Result<DataType, AllocError>
     ensures { IfOk result (λ t. type_of t ≡ type_of source.now) }
@@ -46,7 +48,7 @@ fn copy(alloc: Global, source: &DataType) -> Result<DataType, AllocError>
         DataType::Float16 => Ok(DataType::Float16),
         DataType::Float32 => Ok(DataType::Float32),
         DataType::Float64 => Ok(DataType::Float64),
-        DataType::Timestamp(unit, zone) => Ok(DataType::Timestamp(*unit, copy_text(alloc, zone)?)),
+        DataType::Timestamp(unit, zone) => copy_timestamp(alloc, *unit, zone),
         DataType::Date32 => Ok(DataType::Date32),
         DataType::Date64 => Ok(DataType::Date64),
         DataType::Time32(unit) => Ok(DataType::Time32(*unit)),
@@ -58,34 +60,121 @@ fn copy(alloc: Global, source: &DataType) -> Result<DataType, AllocError>
         DataType::LargeBinary => Ok(DataType::LargeBinary),
         DataType::Utf8 => Ok(DataType::Utf8),
         DataType::LargeUtf8 => Ok(DataType::LargeUtf8),
-        DataType::List(field) => Ok(DataType::List(copy_boxed(alloc, field)?)),
-        DataType::FixedSizeList(field, size) => Ok(DataType::FixedSizeList(
-            copy_boxed(alloc, field)?,
-            *size,
-        )),
-        DataType::LargeList(field) => Ok(DataType::LargeList(copy_boxed(alloc, field)?)),
-        DataType::Struct(fields) => Ok(DataType::Struct(copy_fields(alloc, fields)?)),
-        DataType::Union(fields, ids, mode) => Ok(DataType::Union(
-            copy_fields(alloc, fields)?,
-            copy_ids(alloc, ids)?,
-            *mode,
-        )),
-        DataType::Map(entries, sorted) => Ok(DataType::Map(copy_boxed(alloc, entries)?, *sorted)),
+        DataType::List(field) => copy_list(alloc, field),
+        DataType::FixedSizeList(field, size) => copy_fixed_size_list(alloc, field, *size),
+        DataType::LargeList(field) => copy_large_list(alloc, field),
+        DataType::Struct(fields) => copy_struct(alloc, fields),
+        DataType::Union(fields, ids, mode) => copy_union(alloc, fields, ids, *mode),
+        DataType::Map(entries, sorted) => copy_map(alloc, entries, *sorted),
         DataType::Dictionary(key, values, ordered) => {
-            let copied = Box::new(alloc, copy(alloc, values)?)?;
-            Ok(DataType::Dictionary(*key, copied, *ordered))
+            copy_dictionary(alloc, *key, values, *ordered)
         }
         DataType::Decimal(precision, scale) => Ok(DataType::Decimal(*precision, *scale)),
         DataType::Decimal256(precision, scale) => Ok(DataType::Decimal256(*precision, *scale)),
         DataType::Extension(name, inner, metadata) => {
-            let copied = Box::new(alloc, copy(alloc, inner)?)?;
-            Ok(DataType::Extension(
-                String::from_str(alloc, name.as_str())?,
-                copied,
-                copy_text(alloc, metadata)?,
-            ))
+            copy_extension(alloc, name, inner, metadata)
         }
     }
+}
+
+#[inline(never)]
+fn copy_timestamp(
+    alloc: Global,
+    unit: TimeUnit,
+    zone: &Option<String>,
+) -> Result<DataType, AllocError>
+    ensures { IfOk result (λ t. type_of t ≡ types.timestamp unit (text_of zone.now)) }
+{
+    Ok(DataType::Timestamp(unit, copy_text(alloc, zone)?))
+}
+
+#[cycle(cloning)]
+#[inline(never)]
+fn copy_list(alloc: Global, field: &Box<Field>) -> Result<DataType, AllocError>
+    ensures { IfOk result (λ t. type_of t ≡ types.list (field_of field.now.value)) }
+{
+    Ok(DataType::List(copy_boxed(alloc, field)?))
+}
+
+#[cycle(cloning)]
+#[inline(never)]
+fn copy_fixed_size_list(
+    alloc: Global,
+    field: &Box<Field>,
+    size: usize,
+) -> Result<DataType, AllocError>
+    ensures { IfOk result (λ t. type_of t ≡ types.fixed_size_list (field_of field.now.value) size) }
+{
+    Ok(DataType::FixedSizeList(copy_boxed(alloc, field)?, size))
+}
+
+#[cycle(cloning)]
+#[inline(never)]
+fn copy_large_list(alloc: Global, field: &Box<Field>) -> Result<DataType, AllocError>
+    ensures { IfOk result (λ t. type_of t ≡ types.large_list (field_of field.now.value)) }
+{
+    Ok(DataType::LargeList(copy_boxed(alloc, field)?))
+}
+
+#[cycle(cloning)]
+#[inline(never)]
+fn copy_struct(alloc: Global, fields: &Vec<Field>) -> Result<DataType, AllocError>
+    ensures { IfOk result (λ t. type_of t ≡ types.struct (field_list_of fields.now.items)) }
+{
+    Ok(DataType::Struct(copy_fields(alloc, fields)?))
+}
+
+#[cycle(cloning)]
+#[inline(never)]
+fn copy_union(
+    alloc: Global,
+    fields: &Vec<Field>,
+    ids: &Option<Vec<i32>>,
+    mode: UnionMode,
+) -> Result<DataType, AllocError>
+    ensures { IfOk result (λ t. type_of t ≡ types.union (field_list_of fields.now.items) (option_map (λ v. v.items) ids.now) mode) }
+{
+    Ok(DataType::Union(copy_fields(alloc, fields)?, copy_ids(alloc, ids)?, mode))
+}
+
+#[cycle(cloning)]
+#[inline(never)]
+fn copy_map(alloc: Global, entries: &Box<Field>, sorted: bool) -> Result<DataType, AllocError>
+    ensures { IfOk result (λ t. type_of t ≡ types.map (field_of entries.now.value) sorted) }
+{
+    Ok(DataType::Map(copy_boxed(alloc, entries)?, sorted))
+}
+
+#[cycle(cloning)]
+#[inline(never)]
+fn copy_dictionary(
+    alloc: Global,
+    key: IntegerType,
+    values: &Box<DataType>,
+    ordered: bool,
+) -> Result<DataType, AllocError>
+    ensures { IfOk result (λ t. type_of t ≡ types.dictionary key (type_of values.now.value) ordered) }
+{
+    let copied = Box::new(alloc, copy(alloc, values)?)?;
+    Ok(DataType::Dictionary(key, copied, ordered))
+}
+
+#[cycle(cloning)]
+#[inline(never)]
+fn copy_extension(
+    alloc: Global,
+    name: &String,
+    inner: &Box<DataType>,
+    metadata: &Option<String>,
+) -> Result<DataType, AllocError>
+    ensures { IfOk result (λ t. type_of t ≡ types.extension (string_bytes name.now) (type_of inner.now.value) (text_of metadata.now)) }
+{
+    let copied = Box::new(alloc, copy(alloc, inner)?)?;
+    Ok(DataType::Extension(
+        String::from_str(alloc, name.as_str())?,
+        copied,
+        copy_text(alloc, metadata)?,
+    ))
 }
 
 #[cycle(cloning)]
