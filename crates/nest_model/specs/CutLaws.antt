@@ -2,11 +2,11 @@
 use Rattle.std.specs.Prelude.{Option, Some, None}
 use Rattle.std.proofs.Common.{◌≡◌, ℕ, ◌+◌, ◌*◌, ◌/◌, ◌<◌, ◌≤◌, ℤ, pos, false, List, [], length, get_or, take, drop, refl, ap, sym, ◌∙◌, arith}
 use Rattle.std.proofs.Math.ListN.{get_or-map}
-use Rattle.nest_memory.specs.TypeTree.{size_of}
+use Rattle.nest_memory.specs.TypeTree.{size_of, ids_of}
 use Rattle.nest_memory.specs.Cut.{cut}
-use Rattle.nest_model.specs.Part.{valid_at, begin, extent, place}
+use Rattle.nest_model.specs.Part.{valid_at, begin, extent, place, field_named}
 use Rattle.nest_model.specs.Layout.{Layout, Layouts, null, boolean, primitive, binary, text, fixed_size_binary, fixed_size_list, list, map, struct, union, dictionary, no_layouts, more_layouts, layout_type}
-use Rattle.nest_model.specs.Meaning.{run, len, first_len, union_place, slot, each, slots_of}
+use Rattle.nest_model.specs.Meaning.{run, len, first_len, union_place, slot, of_field, picked, each, slots_of}
 use Rattle.nest_model.specs.Accessors.{validity_of, whole, key_at}
 use Rattle.nest_model.specs.Cut.{cut_layout, cut_layouts, cut_offsets}
 use Rattle.nest_model.specs.Runs.{cut-cut, length-cut, get_or-cut, rows-cut, valid-cut, validity-cut-cut, product-sum, product-fits, product-within, product-end, product-below, product-over, run-ext, cut-run}
@@ -112,8 +112,9 @@ mutual
       cc
   slot-cut (union t ks cs os start) o n i h =
       let e = get_or-cut ks o n i (pos 0) h in
-      let f = union_place-cut os start o n i h in
-      cc
+      let p = union_place-cut os start o n i h in
+      ap (λ k. of_field (field_named (ids_of t) k) (λ f. picked f cs f (union_place (cut_offsets os o n) (start + o) i))) e
+      ∙ ap (λ q. of_field (field_named (ids_of t) (get_or ks (o + i) (pos 0))) (λ f. picked f cs f q)) p
   slot-cut (dictionary t ks c) o n i h =
       let v = valid_at-cut ks o n i h in
       let e = key_at-cut ks o n i h in

@@ -3,14 +3,14 @@ use Rattle.nest_memory.specs.declared.datatypes.IntegerType.{IntegerType}
 use Rattle.nest_memory.specs.declared.datatypes.IntegerType.TheVariants as integers
 use Rattle.nest_memory.specs.declared.datatypes.UnionMode.{UnionMode}
 use Rattle.nest_memory.specs.declared.datatypes.UnionMode.TheVariants as modes
-use Rattle.std.specs.Prelude.{ℕ, ℤ, pos, Bool, true, false, List, [], ◌∷◌, map, Option, Some, None}
+use Rattle.std.specs.Prelude.{ℕ, zero, suc, ℤ, pos, Bool, true, false, List, [], ◌∷◌, map, Option, Some, None}
 use Rattle.nest_memory.specs.TypeTree as types
 use Rattle.nest_memory.specs.TypeTree.{TypeTree, FieldTree, field, FieldTrees, no_fields, more_fields}
 use Rattle.nest_memory.specs.declared.datatypes.physical_type.PrimitiveType.{PrimitiveType}
 use Rattle.nest_memory.specs.declared.datatypes.physical_type.PrimitiveType.TheVariants as primitives
 use Rattle.nest_model.specs.Part.{Validity}
 use Rattle.nest_model.specs.Layout as layouts
-use Rattle.nest_model.specs.Layout.{Layout, Layouts, no_layouts, more_layouts}
+use Rattle.nest_model.specs.Layout.{Layout, Layouts, no_layouts, more_layouts, layout_type}
 use Rattle.nest_model.specs.Slot as slots
 use Rattle.nest_model.specs.Slot.{Slot, Slots, seal}
 
@@ -107,6 +107,38 @@ null_keys = dictionaries (9 ∷ 9 ∷ []) (Some (false ∷ false ∷ [])) (texts
 abbrev pub dense_of : ℕ → Layout
 dense_of o = layouts.union (types.union (more_fields (a_field types.int32) no_fields) None modes.Dense) (pos 0 ∷ []) (more_layouts (ints (7 ∷ [])) no_layouts) (Some (pos o ∷ [])) 0
 
+-- two fields of one data type, each of the slot 7, and the type of the one slot
+abbrev pub seven_of : ℕ → Layout
+seven_of k = layouts.union (sparse_union types.int32 types.int32 None) (pos k ∷ []) (both (ints (7 ∷ [])) (ints (7 ∷ []))) None 0
+
+-- one row of one item, valid or null
+abbrev pub one_row : Bool → Layout → Layout
+one_row valid c = layouts.list false (list_type (layout_type c)) (0 ∷ 1 ∷ []) c (Some (valid ∷ []))
+
+-- a dense union of two slots, which both pick the first slot of the first field
+abbrev pub first_twice : Layout → Layout → Layout
+first_twice c d = layouts.union (types.union (two_fields types.int32 types.int32) None modes.Dense) (pos 0 ∷ pos 0 ∷ []) (both c d) (Some (pos 0 ∷ pos 0 ∷ [])) 0
+
+-- a union of n fields without slots
+abbrev pub int_fields : ℕ → FieldTrees
+int_fields zero = no_fields
+int_fields (suc n) = more_fields (a_field types.int32) (int_fields n)
+
+abbrev pub int_children : ℕ → Layouts
+int_children zero = no_layouts
+int_children (suc n) = more_layouts (ints []) (int_children n)
+
+abbrev pub fields_type : ℕ → TypeTree
+fields_type n = types.union (int_fields n) None modes.Sparse
+
+abbrev pub of_fields : ℕ → Layout
+of_fields n = layouts.union (fields_type n) [] (int_children n) None 0
+
+-- keys [0,0] over a dictionary of keys [0] over "x"
+abbrev pub keys_of_keys : Layout
+keys_of_keys = layouts.dictionary (types.dictionary integers.Int8 text_dictionary false) (layouts.primitive primitives.Int8 types.int8 ((pos 0 ∷ []) ∷ (pos 0 ∷ []) ∷ []) None)
+    (dictionaries (0 ∷ []) None (texts (0 ∷ 1 ∷ []) (120 ∷ [])))
+
 -- two fields of one id
 abbrev pub one_id : Layout
 one_id = layouts.union (sparse_union types.int32 types.utf8 (Some (pos 5 ∷ pos 5 ∷ []))) (pos 5 ∷ []) (both (ints (1 ∷ [])) (texts (0 ∷ 1 ∷ []) (97 ∷ []))) None 0
@@ -129,12 +161,15 @@ null_over_nothing = layouts.list false (list_type types.int32) (0 ∷ 2 ∷ 2 �
 abbrev pub five_by : List ℕ → Layout
 five_by os = lists types.int32 os (ints (1 ∷ 2 ∷ 3 ∷ 4 ∷ 5 ∷ []))
 
--- pairs of 1 to 6
+-- the six numbers 1 to 6, and lists of a size over them
+abbrev pub six : Layout
+six = ints (1 ∷ 2 ∷ 3 ∷ 4 ∷ 5 ∷ 6 ∷ [])
+
 abbrev pub pairs_type : ℕ → TypeTree
 pairs_type s = types.fixed_size_list (a_field types.int32) s
 
 abbrev pub pairs : ℕ → Validity → Layout
-pairs s va = layouts.fixed_size_list (pairs_type s) (ints (1 ∷ 2 ∷ 3 ∷ 4 ∷ 5 ∷ 6 ∷ [])) va
+pairs s va = layouts.fixed_size_list (pairs_type s) six va
 
 -- "ab" and "cd"
 abbrev pub two_bytes : Layout

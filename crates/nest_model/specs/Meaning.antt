@@ -39,13 +39,18 @@ abbrev pub union_place : Option (List ℤ) → ℕ → ℕ → ℕ
 union_place None start i = start + i
 union_place (Some os) start i = place (get_or os i (pos 0))
 
+-- the slot of the field that is meant, null where none is
+abbrev pub of_field : Option ℕ → (ℕ → Slot) → Slot
+of_field None s = slots.null
+of_field (Some f) s = s f
+
 -- The slot at place i. But for unions, which have no validity, it is Null where the validity says so; else it is
 -- of a Fixed-size Primitive Layout the value there,
 -- of a Variable-size Binary Layout the bytes from its offset to the next,
 -- of a Variable-size List Layout the items from its offset to the next, a map's entries likewise,
 -- of a Fixed-Size List Layout the items, or the bytes, from i times the size on, as many as the size,
 -- of a Struct Layout what each child has at that place,
--- of a Union Layout the pick of the field that its type means,
+-- of a Union Layout the pick of the field that its type means, and of its slot there,
 -- of a Dictionary-encoded Layout the value that its key names; a null key and a key to a null value are the same.
 abbrev mutual
   pub slot : Layout → ℕ → Slot
@@ -59,7 +64,7 @@ abbrev mutual
   slot (list l t os c va) i = if valid_at va i then slots.list (seal (run (slot c) (begin os i) (extent os i))) else slots.null
   slot (map t os c va) i = if valid_at va i then slots.list (seal (run (slot c) (begin os i) (extent os i))) else slots.null
   slot (struct t cs va) i = if valid_at va i then slots.record_of (each cs i) else slots.null
-  slot (union t ks cs os start) i = picked cs (field_named (ids_of t) (get_or ks i (pos 0))) (union_place os start i)
+  slot (union t ks cs os start) i = of_field (field_named (ids_of t) (get_or ks i (pos 0))) (λ f. picked f cs f (union_place os start i))
   slot (dictionary t ks c) i = if valid_at (validity_of ks) i then slot c (place (key_at ks i)) else slots.null
 
   -- the children's slots at place i
@@ -67,12 +72,11 @@ abbrev mutual
   each no_layouts i = slots.no_slots
   each (more_layouts c cs) i = slots.more_slots (slot c i) (each cs i)
 
-  -- the pick of slot i of child f, where there is such a child
-  pub picked : Layouts → Option ℕ → ℕ → Slot
-  picked no_layouts f i = slots.null
-  picked (more_layouts c cs) None i = slots.null
-  picked (more_layouts c cs) (Some zero) i = slots.pick (layout_type c) (slot c i)
-  picked (more_layouts c cs) (Some (suc f)) i = picked cs (Some f) i
+  -- the pick of field f by slot i of child k of these, where there is such a child
+  pub picked : ℕ → Layouts → ℕ → ℕ → Slot
+  picked f no_layouts k i = slots.null
+  picked f (more_layouts c cs) zero i = slots.pick f (layout_type c) (slot c i)
+  picked f (more_layouts c cs) (suc k) i = picked f cs k i
 
 -- the list of slots that an array stands for
 abbrev pub slots_of : Layout → List Slot

@@ -5,12 +5,13 @@ use Rattle.std.proofs.lemmas.List.Elements.{All-get_or}
 use Rattle.nest_memory.specs.TypeTree.{TypeTree}
 use Rattle.nest_memory.specs.TypeTree.{size_of, ids_of}
 use Rattle.nest_memory.specs.Cut.{cut}
-use Rattle.nest_model.specs.Part.{Validity, valid_at, rows, last_offset, begin, extent, place, field_named}
+use Rattle.nest_memory.specs.Rising.{last_of}
+use Rattle.nest_model.specs.Part.{Validity, valid_at, rows, begin, extent, place, field_named}
 use Rattle.nest_model.specs.Layout.{Layout, Layouts, fixed_size_list, list, map, struct, union, dictionary, no_layouts, more_layouts, layout_type, count_layouts}
 use Rattle.nest_model.specs.Slot as slots
 use Rattle.nest_model.specs.Slot.{Slot, Slots, seal}
 use Rattle.nest_model.specs.Accessors.{validity_of, child_at, key_at}
-use Rattle.nest_model.specs.Meaning.{run, len, first_len, union_place, slot, each, picked, slots_of}
+use Rattle.nest_model.specs.Meaning.{run, len, first_len, union_place, slot, each, of_field, picked, slots_of}
 use Rattle.nest_model.specs.Runs.{product-fits, cut-run, length-run, get_or-run}
 use Rattle.nest_model.specs.Fits.{EachLen, EachCovers, Names, MeansField, SlotsThere, child_len}
 use Rattle.nest_model.specs.Array.{AreOffsets, TopFits}
@@ -34,7 +35,7 @@ slot-place a i d h = get_or-run (slot a) 0 (len a) i d h ∙ ap (slot a) (let e 
 pub items-cut : (c : Layout) (o n : ℕ) → o + n ≤ len c → run (slot c) o n ≡ cut (slots_of c) o n
 items-cut c o n h = ap (λ q. run (slot c) q n) (let e : o ≡ 0 + o = omega arith in e) ∙ sym (cut-run (slot c) 0 (len c) o n h)
 
-pub extent-fits : (os : List ℕ) (m i : ℕ) → AreOffsets os → last_offset os ≤ m → i < rows os → begin os i + extent os i ≤ m
+pub extent-fits : (os : List ℕ) (m i : ℕ) → AreOffsets os → last_of os ≤ m → i < rows os → begin os i + extent os i ≤ m
 extent-fits os m i h l k =
     let a = h.1 i (i + 1) (omega arith) (omega arith) in
     let b = h.1 (i + 1) (length os - 1) (omega arith) (omega arith) in
@@ -71,11 +72,11 @@ names-place (pos k) n h = h
 names-place (negsuc k) n h = absurd h
 
 -- a union's slot is the pick of a field that its type means, and of that field's slot
-picked-child : (cs : Layouts) (f i : ℕ) → f < count_layouts cs → i < len (child_at cs f)
-    → picked cs (Some f) i ≡ slots.pick (layout_type (child_at cs f)) (get_or (slots_of (child_at cs f)) i slots.null)
-picked-child no_layouts f i h k = absurd (omega arith)
-picked-child (more_layouts c cs) zero i h k = ap (slots.pick (layout_type c)) (sym (slot-place c i slots.null k))
-picked-child (more_layouts c cs) (suc f) i h k = picked-child cs f i (omega arith) k
+pick-child : (f : ℕ) (cs : Layouts) (k i : ℕ) → k < count_layouts cs → i < len (child_at cs k)
+    → picked f cs k i ≡ slots.pick f (layout_type (child_at cs k)) (get_or (slots_of (child_at cs k)) i slots.null)
+pick-child f no_layouts k i h l = absurd (omega arith)
+pick-child f (more_layouts c cs) zero i h l = ap (slots.pick f (layout_type c)) (sym (slot-place c i slots.null l))
+pick-child f (more_layouts c cs) (suc k) i h l = pick-child f cs k i (omega arith) l
 
 covers-child : (cs : Layouts) (n f : ℕ) → EachCovers cs n → f < count_layouts cs → n ≤ len (child_at cs f)
 covers-child no_layouts n f h k = absurd (omega arith)
@@ -92,7 +93,7 @@ pub record IsPick (t : TypeTree) (ks : List ℤ) (cs : Layouts) (os : Option (Li
   pub means : field_named (ids_of t) (get_or ks i (pos 0)) ≡ Some f
   pub field_there : f < count_layouts cs
   pub slot_there : union_place os start i < len (child_at cs f)
-  pub picks : slot (union t ks cs os start) i ≡ slots.pick (layout_type (child_at cs f)) (get_or (slots_of (child_at cs f)) (union_place os start i) slots.null)
+  pub picks : slot (union t ks cs os start) i ≡ slots.pick f (layout_type (child_at cs f)) (get_or (slots_of (child_at cs f)) (union_place os start i) slots.null)
 
 there-place : (ids : Option (List ℤ)) (ks : List ℤ) (cs : Layouts) (os : Option (List ℤ)) (start i f : ℕ) → SlotsThere ids ks cs os start → i < length ks
     → field_named ids (get_or ks i (pos 0)) ≡ Some f → f < count_layouts cs → union_place os start i < len (child_at cs f)
@@ -118,7 +119,7 @@ union-slot t ks cs os start i h k =
         means = m.1;
         field_there = m.2;
         slot_there = p;
-        picks = ap (λ o. picked cs o (union_place os start i)) m.1 ∙ picked-child cs m.0 (union_place os start i) m.2 p;
+        picks = ap (λ o. of_field o (λ f. picked f cs f (union_place os start i))) m.1 ∙ pick-child m.0 cs m.0 (union_place os start i) m.2 p;
       },
     )
 

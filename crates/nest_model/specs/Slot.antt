@@ -18,8 +18,8 @@ mutual
     list : Slots → Slot
     -- the slot of each field of a row of a struct
     record_of : Slots → Slot
-    -- what a row of a union picks: a field's data type and that field's slot
-    pick : TypeTree → Slot → Slot
+    -- what a row of a union picks: a field's position, its data type and its slot
+    pick : ℕ → TypeTree → Slot → Slot
 
   pub data Slots : Type 0 where
     no_slots : Slots
@@ -44,7 +44,7 @@ abbrev mutual
   node_count (bytes b) = 1
   node_count (list ss) = 1 + count_within ss
   node_count (record_of ss) = 1 + count_within ss
-  node_count (pick t s) = 1 + node_count s
+  node_count (pick f t s) = 1 + node_count s
 
   pub count_within : Slots → ℕ
   count_within no_slots = 0

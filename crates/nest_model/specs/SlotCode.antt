@@ -26,7 +26,7 @@ abbrev mutual
   code_slot (bytes b) = gcons (gnum 4) (letters.code b)
   code_slot (list ss) = gcons (gnum 5) (code_slots ss)
   code_slot (record_of ss) = gcons (gnum 6) (code_slots ss)
-  code_slot (pick t s) = gcons (gnum 7) (gcons (coded_type.code t) (code_slot s))
+  code_slot (pick f t s) = gcons (gnum 7) (gcons (coded_ℕ.code f) (gcons (coded_type.code t) (code_slot s)))
 
   pub code_slots : Slots → Gv
   code_slots no_slots = gnil
@@ -41,10 +41,11 @@ mutual
   slot_one (bytes b) (bytes c) h = ap bytes (letters.inj b c (ap tail h))
   slot_one (list ss) (list rs) h = ap list (slots_one ss rs (ap tail h))
   slot_one (record_of ss) (record_of rs) h = ap record_of (slots_one ss rs (ap tail h))
-  slot_one (pick t s) (pick u r) h =
-      let p = coded_type.inj t u (ap (λ v. head (tail v)) h) in
-      let q = slot_one s r (ap (λ v. tail (tail v)) h) in
-      λ i. pick (p i) (q i)
+  slot_one (pick f t s) (pick g u r) h =
+      let o = coded_ℕ.inj f g (ap (λ v. head (tail v)) h) in
+      let p = coded_type.inj t u (ap (λ v. head (tail (tail v))) h) in
+      let q = slot_one s r (ap (λ v. tail (tail (tail v))) h) in
+      λ i. pick (o i) (p i) (q i)
   slot_one x y h = absurd (apart (tag (code_slot x)) (tag (code_slot y)) refl (ap tag h))
 
   pub slots_one : (x y : Slots) → code_slots x ≡ code_slots y → x ≡ y

@@ -31,7 +31,7 @@ node_count-positive (text t) = omega arith
 node_count-positive (bytes b) = omega arith
 node_count-positive (list ss) = omega arith
 node_count-positive (record_of ss) = omega arith
-node_count-positive (pick t s) = omega arith
+node_count-positive (pick f t s) = omega arith
 
 pub node_counts-append : (ss rs : List Slot) → node_counts (ss ++ rs) ≡ node_counts ss + node_counts rs
 node_counts-append [] rs = omega arith

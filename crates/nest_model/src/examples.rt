@@ -15,7 +15,7 @@ ghost use Rattle.nest_model.specs.Nullness.{is_null_at, null_count};
 ghost use Rattle.nest_model.specs.SameArray.{IsSameArray};
 ghost use Rattle.nest_model.specs.Chosen.{chosen, mask_places};
 ghost use Rattle.nest_model.specs.Fits.{Fits};
-ghost use Rattle.nest_model.specs.Examples.{text_dictionary, ints, texts, dictionaries, both, number, list_slot, record_slot, numbers, small_lists, deep_lists, small_map, structs, with_ids, eleven_types, in_turn, dense_of, one_id, null_text, null_over_items, null_over_nothing, five_by, pairs, two_bytes, greetings, accented, map_over, one_entry, short_keys};
+ghost use Rattle.nest_model.specs.Examples.{text_dictionary, ints, texts, dictionaries, both, number, list_slot, record_slot, numbers, small_lists, deep_lists, small_map, structs, with_ids, eleven_types, in_turn, seven_of, one_row, first_twice, keys_of_keys, one_number, dense_of, one_id, null_text, null_over_items, null_over_nothing, five_by, pairs, two_bytes, greetings, accented, map_over, one_entry, short_keys};
 
 /// A list whose second row is empty, and ranges of its child by offsets that begin later or end earlier.
 pub fn lists_of_numbers()
@@ -91,6 +91,8 @@ pub fn dictionary_keys()
     ensures worth { node_counts (slots_of (dictionaries (1 ∷ 0 ∷ []) None (texts (0 ∷ 1 ∷ 2 ∷ 3 ∷ []) (97 ∷ 98 ∷ 97 ∷ [])))) ≡ 2 }
     ensures null_key { IsSameArray (short_keys (pos 0 ∷ []) (Some (false ∷ []))) (short_keys (pos 7 ∷ []) (Some (false ∷ []))) }
     ensures null_value { IsSameArray (dictionaries (0 ∷ []) (Some (false ∷ [])) (texts (0 ∷ 1 ∷ []) (120 ∷ []))) (dictionaries (0 ∷ []) None null_text) }
+    ensures keys_of_keys { slots_of keys_of_keys ≡ slots.text (120 ∷ []) ∷ slots.text (120 ∷ []) ∷ [] }
+    ensures worth_of_keys { node_counts (slots_of keys_of_keys) ≡ 2 }
     ensures null_by_key { is_null_at (dictionaries (0 ∷ []) (Some (false ∷ [])) (texts (0 ∷ 1 ∷ []) (120 ∷ []))) 0 ≡ true }
     ensures null_by_value { is_null_at (dictionaries (0 ∷ []) None null_text) 0 ≡ false }
 {}
@@ -99,16 +101,32 @@ pub fn dictionary_keys()
 pub fn union_fields()
     ensures fields { map (field_named (Some (pos 5 ∷ pos 7 ∷ []))) eleven_types ≡ Some 0 ∷ Some 1 ∷ Some 0 ∷ Some 1 ∷ Some 1 ∷ Some 1 ∷ Some 0 ∷ Some 1 ∷ Some 1 ∷ Some 0 ∷ Some 0 ∷ [] }
     ensures fits { Fits (with_ids (pos 5 ∷ pos 7 ∷ []) eleven_types) }
-    ensures of_a_cut { slots_of (cut_layout (with_ids (pos 5 ∷ pos 7 ∷ []) eleven_types) 9 2) ≡ slots.pick types.int32 (number 9) ∷ slots.pick types.int32 (number 10) ∷ [] }
-    ensures later_of_two { slots_of one_id ≡ slots.pick types.utf8 (slots.text (97 ∷ [])) ∷ [] }
+    ensures picks { slots_of (cut_layout (with_ids (pos 5 ∷ pos 7 ∷ []) eleven_types) 2 2) ≡ slots.pick 0 types.int32 (number 2) ∷ slots.pick 1 types.int32 (number 3) ∷ [] }
+    ensures of_a_cut { slots_of (cut_layout (with_ids (pos 5 ∷ pos 7 ∷ []) eleven_types) 9 2) ≡ slots.pick 0 types.int32 (number 9) ∷ slots.pick 0 types.int32 (number 10) ∷ [] }
+    ensures later_of_two { slots_of one_id ≡ slots.pick 1 types.utf8 (slots.text (97 ∷ [])) ∷ [] }
+{}
+
+/// Two fields of one data type are told apart by their positions, also below a list; under a null nothing is.
+pub fn fields_of_one_type()
+    ensures first { slots_of (seven_of 0) ≡ slots.pick 0 types.int32 (number 7) ∷ [] }
+    ensures second { slots_of (seven_of 1) ≡ slots.pick 1 types.int32 (number 7) ∷ [] }
+    ensures other { slots_of (seven_of 0) ≢ slots_of (seven_of 1) }
+    ensures worth { node_counts (slots_of (seven_of 0)) ≡ 2 }
+    ensures in_lists { slots_of (one_row true (seven_of 0)) ≢ slots_of (one_row true (seven_of 1)) }
+    ensures under_a_null { IsSameArray (one_row false (seven_of 0)) (one_row false (seven_of 1)) }
+    ensures worth_of_null { node_counts (slots_of (one_row false (seven_of 0))) ≡ 1 }
+    ensures same { IsSameArray (first_twice (ints (7 ∷ 8 ∷ [])) (ints (7 ∷ []))) (first_twice (ints (7 ∷ 9 ∷ [])) (ints (5 ∷ []))) }
+    ensures worth_of_both { node_counts (slots_of (first_twice (ints (7 ∷ 8 ∷ [])) (ints (7 ∷ [])))) ≡ 4 }
 {}
 
 /// Picks of a cut of a sparse union, and of a dense one.
 pub fn union_picks()
-    ensures sparse_cut { slots_of (cut_layout in_turn 1 2) ≡ slots.pick types.utf8 (slots.text (98 ∷ [])) ∷ slots.pick types.int32 (number 12) ∷ [] }
-    ensures cut_again { slots_of (cut_layout (cut_layout in_turn 1 3) 1 1) ≡ slots.pick types.int32 (number 12) ∷ [] }
-    ensures dense { slots_of (dense_of 0) ≡ slots.pick types.int32 (number 7) ∷ [] }
+    ensures sparse_cut { slots_of (cut_layout in_turn 1 2) ≡ slots.pick 1 types.utf8 (slots.text (98 ∷ [])) ∷ slots.pick 0 types.int32 (number 12) ∷ [] }
+    ensures cut_again { slots_of (cut_layout (cut_layout in_turn 1 3) 1 1) ≡ slots.pick 0 types.int32 (number 12) ∷ [] }
+    ensures dense { slots_of (dense_of 0) ≡ slots.pick 0 types.int32 (number 7) ∷ [] }
     ensures dense_fits { Fits (dense_of 0) }
+    ensures worth { node_counts (slots_of (cut_layout in_turn 1 2)) ≡ 4 }
+    ensures largest_id { slots_of (one_number modes.Sparse (Some (pos 127 ∷ [])) (pos 127 ∷ []) None) ≡ slots.pick 0 types.int32 (number 7) ∷ [] }
 {}
 
 /// Which places are null: all of a null array, none of a union, of a struct those that its validity names.

@@ -12,7 +12,7 @@ ghost use Rattle.nest_model.specs.Layout as layouts;
 ghost use Rattle.nest_model.specs.Layout.{more_layouts, no_layouts};
 ghost use Rattle.nest_model.specs.Checks.{Pass};
 ghost use Rattle.nest_model.specs.Fits.{Fits, FirstFault, validity_checks, ValidityFault};
-ghost use Rattle.nest_model.specs.Examples.{a_field, two_fields, list_type, ints, texts, lists, both, small_lists, deep_lists, structs, with_ids, eleven_types, in_turn, null_keys, dense_of, five_by, pairs, accented, three_ints, two_texts, number_and_text, map_over, one_entry, extended, short_keys, x_by, short_child, one_number};
+ghost use Rattle.nest_model.specs.Examples.{a_field, two_fields, list_type, ints, texts, lists, both, small_lists, deep_lists, structs, with_ids, eleven_types, in_turn, null_keys, dense_of, five_by, pairs, accented, three_ints, two_texts, number_and_text, map_over, one_entry, extended, short_keys, x_by, short_child, one_number, of_fields, six};
 
 /// Offsets may end before the child does, not past it; the child has the item type.
 pub fn lists_refused()
@@ -42,6 +42,11 @@ pub fn texts_refused()
 pub fn sizes_refused()
     ensures zero { FirstFault (OutOfSpec spec.ZeroSize) (pairs 0 None) }
     ensures no_multiple { FirstFault (OutOfSpec spec.NotMultiple) (pairs 4 None) }
+    ensures type_first { FirstFault (OutOfSpec spec.WrongType) (layouts.fixed_size_list types.utf8 six (Some [])) }
+    ensures then_size { FirstFault (OutOfSpec spec.ZeroSize) (layouts.fixed_size_list (types.fixed_size_list (a_field types.utf8) 0) six (Some [])) }
+    ensures then_child { FirstFault (OutOfSpec spec.ChildType) (layouts.fixed_size_list (types.fixed_size_list (a_field types.utf8) 4) six (Some [])) }
+    ensures then_multiple { FirstFault (OutOfSpec spec.NotMultiple) (pairs 4 (Some [])) }
+    ensures then_bits { FirstFault (OutOfSpec spec.ValidityLength) (pairs 2 (Some [])) }
     ensures bytes_no_multiple { FirstFault (OutOfSpec spec.NotMultiple) (layouts.fixed_size_binary (types.fixed_size_binary 2) (97 ∷ 98 ∷ 99 ∷ []) None) }
     ensures too_many_bits { ValidityFault (OutOfSpec spec.ValidityLength) (pairs 2 None) (Some (true ∷ true ∷ [])) }
 {}
@@ -59,6 +64,11 @@ pub fn maps_refused()
     ensures extended { FirstFault (InvalidArgumentError argument.MapInner) (map_over (extended (types.struct (two_fields types.utf8 types.utf8))) one_entry None) }
     ensures three_fields { FirstFault (InvalidArgumentError argument.MapInner) (map_over (types.struct (types.more_fields (a_field types.utf8) (two_fields types.utf8 types.utf8))) one_entry None) }
     ensures another_child { FirstFault (InvalidArgumentError argument.ChildType) (map_over (types.struct (two_fields types.utf8 types.int32)) one_entry None) }
+    ensures offsets_first { FirstFault (OutOfSpec spec.OffsetPastChild) (layouts.map types.utf8 (0 ∷ 2 ∷ []) one_entry (Some [])) }
+    ensures then_type { FirstFault (OutOfSpec spec.WrongType) (layouts.map types.utf8 (0 ∷ 1 ∷ []) one_entry (Some [])) }
+    ensures then_entries { FirstFault (InvalidArgumentError argument.MapInner) (map_over types.utf8 one_entry (Some [])) }
+    ensures then_child { FirstFault (InvalidArgumentError argument.ChildType) (map_over (types.struct (two_fields types.utf8 types.int32)) one_entry (Some [])) }
+    ensures then_bits { FirstFault (OutOfSpec spec.ValidityLength) (map_over (types.struct (two_fields types.utf8 types.utf8)) one_entry (Some [])) }
 {}
 
 /// Types that are no id, ids out of range or of another number, offsets for a sparse union and none for a dense one.
@@ -66,6 +76,11 @@ pub fn unions_refused()
     ensures of_no_field { FirstFault (OutOfSpec spec.UnionType) (with_ids (pos 5 ∷ pos 7 ∷ []) (pos 6 ∷ eleven_types)) }
     ensures id_too_large { FirstFault (OutOfSpec spec.IdRange) (with_ids (pos 5 ∷ pos 128 ∷ []) eleven_types) }
     ensures id_missing { FirstFault (OutOfSpec spec.IdCount) (with_ids (pos 5 ∷ []) eleven_types) }
+    ensures most_fields { Fits (of_fields 127) }
+    ensures one_more_field { FirstFault (OutOfSpec spec.TooManyFields) (of_fields 128) }
+    ensures largest_id { Fits (one_number modes.Sparse (Some (pos 127 ∷ [])) (pos 127 ∷ []) None) }
+    ensures negative_type_of_ids { FirstFault (OutOfSpec spec.UnionType) (one_number modes.Sparse (Some (pos 127 ∷ [])) (negsuc 0 ∷ []) None) }
+    ensures negative_offset { FirstFault (OutOfSpec spec.UnionSlot) (one_number modes.Dense None (pos 0 ∷ []) (Some (negsuc 0 ∷ []))) }
     ensures negative_type { FirstFault (OutOfSpec spec.UnionType) (one_number modes.Sparse None (negsuc 0 ∷ []) None) }
     ensures offsets_for_sparse { FirstFault (OutOfSpec spec.UnionMode) (one_number modes.Sparse None (pos 0 ∷ []) (Some (pos 0 ∷ []))) }
     ensures none_for_dense { FirstFault (OutOfSpec spec.UnionMode) (one_number modes.Dense None (pos 0 ∷ []) None) }
