@@ -1,5 +1,6 @@
 //! Equality of arrays of native values of any kind.
 ghost use Rattle.std.specs.Prelude.{◌≡◌, ◌↔◌, ◌+◌, ◌≤◌, IsTrue};
+ghost use Rattle.nest_memory.specs.Physical.{physical_type};
 ghost use Rattle.nest_model.specs.Layout.{layout_type};
 ghost use Rattle.nest_model.specs.Meaning.{len, run, slot, slots_of};
 ghost use Rattle.nest_model.specs.SameArray.{IsSameArray, same_array};
@@ -65,10 +66,10 @@ macro_rules! each_pair {
     };
 }
 
-/// Whether the n slots of a from place o are those of b from place p, for arrays of one data type. The
-/// kind is matched once.
+/// Whether the n slots of a from place o are those of b from place p, for arrays whose data types have
+/// one physical type. The kind is matched once.
 pub fn same_run(a: &AnyPrimitive, o: usize, b: &AnyPrimitive, p: usize, n: usize) -> bool
-    requires same_type { layout_type (primitive_layout a.now) ≡ layout_type (primitive_layout b.now) }
+    requires same_kind { physical_type (layout_type (primitive_layout a.now)) ≡ physical_type (layout_type (primitive_layout b.now)) }
     requires within { o + n ≤ len (primitive_layout a.now) }
     requires other_within { p + n ≤ len (primitive_layout b.now) }
     ensures { IsTrue result ↔ (run (slot (primitive_layout a.now)) o n ≡ run (slot (primitive_layout b.now)) p n) }
@@ -77,9 +78,9 @@ pub fn same_run(a: &AnyPrimitive, o: usize, b: &AnyPrimitive, p: usize, n: usize
     each_pair!(a, b, (x, y) => flat_array::same_run(x, o, y, p, n))
 }
 
-// Whether arrays of one data type and one length have the same slots.
+// Whether arrays of one physical type and one length have the same slots.
 fn same_slots(a: &AnyPrimitive, b: &AnyPrimitive) -> bool
-    requires same_type { layout_type (primitive_layout a.now) ≡ layout_type (primitive_layout b.now) }
+    requires same_kind { physical_type (layout_type (primitive_layout a.now)) ≡ physical_type (layout_type (primitive_layout b.now)) }
     requires same_len { len (primitive_layout a.now) ≡ len (primitive_layout b.now) }
     ensures { IsTrue result ↔ (slots_of (primitive_layout a.now) ≡ slots_of (primitive_layout b.now)) }
 {

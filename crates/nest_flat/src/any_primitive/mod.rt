@@ -2,7 +2,7 @@
 mod equality;
 mod native;
 
-ghost use Rattle.std.specs.Prelude.{◌≡◌, ◌+◌, ◌≤◌, ◌<◌, ◌↔◌, IsTrue, IfOk, IsOkUnless, MatchResult, option_map, alloc_error};
+ghost use Rattle.std.specs.Prelude.{◌≡◌, ◌+◌, ◌≤◌, ◌<◌, ◌↔◌, IsTrue, IfOk, IsErrOf, IsOkUnless, MatchResult, option_map, alloc_error};
 ghost use Rattle.nest_memory.specs.declared.error.Error.TheVariants.{Memory};
 ghost use Rattle.nest_memory.specs.Cut.{cut};
 ghost use Rattle.nest_memory.specs.TypeOf.{type_of};
@@ -74,6 +74,18 @@ fn known<T: NativeType>(array: &PrimitiveArray<T>)
     array.known();
 }
 
+// A copy in its variant, or the refusal of one.
+fn wrapped<T: Native>(copy: Result<T::Array, Error>) -> Result<AnyPrimitive, Error>
+    ensures { MatchResult copy
+        (λ a. MatchResult result (λ b. primitive_layout b ≡ T.layout_of_array a) (λ _. ⊥))
+        (λ e. IsErrOf result e) }
+{
+    match copy {
+        Ok(array) => Ok(T::wrap(array)),
+        Err(error) => Err(error),
+    }
+}
+
 impl AnyPrimitive {
     /// What holds of every such array.
     pub fn known(&self)
@@ -128,6 +140,13 @@ impl AnyPrimitive {
         ensures slots { slots_of (primitive_layout self.new) ≡ cut (slots_of (primitive_layout self.old)) o n }
         ensures same_type { layout_type (primitive_layout self.new) ≡ layout_type (primitive_layout self.old) }
     {
+        self.cut(o, n);
+    }
+
+    fn cut(&mut self, o: usize, n: usize)
+        requires { o + n ≤ len (primitive_layout self.old) }
+        ensures { primitive_layout self.new ≡ cut_layout (primitive_layout self.old) o n }
+    {
         each_kind!(self, array => array.slice(o, n))
     }
 
@@ -147,20 +166,18 @@ impl AnyPrimitive {
         ensures err { IsOkUnless result (Memory alloc_error) }
     {
         match self {
-            AnyPrimitive::Int8(array) => Ok(AnyPrimitive::Int8(array.clone(alloc)?)),
-            AnyPrimitive::Int16(array) => Ok(AnyPrimitive::Int16(array.clone(alloc)?)),
-            AnyPrimitive::Int32(array) => Ok(AnyPrimitive::Int32(array.clone(alloc)?)),
-            AnyPrimitive::Int64(array) => Ok(AnyPrimitive::Int64(array.clone(alloc)?)),
-            AnyPrimitive::Int128(array) => Ok(AnyPrimitive::Int128(array.clone(alloc)?)),
-            AnyPrimitive::Int256(array) => Ok(AnyPrimitive::Int256(array.clone(alloc)?)),
-            AnyPrimitive::UInt8(array) => Ok(AnyPrimitive::UInt8(array.clone(alloc)?)),
-            AnyPrimitive::UInt16(array) => Ok(AnyPrimitive::UInt16(array.clone(alloc)?)),
-            AnyPrimitive::UInt32(array) => Ok(AnyPrimitive::UInt32(array.clone(alloc)?)),
-            AnyPrimitive::UInt64(array) => Ok(AnyPrimitive::UInt64(array.clone(alloc)?)),
-            AnyPrimitive::DaysMs(array) => Ok(AnyPrimitive::DaysMs(array.clone(alloc)?)),
-            AnyPrimitive::MonthDayNano(array) => Ok(AnyPrimitive::MonthDayNano(array.clone(
-                alloc,
-            )?)),
+            AnyPrimitive::Int8(array) => wrapped::<i8>(array.clone(alloc)),
+            AnyPrimitive::Int16(array) => wrapped::<i16>(array.clone(alloc)),
+            AnyPrimitive::Int32(array) => wrapped::<i32>(array.clone(alloc)),
+            AnyPrimitive::Int64(array) => wrapped::<i64>(array.clone(alloc)),
+            AnyPrimitive::Int128(array) => wrapped::<i128>(array.clone(alloc)),
+            AnyPrimitive::Int256(array) => wrapped::<i256>(array.clone(alloc)),
+            AnyPrimitive::UInt8(array) => wrapped::<u8>(array.clone(alloc)),
+            AnyPrimitive::UInt16(array) => wrapped::<u16>(array.clone(alloc)),
+            AnyPrimitive::UInt32(array) => wrapped::<u32>(array.clone(alloc)),
+            AnyPrimitive::UInt64(array) => wrapped::<u64>(array.clone(alloc)),
+            AnyPrimitive::DaysMs(array) => wrapped::<days_ms>(array.clone(alloc)),
+            AnyPrimitive::MonthDayNano(array) => wrapped::<months_days_ns>(array.clone(alloc)),
         }
     }
 }
