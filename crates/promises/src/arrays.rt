@@ -18,7 +18,7 @@ ghost use Rattle.nest_model.specs.Fits.{Fits, FirstFault, validity_checks, Valid
 ghost use Rattle.nest_model.specs.Layout as layouts;
 ghost use Rattle.nest_model.specs.Layout.{layout_type};
 ghost use Rattle.nest_model.specs.Meaning.{len, slot, slots_of};
-ghost use Rattle.nest_model.specs.Nullness.{is_null_at, null_count};
+ghost use Rattle.nest_model.specs.Nullness.{has_keys, is_null_at, null_count};
 ghost use Rattle.nest_model.specs.Part.{begin, extent};
 ghost use Rattle.nest_model.specs.Reads.{where_valid};
 ghost use Rattle.nest_model.specs.Slot as slots;
@@ -53,10 +53,11 @@ pub fn type_of_slots<A: Array>(array: &A) -> &DataType
     array.data_type()
 }
 
-/// A place is null by its validity; a null array is null everywhere.
+/// A place is null by its validity, and a null array is null everywhere. A place is null exactly where its slot is, but where
+/// slots are looked up by keys: there a valid key may name a null value.
 pub fn is_null_place<A: Array>(array: &A, i: usize) -> bool
     requires { i < len (A.layout array.now) }
-    ensures slot { IsTrue result ↔ (slot (A.layout array.now) i ≡ slots.null) }
+    ensures slot { has_keys (A.layout array.now) ≡ false → (IsTrue result ↔ (slot (A.layout array.now) i ≡ slots.null)) }
     ensures place { result ≡ is_null_at (A.layout array.now) i }
 {
     array.is_null(i)

@@ -1,6 +1,6 @@
 //! Arrays of byte strings by their worked rows. Values with a data type are let go by `drop`, which keeps the proofs short.
 
-use nest_array::FixedSizeBinaryArray;
+use nest_array::{Array, FixedSizeBinaryArray};
 use nest_memory::bitmap::immutable::Bitmap;
 use nest_memory::buffer::Buffer;
 use nest_memory::datatypes::DataType;
