@@ -1,6 +1,6 @@
 //! Records of a truth and a number.
 use super::{are_same, both, numbers, truths, two, validity};
-use nest_array::{AnyArray, StructArray};
+use nest_array::{AnyArray, Array, StructArray};
 use nest_memory::datatypes::DataType;
 use nest_memory::datatypes::field::Field;
 use nest_memory::error::{Error, Spec};
