@@ -1,5 +1,5 @@
 use Rattle.std.proofs.Common.{◌+◌}
-use Rattle.nest_model.specs.BuilderTree.{largest_length}
+use Rattle.nest_model.specs.Checks.{largest_length}
 use Rattle.nest_model.specs.Meaning.{len}
 use Rattle.nest_flat.proofs.Refusing.{limit-unrefused, limit-due}
 use Rattle.nest_flat.proofs.boolean.mutable.MutableBooleanArrayGrowOptionBool.push_item.Goals as goal
