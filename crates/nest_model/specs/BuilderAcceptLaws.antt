@@ -1,6 +1,6 @@
 -- What nothing refuses is appended rightly, to a builder of any nesting.
 use Rattle.std.specs.Prelude.{Option, Some, None, not, ◌&&◌, nat_eq, if◌then◌else◌, leb, is_some}
-use Rattle.std.proofs.Common.{◌≡◌, ◌≢◌, ℕ, zero, suc, ◌+◌, ◌*◌, Bool, true, false, List, [], ◌∷◌, ◌++◌, length, replicate, refl, sym, ap, subst, ◌∙◌, arith, inl, inr}
+use Rattle.std.proofs.Common.{◌≡◌, ℕ, zero, suc, ◌+◌, ◌*◌, Bool, true, false, List, [], ◌∷◌, ◌++◌, length, replicate, refl, sym, ap, subst, ◌∙◌, arith}
 use Rattle.std.proofs.lemmas.Bool.{eqb-true}
 use Rattle.std.proofs.Math.Nat.{add-mul}
 use Rattle.std.proofs.lemmas.List.{append_assoc, length-append, length-replicate, replicate-append-replicate}
@@ -12,7 +12,7 @@ use Rattle.nest_memory.specs.declared.datatypes.IntegerType.{IntegerType}
 use Rattle.nest_model.specs.Slot as slots
 use Rattle.nest_model.specs.Slot.{Slot}
 use Rattle.nest_model.specs.Checks.{refuse_if, first_of, is_past}
-use Rattle.nest_model.specs.Decide.{refuse-none, first-none}
+use Rattle.nest_model.specs.Decide.{refuse-none, first-none, not-false}
 use Rattle.nest_model.specs.BuilderRow.{Row, told_row, end_from}
 use Rattle.nest_model.specs.BuilderTree.{BuilderTree, BuilderTrees, flat, list, fixed_size_list, dictionary, struct, no_builders, more_builders, builder_len, key_count}
 use Rattle.nest_model.specs.BuilderLevels.{own_slots}
@@ -33,7 +33,7 @@ len-nulls n (fixed_size_list k bits c) = omega (arith, length-append bits (repli
 len-nulls n (dictionary i k keys c) = omega (arith, length-append keys (replicate n None), length-replicate {A = Option ℕ} n None)
 len-nulls n (struct k bits cs) = omega (arith, length-append bits (replicate n false), length-replicate n false)
 
-end-nulls : (rows : List Row) (n : ℕ) → end_from 0 (rows ++ replicate n (told_row false (end_from 0 rows))) ≡ end_from 0 rows
+pub end-nulls : (rows : List Row) (n : ℕ) → end_from 0 (rows ++ replicate n (told_row false (end_from 0 rows))) ≡ end_from 0 rows
 end-nulls rows n = end_from-append 0 rows (replicate n (told_row false (end_from 0 rows))) ∙ end_from-same (end_from 0 rows) n
 
 mutual
@@ -96,12 +96,8 @@ accepted-nulls t n w =
     let all = subst (λ m. AcceptedAll (replicate n items.null) (nulls_appended 0 t) (nulls_appended m t)) e (many t 0 n w (λ j. next-null t j w)) in
     subst (λ u. AcceptedAll (replicate n items.null) u (nulls_appended n t)) (nulls-zero t) all
 
-some_none : {A : Type 0} (x : A) → Some x ≡ None → ⊥
+pub some_none : {A : Type 0} (x : A) → Some x ≡ None → ⊥
 some_none x e = absurd (let a : Some x ≡ None = e in cc)
-
-not-false : (b : Bool) → not b ≡ false → b ≡ true
-not-false true h = refl
-not-false false h = absurd (let a : true ≡ false = h in cc)
 
 -- a value that nothing refuses is taken
 key_taken : (b : Bool) (known full : Bool) (rest own : Option Error) → (known ≡ true → b ≡ true) → first_of (if known then None else refuse_if full Overflow (refuse_if (not b) (InvalidArgumentError ItemType) rest)) own ≡ None → b ≡ true
@@ -129,12 +125,12 @@ pub none-plain : (v : PlainValue) (t : BuilderTree) → plain_refusal v t ≡ No
 none-plain v t h = (refuse-none (not (takes t v)) (InvalidArgumentError ItemType) (value_refusal v t) h).1
 
 -- a value that nothing refuses is appended
-new_refused : (known full other : Bool) (rest own : Option Error) → known ≡ false → first_of (if known then None else refuse_if full Overflow (refuse_if other (InvalidArgumentError ItemType) rest)) own ≡ None → rest ≡ None
+pub new_refused : (known full other : Bool) (rest own : Option Error) → known ≡ false → first_of (if known then None else refuse_if full Overflow (refuse_if other (InvalidArgumentError ItemType) rest)) own ≡ None → rest ≡ None
 new_refused true full other rest own e h = absurd (let a : true ≡ false = e in cc)
 new_refused false full other rest own e h =
     (refuse-none other (InvalidArgumentError ItemType) rest (refuse-none full Overflow (refuse_if other (InvalidArgumentError ItemType) rest) ((first-none (refuse_if full Overflow (refuse_if other (InvalidArgumentError ItemType) rest)) own h).0)).1).1
 
-unknown : (a : Bool) (o : Option ℕ) → o ≡ None → (a && is_some o) ≡ false
+pub unknown : (a : Bool) (o : Option ℕ) → o ≡ None → (a && is_some o) ≡ false
 unknown true o e = rw e refl
 unknown false o e = refl
 

@@ -1,20 +1,19 @@
 -- Values that are pushed one after another, and the first that is refused.
-use Rattle.std.specs.Prelude.{◌⊎◌, Option, Some, None, alloc_error, Result, Ok, Err}
+use Rattle.std.specs.Prelude.{Option, Some, None, Result, Ok, Err}
 use Rattle.std.specs.Result.{is_ok}
 use Rattle.std.proofs.Common.{◌≡◌, List, [], ◌∷◌, ◌++◌, Bool, length, refl, sym, ap, ◌∙◌, inl, inr, OnOk, OnErr}
-use Rattle.std.specs.List.{AllZip, items_where_true}
+use Rattle.std.specs.List.{items_where_true}
 use Rattle.nest_memory.specs.declared.error.Error.{Error}
-use Rattle.nest_memory.specs.declared.error.Error.TheVariants.{Memory}
 use Rattle.nest_model.specs.BuilderTree.{BuilderTree, flat, list, fixed_size_list, dictionary, struct}
 use Rattle.nest_model.specs.BuilderWhole.{IsWhole}
 use Rattle.nest_model.specs.BuilderItem.{Item, seal_items}
-use Rattle.nest_model.specs.BuilderAppend.{appended, all_appended, Accepted, AcceptedAll}
+use Rattle.nest_model.specs.BuilderAppend.{appended, all_appended}
 use Rattle.nest_model.specs.BuilderSpells.{Begins}
 use Rattle.nest_model.specs.BuilderSpellsLaws.{AllZip-push, where_true-push, where_false-push}
 use Rattle.nest_model.specs.BuilderAppendLaws.{accepted_none, accepted_more}
 use Rattle.nest_model.specs.Checks.{first_of}
 use Rattle.nest_model.specs.BuilderRefusals.{item_refusal, items_refusal}
-use Rattle.nest_model.specs.BuilderReading.{Read, whole, begun, read_refusal, ReadOf, ReadsSome, Took, Refused, TookEach, RefusedSome}
+use Rattle.nest_model.specs.BuilderReading.{Read, whole, begun, read_refusal, ReadOf, Took, Refused, TookEach, RefusedSome}
 use Rattle.nest_model.specs.BuilderRefusalLaws.{none-more, items-both}
 
 pub took_none : {A : Type 0} (reads : A → Read → Type 0) (t : BuilderTree) → IsWhole t → TookEach reads [] t t

@@ -1,5 +1,5 @@
 -- What refuses a pushed item: the first of its checks that fails, here or at a level below.
-use Rattle.std.specs.Prelude.{ℕ, ◌+◌, ◌*◌, Bool, true, false, not, ◌&&◌, ◌||◌, nat_eq, leb, ltb, is_some, if◌then◌else◌, List, length, Option, Some, None}
+use Rattle.std.specs.Prelude.{ℕ, ◌+◌, ◌*◌, Bool, true, false, not, ◌&&◌, ◌||◌, nat_eq, leb, ltb, is_some, if◌then◌else◌, length, Option, Some, None}
 use Rattle.nest_memory.specs.TypeTree.{TypeTree, size_of}
 use Rattle.nest_memory.specs.Physical.{physical_type}
 use Rattle.nest_memory.specs.declared.error.Error.{Error}
@@ -8,7 +8,6 @@ use Rattle.nest_memory.specs.declared.error.Argument.TheVariants.{ItemSize, Item
 use Rattle.nest_memory.specs.declared.datatypes.physical_type.PhysicalType.{PhysicalType}
 use Rattle.nest_memory.specs.declared.datatypes.physical_type.PhysicalType.TheVariants as physical
 use Rattle.nest_memory.specs.Rising.{largest_offset}
-use Rattle.nest_model.specs.Slot.{Slot}
 use Rattle.nest_model.specs.Checks.{refuse_if, first_of, is_past}
 use Rattle.nest_model.specs.BuilderTree.{BuilderTree, BuilderTrees, flat, list, fixed_size_list, dictionary, struct, no_builders, more_builders, builder_len, key_count}
 use Rattle.nest_model.specs.BuilderLevels.{own_slots}
@@ -61,11 +60,7 @@ value_refusal v (flat t xs) =
 value_refusal v (list large t rows c) = Some (InvalidArgumentError ItemType)
 value_refusal v (fixed_size_list t bits c) = Some (InvalidArgumentError ItemType)
 value_refusal v (dictionary k t keys c) =
-    first_of
-    (if is_known c v then None else
-    (refuse_if (leb (key_count k) (builder_len c)) Overflow
-    (refuse_if (not (takes c v)) (InvalidArgumentError ItemType)
-    (value_refusal v c))))
+    first_of (if is_known c v then None else refuse_if (leb (key_count k) (builder_len c)) Overflow (refuse_if (not (takes c v)) (InvalidArgumentError ItemType) (value_refusal v c)))
     (refuse_if (is_past (length keys + 1)) Overflow None)
 value_refusal v (struct t bits cs) = Some (InvalidArgumentError ItemType)
 

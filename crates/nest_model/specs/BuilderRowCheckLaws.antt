@@ -1,23 +1,21 @@
 -- Rows that are told or joined: which are refused, and which are ready.
 use Rattle.std.specs.Prelude.{Option, Some}
-use Rattle.std.proofs.Common.{◌≡◌, ℕ, suc, ◌+◌, ◌*◌, ◌≤◌, ◌<◌, Bool, true, false, List, [], ◌∷◌, ◌++◌, length, map, refl, sym, ap, ◌∙◌, inl, inr, arith}
+use Rattle.std.proofs.Common.{◌≡◌, ℕ, ◌+◌, ◌≤◌, Bool, true, false, List, [], ◌∷◌, ◌++◌, length, refl, sym, ap, ◌∙◌, inl, inr, arith}
 use Rattle.std.proofs.lemmas.Bool.Decides.{leb_tells}
 use Rattle.std.proofs.lemmas.List.{length-append, length-map}
 use Rattle.std.specs.Coded.{coded_option, coded_list}
-use Rattle.nest_memory.specs.TypeTree.{TypeTree, item_type, fields_of, size_of}
+use Rattle.nest_memory.specs.TypeTree.{TypeTree, item_type, fields_of}
 use Rattle.nest_memory.specs.TypeCode.{coded_type}
-use Rattle.nest_memory.specs.Rising.{largest_offset}
 use Rattle.nest_model.specs.Slot.{Slot}
 use Rattle.nest_model.specs.Checks.{Pass, HaveOneOutcome}
 use Rattle.nest_model.specs.Decide.{Decided, decide_both, decide_number, one-outcome}
 use Rattle.nest_model.specs.DecideType.{decide_type, decide_by}
-use Rattle.nest_model.specs.BuilderRow.{Row, told_row, end_from, RisesFrom}
+use Rattle.nest_model.specs.BuilderRow.{Row, told_row, end_from}
 use Rattle.nest_model.specs.BuilderTree.{BuilderTree, BuilderTrees, flat, list, fixed_size_list, dictionary, struct, no_builders, more_builders, builder_type, builder_types, builder_len, field_types}
-use Rattle.nest_model.specs.BuilderWhole.{IsWhole, AreWhole}
-use Rattle.nest_model.specs.BuilderItem.{byte_count, bytes_held}
-use Rattle.nest_model.specs.BuilderAppend.{items_told, IsReady}
+use Rattle.nest_model.specs.BuilderWhole.{AreWhole}
+use Rattle.nest_model.specs.BuilderItem.{bytes_held}
+use Rattle.nest_model.specs.BuilderAppend.{IsReady}
 use Rattle.nest_model.specs.BuilderJoin.{moved, AreAlike, joined}
-use Rattle.nest_model.specs.BuilderRefusals.{flat_passes}
 use Rattle.nest_model.specs.BuilderRowChecks.{AreEachWhole, HasWholeChildren, HaveRows, row_checks, lengths_checks, join_checks, join_passes, over_limits, FitsLimits, AreReady}
 use Rattle.nest_model.specs.BuilderRowLaws.{end_from-append}
 use Rattle.nest_model.specs.BuilderJoinLaws.{end_from-moved}
@@ -66,7 +64,7 @@ lengths_ready-pass ns (dictionary i k keys c) w l = absurd w
 lengths_ready-pass ns (struct k bits cs) w l = absurd w
 
 -- rows of two builders of the same kinds pass a limit exactly where the joined builder does
-bytes_held-append : (xs ys : List Slot) → bytes_held (xs ++ ys) ≡ bytes_held xs + bytes_held ys
+pub bytes_held-append : (xs ys : List Slot) → bytes_held (xs ++ ys) ≡ bytes_held xs + bytes_held ys
 bytes_held-append [] ys = omega arith
 bytes_held-append (x ∷ xs) ys = omega (arith, bytes_held-append xs ys)
 

@@ -1,12 +1,11 @@
 -- Why rows are refused that are told over the items that wait in the children, and rows that are joined.
 use Rattle.std.specs.Prelude.{◌≡◌, ℕ, ◌+◌, ◌*◌, ◌≤◌, ◌||◌, Bool, false, ltb, List, length, Option, Some}
-use Rattle.nest_memory.specs.TypeTree.{item_type, fields_of, size_of}
-use Rattle.nest_memory.specs.Physical.{physical_type}
+use Rattle.nest_memory.specs.TypeTree.{TypeTree, item_type, fields_of, size_of}
 use Rattle.nest_memory.specs.declared.error.Error.TheVariants.{InvalidArgumentError, Overflow}
 use Rattle.nest_memory.specs.declared.error.Argument.TheVariants.{ItemSize, ItemType, Unfinished, LengthsSum}
 use Rattle.nest_memory.specs.Rising.{largest_offset}
 use Rattle.nest_model.specs.Checks.{Checks, done, check}
-use Rattle.nest_model.specs.BuilderRow.{end_from, RisesFrom}
+use Rattle.nest_model.specs.BuilderRow.{Row, end_from, RisesFrom}
 use Rattle.nest_model.specs.BuilderTree.{BuilderTree, BuilderTrees, flat, list, fixed_size_list, dictionary, struct, no_builders, more_builders, builder_type, builder_len, builder_types, field_types, key_count}
 use Rattle.nest_model.specs.Checks.{largest_length}
 use Rattle.nest_model.specs.BuilderWhole.{IsWhole}
@@ -33,24 +32,28 @@ abbrev pub HaveRows : BuilderTrees → ℕ → Type 0
 HaveRows no_builders n = Unit {0}
 HaveRows (more_builders c cs) n = (builder_len c ≡ n) × HaveRows cs n
 
+-- a list's child is of its items' type, and isn't shorter than its rows
+abbrev pub CoversRows : TypeTree → List Row → BuilderTree → Type 0
+CoversRows t rows c = (item_type t ≡ Some (builder_type c)) × (end_from 0 rows ≤ builder_len c)
+
+-- n rows more over the items that wait are within the limits of their own offsets; no other ready row can pass one
+abbrev pub FitsLimits : ℕ → BuilderTree → Type 0
+FitsLimits n (list large t rows c) = (length rows + n ≤ largest_length) × (builder_len c ≤ largest_offset large)
+FitsLimits n _ = Unit {0}
+
 -- Why a row is refused, null rows and true ones alike: the children are not of their types or have too few items, a fixed-size list has too many,
 -- the row passes a limit. Other kinds have no such rows.
 abbrev pub row_checks : BuilderTree → Checks
 row_checks (flat t xs) = check (InvalidArgumentError ItemType) ⊥ done
 row_checks (list large t rows c) =
-    check (InvalidArgumentError Unfinished) ((item_type t ≡ Some (builder_type c)) × (end_from 0 rows ≤ builder_len c))
-    (check Overflow ((length rows + 1 ≤ largest_length) × (builder_len c ≤ largest_offset large)) done)
+    check (InvalidArgumentError Unfinished) (CoversRows t rows c)
+    (check Overflow (FitsLimits 1 (list large t rows c)) done)
 row_checks (fixed_size_list t bits c) =
     check (InvalidArgumentError Unfinished) ((item_type t ≡ Some (builder_type c)) × ((length bits + 1) * size_of t ≤ builder_len c))
     (check (InvalidArgumentError ItemSize) (builder_len c ≤ (length bits + 1) * size_of t) done)
 row_checks (dictionary k t keys c) = check (InvalidArgumentError ItemType) ⊥ done
 row_checks (struct t bits cs) =
     check (InvalidArgumentError Unfinished) ((builder_types cs ≡ field_types (fields_of t)) × HaveRows cs (length bits + 1)) done
-
--- n rows more over the items that wait are within the limits of their own offsets; no other ready row can pass one
-abbrev pub FitsLimits : ℕ → BuilderTree → Type 0
-FitsLimits n (list large t rows c) = (length rows + n ≤ largest_length) × (builder_len c ≤ largest_offset large)
-FitsLimits n _ = Unit {0}
 
 -- rows of these lengths are made of just the items that wait
 abbrev pub AreReady : List (Option ℕ) → BuilderTree → Type 0
@@ -60,9 +63,9 @@ AreReady ns _ = ⊥
 -- Why a list refuses rows that are told by their lengths: they don't end where its items end.
 abbrev pub lengths_checks : List (Option ℕ) → BuilderTree → Checks
 lengths_checks ns (list large t rows c) =
-    check (InvalidArgumentError Unfinished) ((item_type t ≡ Some (builder_type c)) × (end_from 0 rows ≤ builder_len c))
+    check (InvalidArgumentError Unfinished) (CoversRows t rows c)
     (check (InvalidArgumentError LengthsSum) (end_from 0 rows + items_told ns ≡ builder_len c)
-    (check Overflow ((length rows + length ns ≤ largest_length) × (builder_len c ≤ largest_offset large)) done))
+    (check Overflow (FitsLimits (length ns) (list large t rows c)) done))
 lengths_checks ns _ = check (InvalidArgumentError ItemType) ⊥ done
 
 -- the rows of both pass a limit, here or at a level below

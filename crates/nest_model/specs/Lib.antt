@@ -48,6 +48,7 @@ pub mod BuilderAcceptLaws
 pub mod BuilderRefusalLaws
 pub mod BuilderReadingLaws
 pub mod BuilderRowCheckLaws
+pub mod BuilderLimitLaws
 pub mod BuilderToldLaws
 pub mod BuilderTakesLaws
 pub mod BuilderExamples

@@ -1,11 +1,9 @@
 //! Worked examples of builders.
 
-ghost use Rattle.std.specs.Prelude.{◌≡◌, ℕ, ◌-◌, ◌^◌, pos, true, false, List, [], ◌∷◌, length, Some, None};
+ghost use Rattle.std.specs.Prelude.{◌≡◌, ◌-◌, false, [], ◌∷◌, Some, None};
 ghost use Rattle.nest_memory.specs.TypeTree as types;
 ghost use Rattle.nest_memory.specs.declared.datatypes.IntegerType.TheVariants as integers;
-ghost use Rattle.nest_memory.specs.declared.datatypes.physical_type.PrimitiveType.TheVariants as primitives;
 ghost use Rattle.nest_model.specs.Slot as slots;
-ghost use Rattle.nest_model.specs.Slot.{Slot};
 ghost use Rattle.nest_model.specs.Examples.{number, numbers, list_slot, record_slot};
 ghost use Rattle.nest_model.specs.BuilderTree as builders;
 ghost use Rattle.nest_model.specs.BuilderTree.{builder_len};
@@ -13,7 +11,7 @@ ghost use Rattle.nest_model.specs.BuilderLevels.{own_slots, levels, rows_needed}
 ghost use Rattle.nest_model.specs.BuilderWhole.{IsWhole, cut_builder, emptied};
 ghost use Rattle.nest_model.specs.BuilderItem as items;
 ghost use Rattle.nest_model.specs.BuilderAppend.{told, told_lengths, appended, all_appended};
-ghost use Rattle.nest_model.specs.BuilderExamples.{an_int, some_ints, items_of, a_text, text_slot, no_ints, no_lists, no_pairs, no_texts, no_records, short_keys, in_child, with_record, lists_of_records, three_pending, records_with_a_null, letters, full_dictionary};
+ghost use Rattle.nest_model.specs.BuilderExamples.{an_int, some_ints, items_of, a_text, text_slot, no_ints, no_pairs, no_records, short_keys, with_record, lists_of_records, three_pending, records_with_a_null, letters, full_dictionary};
 
 /// Lists of records of a dictionary: each level, with one value for two equal texts.
 pub fn dictionary_in_records_in_lists()

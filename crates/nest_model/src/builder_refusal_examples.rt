@@ -1,6 +1,6 @@
 //! Worked examples: what builders refuse, and why.
 
-ghost use Rattle.std.specs.Prelude.{◌≡◌, ℕ, ◌+◌, ◌-◌, ◌^◌, pos, Bool, true, false, List, [], ◌∷◌, length, Some, None};
+ghost use Rattle.std.specs.Prelude.{◌≡◌, ◌+◌, ◌-◌, ◌^◌, pos, Bool, true, false, List, [], ◌∷◌, length, Some, None};
 ghost use Rattle.nest_memory.specs.TypeTree as types;
 ghost use Rattle.nest_memory.specs.TypeTree.{TypeTree};
 ghost use Rattle.nest_memory.specs.declared.datatypes.IntegerType.TheVariants as integers;
@@ -16,7 +16,9 @@ ghost use Rattle.nest_model.specs.BuilderAppend.{appended, all_appended};
 ghost use Rattle.nest_model.specs.BuilderRefusals.{flat_passes, item_refusal, value_refusal, plain_refusal};
 ghost use Rattle.nest_model.specs.BuilderReading.{whole, begun, read_refusal};
 ghost use Rattle.nest_model.specs.BuilderRowChecks.{row_checks, lengths_checks, join_checks};
-ghost use Rattle.nest_model.specs.BuilderExamples.{an_int, some_ints, items_of, a_text, some_bytes, no_ints, no_lists, no_pairs, no_records, no_bytes, list_of, pairs_of, records_of, in_child, three_pending, two_pending, letters, full_dictionary, numbers_by, bytes_by, over_nulls};
+ghost use Rattle.nest_model.specs.Examples.{list_type};
+ghost use Rattle.nest_model.specs.BuilderRow.{Row};
+ghost use Rattle.nest_model.specs.BuilderExamples.{pair_type, an_int, some_ints, items_of, a_text, some_bytes, no_ints, no_lists, no_pairs, no_records, no_bytes, list_of, pairs_of, records_of, in_child, three_pending, two_pending, letters, full_dictionary, numbers_by, bytes_by, over_nulls};
 
 /// Rows of a fixed-size list: another number of items is refused, also at a level below; a refused item comes before the number.
 pub fn pairs()
@@ -117,6 +119,19 @@ pub fn largest_offsets()
     ensures past { (xs : List Slot) → length xs ≡ 2 ^ 31 → FailFirst Overflow (row_checks (over_nulls false xs)) }
     ensures largest_of_large { (xs : List Slot) → length xs ≡ 2 ^ 63 - 1 → Pass (row_checks (over_nulls true xs)) }
     ensures past_of_large { (xs : List Slot) → length xs ≡ 2 ^ 63 → FailFirst Overflow (row_checks (over_nulls true xs)) }
+{}
+
+/// A level's limit is looked at after its items and their number; a null row asks for room where it adds a null, also at a level below.
+pub fn limits_of_rows()
+    ensures item_first { (rows : List Row) → length rows ≡ 2 ^ 64 - 1 → item_refusal (items_of (a_text 120 ∷ [])) (builders.list false (list_type types.int32) rows no_ints) ≡ Some (InvalidArgumentError ItemType) }
+    ensures then_rows { (rows : List Row) → length rows ≡ 2 ^ 64 - 1 → item_refusal (items_of []) (builders.list false (list_type types.int32) rows no_ints) ≡ Some Overflow }
+    ensures number_first { (bits : List Bool) → length bits ≡ 2 ^ 64 - 1 → item_refusal (items_of []) (builders.fixed_size_list (pair_type types.int32) bits no_ints) ≡ Some (InvalidArgumentError ItemSize) }
+    ensures last_row { (rows : List Row) → length rows ≡ 2 ^ 64 - 2 → item_refusal items.null (builders.list false (list_type types.int32) rows no_ints) ≡ None }
+    ensures one_row_more { (rows : List Row) → length rows ≡ 2 ^ 64 - 1 → item_refusal items.null (builders.list false (list_type types.int32) rows no_ints) ≡ Some Overflow }
+    ensures last_pair { (bits : List Bool) → length bits ≡ 2 ^ 63 - 2 → item_refusal items.null (builders.fixed_size_list (pair_type types.int32) bits no_ints) ≡ None }
+    ensures one_pair_more { (bits : List Bool) → length bits ≡ 2 ^ 63 - 1 → item_refusal items.null (builders.fixed_size_list (pair_type types.int32) bits no_ints) ≡ Some Overflow }
+    ensures over_full_items { (xs : List Slot) → length xs ≡ 2 ^ 64 - 1 → item_refusal items.null (over_nulls false xs) ≡ None }
+    ensures over_a_full_field { (xs : List Slot) → length xs ≡ 2 ^ 64 - 1 → item_refusal items.null (no_records (builders.flat types.null xs)) ≡ Some Overflow }
 {}
 
 /// How many values the keys of each type can name.

@@ -1,6 +1,6 @@
 //! Laws of what refuses a push, a told row, lengths and a join.
 
-ghost use Rattle.std.specs.Prelude.{◌≡◌, ◌↔◌, ◌||◌, ℕ, ◌+◌, true, false, List, [], ◌∷◌, ◌++◌, length, Option, Some, None};
+ghost use Rattle.std.specs.Prelude.{◌≡◌, ◌↔◌, ◌||◌, ℕ, ◌+◌, true, false, List, ◌∷◌, ◌++◌, length, Option, Some, None};
 ghost use Rattle.nest_memory.specs.declared.error.Error.{Error};
 ghost use Rattle.nest_model.specs.Checks.{Pass, HaveOneOutcome, first_of};
 ghost use Rattle.nest_model.specs.BuilderTree.{BuilderTree};
@@ -15,6 +15,11 @@ ghost use Rattle.nest_model.specs.BuilderRowChecks.{HasWholeChildren, AreReady, 
 /// What nothing refuses is appended rightly, to a builder of any nesting.
 pub fn accepted_unless_refused()
     ensures { (x : Item) (t : BuilderTree) → IsWhole t → item_refusal x t ≡ None → Accepted x t (appended x t) }
+{}
+
+/// What nothing refuses leaves no level past a limit.
+pub fn accepted_within_limits()
+    ensures { (x : Item) (t : BuilderTree) → over_limits t ≡ false → item_refusal x t ≡ None → over_limits (appended x t) ≡ false }
 {}
 
 /// A value is refused by a push and by a push that checks its kind first, or by neither.
