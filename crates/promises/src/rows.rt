@@ -2,43 +2,26 @@
 //! builder freezes to the rows that it began with, followed by the accepted ones. It is seen as its tree of levels,
 //! `tree_of`: its rows, and below them the items of its child.
 
-ghost use Rattle.std.specs.Prelude.{◌≡◌, ◌≢◌, ◌+◌, ◌≤◌, ◌<◌, ◌⊎◌, ◌↔◌, ◌++◌, ◌∷◌, [], List, Option, None, false, true, IsTrue, OnOk, OnErr, IfOk, IfErr, IsErrOf, IsOkUnless, length, option_map, alloc_error};
+ghost use Rattle.std.specs.Prelude.{◌≡◌, ◌+◌, ◌<◌, ◌⊎◌, ◌↔◌, ◌++◌, ◌∷◌, [], false, true, IsTrue, OnOk, OnErr, IfOk, IfErr, IsErrOf, IsOkUnless, alloc_error};
 ghost use Rattle.std.specs.Option.{option_copied};
-ghost use Rattle.nest_memory.specs.Cut.{cut};
+ghost use Rattle.nest_memory.specs.Rising.{largest_offset};
 ghost use Rattle.nest_memory.specs.TypeTree as types;
-ghost use Rattle.nest_memory.specs.declared.error.Argument.TheVariants.{ItemType, Unfinished};
+ghost use Rattle.nest_memory.specs.declared.error.Argument.TheVariants.{Unfinished};
 ghost use Rattle.nest_memory.specs.declared.error.Error.TheVariants.{InvalidArgumentError, Memory, Overflow};
-ghost use Rattle.nest_model.specs.Accessors.{offsets_of};
 ghost use Rattle.nest_model.specs.BuilderAppend.{told, pending_slot, Accepted, IsReady};
 ghost use Rattle.nest_model.specs.BuilderLevels.{own_slots};
-ghost use Rattle.nest_model.specs.BuilderSpells.{Gives};
 ghost use Rattle.nest_model.specs.BuilderTree as builders;
-ghost use Rattle.nest_model.specs.BuilderTree.{IsPast, builder_type, largest_offset};
+ghost use Rattle.nest_model.specs.BuilderTree.{builder_type};
 ghost use Rattle.nest_model.specs.BuilderWhole.{IsWhole, emptied};
-ghost use Rattle.nest_model.specs.Layout as layouts;
 ghost use Rattle.nest_model.specs.Layout.{layout_type};
-ghost use Rattle.nest_model.specs.Meaning.{len, slots_of};
-ghost use Rattle.nest_model.specs.Part.{last_offset};
-ghost use Rattle.nest_model.specs.Slot as slots;
-ghost use Rattle.nest_flat.specs.BytesGrowth.{item_bytes};
-ghost use Rattle.nest_flat.specs.FlatParts.{optional};
-ghost use Rattle.nest_flat.specs.Growth.{CanDrain, Extended, first_slots, pushed_native, pushed_truth};
+ghost use Rattle.nest_model.specs.Meaning.{slots_of};
 ghost use Rattle.nest_array.specs.Types.{default_list_type};
 ghost use Rattle.nest_build.specs.Items.{row_item, row_len, row_slot};
 ghost use Rattle.nest_build.specs.Seen.{item_count, tree_of};
 
 use nest_array::ListArray;
 use nest_build::list::MutableListArray;
-use nest_flat::binary::mutable::MutableBinaryArray;
-use nest_flat::boolean::BooleanArray;
-use nest_flat::boolean::mutable::MutableBooleanArray;
-use nest_flat::primitive::PrimitiveArray;
-use nest_flat::primitive::mutable::MutablePrimitiveArray;
-use nest_flat::utf8::Utf8Array;
-use nest_flat::utf8::mutable::MutableUtf8Array;
 use nest_memory::error::Error;
-use nest_memory::offset::Offset;
-use nest_memory::types::NativeType;
 use std::alloc::Global;
 
 /// A builder of lists begins with no row.
