@@ -3,6 +3,7 @@ pub mod Children
 pub mod FixedSizeBinaries
 pub mod FixedSizes
 pub mod Lists
+pub mod LogicalTypes
 pub mod NullArrays
 pub mod SameRows
 pub mod Windows

@@ -1,7 +1,7 @@
 -- When rows and records are the same.
 use Rattle.std.specs.Prelude.{◌↔◌, ◌⊎◌, IsTrue, IsSome, not, if◌then◌else◌, List as Seq, [], ◌∷◌}
 use Rattle.std.proofs.Common.{◌≡◌, ℕ, ◌+◌, ◌<◌, ◌≤◌, Bool, true, false, length, refl, ap, sym, ◌∙◌, subst, inl, inr, arith}
-use Rattle.nest_memory.specs.TypeTree.{TypeTree, FieldTrees, no_fields, more_fields, fields_of}
+use Rattle.nest_memory.specs.TypeTree.{TypeTree, FieldTrees, no_fields, more_fields, fields_of, logical_type}
 use Rattle.nest_model.specs.Accessors.{children_of, validity_of}
 use Rattle.nest_model.specs.Array.{TopFits}
 use Rattle.nest_model.specs.Facts.{IsStruct, struct-facts}
@@ -20,6 +20,7 @@ use Rattle.nest_flat.specs.SameRuns.{same-at, no-validity}
 use Rattle.nest_array.specs.declared.any.AnyArray.{AnyArray}
 use Rattle.nest_array.specs.RowSlots.{SameTypes, SameChildren}
 use Rattle.nest_array.specs.Seen.{layout_of, layouts_of}
+use Rattle.nest_array.proofs.LogicalTypes.{same-fields}
 use Rattle.nest_array.specs.WindowParts.{WindowParts, window_slots}
 use Rattle.nest_array.proofs.Children.{covers}
 
@@ -96,8 +97,8 @@ record-same s q cs ds i j r a b t h =
 pub struct-known : (a : Layout) (cs : Layouts) → TopFits a → a ≡ struct (layout_type a) (children_of a) (validity_of a) → cs ≡ children_of a → IsStruct (layout_type a) cs (validity_of a)
 struct-known a cs h e f = subst (λ ds. IsStruct (layout_type a) ds (validity_of a)) (sym f) (struct-facts (layout_type a) (children_of a) (validity_of a) (subst TopFits e h))
 
-pub children-typed : (t u : TypeTree) (cs ds : Layouts) (va wa : Validity) → IsStruct t cs va → IsStruct u ds wa → t ≡ u → SameTypes cs ds
-children-typed t u cs ds va wa f g e = types-same (fields_of u) cs ds (subst (λ v. EachType (fields_of v) cs) e f.each_type) g.each_type
+pub children-typed : (t u : TypeTree) (cs ds : Layouts) (va wa : Validity) → IsStruct t cs va → IsStruct u ds wa → logical_type t ≡ logical_type u → SameTypes cs ds
+children-typed t u cs ds va wa f g e = types-same (fields_of u) cs ds (subst (λ fs. EachType fs cs) (same-fields t u e) f.each_type) g.each_type
 
 pub children-cover : (a : Layout) (cs : Layouts) (k : ℕ) → IsStruct (layout_type a) cs (validity_of a) → a ≡ struct (layout_type a) (children_of a) (validity_of a) → cs ≡ children_of a → k ≤ len a → EachCovers cs k
 children-cover a cs k f e g h = covers cs (first_len cs) k f.each_len (omega (arith, h, ap len e, ap first_len g))
@@ -156,8 +157,8 @@ none-left (z ∷ zs) (w ∷ ws) o p n t (inr e) = absurd (omega arith)
 pub window-run : (w : WindowParts) (a : Layout) (o n : ℕ) → a ≡ w.array → o ≡ w.offset → n ≡ w.count → w.offset + w.count ≤ len w.array → run (slot a) o n ≡ window_slots w
 window-run w a o n e f g h = (λ i. run (slot (e i)) (f i) (g i)) ∙ items-cut w.array w.offset w.count h
 
-pub windows-differ : (v w : WindowParts) (T : Type 0) (m n : ℕ) → v.offset + v.count ≤ len v.array → w.offset + w.count ≤ len w.array → m ≡ v.count → n ≡ w.count → (m ≡ n → ⊥) → IsTrue false ↔ (T × (window_slots v ≡ window_slots w))
-windows-differ v w T m n h k p q d =
+pub windows-length : (v w : WindowParts) → v.offset + v.count ≤ len v.array → w.offset + w.count ≤ len w.array → window_slots v ≡ window_slots w → v.count ≡ w.count
+windows-length v w h k e =
     let a = length-cut (slots_of v.array) v.offset v.count (omega (arith, h, slots-length v.array)) in
     let b = length-cut (slots_of w.array) w.offset w.count (omega (arith, k, slots-length w.array)) in
-    (λ t. cc, λ e. absurd (d (p ∙ sym a ∙ ap length e.1 ∙ b ∙ sym q)))
+    sym a ∙ ap length e ∙ b

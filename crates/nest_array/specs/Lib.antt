@@ -10,3 +10,4 @@ pub mod SeenLists
 pub mod SeenStruct
 pub mod Types
 pub mod WindowParts
+pub mod Words

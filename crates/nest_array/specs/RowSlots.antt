@@ -1,5 +1,6 @@
 -- Rows of items of a child: where they lie, and the slots that they are (of this project).
 use Rattle.std.specs.Prelude.{◌≡◌, ℕ, ◌+◌, ◌≤◌, Option, Some, None}
+use Rattle.nest_memory.specs.TypeTree.{logical_type}
 use Rattle.nest_model.specs.Layout.{Layout, Layouts, no_layouts, more_layouts, layout_type}
 use Rattle.nest_model.specs.Meaning.{run, slot}
 use Rattle.nest_model.specs.Slot as slots
@@ -14,6 +15,10 @@ IsWithin (Some r) n = r.0 + r.1 ≤ n
 abbrev pub row_slot : Layout → Option (ℕ × ℕ) → Slot
 row_slot c None = slots.null
 row_slot c (Some r) = slots.list (seal (run (slot c) r.0 r.1))
+
+-- data types that are equal but for their outer extensions
+abbrev pub Alike : Layout → Layout → Type 0
+Alike a b = logical_type (layout_type a) ≡ logical_type (layout_type b)
 
 -- as many children, of the same data types in order
 abbrev pub SameTypes : Layouts → Layouts → Type 0

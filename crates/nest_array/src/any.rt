@@ -1,31 +1,25 @@
 //! An array of any kind.
-ghost use Rattle.std.specs.Prelude.{◌≡◌, ◌+◌, ◌≤◌, ◌<◌, ◌↔◌, IsTrue, IfOk, IsOkUnless, MatchResult, not, option_map, alloc_error};
-ghost use Rattle.nest_memory.specs.declared.error.Error.TheVariants.{Memory};
-ghost use Rattle.nest_memory.specs.Cut.{cut};
-ghost use Rattle.nest_memory.specs.TypeOf.{type_of};
-ghost use Rattle.nest_model.specs.Accessors.{validity_of, with_validity};
-ghost use Rattle.nest_model.specs.Array.{TopFits};
+ghost use Rattle.std.specs.Prelude.{◌≡◌, ◌+◌, ◌≤◌, ◌<◌, ◌↔◌, false, IsTrue, IfOk, IsOkUnless, MatchOption, MatchResult, option_map, alloc_error};
+ghost use Rattle.nest_memory.specs.declared.datatypes.physical_type.PhysicalType.TheVariants as physical;
 ghost use Rattle.nest_model.specs.Checks.{Pass};
-ghost use Rattle.nest_model.specs.Cut.{cut_layout};
-ghost use Rattle.nest_model.specs.Fits.{validity_checks, ValidityFault};
-ghost use Rattle.nest_model.specs.Layout.{layout_type};
-ghost use Rattle.nest_model.specs.Meaning.{len, slot, slots_of};
-ghost use Rattle.nest_model.specs.Nullness.{is_null_at, null_count};
+ghost use Rattle.nest_model.specs.Fits.{validity_checks};
 ghost use Rattle.nest_model.specs.Slot as slots;
-ghost use Rattle.nest_array.specs.Seen.{layout_of};
+ghost use Rattle.nest_array.specs.Words.{Memory, TopFits, ValidityFault, cut, cut_layout, has_keys, is_null_at, layout_of, layout_type, len, null_count, physical_type, slot, slots_of, type_of, validity_of, with_validity};
 
+use crate::equal::kinds::as_primitive;
 use crate::fixed_size_binary::FixedSizeBinaryArray;
 use crate::fixed_size_list::FixedSizeListArray;
 use crate::list::ListArray;
 use crate::list::large::LargeListArray;
 use crate::null::NullArray;
 use crate::struct_::StructArray;
-use nest_flat::any_primitive::AnyPrimitive;
+use nest_flat::any_primitive::{AnyPrimitive, Native};
 use nest_flat::binary::BinaryArray;
 use nest_flat::boolean::BooleanArray;
 use nest_flat::utf8::Utf8Array;
 use nest_memory::bitmap::immutable::Bitmap;
 use nest_memory::datatypes::DataType;
+use nest_memory::datatypes::physical_type::PhysicalType;
 use nest_memory::error::{Argument, Error};
 use std::alloc::Global;
 
@@ -75,6 +69,14 @@ macro_rules! with_known {
     }};
 }
 
+/// The same array, on shared memory: `AnyArray::clone`.
+pub fn clone(alloc: Global, array: &AnyArray) -> Result<AnyArray, Error>
+    ensures ok { IfOk result (λ a. layout_of a ≡ layout_of array.now) }
+    ensures err { IsOkUnless result (Memory alloc_error) }
+{
+    array.clone(alloc)
+}
+
 impl AnyArray {
     /// What holds of every array at its top level: its parts fit, so its variant is that of its data type.
     pub fn known(&self)
@@ -88,13 +90,6 @@ impl AnyArray {
         ensures { result ≡ len (layout_of self.now) }
     {
         each_array!(self, array => array.len())
-    }
-
-    /// Whether it has no slot.
-    pub fn is_empty(&self) -> bool
-        ensures { IsTrue result ↔ (len (layout_of self.now) ≡ 0) }
-    {
-        self.len() == 0
     }
 
     /// Its data type.
@@ -111,21 +106,25 @@ impl AnyArray {
         each_array!(self, array => array.validity())
     }
 
-    /// Whether slot i is null.
+    /// Whether slot i is null; of an array whose slots are looked up by keys, whether its key is.
     pub fn is_null(&self, i: usize) -> bool
         requires { i < len (layout_of self.now) }
-        ensures slot { IsTrue result ↔ (slot (layout_of self.now) i ≡ slots.null) }
+        ensures slot { has_keys (layout_of self.now) ≡ false → (IsTrue result ↔ (slot (layout_of self.now) i ≡ slots.null)) }
         ensures place { result ≡ is_null_at (layout_of self.now) i }
     {
         each_array!(self, array => array.is_null(i))
     }
 
-    /// Whether slot i is not null.
-    pub fn is_valid(&self, i: usize) -> bool
-        requires { i < len (layout_of self.now) }
-        ensures { result ≡ not (is_null_at (layout_of self.now) i) }
+    /// The array of such native values, where its data type is of their kind.
+    pub fn as_primitive<T: Native>(&self) -> Option<&T::Array>
+        ensures { MatchOption result
+            (physical_type (layout_type (layout_of self.now)) ≡ physical.Primitive T.PRIMITIVE → ⊥)
+            (λ a. (physical_type (layout_type (layout_of self.now)) ≡ physical.Primitive T.PRIMITIVE) × (T.layout_of_array a.now ≡ layout_of self.now)) }
     {
-        !self.is_null(i)
+        if self.data_type().to_physical_type() != PhysicalType::Primitive(T::PRIMITIVE) {
+            return None;
+        }
+        Some(T::of(as_primitive(self)))
     }
 
     /// How many slots are null.

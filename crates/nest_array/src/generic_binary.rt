@@ -1,54 +1,69 @@
 //! What arrays of bytes have in common: their bytes, and where each slot lies in them.
 ghost use Rattle.std.specs.Prelude.{◌≡◌, ◌≤◌, ◌<◌, ◌%◌, length};
 ghost use Rattle.nest_memory.specs.Rising.{numbers};
-ghost use Rattle.nest_memory.specs.TypeTree.{size_of};
-ghost use Rattle.nest_model.specs.Accessors.{bytes_of, offsets_of};
+ghost use Rattle.nest_model.specs.Accessors.{bytes_of};
 ghost use Rattle.nest_model.specs.Array.{AreOffsets};
-ghost use Rattle.nest_model.specs.Layout.{Layout, layout_type};
 ghost use Rattle.nest_model.specs.Part.{last_offset};
+ghost use Rattle.nest_array.specs.Words.{Layout, layout_type, offsets_of, size_of};
 
+use crate::array::Array;
 use crate::fixed_size_binary::FixedSizeBinaryArray;
 use nest_flat::binary::BinaryArray;
 use nest_flat::utf8::Utf8Array;
 use nest_memory::offset::Offset;
 
 /// Arrays of bytes or of texts, which lie between offsets. arrow2's `GenericBinaryArray`.
-pub trait GenericBinaryArray<O: Offset> {
-    /// The array.
-    ghost layout: { Self → Layout };
-
+pub trait GenericBinaryArray<O: Offset>: Array {
     /// The bytes, also those of no slot.
     fn values(&self) -> &[u8]
-        ensures { result.now ≡ bytes_of (layout self.now) };
+        ensures { result.now ≡ bytes_of (Self.layout self.now) };
 
     /// Where the bytes of each slot begin and end: at least one offset. They never fall, and the last one is within the bytes.
     fn offsets(&self) -> &[O]
-        ensures shown { numbers O.value result.now ≡ offsets_of (layout self.now) }
-        ensures rising { AreOffsets (offsets_of (layout self.now)) }
-        ensures within { last_offset (offsets_of (layout self.now)) ≤ length (bytes_of (layout self.now)) };
+        ensures shown { numbers O.value result.now ≡ offsets_of (Self.layout self.now) }
+        ensures rising { AreOffsets (offsets_of (Self.layout self.now)) }
+        ensures within { last_offset (offsets_of (Self.layout self.now)) ≤ length (bytes_of (Self.layout self.now)) };
 }
 
-impl<O: Offset> GenericBinaryArray<O> for BinaryArray<O> {
-    ghost layout = { λ a. a };
-
+impl GenericBinaryArray<i32> for BinaryArray<i32> {
     fn values(&self) -> &[u8] {
         BinaryArray::values(self).as_slice()
     }
 
-    fn offsets(&self) -> &[O] {
+    fn offsets(&self) -> &[i32] {
         self.known();
         BinaryArray::offsets(self).as_slice()
     }
 }
 
-impl<O: Offset> GenericBinaryArray<O> for Utf8Array<O> {
-    ghost layout = { λ a. a };
+impl GenericBinaryArray<i64> for BinaryArray<i64> {
+    fn values(&self) -> &[u8] {
+        BinaryArray::values(self).as_slice()
+    }
 
+    fn offsets(&self) -> &[i64] {
+        self.known();
+        BinaryArray::offsets(self).as_slice()
+    }
+}
+
+impl GenericBinaryArray<i32> for Utf8Array<i32> {
     fn values(&self) -> &[u8] {
         Utf8Array::values(self).as_slice()
     }
 
-    fn offsets(&self) -> &[O] {
+    fn offsets(&self) -> &[i32] {
+        self.known();
+        Utf8Array::offsets(self).as_slice()
+    }
+}
+
+impl GenericBinaryArray<i64> for Utf8Array<i64> {
+    fn values(&self) -> &[u8] {
+        Utf8Array::values(self).as_slice()
+    }
+
+    fn offsets(&self) -> &[i64] {
         self.known();
         Utf8Array::offsets(self).as_slice()
     }

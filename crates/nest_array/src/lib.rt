@@ -13,7 +13,7 @@ pub mod struct_;
 mod types;
 pub mod window;
 
-pub use any::AnyArray;
+pub use any::{AnyArray, clone};
 pub use array::Array;
 pub use fixed_size_binary::FixedSizeBinaryArray;
 pub use fixed_size_list::FixedSizeListArray;

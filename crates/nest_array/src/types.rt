@@ -1,10 +1,9 @@
 //! The data types of children.
-ghost use Rattle.std.specs.Prelude.{◌≡◌, ◌↔◌, IsTrue, Some, None, IfOk, IsOkUnless, MatchOption, alloc_error};
-ghost use Rattle.nest_memory.specs.declared.error.Error.TheVariants.{Memory};
-ghost use Rattle.nest_memory.specs.Physical.{physical_type};
-ghost use Rattle.nest_memory.specs.TypeOf.{type_of, field_of};
-ghost use Rattle.nest_memory.specs.TypeTree.{item_field, item_type};
+ghost use Rattle.std.specs.Prelude.{◌≡◌, ◌↔◌, IsTrue, Some, IfOk, IsOkUnless, MatchOption, alloc_error};
+ghost use Rattle.nest_memory.specs.TypeOf.{field_of};
+ghost use Rattle.nest_memory.specs.TypeTree.{item_field};
 ghost use Rattle.nest_array.specs.Types.{default_field};
+ghost use Rattle.nest_array.specs.Words.{Memory, item_type, physical_type, type_of};
 
 use nest_memory::datatypes::DataType;
 use nest_memory::datatypes::field::Field;

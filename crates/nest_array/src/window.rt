@@ -1,10 +1,7 @@
 //! A part of an array, borrowed.
-ghost use Rattle.std.specs.Prelude.{◌≡◌, ◌+◌, ◌≤◌, ◌<◌, ◌↔◌, IsTrue};
-ghost use Rattle.nest_memory.specs.Cut.{cut};
-ghost use Rattle.nest_model.specs.Meaning.{len, slot, slots_of};
+ghost use Rattle.std.specs.Prelude.{◌≡◌, ◌+◌, ◌≤◌, ◌<◌, ◌↔◌, false, IsTrue};
 ghost use Rattle.nest_model.specs.Slot as slots;
-ghost use Rattle.nest_array.specs.Seen.{layout_of};
-ghost use Rattle.nest_array.specs.WindowParts.{window_parts, window_slots};
+ghost use Rattle.nest_array.specs.Words.{cut, has_keys, is_null_at, layout_of, len, slot, slots_of, window_parts, window_slots};
 
 use crate::any::AnyArray;
 use std::marker::Model;
@@ -95,10 +92,11 @@ impl<'a> Window<'a> {
         self.count == 0
     }
 
-    /// Whether its slot i is null.
+    /// Whether its slot i is null; of an array whose slots are looked up by keys, whether its key is.
     pub fn is_null(&self, i: usize) -> bool
         requires { i < self.now.count }
-        ensures { IsTrue result ↔ (slot self.now.array (self.now.offset + i) ≡ slots.null) }
+        ensures slot { has_keys self.now.array ≡ false → (IsTrue result ↔ (slot self.now.array (self.now.offset + i) ≡ slots.null)) }
+        ensures place { result ≡ is_null_at self.now.array (self.now.offset + i) }
     {
         let _end = self.array.len();
         self.array.is_null(self.offset + i)

@@ -1,16 +1,17 @@
-//! The trait of arrays of booleans, of bytes and of texts.
+//! The traits of arrays of booleans, of bytes and of texts.
 use crate::any::AnyArray;
-use crate::array::Array;
+use crate::array::{Slotted, Variant};
 use nest_flat::binary::BinaryArray;
 use nest_flat::boolean::BooleanArray;
 use nest_flat::utf8::Utf8Array;
 use nest_memory::bitmap::immutable::Bitmap;
 use nest_memory::datatypes::DataType;
 use nest_memory::error::Error;
+use nest_memory::offset::Offset;
 use std::alloc::Global;
 
-impl Array for BooleanArray {
-    ghost layout = { λ a. a };
+impl Slotted for BooleanArray {
+    ghost parts = { λ a. a };
 
     fn len(&self) -> usize {
         BooleanArray::len(self)
@@ -36,14 +37,13 @@ impl Array for BooleanArray {
         BooleanArray::slice(self, o, n)
     }
 
-    fn to_boxed(&self, alloc: Global) -> Result<AnyArray, Error> {
-        let array = self.clone(alloc)?;
-        Ok(AnyArray::Boolean(array))
+    fn again(&self, alloc: Global) -> Result<BooleanArray, Error> {
+        self.clone(alloc)
     }
 }
 
-impl Array for BinaryArray<i32> {
-    ghost layout = { λ a. a };
+impl<O: Offset> Slotted for BinaryArray<O> {
+    ghost parts = { λ a. a };
 
     fn len(&self) -> usize {
         BinaryArray::len(self)
@@ -69,47 +69,13 @@ impl Array for BinaryArray<i32> {
         BinaryArray::slice(self, o, n)
     }
 
-    fn to_boxed(&self, alloc: Global) -> Result<AnyArray, Error> {
-        let array = self.clone(alloc)?;
-        Ok(AnyArray::Binary(array))
+    fn again(&self, alloc: Global) -> Result<BinaryArray<O>, Error> {
+        self.clone(alloc)
     }
 }
 
-impl Array for BinaryArray<i64> {
-    ghost layout = { λ a. a };
-
-    fn len(&self) -> usize {
-        BinaryArray::len(self)
-    }
-
-    fn data_type(&self) -> &DataType {
-        BinaryArray::data_type(self)
-    }
-
-    fn validity(&self) -> Option<&Bitmap> {
-        BinaryArray::validity(self)
-    }
-
-    fn is_null(&self, i: usize) -> bool {
-        BinaryArray::is_null(self, i)
-    }
-
-    fn null_count(&self) -> usize {
-        BinaryArray::null_count(self)
-    }
-
-    fn slice(&mut self, o: usize, n: usize) {
-        BinaryArray::slice(self, o, n)
-    }
-
-    fn to_boxed(&self, alloc: Global) -> Result<AnyArray, Error> {
-        let array = self.clone(alloc)?;
-        Ok(AnyArray::LargeBinary(array))
-    }
-}
-
-impl Array for Utf8Array<i32> {
-    ghost layout = { λ a. a };
+impl<O: Offset> Slotted for Utf8Array<O> {
+    ghost parts = { λ a. a };
 
     fn len(&self) -> usize {
         Utf8Array::len(self)
@@ -135,41 +101,37 @@ impl Array for Utf8Array<i32> {
         Utf8Array::slice(self, o, n)
     }
 
-    fn to_boxed(&self, alloc: Global) -> Result<AnyArray, Error> {
-        let array = self.clone(alloc)?;
-        Ok(AnyArray::Utf8(array))
+    fn again(&self, alloc: Global) -> Result<Utf8Array<O>, Error> {
+        self.clone(alloc)
     }
 }
 
-impl Array for Utf8Array<i64> {
-    ghost layout = { λ a. a };
-
-    fn len(&self) -> usize {
-        Utf8Array::len(self)
+impl Variant for BooleanArray {
+    fn into_any(self) -> AnyArray {
+        AnyArray::Boolean(self)
     }
+}
 
-    fn data_type(&self) -> &DataType {
-        Utf8Array::data_type(self)
+impl Variant for BinaryArray<i32> {
+    fn into_any(self) -> AnyArray {
+        AnyArray::Binary(self)
     }
+}
 
-    fn validity(&self) -> Option<&Bitmap> {
-        Utf8Array::validity(self)
+impl Variant for BinaryArray<i64> {
+    fn into_any(self) -> AnyArray {
+        AnyArray::LargeBinary(self)
     }
+}
 
-    fn is_null(&self, i: usize) -> bool {
-        Utf8Array::is_null(self, i)
+impl Variant for Utf8Array<i32> {
+    fn into_any(self) -> AnyArray {
+        AnyArray::Utf8(self)
     }
+}
 
-    fn null_count(&self) -> usize {
-        Utf8Array::null_count(self)
-    }
-
-    fn slice(&mut self, o: usize, n: usize) {
-        Utf8Array::slice(self, o, n)
-    }
-
-    fn to_boxed(&self, alloc: Global) -> Result<AnyArray, Error> {
-        let array = self.clone(alloc)?;
-        Ok(AnyArray::LargeUtf8(array))
+impl Variant for Utf8Array<i64> {
+    fn into_any(self) -> AnyArray {
+        AnyArray::LargeUtf8(self)
     }
 }

@@ -3,19 +3,11 @@ mod flat;
 mod nested;
 mod primitive;
 
-ghost use Rattle.std.specs.Prelude.{◌≡◌, ◌+◌, ◌≤◌, ◌<◌, ◌↔◌, ◌⊎◌, IsTrue, IfOk, IsOkUnless, MatchResult, not, option_map, alloc_error};
-ghost use Rattle.nest_memory.specs.declared.error.Error.TheVariants.{Memory};
-ghost use Rattle.nest_memory.specs.Cut.{cut};
-ghost use Rattle.nest_memory.specs.TypeOf.{type_of};
-ghost use Rattle.nest_model.specs.Accessors.{validity_of, with_validity};
+ghost use Rattle.std.specs.Prelude.{◌≡◌, ◌+◌, ◌≤◌, ◌<◌, ◌↔◌, ◌⊎◌, false, IsTrue, IfOk, IsOkUnless, MatchResult, not, option_map, alloc_error};
 ghost use Rattle.nest_model.specs.Checks.{Pass};
-ghost use Rattle.nest_model.specs.Cut.{cut_layout};
-ghost use Rattle.nest_model.specs.Fits.{validity_checks, ValidityFault};
-ghost use Rattle.nest_model.specs.Layout.{Layout, layout_type};
-ghost use Rattle.nest_model.specs.Meaning.{len, slot, slots_of};
-ghost use Rattle.nest_model.specs.Nullness.{is_null_at, null_count};
+ghost use Rattle.nest_model.specs.Fits.{validity_checks};
 ghost use Rattle.nest_model.specs.Slot as slots;
-ghost use Rattle.nest_array.specs.Seen.{layout_of};
+ghost use Rattle.nest_array.specs.Words.{Layout, Memory, ValidityFault, cut, cut_layout, has_keys, is_null_at, layout_of, layout_type, len, null_count, slot, slots_of, type_of, validity_of, with_validity};
 
 use crate::any::AnyArray;
 use nest_memory::bitmap::immutable::Bitmap;
@@ -23,7 +15,7 @@ use nest_memory::datatypes::DataType;
 use nest_memory::error::Error;
 use std::alloc::Global;
 
-/// An array of any kind.
+/// An array of any kind. Each kind of array has it, by `Slotted` and `Variant`, which callers needn't name.
 pub trait Array {
     /// Its parts, as its accessors show them after its cuts.
     ghost layout: { Self → Layout };
@@ -34,10 +26,7 @@ pub trait Array {
 
     /// Whether it has no slot.
     fn is_empty(&self) -> bool
-        ensures { IsTrue result ↔ (len (layout self.now) ≡ 0) }
-    {
-        self.len() == 0
-    }
+        ensures { IsTrue result ↔ (len (layout self.now) ≡ 0) };
 
     /// Its data type.
     fn data_type(&self) -> &DataType
@@ -47,21 +36,18 @@ pub trait Array {
     fn validity(&self) -> Option<&Bitmap>
         ensures { option_map (λ b. b.now) result ≡ validity_of (layout self.now) };
 
-    /// Whether slot i is null.
+    /// Whether slot i is null; of an array whose slots are looked up by keys, whether its key is.
     fn is_null(&self, i: usize) -> bool
         requires { i < len (layout self.now) }
-        ensures slot { IsTrue result ↔ (slot (layout self.now) i ≡ slots.null) }
+        ensures slot { has_keys (layout self.now) ≡ false → (IsTrue result ↔ (slot (layout self.now) i ≡ slots.null)) }
         ensures place { result ≡ is_null_at (layout self.now) i };
 
-    /// Whether slot i is not null.
+    /// Whether slot i is not null, as `is_null` says it.
     fn is_valid(&self, i: usize) -> bool
         requires { i < len (layout self.now) }
-        ensures { result ≡ not (is_null_at (layout self.now) i) }
-    {
-        !self.is_null(i)
-    }
+        ensures { result ≡ not (is_null_at (layout self.now) i) };
 
-    /// How many slots are null.
+    /// How many slots are null, as `is_null` says it.
     fn null_count(&self) -> usize
         ensures { result ≡ null_count (layout self.now) };
 
@@ -83,21 +69,104 @@ pub trait Array {
         ensures parts { IfOk result (λ a. layout_of a ≡ cut_layout (layout self.now) o n) }
         ensures slots { IfOk result (λ a. slots_of (layout_of a) ≡ cut (slots_of (layout self.now)) o n) }
         ensures same_type { IfOk result (λ a. layout_type (layout_of a) ≡ layout_type (layout self.now)) }
-        ensures err { IsOkUnless result (Memory alloc_error) }
-    {
-        let mut array = self.to_boxed(alloc)?;
-        array.slice(o, n);
-        Ok(array)
-    }
+        ensures err { IsOkUnless result (Memory alloc_error) };
 
     /// The array under a new validity, on shared memory. `NoValidity` for a null array, `ValidityLength` where the
     /// validity has not a bit for each slot, `Memory`.
     fn with_validity(&self, alloc: Global, validity: Option<Bitmap>) -> Result<AnyArray, Error>
         ensures { MatchResult result
             (λ a. Pass (validity_checks (layout self.now) validity) × (layout_of a ≡ with_validity (layout self.now) validity))
-            (λ e. ValidityFault e (layout self.now) validity ⊎ (e ≡ Memory alloc_error)) }
-    {
-        let mut array = match self.to_boxed(alloc) {
+            (λ e. ValidityFault e (layout self.now) validity ⊎ (e ≡ Memory alloc_error)) };
+}
+
+/// What each kind of array tells of its slots, and its copy on shared memory: the part of `Array` that the kinds
+/// differ in.
+pub trait Slotted {
+    ghost parts: { Self → Layout };
+
+    fn len(&self) -> usize
+        ensures { result ≡ len (parts self.now) };
+
+    fn data_type(&self) -> &DataType
+        ensures { type_of result.now ≡ layout_type (parts self.now) };
+
+    fn validity(&self) -> Option<&Bitmap>
+        ensures { option_map (λ b. b.now) result ≡ validity_of (parts self.now) };
+
+    fn is_null(&self, i: usize) -> bool
+        requires { i < len (parts self.now) }
+        ensures slot { has_keys (parts self.now) ≡ false → (IsTrue result ↔ (slot (parts self.now) i ≡ slots.null)) }
+        ensures place { result ≡ is_null_at (parts self.now) i };
+
+    fn null_count(&self) -> usize
+        ensures { result ≡ null_count (parts self.now) };
+
+    fn slice(&mut self, o: usize, n: usize)
+        requires { o + n ≤ len (parts self.old) }
+        ensures { parts self.new ≡ cut_layout (parts self.old) o n };
+
+    fn again(&self, alloc: Global) -> Result<Self, Error>
+        ensures ok { IfOk result (λ a. parts a ≡ parts self.now) }
+        ensures err { IsOkUnless result (Memory alloc_error) };
+}
+
+/// A kind of array that is a variant of `AnyArray`.
+pub trait Variant: Slotted {
+    /// The same array in its variant.
+    fn into_any(self) -> AnyArray
+        ensures { layout_of result ≡ Self.parts self };
+}
+
+impl<A: Variant> Array for A {
+    ghost layout = { A.parts };
+
+    fn len(&self) -> usize {
+        Slotted::len(self)
+    }
+
+    fn is_empty(&self) -> bool {
+        Slotted::len(self) == 0
+    }
+
+    fn data_type(&self) -> &DataType {
+        Slotted::data_type(self)
+    }
+
+    fn validity(&self) -> Option<&Bitmap> {
+        Slotted::validity(self)
+    }
+
+    fn is_null(&self, i: usize) -> bool {
+        Slotted::is_null(self, i)
+    }
+
+    fn is_valid(&self, i: usize) -> bool {
+        !Slotted::is_null(self, i)
+    }
+
+    fn null_count(&self) -> usize {
+        Slotted::null_count(self)
+    }
+
+    fn slice(&mut self, o: usize, n: usize) {
+        Slotted::slice(self, o, n)
+    }
+
+    fn to_boxed(&self, alloc: Global) -> Result<AnyArray, Error> {
+        match self.again(alloc) {
+            Ok(array) => Ok(array.into_any()),
+            Err(error) => Err(error),
+        }
+    }
+
+    fn sliced(&self, alloc: Global, o: usize, n: usize) -> Result<AnyArray, Error> {
+        let mut array = Array::to_boxed(self, alloc)?;
+        AnyArray::slice(&mut array, o, n);
+        Ok(array)
+    }
+
+    fn with_validity(&self, alloc: Global, validity: Option<Bitmap>) -> Result<AnyArray, Error> {
+        let mut array = match Array::to_boxed(self, alloc) {
             Ok(array) => array,
             Err(error) => {
                 drop(validity);
@@ -114,8 +183,8 @@ pub trait Array {
     }
 }
 
-impl Array for AnyArray {
-    ghost layout = { layout_of };
+impl Slotted for AnyArray {
+    ghost parts = { layout_of };
 
     fn len(&self) -> usize {
         AnyArray::len(self)
@@ -138,10 +207,16 @@ impl Array for AnyArray {
     }
 
     fn slice(&mut self, o: usize, n: usize) {
-        AnyArray::slice(self, o, n)
+        self.cut(o, n)
     }
 
-    fn to_boxed(&self, alloc: Global) -> Result<AnyArray, Error> {
+    fn again(&self, alloc: Global) -> Result<AnyArray, Error> {
         self.clone(alloc)
+    }
+}
+
+impl Variant for AnyArray {
+    fn into_any(self) -> AnyArray {
+        self
     }
 }

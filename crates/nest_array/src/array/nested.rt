@@ -1,6 +1,6 @@
 //! The trait of arrays of nulls, of byte strings of one size, and of those that hold arrays.
 use crate::any::AnyArray;
-use crate::array::Array;
+use crate::array::{Slotted, Variant};
 use crate::fixed_size_binary::FixedSizeBinaryArray;
 use crate::fixed_size_list::FixedSizeListArray;
 use crate::list::ListArray;
@@ -12,8 +12,8 @@ use nest_memory::datatypes::DataType;
 use nest_memory::error::Error;
 use std::alloc::Global;
 
-impl Array for NullArray {
-    ghost layout = { λ a. a };
+impl Slotted for NullArray {
+    ghost parts = { λ a. a };
 
     fn len(&self) -> usize {
         NullArray::len(self)
@@ -39,14 +39,19 @@ impl Array for NullArray {
         NullArray::slice(self, o, n)
     }
 
-    fn to_boxed(&self, alloc: Global) -> Result<AnyArray, Error> {
-        let array = self.clone(alloc)?;
-        Ok(AnyArray::Null(array))
+    fn again(&self, alloc: Global) -> Result<NullArray, Error> {
+        self.clone(alloc)
     }
 }
 
-impl Array for FixedSizeBinaryArray {
-    ghost layout = { λ a. a };
+impl Variant for NullArray {
+    fn into_any(self) -> AnyArray {
+        AnyArray::Null(self)
+    }
+}
+
+impl Slotted for FixedSizeBinaryArray {
+    ghost parts = { λ a. a };
 
     fn len(&self) -> usize {
         FixedSizeBinaryArray::len(self)
@@ -72,14 +77,19 @@ impl Array for FixedSizeBinaryArray {
         FixedSizeBinaryArray::slice(self, o, n)
     }
 
-    fn to_boxed(&self, alloc: Global) -> Result<AnyArray, Error> {
-        let array = self.clone(alloc)?;
-        Ok(AnyArray::FixedSizeBinary(array))
+    fn again(&self, alloc: Global) -> Result<FixedSizeBinaryArray, Error> {
+        self.clone(alloc)
     }
 }
 
-impl Array for FixedSizeListArray {
-    ghost layout = { λ a. a };
+impl Variant for FixedSizeBinaryArray {
+    fn into_any(self) -> AnyArray {
+        AnyArray::FixedSizeBinary(self)
+    }
+}
+
+impl Slotted for FixedSizeListArray {
+    ghost parts = { λ a. a };
 
     fn len(&self) -> usize {
         FixedSizeListArray::len(self)
@@ -105,14 +115,19 @@ impl Array for FixedSizeListArray {
         FixedSizeListArray::slice(self, o, n)
     }
 
-    fn to_boxed(&self, alloc: Global) -> Result<AnyArray, Error> {
-        let array = self.clone(alloc)?;
-        Ok(AnyArray::FixedSizeList(array))
+    fn again(&self, alloc: Global) -> Result<FixedSizeListArray, Error> {
+        self.clone(alloc)
     }
 }
 
-impl Array for ListArray {
-    ghost layout = { λ a. a };
+impl Variant for FixedSizeListArray {
+    fn into_any(self) -> AnyArray {
+        AnyArray::FixedSizeList(self)
+    }
+}
+
+impl Slotted for ListArray {
+    ghost parts = { λ a. a };
 
     fn len(&self) -> usize {
         ListArray::len(self)
@@ -138,14 +153,19 @@ impl Array for ListArray {
         ListArray::slice(self, o, n)
     }
 
-    fn to_boxed(&self, alloc: Global) -> Result<AnyArray, Error> {
-        let array = self.clone(alloc)?;
-        Ok(AnyArray::List(array))
+    fn again(&self, alloc: Global) -> Result<ListArray, Error> {
+        self.clone(alloc)
     }
 }
 
-impl Array for LargeListArray {
-    ghost layout = { λ a. a };
+impl Variant for ListArray {
+    fn into_any(self) -> AnyArray {
+        AnyArray::List(self)
+    }
+}
+
+impl Slotted for LargeListArray {
+    ghost parts = { λ a. a };
 
     fn len(&self) -> usize {
         LargeListArray::len(self)
@@ -171,14 +191,19 @@ impl Array for LargeListArray {
         LargeListArray::slice(self, o, n)
     }
 
-    fn to_boxed(&self, alloc: Global) -> Result<AnyArray, Error> {
-        let array = self.clone(alloc)?;
-        Ok(AnyArray::LargeList(array))
+    fn again(&self, alloc: Global) -> Result<LargeListArray, Error> {
+        self.clone(alloc)
     }
 }
 
-impl Array for StructArray {
-    ghost layout = { λ a. a };
+impl Variant for LargeListArray {
+    fn into_any(self) -> AnyArray {
+        AnyArray::LargeList(self)
+    }
+}
+
+impl Slotted for StructArray {
+    ghost parts = { λ a. a };
 
     fn len(&self) -> usize {
         StructArray::len(self)
@@ -204,8 +229,13 @@ impl Array for StructArray {
         StructArray::slice(self, o, n)
     }
 
-    fn to_boxed(&self, alloc: Global) -> Result<AnyArray, Error> {
-        let array = self.clone(alloc)?;
-        Ok(AnyArray::Struct(array))
+    fn again(&self, alloc: Global) -> Result<StructArray, Error> {
+        self.clone(alloc)
+    }
+}
+
+impl Variant for StructArray {
+    fn into_any(self) -> AnyArray {
+        AnyArray::Struct(self)
     }
 }

@@ -1,17 +1,16 @@
-//! The trait of arrays of native values, written out: a macro can have no ghost item, and no generic
-//! implementation knows the variant of its kind.
+//! The traits of arrays of native values: what they tell is said once, and each kind names its variant.
 use crate::any::AnyArray;
-use crate::array::Array;
+use crate::array::{Slotted, Variant};
 use nest_flat::any_primitive::AnyPrimitive;
 use nest_flat::primitive::PrimitiveArray;
 use nest_memory::bitmap::immutable::Bitmap;
 use nest_memory::datatypes::DataType;
 use nest_memory::error::Error;
-use nest_memory::types::{days_ms, i256, months_days_ns};
+use nest_memory::types::{NativeType, days_ms, i256, months_days_ns};
 use std::alloc::Global;
 
-impl Array for PrimitiveArray<i8> {
-    ghost layout = { λ a. a };
+impl<T: NativeType> Slotted for PrimitiveArray<T> {
+    ghost parts = { λ a. a };
 
     fn len(&self) -> usize {
         PrimitiveArray::len(self)
@@ -37,371 +36,79 @@ impl Array for PrimitiveArray<i8> {
         PrimitiveArray::slice(self, o, n)
     }
 
-    fn to_boxed(&self, alloc: Global) -> Result<AnyArray, Error> {
-        let array = self.clone(alloc)?;
-        Ok(AnyArray::Primitive(AnyPrimitive::Int8(array)))
+    fn again(&self, alloc: Global) -> Result<PrimitiveArray<T>, Error> {
+        self.clone(alloc)
     }
 }
 
-impl Array for PrimitiveArray<i16> {
-    ghost layout = { λ a. a };
-
-    fn len(&self) -> usize {
-        PrimitiveArray::len(self)
-    }
-
-    fn data_type(&self) -> &DataType {
-        PrimitiveArray::data_type(self)
-    }
-
-    fn validity(&self) -> Option<&Bitmap> {
-        PrimitiveArray::validity(self)
-    }
-
-    fn is_null(&self, i: usize) -> bool {
-        PrimitiveArray::is_null(self, i)
-    }
-
-    fn null_count(&self) -> usize {
-        PrimitiveArray::null_count(self)
-    }
-
-    fn slice(&mut self, o: usize, n: usize) {
-        PrimitiveArray::slice(self, o, n)
-    }
-
-    fn to_boxed(&self, alloc: Global) -> Result<AnyArray, Error> {
-        let array = self.clone(alloc)?;
-        Ok(AnyArray::Primitive(AnyPrimitive::Int16(array)))
+impl Variant for PrimitiveArray<i8> {
+    fn into_any(self) -> AnyArray {
+        AnyArray::Primitive(AnyPrimitive::Int8(self))
     }
 }
 
-impl Array for PrimitiveArray<i32> {
-    ghost layout = { λ a. a };
-
-    fn len(&self) -> usize {
-        PrimitiveArray::len(self)
-    }
-
-    fn data_type(&self) -> &DataType {
-        PrimitiveArray::data_type(self)
-    }
-
-    fn validity(&self) -> Option<&Bitmap> {
-        PrimitiveArray::validity(self)
-    }
-
-    fn is_null(&self, i: usize) -> bool {
-        PrimitiveArray::is_null(self, i)
-    }
-
-    fn null_count(&self) -> usize {
-        PrimitiveArray::null_count(self)
-    }
-
-    fn slice(&mut self, o: usize, n: usize) {
-        PrimitiveArray::slice(self, o, n)
-    }
-
-    fn to_boxed(&self, alloc: Global) -> Result<AnyArray, Error> {
-        let array = self.clone(alloc)?;
-        Ok(AnyArray::Primitive(AnyPrimitive::Int32(array)))
+impl Variant for PrimitiveArray<i16> {
+    fn into_any(self) -> AnyArray {
+        AnyArray::Primitive(AnyPrimitive::Int16(self))
     }
 }
 
-impl Array for PrimitiveArray<i64> {
-    ghost layout = { λ a. a };
-
-    fn len(&self) -> usize {
-        PrimitiveArray::len(self)
-    }
-
-    fn data_type(&self) -> &DataType {
-        PrimitiveArray::data_type(self)
-    }
-
-    fn validity(&self) -> Option<&Bitmap> {
-        PrimitiveArray::validity(self)
-    }
-
-    fn is_null(&self, i: usize) -> bool {
-        PrimitiveArray::is_null(self, i)
-    }
-
-    fn null_count(&self) -> usize {
-        PrimitiveArray::null_count(self)
-    }
-
-    fn slice(&mut self, o: usize, n: usize) {
-        PrimitiveArray::slice(self, o, n)
-    }
-
-    fn to_boxed(&self, alloc: Global) -> Result<AnyArray, Error> {
-        let array = self.clone(alloc)?;
-        Ok(AnyArray::Primitive(AnyPrimitive::Int64(array)))
+impl Variant for PrimitiveArray<i32> {
+    fn into_any(self) -> AnyArray {
+        AnyArray::Primitive(AnyPrimitive::Int32(self))
     }
 }
 
-impl Array for PrimitiveArray<i128> {
-    ghost layout = { λ a. a };
-
-    fn len(&self) -> usize {
-        PrimitiveArray::len(self)
-    }
-
-    fn data_type(&self) -> &DataType {
-        PrimitiveArray::data_type(self)
-    }
-
-    fn validity(&self) -> Option<&Bitmap> {
-        PrimitiveArray::validity(self)
-    }
-
-    fn is_null(&self, i: usize) -> bool {
-        PrimitiveArray::is_null(self, i)
-    }
-
-    fn null_count(&self) -> usize {
-        PrimitiveArray::null_count(self)
-    }
-
-    fn slice(&mut self, o: usize, n: usize) {
-        PrimitiveArray::slice(self, o, n)
-    }
-
-    fn to_boxed(&self, alloc: Global) -> Result<AnyArray, Error> {
-        let array = self.clone(alloc)?;
-        Ok(AnyArray::Primitive(AnyPrimitive::Int128(array)))
+impl Variant for PrimitiveArray<i64> {
+    fn into_any(self) -> AnyArray {
+        AnyArray::Primitive(AnyPrimitive::Int64(self))
     }
 }
 
-impl Array for PrimitiveArray<i256> {
-    ghost layout = { λ a. a };
-
-    fn len(&self) -> usize {
-        PrimitiveArray::len(self)
-    }
-
-    fn data_type(&self) -> &DataType {
-        PrimitiveArray::data_type(self)
-    }
-
-    fn validity(&self) -> Option<&Bitmap> {
-        PrimitiveArray::validity(self)
-    }
-
-    fn is_null(&self, i: usize) -> bool {
-        PrimitiveArray::is_null(self, i)
-    }
-
-    fn null_count(&self) -> usize {
-        PrimitiveArray::null_count(self)
-    }
-
-    fn slice(&mut self, o: usize, n: usize) {
-        PrimitiveArray::slice(self, o, n)
-    }
-
-    fn to_boxed(&self, alloc: Global) -> Result<AnyArray, Error> {
-        let array = self.clone(alloc)?;
-        Ok(AnyArray::Primitive(AnyPrimitive::Int256(array)))
+impl Variant for PrimitiveArray<i128> {
+    fn into_any(self) -> AnyArray {
+        AnyArray::Primitive(AnyPrimitive::Int128(self))
     }
 }
 
-impl Array for PrimitiveArray<u8> {
-    ghost layout = { λ a. a };
-
-    fn len(&self) -> usize {
-        PrimitiveArray::len(self)
-    }
-
-    fn data_type(&self) -> &DataType {
-        PrimitiveArray::data_type(self)
-    }
-
-    fn validity(&self) -> Option<&Bitmap> {
-        PrimitiveArray::validity(self)
-    }
-
-    fn is_null(&self, i: usize) -> bool {
-        PrimitiveArray::is_null(self, i)
-    }
-
-    fn null_count(&self) -> usize {
-        PrimitiveArray::null_count(self)
-    }
-
-    fn slice(&mut self, o: usize, n: usize) {
-        PrimitiveArray::slice(self, o, n)
-    }
-
-    fn to_boxed(&self, alloc: Global) -> Result<AnyArray, Error> {
-        let array = self.clone(alloc)?;
-        Ok(AnyArray::Primitive(AnyPrimitive::UInt8(array)))
+impl Variant for PrimitiveArray<i256> {
+    fn into_any(self) -> AnyArray {
+        AnyArray::Primitive(AnyPrimitive::Int256(self))
     }
 }
 
-impl Array for PrimitiveArray<u16> {
-    ghost layout = { λ a. a };
-
-    fn len(&self) -> usize {
-        PrimitiveArray::len(self)
-    }
-
-    fn data_type(&self) -> &DataType {
-        PrimitiveArray::data_type(self)
-    }
-
-    fn validity(&self) -> Option<&Bitmap> {
-        PrimitiveArray::validity(self)
-    }
-
-    fn is_null(&self, i: usize) -> bool {
-        PrimitiveArray::is_null(self, i)
-    }
-
-    fn null_count(&self) -> usize {
-        PrimitiveArray::null_count(self)
-    }
-
-    fn slice(&mut self, o: usize, n: usize) {
-        PrimitiveArray::slice(self, o, n)
-    }
-
-    fn to_boxed(&self, alloc: Global) -> Result<AnyArray, Error> {
-        let array = self.clone(alloc)?;
-        Ok(AnyArray::Primitive(AnyPrimitive::UInt16(array)))
+impl Variant for PrimitiveArray<u8> {
+    fn into_any(self) -> AnyArray {
+        AnyArray::Primitive(AnyPrimitive::UInt8(self))
     }
 }
 
-impl Array for PrimitiveArray<u32> {
-    ghost layout = { λ a. a };
-
-    fn len(&self) -> usize {
-        PrimitiveArray::len(self)
-    }
-
-    fn data_type(&self) -> &DataType {
-        PrimitiveArray::data_type(self)
-    }
-
-    fn validity(&self) -> Option<&Bitmap> {
-        PrimitiveArray::validity(self)
-    }
-
-    fn is_null(&self, i: usize) -> bool {
-        PrimitiveArray::is_null(self, i)
-    }
-
-    fn null_count(&self) -> usize {
-        PrimitiveArray::null_count(self)
-    }
-
-    fn slice(&mut self, o: usize, n: usize) {
-        PrimitiveArray::slice(self, o, n)
-    }
-
-    fn to_boxed(&self, alloc: Global) -> Result<AnyArray, Error> {
-        let array = self.clone(alloc)?;
-        Ok(AnyArray::Primitive(AnyPrimitive::UInt32(array)))
+impl Variant for PrimitiveArray<u16> {
+    fn into_any(self) -> AnyArray {
+        AnyArray::Primitive(AnyPrimitive::UInt16(self))
     }
 }
 
-impl Array for PrimitiveArray<u64> {
-    ghost layout = { λ a. a };
-
-    fn len(&self) -> usize {
-        PrimitiveArray::len(self)
-    }
-
-    fn data_type(&self) -> &DataType {
-        PrimitiveArray::data_type(self)
-    }
-
-    fn validity(&self) -> Option<&Bitmap> {
-        PrimitiveArray::validity(self)
-    }
-
-    fn is_null(&self, i: usize) -> bool {
-        PrimitiveArray::is_null(self, i)
-    }
-
-    fn null_count(&self) -> usize {
-        PrimitiveArray::null_count(self)
-    }
-
-    fn slice(&mut self, o: usize, n: usize) {
-        PrimitiveArray::slice(self, o, n)
-    }
-
-    fn to_boxed(&self, alloc: Global) -> Result<AnyArray, Error> {
-        let array = self.clone(alloc)?;
-        Ok(AnyArray::Primitive(AnyPrimitive::UInt64(array)))
+impl Variant for PrimitiveArray<u32> {
+    fn into_any(self) -> AnyArray {
+        AnyArray::Primitive(AnyPrimitive::UInt32(self))
     }
 }
 
-impl Array for PrimitiveArray<days_ms> {
-    ghost layout = { λ a. a };
-
-    fn len(&self) -> usize {
-        PrimitiveArray::len(self)
-    }
-
-    fn data_type(&self) -> &DataType {
-        PrimitiveArray::data_type(self)
-    }
-
-    fn validity(&self) -> Option<&Bitmap> {
-        PrimitiveArray::validity(self)
-    }
-
-    fn is_null(&self, i: usize) -> bool {
-        PrimitiveArray::is_null(self, i)
-    }
-
-    fn null_count(&self) -> usize {
-        PrimitiveArray::null_count(self)
-    }
-
-    fn slice(&mut self, o: usize, n: usize) {
-        PrimitiveArray::slice(self, o, n)
-    }
-
-    fn to_boxed(&self, alloc: Global) -> Result<AnyArray, Error> {
-        let array = self.clone(alloc)?;
-        Ok(AnyArray::Primitive(AnyPrimitive::DaysMs(array)))
+impl Variant for PrimitiveArray<u64> {
+    fn into_any(self) -> AnyArray {
+        AnyArray::Primitive(AnyPrimitive::UInt64(self))
     }
 }
 
-impl Array for PrimitiveArray<months_days_ns> {
-    ghost layout = { λ a. a };
-
-    fn len(&self) -> usize {
-        PrimitiveArray::len(self)
+impl Variant for PrimitiveArray<days_ms> {
+    fn into_any(self) -> AnyArray {
+        AnyArray::Primitive(AnyPrimitive::DaysMs(self))
     }
+}
 
-    fn data_type(&self) -> &DataType {
-        PrimitiveArray::data_type(self)
-    }
-
-    fn validity(&self) -> Option<&Bitmap> {
-        PrimitiveArray::validity(self)
-    }
-
-    fn is_null(&self, i: usize) -> bool {
-        PrimitiveArray::is_null(self, i)
-    }
-
-    fn null_count(&self) -> usize {
-        PrimitiveArray::null_count(self)
-    }
-
-    fn slice(&mut self, o: usize, n: usize) {
-        PrimitiveArray::slice(self, o, n)
-    }
-
-    fn to_boxed(&self, alloc: Global) -> Result<AnyArray, Error> {
-        let array = self.clone(alloc)?;
-        Ok(AnyArray::Primitive(AnyPrimitive::MonthDayNano(array)))
+impl Variant for PrimitiveArray<months_days_ns> {
+    fn into_any(self) -> AnyArray {
+        AnyArray::Primitive(AnyPrimitive::MonthDayNano(self))
     }
 }

@@ -1,11 +1,9 @@
 //! Arrays of any kind by the kinds that their data types name.
 ghost use Rattle.std.specs.Prelude.{◌≡◌};
-ghost use Rattle.nest_memory.specs.Physical.{physical_type};
 ghost use Rattle.nest_memory.specs.declared.datatypes.physical_type.PhysicalType.TheVariants as physical;
-ghost use Rattle.nest_model.specs.Layout.{layout_type};
 ghost use Rattle.nest_flat.specs.AnyPrimitive.{primitive_layout};
 ghost use Rattle.nest_array.specs.Kinds.{physical_kind, IsPrimitive};
-ghost use Rattle.nest_array.specs.Seen.{layout_of};
+ghost use Rattle.nest_array.specs.Words.{Alike, layout_of, layout_type, physical_type};
 
 use crate::any::AnyArray;
 use crate::fixed_size_binary::FixedSizeBinaryArray;
@@ -37,6 +35,15 @@ pub(crate) fn kind(a: &AnyArray)
         AnyArray::LargeList(x) => x.known(),
         AnyArray::Struct(x) => x.known(),
     }
+}
+
+/// Arrays whose data types are equal but for their outer extensions have one physical type.
+pub(crate) fn same_kind(a: &AnyArray, b: &AnyArray)
+    requires { Alike (layout_of a.now) (layout_of b.now) }
+    ensures { physical_type (layout_type (layout_of a.now)) ≡ physical_type (layout_type (layout_of b.now)) }
+{
+    kind(a);
+    kind(b);
 }
 
 /// The array whose data type is that of nulls.

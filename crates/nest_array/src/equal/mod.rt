@@ -1,24 +1,21 @@
 //! Equality of arrays of any kind: equal data types and equal slots. No call takes memory, and each pair of
 //! slots is looked at once.
-mod kinds;
+pub(crate) mod kinds;
 mod records;
 mod rows;
 mod whole;
 
 ghost use Rattle.std.specs.Prelude.{◌≡◌, ◌↔◌, ◌+◌, ◌≤◌, IsTrue};
-ghost use Rattle.nest_model.specs.Layout.{layout_type};
-ghost use Rattle.nest_model.specs.Meaning.{len, run, slot};
-ghost use Rattle.nest_model.specs.SameArray.{IsSameArray};
 ghost use Rattle.nest_array.specs.RowSlots.{IsWithin, row_slot};
-ghost use Rattle.nest_array.specs.Seen.{layout_of};
 ghost use Rattle.nest_array.specs.SeenLists.{lists_layout};
-ghost use Rattle.nest_array.specs.WindowParts.{window_slots};
+ghost use Rattle.nest_array.specs.Words.{Alike, IsSameArray, layout_of, layout_type, len, run, slot, type_of, window_slots};
 
 use crate::any::AnyArray;
 use crate::null::NullArray;
 use crate::window::Window;
 use kinds::kind;
 use nest_flat::{any_primitive, flat_array};
+use nest_memory::datatypes::DataType;
 use records::same_records;
 use rows::{Lists, Rows};
 
@@ -26,37 +23,40 @@ use rows::{Lists, Rows};
 pub fn equal(a: &AnyArray, b: &AnyArray) -> bool
     ensures { IsTrue result ↔ IsSameArray (layout_of a.now) (layout_of b.now) }
 {
-    whole::same_arrays(a, b)
+    equal_windows(Window::of(a), Window::of(b))
 }
 
 /// Whether two windows have the same data type and the same slots.
-pub fn equal_windows(x: &Window, y: &Window) -> bool
+pub fn equal_windows(x: Window, y: Window) -> bool
     ensures { IsTrue result
-        ↔ (layout_type x.now.array ≡ layout_type y.now.array) × (window_slots x.now ≡ window_slots y.now) }
+        ↔ (layout_type x.array ≡ layout_type y.array) × (window_slots x ≡ window_slots y) }
 {
     x.known();
     y.known();
     let (a, b) = (x.array(), y.array());
-    let same_type = *a.data_type() == *b.data_type();
-    if !same_type {
+    if !same_shape(a.data_type(), x.len(), b.data_type(), y.len()) {
         return false;
     }
-    let n = x.len();
-    if n != y.len() {
-        return false;
-    }
-    same_run(a, x.offset(), b, y.offset(), n)
+    same_run(a, x.offset(), b, y.offset(), x.len())
+}
+
+/// Whether two data types and two lengths are the same.
+pub(crate) fn same_shape(t: &DataType, m: usize, u: &DataType, n: usize) -> bool
+    ensures { IsTrue result ↔ (type_of t.now ≡ type_of u.now) × (m ≡ n) }
+{
+    m == n && *t == *u
 }
 
 /// Whether the n slots of a from place o are those of b from place p. The kind is matched once.
 #[cycle(equal)]
 pub(crate) fn same_run(a: &AnyArray, o: usize, b: &AnyArray, p: usize, n: usize) -> bool
-    requires same_type { layout_type (layout_of a.now) ≡ layout_type (layout_of b.now) }
+    requires alike { Alike (layout_of a.now) (layout_of b.now) }
     requires within { o + n ≤ len (layout_of a.now) }
     requires other_within { p + n ≤ len (layout_of b.now) }
     ensures { IsTrue result ↔ (run (slot (layout_of a.now)) o n ≡ run (slot (layout_of b.now)) p n) }
 {
     kind(a);
+    kinds::same_kind(a, b);
     match a {
         AnyArray::Null(x) => same_nulls(x, o, kinds::as_null(b), p, n),
         AnyArray::Boolean(x) => x.same_run(o, kinds::as_boolean(b), p, n),
@@ -99,7 +99,7 @@ fn same_nulls(x: &NullArray, o: usize, y: &NullArray, p: usize, n: usize) -> boo
 /// Whether the n lists of xs from place o are those of ys from place p.
 #[cycle(equal)]
 pub(crate) fn same_rows(xs: &Lists, o: usize, ys: &Lists, p: usize, n: usize) -> bool
-    requires same_type { layout_type (lists_layout xs.now) ≡ layout_type (lists_layout ys.now) }
+    requires alike { Alike (lists_layout xs.now) (lists_layout ys.now) }
     requires within { o + n ≤ len (lists_layout xs.now) }
     requires other_within { p + n ≤ len (lists_layout ys.now) }
     ensures { IsTrue result ↔ (run (slot (lists_layout xs.now)) o n ≡ run (slot (lists_layout ys.now)) p n) }
@@ -122,7 +122,7 @@ fn same_row(
     other_items: &AnyArray,
     other_row: Option<(usize, usize)>,
 ) -> bool
-    requires same_type { layout_type (layout_of items.now) ≡ layout_type (layout_of other_items.now) }
+    requires alike { Alike (layout_of items.now) (layout_of other_items.now) }
     requires within { IsWithin row (len (layout_of items.now)) }
     requires other_within { IsWithin other_row (len (layout_of other_items.now)) }
     ensures { IsTrue result ↔ (row_slot (layout_of items.now) row ≡ row_slot (layout_of other_items.now) other_row) }

@@ -1,11 +1,8 @@
 //! Equality of runs of records.
 ghost use Rattle.std.specs.Prelude.{◌≡◌, ◌↔◌, ◌+◌, ◌≤◌, ◌<◌, IsTrue, IsSome};
-ghost use Rattle.nest_model.specs.Accessors.{validity_of};
 ghost use Rattle.nest_model.specs.Fits.{EachCovers};
-ghost use Rattle.nest_model.specs.Layout.{layout_type};
-ghost use Rattle.nest_model.specs.Meaning.{len, run, slot};
 ghost use Rattle.nest_array.specs.RowSlots.{SameTypes, SameChildren};
-ghost use Rattle.nest_array.specs.Seen.{layouts_of};
+ghost use Rattle.nest_array.specs.Words.{Alike, layouts_of, len, run, slot, validity_of};
 
 use crate::any::AnyArray;
 use crate::equal::same_run;
@@ -15,7 +12,7 @@ use crate::struct_::StructArray;
 /// by child, else record by record.
 #[cycle(equal)]
 pub(crate) fn same_records(x: &StructArray, o: usize, y: &StructArray, p: usize, n: usize) -> bool
-    requires same_type { layout_type x.now ≡ layout_type y.now }
+    requires alike { Alike x.now y.now }
     requires within { o + n ≤ len x.now }
     requires other_within { p + n ≤ len y.now }
     ensures { IsTrue result ↔ (run (slot x.now) o n ≡ run (slot y.now) p n) }
@@ -36,7 +33,7 @@ fn has_validity(x: &StructArray) -> bool
 
 #[cycle(equal)]
 fn each_same_record(x: &StructArray, o: usize, y: &StructArray, p: usize, n: usize) -> bool
-    requires same_type { layout_type x.now ≡ layout_type y.now }
+    requires alike { Alike x.now y.now }
     requires within { o + n ≤ len x.now }
     requires other_within { p + n ≤ len y.now }
     ensures { IsTrue result ↔ (run (slot x.now) o n ≡ run (slot y.now) p n) }
@@ -53,7 +50,7 @@ fn each_same_record(x: &StructArray, o: usize, y: &StructArray, p: usize, n: usi
 /// Whether record i of x is record j of y: both are null, or no child differs there.
 #[cycle(equal)]
 fn is_same_record(x: &StructArray, i: usize, y: &StructArray, j: usize) -> bool
-    requires same_type { layout_type x.now ≡ layout_type y.now }
+    requires alike { Alike x.now y.now }
     requires within { i < len x.now }
     requires other_within { j < len y.now }
     ensures { IsTrue result ↔ (slot x.now i ≡ slot y.now j) }

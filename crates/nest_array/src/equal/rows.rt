@@ -1,11 +1,7 @@
 //! Arrays whose slots are lists of the items of one child.
 ghost use Rattle.std.specs.Prelude.{◌≡◌, ◌<◌, Some};
-ghost use Rattle.nest_memory.specs.TypeTree.{item_type};
-ghost use Rattle.nest_model.specs.Accessors.{child_of};
-ghost use Rattle.nest_model.specs.Layout.{Layout, layout_type};
-ghost use Rattle.nest_model.specs.Meaning.{len, slot};
 ghost use Rattle.nest_array.specs.RowSlots.{IsWithin, row_slot};
-ghost use Rattle.nest_array.specs.Seen.{layout_of};
+ghost use Rattle.nest_array.specs.Words.{Layout, child_of, item_type, layout_of, layout_type, len, slot};
 
 use crate::any::AnyArray;
 use crate::fixed_size_list::FixedSizeListArray;

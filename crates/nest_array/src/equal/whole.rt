@@ -1,15 +1,12 @@
 //! Equality of whole arrays: of any kind, and of each kind that has children.
 ghost use Rattle.std.specs.Prelude.{◌≡◌, ◌↔◌, ◌+◌, ◌≤◌, IsTrue};
-ghost use Rattle.nest_model.specs.Layout.{layout_type};
-ghost use Rattle.nest_model.specs.Meaning.{len, run, slot};
-ghost use Rattle.nest_model.specs.SameArray.{IsSameArray, same_array};
-ghost use Rattle.nest_array.specs.Seen.{layout_of};
+ghost use Rattle.nest_array.specs.Words.{Alike, IsSameArray, layout_of, len, run, same_array, slot};
 
 use crate::any::AnyArray;
 use crate::array::Array;
 use crate::equal::records::same_records;
 use crate::equal::rows::Lists;
-use crate::equal::{same_rows, same_run};
+use crate::equal::{equal, same_rows, same_shape};
 use crate::fixed_size_list::FixedSizeListArray;
 use crate::list::ListArray;
 use crate::list::large::LargeListArray;
@@ -19,7 +16,7 @@ use crate::struct_::StructArray;
 pub(crate) trait SlotRuns: Array {
     /// Whether the n slots from place o are those of the other array from place p.
     fn is_same_run(&self, o: usize, other: &Self, p: usize, n: usize) -> bool
-        requires same_type { layout_type (Self.layout self.now) ≡ layout_type (Self.layout other.now) }
+        requires alike { Alike (Self.layout self.now) (Self.layout other.now) }
         requires within { o + n ≤ len (Self.layout self.now) }
         requires other_within { p + n ≤ len (Self.layout other.now) }
         ensures { IsTrue result ↔ (run (slot (Self.layout self.now)) o n ≡ run (slot (Self.layout other.now)) p n) };
@@ -36,21 +33,10 @@ pub(crate) fn same_arrays<A: SlotRuns>(x: &A, y: &A) -> bool
 fn same_type_and_slots<A: SlotRuns>(x: &A, y: &A) -> bool
     ensures { IsTrue result ↔ IsSameArray (A.layout x.now) (A.layout y.now) }
 {
-    let same_type = *x.data_type() == *y.data_type();
-    if !same_type {
+    if !same_shape(x.data_type(), x.len(), y.data_type(), y.len()) {
         return false;
     }
-    let n = x.len();
-    if n != y.len() {
-        return false;
-    }
-    x.is_same_run(0, y, 0, n)
-}
-
-impl SlotRuns for AnyArray {
-    fn is_same_run(&self, o: usize, other: &AnyArray, p: usize, n: usize) -> bool {
-        same_run(self, o, other, p, n)
-    }
+    x.is_same_run(0, y, 0, x.len())
 }
 
 impl PartialEq for AnyArray {
@@ -67,7 +53,7 @@ impl PartialEq for AnyArray {
         ensures computes { result ≡ same_array (layout_of self.now) (layout_of other.now) }
         ensures decides { IsTrue result ↔ IsSameArray (layout_of self.now) (layout_of other.now) }
     {
-        same_arrays(self, other)
+        equal(self, other)
     }
 }
 

@@ -1,7 +1,7 @@
 //! Equality of arrays of byte strings of one size: equal data types and equal slots.
 ghost use Rattle.std.specs.Prelude.{◌≡◌, ◌↔◌, IsTrue};
-ghost use Rattle.nest_model.specs.SameArray.{IsSameArray, same_array};
 ghost use Rattle.nest_model.specs.Slot as slots;
+ghost use Rattle.nest_array.specs.Words.{IsSameArray, same_array};
 
 use crate::fixed_size_binary::FixedSizeBinaryArray;
 use nest_flat::flat_array::{self, FlatArray};

@@ -3,23 +3,11 @@ mod equality;
 mod rows;
 
 ghost use Rattle.std.specs.Prelude.{◌≡◌, ◌+◌, ◌*◌, ◌≤◌, ◌<◌, ◌↔◌, IsTrue, IfOk, IsOkUnless, MatchResult, MatchOption, None, option_map, alloc_error};
-ghost use Rattle.nest_memory.specs.declared.error.Error.TheVariants.{Memory};
-ghost use Rattle.nest_memory.specs.Cut.{cut};
-ghost use Rattle.nest_memory.specs.TypeOf.{type_of};
-ghost use Rattle.nest_memory.specs.TypeTree.{size_of};
-ghost use Rattle.nest_model.specs.Accessors.{validity_of, bytes_of, with_validity};
-ghost use Rattle.nest_model.specs.Array.{TopFits};
-ghost use Rattle.nest_model.specs.Cut.{cut_layout};
-ghost use Rattle.nest_model.specs.Fits.{Fits, FirstFault, ValidityFits, ValidityFault};
+ghost use Rattle.nest_model.specs.Accessors.{bytes_of};
 ghost use Rattle.nest_model.specs.Layout as layouts;
-ghost use Rattle.nest_model.specs.Layout.{layout_type};
-ghost use Rattle.nest_model.specs.Meaning.{len, slot, slots_of};
-ghost use Rattle.nest_model.specs.Nullness.{is_null_at, null_count};
-ghost use Rattle.nest_model.specs.Part.{valid_at};
-ghost use Rattle.nest_model.specs.Reads.{where_valid};
 ghost use Rattle.nest_model.specs.Slot as slots;
 ghost use Rattle.nest_flat.specs.FlatParts.{optional};
-ghost use Rattle.nest_array.specs.Seen.{layout_of};
+ghost use Rattle.nest_array.specs.Words.{FirstFault, Fits, Memory, TopFits, ValidityFault, ValidityFits, cut, cut_layout, is_null_at, layout_of, layout_type, len, null_count, size_of, slot, slots_of, type_of, validity_of, where_valid, with_validity};
 
 use crate::any::AnyArray;
 use nest_flat::validity;
@@ -114,13 +102,6 @@ impl FixedSizeBinaryArray {
         self.values.len() / self.size
     }
 
-    /// Whether it has no slot.
-    pub fn is_empty(&self) -> bool
-        ensures { IsTrue result ↔ (len self.now ≡ 0) }
-    {
-        self.len() == 0
-    }
-
     /// Its data type.
     pub fn data_type(&self) -> &DataType
         ensures { type_of result.now ≡ layout_type self.now }
@@ -148,14 +129,6 @@ impl FixedSizeBinaryArray {
         ensures { result.now ≡ bytes_of self.now }
     {
         &self.values
-    }
-
-    /// Whether slot i is not null.
-    pub fn is_valid(&self, i: usize) -> bool
-        requires { i < len self.now }
-        ensures { result ≡ valid_at (validity_of self.now) i }
-    {
-        validity::is_valid(&self.validity, i)
     }
 
     /// Whether slot i is null.
@@ -192,10 +165,10 @@ impl FixedSizeBinaryArray {
         requires { i < len self.now }
         ensures { optional (λ x. slots.bytes x.now) result ≡ slot self.now i }
     {
-        if self.is_valid(i) {
-            Some(self.value(i))
-        } else {
+        if self.is_null(i) {
             None
+        } else {
+            Some(self.value(i))
         }
     }
 

@@ -2,16 +2,12 @@
 ghost use Rattle.std.specs.Prelude.{◌≡◌, ◌⊎◌, ◌↔◌, ◌*◌, ◌≤◌, ◌<◌, ◌^◌, IfOk, IfErr, IsErrOf, IsOkUnless, None, length, map, alloc_error};
 ghost use Rattle.std.specs.List.{concat, All};
 ghost use Rattle.nest_memory.specs.declared.datatypes.physical_type.PhysicalType.TheVariants as physical;
-ghost use Rattle.nest_memory.specs.declared.error.Error.TheVariants.{Overflow, Memory};
-ghost use Rattle.nest_memory.specs.Physical.{physical_type};
-ghost use Rattle.nest_memory.specs.TypeOf.{type_of};
+ghost use Rattle.nest_memory.specs.declared.error.Error.TheVariants.{Overflow};
 ghost use Rattle.nest_memory.specs.TypeTree as types;
-ghost use Rattle.nest_memory.specs.TypeTree.{size_of};
 ghost use Rattle.nest_model.specs.Accessors.{with_type};
 ghost use Rattle.nest_model.specs.Layout as layouts;
-ghost use Rattle.nest_model.specs.Layout.{layout_type};
-ghost use Rattle.nest_model.specs.Meaning.{slots_of};
 ghost use Rattle.nest_model.specs.Slot as slots;
+ghost use Rattle.nest_array.specs.Words.{Memory, layout_type, physical_type, size_of, slots_of, type_of};
 
 use crate::fixed_size_binary::FixedSizeBinaryArray;
 use nest_memory::buffer::Buffer;
@@ -21,7 +17,7 @@ use std::alloc::Global;
 
 impl FixedSizeBinaryArray {
     /// The type of byte strings of this size.
-    pub fn default_data_type(size: usize) -> DataType
+    pub fn default_datatype(size: usize) -> DataType
         ensures { type_of result ≡ types.fixed_size_binary size }
     {
         DataType::FixedSizeBinary(size)
@@ -45,7 +41,7 @@ impl FixedSizeBinaryArray {
             return Err(Error::Overflow);
         }
         let values = joined(alloc, rows)?;
-        let data_type = FixedSizeBinaryArray::default_data_type(N);
+        let data_type = FixedSizeBinaryArray::default_datatype(N);
         Ok(FixedSizeBinaryArray::new(data_type, values, None))
     }
 

@@ -1,38 +1,15 @@
 //! New validities and copies of arrays of lists of one size.
-ghost use Rattle.std.specs.Prelude.{◌≡◌, ◌+◌, ◌*◌, ◌≤◌, ◌<◌, ◌↔◌, IsTrue, IfOk, IsOkUnless, MatchResult, MatchOption, option_map, alloc_error};
-ghost use Rattle.nest_memory.specs.declared.error.Error.TheVariants.{Memory};
-ghost use Rattle.nest_memory.specs.Cut.{cut};
-ghost use Rattle.nest_memory.specs.TypeOf.{type_of};
-ghost use Rattle.nest_memory.specs.TypeTree.{size_of};
-ghost use Rattle.nest_model.specs.Accessors.{validity_of, child_of, with_validity};
-ghost use Rattle.nest_model.specs.Array.{TopFits};
-ghost use Rattle.nest_model.specs.Cut.{cut_layout};
-ghost use Rattle.nest_model.specs.Fits.{Fits, FirstFault, ValidityFits, ValidityFault};
+ghost use Rattle.std.specs.Prelude.{◌≡◌, IfOk, IsOkUnless, MatchResult, alloc_error};
 ghost use Rattle.nest_model.specs.Layout as layouts;
-ghost use Rattle.nest_model.specs.Layout.{layout_type};
-ghost use Rattle.nest_model.specs.Meaning.{len, slot, slots_of};
-ghost use Rattle.nest_model.specs.Nullness.{is_null_at, null_count};
-ghost use Rattle.nest_model.specs.Part.{valid_at};
-ghost use Rattle.nest_model.specs.Reads.{where_valid};
-ghost use Rattle.nest_model.specs.Slot as slots;
-ghost use Rattle.nest_model.specs.Slot.{seal};
-ghost use Rattle.nest_array.specs.Refusals.{RefusesOrMemory};
-ghost use Rattle.nest_flat.specs.FlatParts.{optional};
-ghost use Rattle.nest_array.specs.Seen.{layout_of};
-ghost use Rattle.nest_array.specs.Types.{default_fixed_size_list_type};
-ghost use Rattle.nest_array.specs.WindowParts.{window_parts, window_slots};
+ghost use Rattle.nest_array.specs.Words.{Memory, TopFits, ValidityFault, ValidityFits, layout_of, len, type_of, with_validity};
 
 use crate::any::AnyArray;
 use crate::fixed_size_list::FixedSizeListArray;
-use crate::types::{default_child, has_items};
-use crate::window::Window;
 use nest_flat::validity;
 use nest_memory::bitmap::immutable::Bitmap;
 use nest_memory::datatypes::DataType;
-use nest_memory::datatypes::physical_type::PhysicalType;
 use nest_memory::error::{Error, Spec};
 use std::alloc::Global;
-use std::marker::Model;
 use std::rc::Rc;
 
 impl FixedSizeListArray {

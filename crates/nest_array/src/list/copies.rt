@@ -1,35 +1,16 @@
 //! New validities and copies of arrays of lists.
-ghost use Rattle.std.specs.Prelude.{◌≡◌, ◌+◌, ◌≤◌, ◌<◌, ◌↔◌, false, IsTrue, IfOk, IsOkUnless, MatchResult, option_map, alloc_error};
-ghost use Rattle.nest_memory.specs.declared.error.Error.TheVariants.{Memory};
-ghost use Rattle.nest_memory.specs.Cut.{cut};
-ghost use Rattle.nest_memory.specs.TypeOf.{type_of};
-ghost use Rattle.nest_model.specs.Accessors.{validity_of, offsets_of, child_of, with_validity};
-ghost use Rattle.nest_model.specs.Array.{TopFits};
-ghost use Rattle.nest_model.specs.Cut.{cut_layout};
-ghost use Rattle.nest_model.specs.Fits.{Fits, ValidityFits, ValidityFault};
+ghost use Rattle.std.specs.Prelude.{◌≡◌, false, IfOk, IsOkUnless, MatchResult, alloc_error};
 ghost use Rattle.nest_model.specs.Layout as layouts;
-ghost use Rattle.nest_model.specs.Layout.{layout_type};
-ghost use Rattle.nest_model.specs.Meaning.{len, slot, slots_of};
-ghost use Rattle.nest_model.specs.Nullness.{is_null_at, null_count};
-ghost use Rattle.nest_model.specs.Part.{begin, extent, valid_at};
-ghost use Rattle.nest_model.specs.Reads.{where_valid};
-ghost use Rattle.nest_model.specs.Slot as slots;
-ghost use Rattle.nest_model.specs.Slot.{seal};
-ghost use Rattle.nest_array.specs.Refusals.{RefusesOrMemory};
-ghost use Rattle.nest_array.specs.Seen.{layout_of};
-ghost use Rattle.nest_array.specs.WindowParts.{window_parts, window_slots};
+ghost use Rattle.nest_array.specs.Words.{Memory, TopFits, ValidityFault, ValidityFits, layout_of, len, type_of, with_validity};
 
 use crate::any::AnyArray;
 use crate::list::ListArray;
 use crate::list::ranges::Ranges;
-use crate::window::Window;
 use nest_flat::validity;
 use nest_memory::bitmap::immutable::Bitmap;
 use nest_memory::datatypes::DataType;
 use nest_memory::error::{Error, Spec};
-use nest_memory::offsets::OffsetsBuffer;
 use std::alloc::Global;
-use std::marker::Model;
 use std::rc::Rc;
 
 impl ListArray {

@@ -1,12 +1,12 @@
 //! The data types of arrays of lists, and of their items.
 ghost use Rattle.std.specs.Prelude.{◌≡◌, Some, IfOk, IsOkUnless, MatchResult, alloc_error};
-ghost use Rattle.nest_memory.specs.declared.error.Error.TheVariants.{Memory, OutOfSpec};
+ghost use Rattle.nest_memory.specs.declared.error.Error.TheVariants.{OutOfSpec};
 ghost use Rattle.nest_memory.specs.declared.error.Spec.TheVariants.{WrongType};
 ghost use Rattle.nest_memory.specs.declared.datatypes.physical_type.PhysicalType.TheVariants as physical;
-ghost use Rattle.nest_memory.specs.Physical.{physical_type};
-ghost use Rattle.nest_memory.specs.TypeOf.{type_of, field_of};
-ghost use Rattle.nest_memory.specs.TypeTree.{item_field, item_type};
+ghost use Rattle.nest_memory.specs.TypeOf.{field_of};
+ghost use Rattle.nest_memory.specs.TypeTree.{item_field};
 ghost use Rattle.nest_array.specs.Types.{default_list_type, default_large_list_type};
+ghost use Rattle.nest_array.specs.Words.{Memory, item_type, physical_type, type_of};
 
 use crate::list::ListArray;
 use crate::list::large::LargeListArray;

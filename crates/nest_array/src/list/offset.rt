@@ -1,10 +1,7 @@
 //! The offsets of lists, and the arrays that they make.
 ghost use Rattle.std.specs.Prelude.{◌≡◌, ℕ, List as Seq, MatchResult};
-ghost use Rattle.nest_memory.specs.TypeOf.{type_of};
-ghost use Rattle.nest_model.specs.Fits.{Fits};
 ghost use Rattle.nest_model.specs.Layout as layouts;
-ghost use Rattle.nest_array.specs.Refusals.{RefusesOrMemory};
-ghost use Rattle.nest_array.specs.Seen.{layout_of};
+ghost use Rattle.nest_array.specs.Words.{Fits, RefusesOrMemory, layout_of, type_of};
 
 use crate::any::AnyArray;
 use crate::array::Array;

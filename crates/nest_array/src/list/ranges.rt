@@ -1,14 +1,10 @@
 //! Where the items of each list lie, and which lists are valid: what lists of both widths of offsets have in common.
 ghost use Rattle.std.specs.Prelude.{◌≡◌, ◌+◌, ◌≤◌, ◌<◌, IfOk, IsOkUnless, MatchOption, alloc_error};
-ghost use Rattle.nest_memory.specs.declared.error.Error.TheVariants.{Memory};
-ghost use Rattle.nest_memory.specs.Cut.{cut};
 ghost use Rattle.nest_memory.specs.Physical.{list_of_width};
-ghost use Rattle.nest_memory.specs.TypeOf.{type_of};
 ghost use Rattle.nest_model.specs.Array.{AreOffsets};
-ghost use Rattle.nest_model.specs.Fits.{Fits, FirstFault, ValidityFits};
 ghost use Rattle.nest_model.specs.Layout as layouts;
-ghost use Rattle.nest_model.specs.Part.{begin, extent, rows, last_offset, cut_validity};
-ghost use Rattle.nest_array.specs.Seen.{layout_of};
+ghost use Rattle.nest_model.specs.Part.{rows, last_offset, cut_validity};
+ghost use Rattle.nest_array.specs.Words.{FirstFault, Fits, Memory, ValidityFits, begin, cut, extent, layout_of, type_of};
 
 use crate::any::AnyArray;
 use crate::types::has_items;

@@ -2,23 +2,16 @@
 mod copies;
 
 ghost use Rattle.std.specs.Prelude.{◌≡◌, ◌+◌, ◌≤◌, ◌<◌, ◌↔◌, IsTrue, IfOk, IsOkUnless, MatchResult, MatchOption, option_map, length, alloc_error};
-ghost use Rattle.nest_memory.specs.declared.error.Error.TheVariants.{Memory};
-ghost use Rattle.nest_memory.specs.Cut.{cut};
-ghost use Rattle.nest_memory.specs.TypeOf.{type_of, field_list_of};
+ghost use Rattle.nest_memory.specs.TypeOf.{field_list_of};
 ghost use Rattle.nest_memory.specs.TypeTree.{fields_of};
-ghost use Rattle.nest_memory.specs.Physical.{physical_type};
 ghost use Rattle.nest_memory.specs.declared.datatypes.physical_type.PhysicalType.TheVariants as physical;
-ghost use Rattle.nest_model.specs.Accessors.{validity_of, children_of, with_validity};
-ghost use Rattle.nest_model.specs.Array.{TopFits};
-ghost use Rattle.nest_model.specs.Cut.{cut_layout, cut_layouts};
-ghost use Rattle.nest_model.specs.Fits.{Fits, FirstFault, ValidityFits, ValidityFault, EachType, EachLen, EachCovers};
+ghost use Rattle.nest_model.specs.Accessors.{children_of};
+ghost use Rattle.nest_model.specs.Cut.{cut_layouts};
+ghost use Rattle.nest_model.specs.Fits.{EachType, EachLen, EachCovers};
 ghost use Rattle.nest_model.specs.Layout as layouts;
-ghost use Rattle.nest_model.specs.Layout.{layout_type};
-ghost use Rattle.nest_model.specs.Meaning.{len, first_len, slot, slots_of};
-ghost use Rattle.nest_model.specs.Nullness.{is_null_at, null_count};
-ghost use Rattle.nest_model.specs.Part.{valid_at};
+ghost use Rattle.nest_model.specs.Meaning.{first_len};
 ghost use Rattle.nest_model.specs.Slot as slots;
-ghost use Rattle.nest_array.specs.Seen.{layout_of, layouts_of};
+ghost use Rattle.nest_array.specs.Words.{FirstFault, Fits, Memory, TopFits, cut, cut_layout, is_null_at, layout_type, layouts_of, len, null_count, physical_type, slot, slots_of, type_of, validity_of};
 
 use crate::any::AnyArray;
 use nest_flat::validity;
@@ -29,7 +22,6 @@ use nest_memory::datatypes::physical_type::PhysicalType;
 use nest_memory::error::{Error, Spec};
 use std::alloc::Global;
 use std::marker::Model;
-use std::rc::Rc;
 
 /// Records of one child for each field: the Struct Layout of the Arrow format.
 #[cycle(array)]
@@ -127,13 +119,6 @@ impl StructArray {
         self.count
     }
 
-    /// Whether it has no slot.
-    pub fn is_empty(&self) -> bool
-        ensures { IsTrue result ↔ (len self.now ≡ 0) }
-    {
-        self.len() == 0
-    }
-
     /// Its data type.
     pub fn data_type(&self) -> &DataType
         ensures { type_of result.now ≡ layout_type self.now }
@@ -186,14 +171,6 @@ impl StructArray {
         ensures { option_map (λ b. b.now) result ≡ validity_of self.now }
     {
         self.validity.as_ref()
-    }
-
-    /// Whether slot i is not null.
-    pub fn is_valid(&self, i: usize) -> bool
-        requires { i < len self.now }
-        ensures { result ≡ valid_at (validity_of self.now) i }
-    {
-        validity::is_valid(&self.validity, i)
     }
 
     /// Whether slot i is null.

@@ -1,12 +1,14 @@
 use Rattle.std.specs.Prelude.{◌⊎◌}
-use Rattle.std.proofs.Common.{◌≡◌, ◌+◌, inl, inr, length, refl, sym, ap, ◌∙◌, arith}
+use Rattle.std.proofs.Common.{◌≡◌, ◌+◌, inl, inr, length, refl, sym, ap, ◌∙◌, subst, arith}
+use Rattle.nest_model.specs.Layout.{layout_type}
 use Rattle.nest_model.specs.LayoutCode.{weight, weight_all}
-use Rattle.nest_model.specs.Meaning.{run, slot}
+use Rattle.nest_model.specs.Meaning.{run, slot, len}
 use Rattle.nest_flat.specs.BareSlots.{no-same, not-null, same-along}
 use Rattle.nest_flat.specs.SameRuns.{runs-differ, runs-same}
-use Rattle.nest_array.specs.RowSlots.{row_slot}
+use Rattle.nest_array.specs.RowSlots.{IsWithin, row_slot}
 use Rattle.nest_array.specs.Seen.{layout_of, layouts_of}
 use Rattle.nest_array.specs.SeenLists.{lists_layout}
+use Rattle.nest_array.proofs.LogicalTypes.{same-items}
 use Rattle.nest_array.proofs.SameRows.{lists-same, lists-differ, struct-known, children-typed, children-cover, record-shown, records-shown, records-same, record-same, left-first, left-rest, none-left}
 use Rattle.nest_array.proofs.equal.+equal.Goals as goal
 
@@ -29,7 +31,7 @@ records::is_same_record-same_children-requires t c =
     let v = ap weight_all c.values.ensures in (
       omega arith,
       (
-        children-typed _ _ _ _ _ _ x y c.requires.same_type,
+        children-typed (layout_type c.args.x.now) (layout_type c.args.y.now) _ _ _ _ x y c.requires.alike,
         (
           children-cover c.args.x.now _ (c.args.i + 1) x c.known.ensures.kind c.values.ensures (omega arith),
           children-cover c.args.y.now _ (c.args.j + 1) y c.known-2.ensures.kind c.values-2.ensures (omega arith),
@@ -43,7 +45,7 @@ records::is_same_record-returns t c =
     let y = struct-known c.args.y.now (layouts_of c.values-2.result.now) c.known-2.ensures.fits c.known-2.ensures.kind c.values-2.ensures in
     record-same _ _ _ _ c.args.i c.args.j _ (record-shown c.args.x.now _ c.args.i _ c.known.ensures.kind c.values.ensures c.is_null-null.ensures.place c.if-null.false)
     (record-shown c.args.y.now _ c.args.j _ c.known-2.ensures.kind c.values-2.ensures c.is_null.ensures.place c.if-is_null.false)
-    (children-typed _ _ _ _ _ _ x y c.requires.same_type) c.same_children.ensures
+    (children-typed (layout_type c.args.x.now) (layout_type c.args.y.now) _ _ _ _ x y c.requires.alike) c.same_children.ensures
 
 pub records::same_children-same_run-requires : goal.records::same_children-same_run-requires
 records::same_children-same_run-requires t c =
@@ -73,7 +75,7 @@ records::same_records-same_children-requires t c =
     let v = ap weight_all c.values.ensures in (
       omega arith,
       (
-        children-typed _ _ _ _ _ _ x y c.requires.same_type,
+        children-typed (layout_type c.args.x.now) (layout_type c.args.y.now) _ _ _ _ x y c.requires.alike,
         (
           children-cover c.args.x.now _ (c.args.o + c.args.n) x c.known.ensures.kind c.values.ensures c.requires.within,
           children-cover c.args.y.now _ (c.args.p + c.args.n) y c.known-2.ensures.kind c.values-2.ensures c.requires.other_within,
@@ -87,7 +89,7 @@ records::same_records-returns t c =
     let y = struct-known c.args.y.now (layouts_of c.values-2.result.now) c.known-2.ensures.fits c.known-2.ensures.kind c.values-2.ensures in
     records-same _ _ _ _ c.args.o c.args.p c.args.n _ (λ i. records-shown c.args.x.now _ i _ c.known.ensures.kind c.values.ensures c.has_validity.ensures c.if-has_validity.false)
     (λ i. records-shown c.args.y.now _ i _ c.known-2.ensures.kind c.values-2.ensures c.has_validity-else-has_validity.ensures c.if-has_validity-2.false)
-    (children-typed _ _ _ _ _ _ x y c.requires.same_type) c.same_children.ensures
+    (children-typed (layout_type c.args.x.now) (layout_type c.args.y.now) _ _ _ _ x y c.requires.alike) c.same_children.ensures
 
 pub same_row-returns-then-count-other_count : goal.same_row-returns-then-count-other_count
 same_row-returns-then-count-other_count t c =
@@ -108,3 +110,16 @@ same_rows-returns-then-not-same_row t c =
 pub same_rows-returns : goal.same_rows-returns
 same_rows-returns t c =
     runs-same (slot (lists_layout c.args.xs.now)) (slot (lists_layout c.args.ys.now)) c.args.o c.args.p c.args.n c.loop-k.k c.loop-k.invariant (omega (arith, c.loop-k-test.false))
+
+pub same_rows-same_row-requires : goal.same_rows-same_row-requires
+same_rows-same_row-requires t c =
+    let w = ap weight c.items-items.ensures.shown in (
+      omega arith,
+      (
+        same-items (layout_type (lists_layout c.args.xs.now)) (layout_type (lists_layout c.args.ys.now)) (layout_type (layout_of c.items-items.result.now)) (layout_type (layout_of c.items-other_items.result.now)) c.requires.alike c.items-items.ensures.typed c.items-other_items.ensures.typed,
+        (
+          subst (λ d. IsWithin c.row.result (len d)) (sym c.items-items.ensures.shown) c.row.ensures.within,
+          subst (λ d. IsWithin c.row-in-loop-k.result (len d)) (sym c.items-other_items.ensures.shown) c.row-in-loop-k.ensures.within,
+        ),
+      ),
+    )

@@ -2,24 +2,9 @@
 mod copies;
 
 ghost use Rattle.std.specs.Prelude.{◌≡◌, ◌+◌, ◌≤◌, ◌<◌, ◌↔◌, true, IsTrue, IfOk, IsOkUnless, MatchResult, option_map, alloc_error};
-ghost use Rattle.nest_memory.specs.declared.error.Error.TheVariants.{Memory};
-ghost use Rattle.nest_memory.specs.Cut.{cut};
-ghost use Rattle.nest_memory.specs.TypeOf.{type_of};
-ghost use Rattle.nest_model.specs.Accessors.{validity_of, offsets_of, child_of, with_validity};
-ghost use Rattle.nest_model.specs.Array.{TopFits};
-ghost use Rattle.nest_model.specs.Cut.{cut_layout};
-ghost use Rattle.nest_model.specs.Fits.{Fits, ValidityFits, ValidityFault};
 ghost use Rattle.nest_model.specs.Layout as layouts;
-ghost use Rattle.nest_model.specs.Layout.{layout_type};
-ghost use Rattle.nest_model.specs.Meaning.{len, slot, slots_of};
-ghost use Rattle.nest_model.specs.Nullness.{is_null_at, null_count};
-ghost use Rattle.nest_model.specs.Part.{begin, extent, valid_at};
-ghost use Rattle.nest_model.specs.Reads.{where_valid};
 ghost use Rattle.nest_model.specs.Slot as slots;
-ghost use Rattle.nest_model.specs.Slot.{seal};
-ghost use Rattle.nest_array.specs.Refusals.{RefusesOrMemory};
-ghost use Rattle.nest_array.specs.Seen.{layout_of};
-ghost use Rattle.nest_array.specs.WindowParts.{window_parts, window_slots};
+ghost use Rattle.nest_array.specs.Words.{Fits, Memory, RefusesOrMemory, TopFits, begin, child_of, cut, cut_layout, extent, is_null_at, layout_of, layout_type, len, null_count, offsets_of, seal, slot, slots_of, type_of, validity_of, where_valid, window_parts, window_slots};
 
 use crate::any::AnyArray;
 use crate::list::ranges::{self, Ranges};
@@ -27,11 +12,10 @@ use crate::window::Window;
 use nest_flat::validity;
 use nest_memory::bitmap::immutable::Bitmap;
 use nest_memory::datatypes::DataType;
-use nest_memory::error::{Error, Spec};
+use nest_memory::error::Error;
 use nest_memory::offsets::OffsetsBuffer;
 use std::alloc::Global;
 use std::marker::Model;
-use std::rc::Rc;
 
 /// Lists of items of any kind, by offsets of 64 bits: the Variable-size List Layout of the Arrow format.
 #[cycle(array)]
@@ -148,13 +132,6 @@ impl LargeListArray {
         self.ranges.len()
     }
 
-    /// Whether it has no slot.
-    pub fn is_empty(&self) -> bool
-        ensures { IsTrue result ↔ (len self.now ≡ 0) }
-    {
-        self.len() == 0
-    }
-
     /// Its data type.
     pub fn data_type(&self) -> &DataType
         ensures { type_of result.now ≡ layout_type self.now }
@@ -181,14 +158,6 @@ impl LargeListArray {
         ensures { option_map (λ b. b.now) result ≡ validity_of self.now }
     {
         self.ranges.validity.as_ref()
-    }
-
-    /// Whether slot i is not null.
-    pub fn is_valid(&self, i: usize) -> bool
-        requires { i < len self.now }
-        ensures { result ≡ valid_at (validity_of self.now) i }
-    {
-        validity::is_valid(&self.ranges.validity, i)
     }
 
     /// Whether slot i is null.

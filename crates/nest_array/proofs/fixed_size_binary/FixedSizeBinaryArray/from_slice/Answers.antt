@@ -7,9 +7,9 @@ use Rattle.nest_array.proofs.fixed_size_binary.FixedSizeBinaryArray.from_slice.G
 
 pub new-requires : goal.new-requires
 new-requires g c =
-    fits-along _ _ g.row.N c.args.rows.now c.default_data_type-data_type.ensures c.in_ok-values.ensures.ok (rows-fit c.args.rows.now g.row.N c.requires c.in_ok-values.ensures.each)
+    fits-along _ _ g.row.N c.args.rows.now c.default_datatype-data_type.ensures c.in_ok-values.ensures.ok (rows-fit c.args.rows.now g.row.N c.requires c.in_ok-values.ensures.each)
 
 pub returns-clause-slots : goal.returns-clause-slots
 returns-clause-slots g c =
-    ap slots_of (c.new.ensures ∙ (λ i. fixed_size_binary (c.default_data_type-data_type.ensures i) (c.in_ok-values.ensures.ok i) None))
+    ap slots_of (c.new.ensures ∙ (λ i. fixed_size_binary (c.default_datatype-data_type.ensures i) (c.in_ok-values.ensures.ok i) None))
     ∙ rows-slots c.args.rows.now g.row.N c.requires c.in_ok-values.ensures.each

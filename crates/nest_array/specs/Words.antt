@@ -1,0 +1,21 @@
+-- The words of this crate's contracts, by one name.
+pub use Rattle.nest_array.specs.Refusals.{RefusesOrMemory}
+pub use Rattle.nest_array.specs.RowSlots.{Alike}
+pub use Rattle.nest_array.specs.Seen.{layout_of, layouts_of}
+pub use Rattle.nest_array.specs.WindowParts.{window_parts, window_slots}
+pub use Rattle.nest_memory.specs.Cut.{cut}
+pub use Rattle.nest_memory.specs.Physical.{physical_type}
+pub use Rattle.nest_memory.specs.TypeOf.{type_of}
+pub use Rattle.nest_memory.specs.TypeTree.{item_type, size_of}
+pub use Rattle.nest_memory.specs.declared.error.Error.TheVariants.{Memory}
+pub use Rattle.nest_model.specs.Accessors.{child_of, offsets_of, validity_of, with_validity}
+pub use Rattle.nest_model.specs.Array.{TopFits}
+pub use Rattle.nest_model.specs.Cut.{cut_layout}
+pub use Rattle.nest_model.specs.Fits.{FirstFault, Fits, ValidityFault, ValidityFits}
+pub use Rattle.nest_model.specs.Layout.{Layout, layout_type}
+pub use Rattle.nest_model.specs.Meaning.{len, run, slot, slots_of}
+pub use Rattle.nest_model.specs.Nullness.{has_keys, is_null_at, null_count}
+pub use Rattle.nest_model.specs.Part.{begin, extent}
+pub use Rattle.nest_model.specs.Reads.{where_valid}
+pub use Rattle.nest_model.specs.SameArray.{IsSameArray, same_array}
+pub use Rattle.nest_model.specs.Slot.{seal}
