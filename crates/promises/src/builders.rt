@@ -2,33 +2,24 @@
 //! slots that it began with, followed by the accepted ones. A builder is seen as the layout of the array so far, so that
 //! "unchanged" is one equation of every part.
 
-ghost use Rattle.std.specs.Prelude.{◌≡◌, ◌≢◌, ◌+◌, ◌≤◌, ◌<◌, ◌⊎◌, ◌↔◌, ◌++◌, ◌∷◌, [], List, Option, None, false, true, IsTrue, OnOk, OnErr, IfOk, IfErr, IsErrOf, IsOkUnless, length, option_map, alloc_error};
+ghost use Rattle.std.specs.Prelude.{◌≡◌, ◌≢◌, ◌+◌, ◌≤◌, ◌<◌, ◌⊎◌, ◌↔◌, ◌++◌, ◌∷◌, [], ℕ, List, Option, None, OnOk, OnErr, IfOk, IfErr, IsErrOf, IsOkUnless, length, option_map, alloc_error};
+ghost use Rattle.std.specs.Borrow.{Bor};
 ghost use Rattle.std.specs.Option.{option_copied};
 ghost use Rattle.nest_memory.specs.Cut.{cut};
-ghost use Rattle.nest_memory.specs.TypeTree as types;
-ghost use Rattle.nest_memory.specs.declared.error.Argument.TheVariants.{ItemType, Unfinished};
+ghost use Rattle.nest_memory.specs.Rising.{last_of};
+ghost use Rattle.nest_memory.specs.declared.error.Argument.TheVariants.{ItemType};
 ghost use Rattle.nest_memory.specs.declared.error.Error.TheVariants.{InvalidArgumentError, Memory, Overflow};
 ghost use Rattle.nest_model.specs.Accessors.{offsets_of};
-ghost use Rattle.nest_model.specs.BuilderAppend.{told, pending_slot, Accepted, IsReady};
-ghost use Rattle.nest_model.specs.BuilderLevels.{own_slots};
 ghost use Rattle.nest_model.specs.BuilderSpells.{Gives};
-ghost use Rattle.nest_model.specs.BuilderTree as builders;
-ghost use Rattle.nest_model.specs.BuilderTree.{IsPast, builder_type, largest_offset};
-ghost use Rattle.nest_model.specs.BuilderWhole.{IsWhole, emptied};
+ghost use Rattle.nest_model.specs.BuilderTree.{IsPast};
 ghost use Rattle.nest_model.specs.Layout as layouts;
 ghost use Rattle.nest_model.specs.Layout.{layout_type};
 ghost use Rattle.nest_model.specs.Meaning.{len, slots_of};
-ghost use Rattle.nest_model.specs.Part.{last_offset};
 ghost use Rattle.nest_model.specs.Slot as slots;
-ghost use Rattle.nest_flat.specs.BytesGrowth.{item_bytes};
+ghost use Rattle.nest_flat.specs.BytesGrowth.{item_bytes, item_refusal, pushed_item};
 ghost use Rattle.nest_flat.specs.FlatParts.{optional};
-ghost use Rattle.nest_flat.specs.Growth.{CanDrain, Extended, first_slots, pushed_native, pushed_truth};
-ghost use Rattle.nest_array.specs.Types.{default_list_type};
-ghost use Rattle.nest_build.specs.Items.{row_item, row_len, row_slot};
-ghost use Rattle.nest_build.specs.Seen.{item_count, tree_of};
+ghost use Rattle.nest_flat.specs.Growth.{CanDrain, Extended, RefusesBeginning, first_slots, native_refusal, pushed_native, pushed_truth};
 
-use nest_array::ListArray;
-use nest_build::list::MutableListArray;
 use nest_flat::binary::mutable::MutableBinaryArray;
 use nest_flat::boolean::BooleanArray;
 use nest_flat::boolean::mutable::MutableBooleanArray;
@@ -39,7 +30,6 @@ use nest_flat::utf8::mutable::MutableUtf8Array;
 use nest_memory::error::Error;
 use nest_memory::offset::Offset;
 use nest_memory::types::NativeType;
-use std::alloc::Global;
 
 /// One native value or null more.
 pub fn push_native<T: NativeType>(
@@ -61,7 +51,7 @@ pub fn push_natives<T: NativeType, I: IntoIterator<Item = Option<T>>>(
 ) -> Result<(), Error>
     requires { CanDrain I.into_iter_gives I.IntoIter.can_next I.IntoIter.remaining items }
     ensures ok { OnOk result ((xs : List (Option T)) × Gives I.into_iter_gives I.IntoIter.next_gives items xs
-        × Extended (λ a x. pushed_native a (option_map T.numbers x)) (optional (λ x. slots.number (T.numbers x))) xs natives.old natives.new) }
+        × Extended (λ a x. pushed_native a (option_map T.numbers x)) native_refusal (optional (λ x. slots.number (T.numbers x))) xs natives.old natives.new) }
     ensures err { OnErr result (natives.new ≡ natives.old) }
     ensures memory { IsOkUnless result (Memory alloc_error) }
 {
@@ -127,7 +117,7 @@ pub fn push_bytes<O: Offset>(
 ) -> Result<(), Error>
     ensures slots { OnOk result (slots_of byte_strings.new ≡ slots_of byte_strings.old ++ optional slots.bytes (option_copied item.entry) ∷ []) }
     ensures err { OnErr result (byte_strings.new ≡ byte_strings.old) }
-    ensures overflow { IsErrOf result Overflow ↔ (O.largest < last_offset (offsets_of byte_strings.old) + length (item_bytes (option_copied item.entry))) }
+    ensures overflow { IsErrOf result Overflow ↔ (O.largest < last_of (offsets_of byte_strings.old) + length (item_bytes (option_copied item.entry))) }
     ensures errors { IfErr result (λ e. (e ≡ Overflow) ⊎ (e ≡ Memory alloc_error)) }
 {
     byte_strings.try_push(item)
@@ -140,10 +130,25 @@ pub fn push_text<O: Offset>(
 ) -> Result<(), Error>
     ensures slots { OnOk result (slots_of texts.new ≡ slots_of texts.old ++ optional slots.text (option_copied item.entry) ∷ []) }
     ensures err { OnErr result (texts.new ≡ texts.old) }
-    ensures overflow { IsErrOf result Overflow ↔ (O.largest < last_offset (offsets_of texts.old) + length (item_bytes (option_copied item.entry))) }
+    ensures overflow { IsErrOf result Overflow ↔ (O.largest < last_of (offsets_of texts.old) + length (item_bytes (option_copied item.entry))) }
     ensures errors { IfErr result (λ e. (e ≡ Overflow) ⊎ (e ≡ Memory alloc_error)) }
 {
     texts.try_push(item)
+}
+
+/// The texts of an iterator, all of them or none; refused for the first refusal that is due, want of memory aside.
+pub fn push_texts<'a, O: Offset, I: IntoIterator<Item = Option<&'a str>>>(
+    texts: &mut MutableUtf8Array<O>,
+    items: I,
+) -> Result<(), Error>
+    requires { CanDrain I.into_iter_gives I.IntoIter.can_next I.IntoIter.remaining items }
+    ensures ok { OnOk result ((xs : List (Option (Bor (List ℕ)))) × Gives I.into_iter_gives I.IntoIter.next_gives items xs
+        × Extended (λ a x. pushed_item a (option_copied x)) (λ a x. item_refusal O.largest a (option_copied x)) (λ x. optional slots.text (option_copied x)) xs texts.old texts.new) }
+    ensures err { OnErr result (texts.new ≡ texts.old) }
+    ensures cause { IfErr result (λ e. RefusesBeginning I.into_iter_gives I.IntoIter.next_gives
+        (λ a x. pushed_item a (option_copied x)) (λ a x. item_refusal O.largest a (option_copied x)) items texts.old e) }
+{
+    texts.try_extend(items)
 }
 
 /// The first n texts; no byte of another is left.

@@ -2,43 +2,29 @@
 //! builder freezes to the rows that it began with, followed by the accepted ones. It is seen as its tree of levels,
 //! `tree_of`: its rows, and below them the items of its child.
 
-ghost use Rattle.std.specs.Prelude.{◌≡◌, ◌≢◌, ◌+◌, ◌≤◌, ◌<◌, ◌⊎◌, ◌↔◌, ◌++◌, ◌∷◌, [], List, Option, None, false, true, IsTrue, OnOk, OnErr, IfOk, IfErr, IsErrOf, IsOkUnless, length, option_map, alloc_error};
+ghost use Rattle.std.specs.Prelude.{◌≡◌, ◌+◌, ◌<◌, ◌⊎◌, ◌↔◌, ◌++◌, ◌∷◌, [], false, true, IsTrue, OnOk, OnErr, IfOk, IfErr, IsErrOf, IsOkUnless, None, Some, alloc_error};
 ghost use Rattle.std.specs.Option.{option_copied};
-ghost use Rattle.nest_memory.specs.Cut.{cut};
+ghost use Rattle.nest_memory.specs.Rising.{largest_offset};
 ghost use Rattle.nest_memory.specs.TypeTree as types;
-ghost use Rattle.nest_memory.specs.declared.error.Argument.TheVariants.{ItemType, Unfinished};
+ghost use Rattle.nest_memory.specs.declared.error.Argument.TheVariants.{Unfinished};
 ghost use Rattle.nest_memory.specs.declared.error.Error.TheVariants.{InvalidArgumentError, Memory, Overflow};
-ghost use Rattle.nest_model.specs.Accessors.{offsets_of};
 ghost use Rattle.nest_model.specs.BuilderAppend.{told, pending_slot, Accepted, IsReady};
 ghost use Rattle.nest_model.specs.BuilderLevels.{own_slots};
-ghost use Rattle.nest_model.specs.BuilderSpells.{Gives};
+ghost use Rattle.nest_model.specs.BuilderRefusals.{item_refusal};
+ghost use Rattle.nest_model.specs.BuilderRowChecks.{row_checks};
 ghost use Rattle.nest_model.specs.BuilderTree as builders;
-ghost use Rattle.nest_model.specs.BuilderTree.{IsPast, builder_type, largest_offset};
+ghost use Rattle.nest_model.specs.BuilderTree.{builder_type};
 ghost use Rattle.nest_model.specs.BuilderWhole.{IsWhole, emptied};
-ghost use Rattle.nest_model.specs.Layout as layouts;
+ghost use Rattle.nest_model.specs.Checks.{FailFirst, Pass};
 ghost use Rattle.nest_model.specs.Layout.{layout_type};
-ghost use Rattle.nest_model.specs.Meaning.{len, slots_of};
-ghost use Rattle.nest_model.specs.Part.{last_offset};
-ghost use Rattle.nest_model.specs.Slot as slots;
-ghost use Rattle.nest_flat.specs.BytesGrowth.{item_bytes};
-ghost use Rattle.nest_flat.specs.FlatParts.{optional};
-ghost use Rattle.nest_flat.specs.Growth.{CanDrain, Extended, first_slots, pushed_native, pushed_truth};
+ghost use Rattle.nest_model.specs.Meaning.{slots_of};
 ghost use Rattle.nest_array.specs.Types.{default_list_type};
 ghost use Rattle.nest_build.specs.Items.{row_item, row_len, row_slot};
 ghost use Rattle.nest_build.specs.Seen.{item_count, tree_of};
 
 use nest_array::ListArray;
 use nest_build::list::MutableListArray;
-use nest_flat::binary::mutable::MutableBinaryArray;
-use nest_flat::boolean::BooleanArray;
-use nest_flat::boolean::mutable::MutableBooleanArray;
-use nest_flat::primitive::PrimitiveArray;
-use nest_flat::primitive::mutable::MutablePrimitiveArray;
-use nest_flat::utf8::Utf8Array;
-use nest_flat::utf8::mutable::MutableUtf8Array;
 use nest_memory::error::Error;
-use nest_memory::offset::Offset;
-use nest_memory::types::NativeType;
 use std::alloc::Global;
 
 /// A builder of lists begins with no row.
@@ -57,12 +43,14 @@ pub fn are_rows_whole(rows: &MutableListArray) -> bool
 }
 
 /// One row more: each level gains what the row adds there, and the row's slot stands last. Refused exactly where there would
-/// be more than 2^31 - 1 items, want of memory aside; then no level changes.
+/// be more than 2^31 - 1 items, want of memory aside, which is what the model refuses the row for; then no level changes.
 pub fn push_row(rows: &mut MutableListArray, row: Option<&[Option<i64>]>) -> Result<(), Error>
     requires { IsWhole (tree_of rows.old) }
     ensures accepted { OnOk result (Accepted (row_item (option_copied row.entry)) (tree_of rows.old) (tree_of rows.new)) }
     ensures own { OnOk result (own_slots (tree_of rows.new) ≡ own_slots (tree_of rows.old) ++ row_slot (option_copied row.entry) ∷ []) }
+    ensures fits { OnOk result (item_refusal (row_item (option_copied row.entry)) (tree_of rows.old) ≡ None) }
     ensures err { OnErr result (tree_of rows.new ≡ tree_of rows.old) }
+    ensures refused { IfErr result (λ e. (e ≡ Memory alloc_error) ⊎ (item_refusal (row_item (option_copied row.entry)) (tree_of rows.old) ≡ Some e)) }
     ensures overflow { IsErrOf result Overflow ↔ (largest_offset false < item_count rows.old + row_len (option_copied row.entry)) }
     ensures errors { IfErr result (λ e. (e ≡ Overflow) ⊎ (e ≡ Memory alloc_error)) }
 {
@@ -73,7 +61,9 @@ pub fn push_row(rows: &mut MutableListArray, row: Option<&[Option<i64>]>) -> Res
 pub fn tell_row(rows: &mut MutableListArray) -> Result<(), Error>
     ensures ok { OnOk result (tree_of rows.new ≡ told true (tree_of rows.old)) }
     ensures own { OnOk result (own_slots (tree_of rows.new) ≡ own_slots (tree_of rows.old) ++ pending_slot true (tree_of rows.old) ∷ []) }
+    ensures passed { OnOk result (Pass (row_checks (tree_of rows.old))) }
     ensures err { OnErr result (tree_of rows.new ≡ tree_of rows.old) }
+    ensures refused { IfErr result (λ e. (e ≡ Memory alloc_error) ⊎ FailFirst e (row_checks (tree_of rows.old))) }
     ensures unfinished { IsErrOf result (InvalidArgumentError Unfinished) ↔ ¬ IsReady (tree_of rows.old) }
     ensures overflow { IsErrOf result Overflow ↔ IsReady (tree_of rows.old) × (largest_offset false < item_count rows.old) }
     ensures errors { IfErr result (λ e. (e ≡ InvalidArgumentError Unfinished) ⊎ ((e ≡ Overflow) ⊎ (e ≡ Memory alloc_error))) }
