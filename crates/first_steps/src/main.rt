@@ -1,7 +1,7 @@
 //! First steps: a column of lists is built, cut and compared. The README shows these functions.
 #![tactic(auto)]
 
-ghost use Rattle.std.specs.Prelude.{◌≡◌, ◌-◌, ◌≤◌, ◌×◌, ◌↔◌, IsTrue, IfOk};
+ghost use Rattle.std.specs.Prelude.{◌≡◌, ◌-◌, ◌≤◌, ◌↔◌, IsTrue, IfOk};
 ghost use Rattle.nest_memory.specs.Cut.{cut};
 ghost use Rattle.nest_array.specs.Seen.{layout_of};
 ghost use Rattle.nest_model.specs.Layout.{layout_type};

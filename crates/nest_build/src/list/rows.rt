@@ -1,5 +1,5 @@
 //! The rows of a builder of lists, without their items.
-ghost use Rattle.std.specs.Prelude.{◌≡◌, ◌×◌, ◌+◌, ◌≤◌, ◌<◌, ◌⊎◌, ◌↔◌, ◌++◌, ◌∷◌, [], false, length, OnOk, OnErr, IfOk, IfErr, IsErrOf, IsOkUnless, alloc_error};
+ghost use Rattle.std.specs.Prelude.{◌≡◌, ◌+◌, ◌≤◌, ◌<◌, ◌⊎◌, ◌↔◌, ◌++◌, ◌∷◌, [], false, length, OnOk, OnErr, IfOk, IfErr, IsErrOf, IsOkUnless, alloc_error};
 ghost use Rattle.nest_memory.specs.declared.error.Error.TheVariants.{Memory, Overflow};
 ghost use Rattle.nest_memory.specs.Rising.{largest_offset};
 ghost use Rattle.nest_model.specs.BuilderRow.{end_from, told_row, RisesFrom};

@@ -1,9 +1,11 @@
-use Rattle.std.proofs.Common.{arith}
+use Rattle.std.proofs.Common.{inl, inr, arith}
 use Rattle.std.proofs.lemmas.Result.{on_ok_weaker, IfErr-weaker}
-use Rattle.std.specs.Prelude.{inl, inr}
 use Rattle.nest_model.specs.BuilderRowCheckLaws.{ready-pass}
 use Rattle.nest_build.specs.Seen.{tree_of}
 use Rattle.nest_build.proofs.Pushed.{slots-count, told-own, told-tree}
+use Rattle.nest_model.specs.BuilderTree.{flat}
+use Rattle.nest_model.specs.Layout.{layout_type}
+use Rattle.nest_model.specs.Meaning.{slots_of}
 use Rattle.nest_build.proofs.Refused.{row-unready, row-passes}
 use Rattle.nest_build.proofs.list.mutable.MutableListArray.try_push_valid.Goals as goal
 
@@ -45,11 +47,11 @@ returns-clause-refused c =
     IfErr-weaker c.push.result _ _
     (λ e h. elim h [
       | inl m ↦ inl m
-      | inr p ↦ rw p.0 (inr (row-passes b.data_type b.rows _ w (omega (arith, p.1))))
+      | inr p ↦ rw p.0 (inr (row-passes b.data_type b.rows (flat (layout_type b.values) (slots_of b.values)) w (omega (arith, p.1))))
     ])
     c.push.ensures.refused
 
 pub returns-then-not-is_ready-clause-refused : goal.returns-then-not-is_ready-clause-refused
 returns-then-not-is_ready-clause-refused c =
     let b = c.args.self.now in
-    inr (row-unready b.data_type b.rows _ tt c.is_ready.ensures.rising (λ r. let t = c.is_ready.ensures.ready.1 r in cc))
+    inr (row-unready b.data_type b.rows (flat (layout_type b.values) (slots_of b.values)) tt c.is_ready.ensures.rising (λ r. let t = c.is_ready.ensures.ready.1 r in cc))
