@@ -2,8 +2,8 @@
 ghost use Rattle.std.specs.Prelude.{◌<◌};
 
 use crate::arrays;
-use crate::telling::{begin, tell};
 use anyhow::Result;
+use bench_tools::{begin, tell};
 use nest_array::any::AnyArray;
 use nest_array::equal::equal;
 use nest_memory::error::Error;

@@ -1,7 +1,7 @@
 //! Cuts of records.
 use crate::arrays;
-use crate::telling::{begin, tell};
 use anyhow::Result;
+use bench_tools::{begin, tell};
 use nest_array::any::AnyArray;
 use nest_memory::error::Error;
 use std::alloc::Global;

@@ -6,11 +6,10 @@ mod arrays;
 mod comparing;
 mod cuts;
 mod rows;
-mod telling;
 
 use anyhow::Result;
-use std::env;
-use std::rt::{Clock, Env};
+use bench_tools::is_measured;
+use std::rt::Clock;
 
 fn run<R: Clock + Print + AllocGlobal>(rt: &R, measured: bool) -> Result<()> {
     cuts::run(rt, measured)?;
@@ -19,9 +18,6 @@ fn run<R: Clock + Print + AllocGlobal>(rt: &R, measured: bool) -> Result<()> {
 }
 
 fn main(rt: HostRuntime) -> Result<()> {
-    let mut measured = false;
-    for word in env::args(&rt)?.skip(1) {
-        measured = word.as_str() == "run";
-    }
+    let measured = is_measured(&rt)?;
     run(&rt, measured)
 }

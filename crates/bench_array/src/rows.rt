@@ -1,7 +1,7 @@
 //! Rows of lists, read as arrays.
 use crate::arrays;
-use crate::telling::{begin, tell};
 use anyhow::Result;
+use bench_tools::{begin, tell};
 use nest_array::any::AnyArray;
 use nest_array::list::ListArray;
 use nest_flat::any_primitive::AnyPrimitive;

@@ -3,16 +3,15 @@
 #![tactic(auto)]
 
 use anyhow::Result;
+use bench_tools::{begin, is_measured, tell};
 use nest_flat::primitive::PrimitiveArray;
 use nest_flat::primitive::mutable::MutablePrimitiveArray;
 use nest_flat::utf8::Utf8Array;
 use nest_flat::utf8::mutable::MutableUtf8Array;
 use nest_memory::error::Error;
 use std::alloc::Global;
-use std::fmt::Display;
-use std::rt::{Clock, Env};
-use std::time::Instant;
-use std::{env, io};
+use std::io;
+use std::rt::Clock;
 
 const FEW: usize = 1000;
 
@@ -98,31 +97,6 @@ fn sum_of_places(array: &PrimitiveArray<i64>) -> i64 {
         }
     }
     sum
-}
-
-/// Prints what a piece of work gave, and where it was measured the time of a slot.
-fn tell<R: Clock + Print>(
-    rt: &R,
-    work: &str,
-    given: impl Display + Drop,
-    begun: Option<Instant>,
-    n: usize,
-) -> io::Result<()> {
-    let Some(begun) = begun else {
-        return println!(rt; "{work}: {given}");
-    };
-    let nanos = begun.elapsed(rt)?.as_nanos();
-    let thousandths = nanos.saturating_mul(1000) / (n as u128).max(1);
-    let whole = thousandths / 1000;
-    let rest = thousandths % 1000;
-    println!(rt; "{work}: {given}, {whole}.{rest:03} ns each")
-}
-
-fn begin(rt: &impl Clock, measured: bool) -> io::Result<Option<Instant>> {
-    if measured {
-        return Ok(Some(Instant::now(rt)?));
-    }
-    Ok(None)
 }
 
 /// Walks an array of numbers in three ways.
@@ -217,9 +191,6 @@ fn run<R: Clock + Print + AllocGlobal>(rt: &R, measured: bool) -> Result<()> {
 }
 
 fn main(rt: HostRuntime) -> Result<()> {
-    let mut measured = false;
-    for word in env::args(&rt)?.skip(1) {
-        measured = word.as_str() == "run";
-    }
+    let measured = is_measured(&rt)?;
     run(&rt, measured)
 }

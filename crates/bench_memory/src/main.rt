@@ -3,15 +3,14 @@
 #![tactic(auto)]
 
 use anyhow::Result;
+use bench_tools::{begin, is_measured, tell};
 use nest_memory::bitmap::immutable::Bitmap;
 use nest_memory::bitmap::mutable::MutableBitmap;
 use nest_memory::buffer::Buffer;
 use nest_memory::error::Error;
 use nest_memory::offsets::{Offsets, OffsetsBuffer};
 use std::alloc::Global;
-use std::rt::{Clock, Env};
-use std::time::Instant;
-use std::{env, io};
+use std::rt::Clock;
 
 const FEW: usize = 1000;
 
@@ -60,32 +59,7 @@ fn cuts(buffer: &Buffer<u64>, n: usize) -> Result<usize, Error> {
     Ok(total)
 }
 
-/// Prints what a piece of work gave, and where it was measured the time of an element.
-fn tell<R: Clock + Print>(
-    rt: &R,
-    work: &str,
-    given: usize,
-    begun: Option<Instant>,
-    n: usize,
-) -> io::Result<()> {
-    let Some(begun) = begun else {
-        return println!(rt; "{work}: {given}");
-    };
-    let nanos = begun.elapsed(rt)?.as_nanos();
-    let thousandths = nanos.saturating_mul(1000) / (n as u128).max(1);
-    let whole = thousandths / 1000;
-    let rest = thousandths % 1000;
-    println!(rt; "{work}: {given}, {whole}.{rest:03} ns each")
-}
-
-fn begin(rt: &impl Clock, measured: bool) -> io::Result<Option<Instant>> {
-    if measured {
-        return Ok(Some(Instant::now(rt)?));
-    }
-    Ok(None)
-}
-
-fn run<R: Clock + Print + AllocGlobal>(rt: &R, measured: bool) -> Result<()> {
+fn run_bits<R: Clock + Print + AllocGlobal>(rt: &R, measured: bool) -> Result<()> {
     let n = if measured { BITS } else { FEW };
     let begun = begin(rt, measured)?;
     let bitmap = bits(rt.alloc(), n)?;
@@ -93,7 +67,10 @@ fn run<R: Clock + Print + AllocGlobal>(rt: &R, measured: bool) -> Result<()> {
     let begun = begin(rt, measured)?;
     let unset = unset_after_three(bitmap);
     tell(rt, "unset bits counted from place 3", unset, begun, n)?;
+    Ok(())
+}
 
+fn run_offsets<R: Clock + Print + AllocGlobal>(rt: &R, measured: bool) -> Result<()> {
     let n = if measured { OFFSETS } else { FEW };
     let begun = begin(rt, measured)?;
     let frozen = offsets(rt.alloc(), n)?;
@@ -104,7 +81,10 @@ fn run<R: Clock + Print + AllocGlobal>(rt: &R, measured: bool) -> Result<()> {
         begun,
         n,
     )?;
+    Ok(())
+}
 
+fn run_cuts<R: Clock + Print + AllocGlobal>(rt: &R, measured: bool) -> Result<()> {
     let n = if measured { CUTS } else { FEW };
     let buffer = Buffer::from_vec(rt.alloc(), vec![in rt.alloc(); 7u64; n]?)?;
     let begun = begin(rt, measured)?;
@@ -113,10 +93,13 @@ fn run<R: Clock + Print + AllocGlobal>(rt: &R, measured: bool) -> Result<()> {
     Ok(())
 }
 
+fn run<R: Clock + Print + AllocGlobal>(rt: &R, measured: bool) -> Result<()> {
+    run_bits(rt, measured)?;
+    run_offsets(rt, measured)?;
+    run_cuts(rt, measured)
+}
+
 fn main(rt: HostRuntime) -> Result<()> {
-    let mut measured = false;
-    for word in env::args(&rt)?.skip(1) {
-        measured = word.as_str() == "run";
-    }
+    let measured = is_measured(&rt)?;
     run(&rt, measured)
 }

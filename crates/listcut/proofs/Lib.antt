@@ -6,6 +6,7 @@ pub mod ItemTypes
 pub mod Items
 pub mod Lines
 pub mod Pieces
+pub mod ReadDigits
 pub mod Sealed
 pub mod Spelled
 pub mod Texts

@@ -1,8 +1,10 @@
 -- Spelling, one item and one row after another.
-use Rattle.std.proofs.Common.{◌≡◌, ℕ, ◌+◌, ◌<◌, ◌≤◌, List, [], ◌∷◌, ◌++◌, length, take, map, refl, sym, ap, ◌∙◌, append_assoc, append-nil, arith, Option, Some, None, ℤ, Bool, true, false, cond}
+use Rattle.std.proofs.Common.{◌≡◌, ℕ, ◌+◌, ◌<◌, ◌≤◌, List, [], ◌∷◌, ◌++◌, length, take, get_or, map, refl, sym, ap, ◌∙◌, append_assoc, append-nil, arith, Option, Some, None, ℤ, Bool, true, false, cond}
 use Rattle.std.specs.List.{join_with_byte}
 use Rattle.std.proofs.lemmas.List.{take_more, take_all, map-append, length-take}
 use Rattle.std.proofs.lemmas.List.Concat.{flat_map-cons}
+use Rattle.nest_memory.specs.Cut.{cut}
+use Rattle.nest_model.specs.Runs.{get_or-cut, length-cut}
 use Rattle.nest_model.specs.Slot as slots
 use Rattle.nest_model.specs.Slot.{Slot, seal}
 use Rattle.nest_model.specs.Part.{Validity, valid_at}
@@ -42,24 +44,34 @@ joined-more : (items : List Slot) (item : Slot) → 0 < length items → joined 
 joined-more [] item long = absurd (omega arith)
 joined-more (x ∷ xs) item long = ap (join_with_byte 44) (map-append item_text (x ∷ xs) (item ∷ [])) ∙ join-more (item_text x) (map item_text xs) (item_text item)
 
-module _ (a : Layout) (i : ℕ) (within : i < len a) (old before between after : List ℕ) (item : Slot)
-    (so_far : before ≡ old ++ joined (take i (slots_of a)))
-    (item_is : slot a i ≡ item) (pushed : after ≡ between ++ item_text item) where
+module _ (xs : List Slot) (i : ℕ) (within : i < length xs) (old before between after : List ℕ) (item : Slot)
+    (so_far : before ≡ old ++ joined (take i xs))
+    (item_is : get_or xs i slots.null ≡ item) (pushed : after ≡ between ++ item_text item) where
+  more : take (i + 1) xs ≡ take i xs ++ item ∷ []
+  more = take_more xs i slots.null within ∙ ap (λ s. take i xs ++ s ∷ []) item_is
+
   -- the text of items, after another one
-  pub items-next : 0 < i → between ≡ before ++ 44 ∷ [] → after ≡ old ++ joined (take (i + 1) (slots_of a))
+  pub items-next : 0 < i → between ≡ before ++ 44 ∷ [] → after ≡ old ++ joined (take (i + 1) xs)
   items-next later separated =
-      let first = take i (slots_of a) in
-      let long : 0 < length first = omega (arith, length-take i (slots_of a), slots-length a) in
-      let whole : joined (take (i + 1) (slots_of a)) ≡ joined first ++ 44 ∷ item_text item = ap joined (slots-more a i within ∙ ap (λ s. first ++ s ∷ []) item_is) ∙ joined-more first item long in
+      let first = take i xs in
+      let long : 0 < length first = omega (arith, length-take i xs) in
+      let whole : joined (take (i + 1) xs) ≡ joined first ++ 44 ∷ item_text item = ap joined more ∙ joined-more first item long in
       pushed ∙ ap (λ l. l ++ item_text item) (separated ∙ ap (λ l. l ++ 44 ∷ []) so_far)
       ∙ append_assoc (old ++ joined first) (44 ∷ []) (item_text item) ∙ append_assoc old (joined first) (44 ∷ item_text item) ∙ ap (λ l. old ++ l) (sym whole)
 
   -- and before any
-  pub items-first : i ≡ 0 → between ≡ before → after ≡ old ++ joined (take (i + 1) (slots_of a))
+  pub items-first : i ≡ 0 → between ≡ before → after ≡ old ++ joined (take (i + 1) xs)
   items-first begins same =
-      let none : take i (slots_of a) ≡ [] = ap (λ n. take n (slots_of a)) begins in
-      let one : joined (take (i + 1) (slots_of a)) ≡ item_text item = ap joined (slots-more a i within ∙ ap (λ l. l ++ slot a i ∷ []) none) ∙ ap item_text item_is in
+      let none : take i xs ≡ [] = ap (λ n. take n xs) begins in
+      let one : joined (take (i + 1) xs) ≡ item_text item = ap joined (more ∙ ap (λ l. l ++ item ∷ []) none) in
       pushed ∙ ap (λ l. l ++ item_text item) (same ∙ so_far ∙ ap (λ l. old ++ joined l) none ∙ append-nil old) ∙ ap (λ l. old ++ l) (sym one)
+
+-- a slot of a cut
+pub cut-slot : (a : Layout) (o n i : ℕ) → o + n ≤ len a → i < n → get_or (cut (slots_of a) o n) i slots.null ≡ slot a (o + i)
+cut-slot a o n i h k = get_or-cut (slots_of a) o n i slots.null k ∙ slot-place a (o + i) slots.null (omega arith)
+
+pub cut-length : (a : Layout) (o n : ℕ) → o + n ≤ len a → length (cut (slots_of a) o n) ≡ n
+cut-length a o n h = length-cut (slots_of a) o n (omega (arith, slots-length a))
 
 -- ---- rows
 

@@ -1,5 +1,5 @@
 -- Which rows bytes spell, or which line is the first that spells none. The grammar is this project's own.
-use Rattle.std.specs.Prelude.{ℕ, ◌+◌, ◌-◌, ◌^◌, List, [], ◌∷◌, length, take, drop, map, Bool, false, ◌&&◌, ◌||◌, not, nat_lt, nat_le, ◌==◌, if◌then◌else◌, bytes_eq, codes, slice_index, Option, Some, None, option_map, option_and_then, Result, Ok, Err, ℤ, pos, neg_ℤ}
+use Rattle.std.specs.Prelude.{ℕ, ◌+◌, ◌-◌, ◌^◌, List, [], ◌∷◌, length, take, drop, map, Bool, true, false, ◌&&◌, ◌||◌, not, nat_lt, nat_le, ◌==◌, if◌then◌else◌, bytes_eq, codes, slice_index, Option, Some, None, option_map, option_and_then, Result, Ok, Err, ℤ, pos, neg_ℤ}
 use Rattle.std.specs.List.{slice_split, onto_first, list_all}
 use Rattle.std.specs.Char.{is_ascii_digit}
 use Rattle.std.specs.Str.Parse.{digits_value}
@@ -13,6 +13,11 @@ use Rattle.listcut.specs.Rows.{row_len}
 abbrev pub is_whole : List ℕ → Bool
 is_whole [] = false
 is_whole (c ∷ cs) = list_all is_ascii_digit (c ∷ cs) && (not (c == 48) || length cs == 0)
+
+-- no digit, or a zero before further ones
+abbrev pub has_leading_zero : List ℕ → Bool
+has_leading_zero [] = true
+has_leading_zero (c ∷ cs) = c == 48 && not (length cs == 0)
 
 -- the number that such digits write, if it is below `limit`
 abbrev pub whole_below : ℕ → List ℕ → Option ℕ

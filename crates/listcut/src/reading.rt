@@ -16,6 +16,7 @@ ghost use Rattle.listcut.specs.Grammar.{item_of, items_of, row_of, lines_of, row
 
 use crate::fault::Fault;
 use crate::numbers::parse_number;
+use memchr::memchr;
 use nest_array::ListArray;
 use nest_build::list::MutableListArray;
 use nest_memory::error::Error;
@@ -29,7 +30,7 @@ fn split_at_byte(bytes: &[u8], separator: u8) -> (&[u8], Option<&[u8]>)
     ensures before { All (λ b. (b == separator) ≡ false) result.0.now }
     ensures whole { MatchOption result.1 (bytes.now ≡ result.0.now) (λ rest. bytes.now ≡ result.0.now ++ separator ∷ rest.now) }
 {
-    match bytes.iter().position(|b| *b == separator) {
+    match memchr(separator, bytes) {
         Some(i) => (&bytes[..i], Some(&bytes[i + 1..])),
         None => (bytes, None),
     }

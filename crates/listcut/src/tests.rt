@@ -208,3 +208,19 @@ fn rows_are_arrays(rt: HostRuntime) -> Result<(), Fail> {
     assert_eq!(rt; out.as_slice(), ROWS.as_bytes());
     Ok(())
 }
+
+#[test]
+fn faults_are_printed(rt: HostRuntime) -> Result<(), Fail> {
+    for (fault, want) in [
+        (Fault::Arguments, "listcut: arguments"),
+        (Fault::Input, "listcut: input"),
+        (Fault::Line(7), "listcut: line 7"),
+        (Fault::Range, "listcut: range"),
+        (Fault::Output, "listcut: output"),
+        (Fault::Memory, "listcut: memory"),
+    ] {
+        let text = format!(in rt.alloc(); "{fault}")?;
+        assert_eq!(rt; text.as_str(), want);
+    }
+    Ok(())
+}

@@ -1,6 +1,7 @@
 //! Rows as bytes, and bytes out.
-ghost use Rattle.std.specs.Prelude.{◌≡◌, ℕ, ◌<◌, ◌++◌, ◌∷◌, Some, map, OnOk, IfOk};
+ghost use Rattle.std.specs.Prelude.{◌≡◌, ℕ, ◌+◌, ◌<◌, ◌≤◌, ◌++◌, ◌∷◌, Some, map, OnOk, IfOk};
 ghost use Rattle.std.specs.List.{join_with_byte};
+ghost use Rattle.nest_memory.specs.Cut.{cut};
 ghost use Rattle.nest_memory.specs.TypeTree as types;
 ghost use Rattle.nest_memory.specs.TypeTree.{item_type};
 ghost use Rattle.nest_model.specs.Layout.{layout_type};
@@ -29,19 +30,26 @@ fn push_item(out: &mut Vec<u8>, item: Option<i64>) -> Result<(), AllocError>
     }
 }
 
-fn push_items(out: &mut Vec<u8>, items: &PrimitiveArray<i64>) -> Result<(), AllocError>
-    ensures { OnOk result (out.new.items ≡ out.old.items ++ join_with_byte 44 (map item_text (slots_of items.now))) }
+// The n items from place o.
+fn push_items(
+    out: &mut Vec<u8>,
+    items: &PrimitiveArray<i64>,
+    o: usize,
+    n: usize,
+) -> Result<(), AllocError>
+    requires { o + n ≤ len items.now }
+    ensures { OnOk result (out.new.items ≡ out.old.items ++ join_with_byte 44 (map item_text (cut (slots_of items.now) o n))) }
 {
-    for i in 0..items.len() {
+    for i in 0..n {
         if i > 0 {
             out.push(b',')?;
         }
-        push_item(out, items.get(i))?;
+        push_item(out, items.get(o + i))?;
     }
     Ok(())
 }
 
-fn push_row(alloc: Global, out: &mut Vec<u8>, rows: &ListArray, i: usize) -> Result<(), AllocError>
+fn push_row(out: &mut Vec<u8>, rows: &ListArray, i: usize) -> Result<(), AllocError>
     requires within { i < len rows.now }
     requires numbers { item_type (layout_type rows.now) ≡ Some types.int64 }
     ensures { OnOk result (out.new.items ≡ out.old.items ++ row_text (slot rows.now i)) }
@@ -51,14 +59,10 @@ fn push_row(alloc: Global, out: &mut Vec<u8>, rows: &ListArray, i: usize) -> Res
     }
     out.push(b'[')?;
     rows.known();
-    let Ok(items) = rows.value(alloc, i) else {
-        return Err(AllocError);
-    };
-    let pushed = push_items(out, numbers(&items));
-    drop(items);
-    pushed?;
-    out.push(b']')?;
-    Ok(())
+    let row = rows.window(i);
+    row.known();
+    push_items(out, numbers(row.array()), row.offset(), row.len())?;
+    out.push(b']')
 }
 
 /// The one spelling of the rows.
@@ -68,7 +72,7 @@ fn spell(alloc: Global, rows: &ListArray) -> Result<Vec<u8>, AllocError>
 {
     let mut out = Vec::new(alloc);
     for i in 0..rows.len() {
-        push_row(alloc, &mut out, rows, i)?;
+        push_row(&mut out, rows, i)?;
         out.push(b'\n')?;
     }
     Ok(out)

@@ -1,3 +1,4 @@
 pub mod Pushed
+pub mod Refused
 pub mod Rows
 pub mod Spelled

@@ -43,7 +43,7 @@ pub row-slot : (r : Option (List (Option ℤ))) → slot_of_item (row_item r) �
 row-slot None = refl
 row-slot (Some xs) = ap slots.list (slots-sealed (map number_item xs) ∙ ap seal (item-slots xs))
 
-flat-appended : (t : TypeTree) (ss : List Slot) (x : Option ℤ) → appended (number_item x) (flat t ss) ≡ flat t (ss ++ item_slot x ∷ [])
+pub flat-appended : (t : TypeTree) (ss : List Slot) (x : Option ℤ) → appended (number_item x) (flat t ss) ≡ flat t (ss ++ item_slot x ∷ [])
 flat-appended t ss None = refl
 flat-appended t ss (Some z) = refl
 

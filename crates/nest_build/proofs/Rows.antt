@@ -1,10 +1,11 @@
 -- Rows of lists by their offsets and bits.
 use Rattle.std.specs.Prelude.{Some, None, slice_index}
-use Rattle.std.proofs.Common.{◌≡◌, ℕ, zero, suc, ◌+◌, ◌<◌, Bool, true, false, List, [], ◌∷◌, ◌++◌, length, map, replicate, drop, take, get_or, refl, ap, sym, ◌∙◌, subst, arith, length-drop}
+use Rattle.std.proofs.Common.{◌≡◌, ℕ, zero, suc, ◌+◌, ◌<◌, Bool, true, false, List, [], ◌∷◌, ◌++◌, length, map, replicate, drop, take, get_or, refl, ap, sym, ◌∙◌, subst, arith, length-drop, inl, inr, ◌≤◌}
 use Rattle.std.proofs.lemmas.List.{drop-append-le, length-map}
+use Rattle.std.proofs.lemmas.Bool.{cases_lt}
 use Rattle.std.proofs.Math.Seq.{take-append_seam}
-use Rattle.nest_memory.specs.Rising.{NeverFalls}
-use Rattle.nest_model.specs.Part.{Validity, rows, last_offset}
+use Rattle.nest_memory.specs.Rising.{NeverFalls, last_of}
+use Rattle.nest_model.specs.Part.{Validity, rows}
 use Rattle.nest_model.specs.Fits.{ValidityFits}
 use Rattle.nest_model.specs.BuilderRow.{Row, told_row, end_from, RisesFrom}
 use Rattle.nest_flat.specs.Growth.{pushed_validity}
@@ -47,7 +48,7 @@ first-rest [] h k = absurd (omega arith)
 first-rest (o ∷ os) h k = ap (λ x. x ∷ os) k
 
 -- the last row ends at the last offset
-pub told-end : (os : List ℕ) (va : Validity) (rs : List Row) → rows_told os va ≡ rs → 0 < length os → slice_index os 0 ≡ 0 → ValidityFits va (rows os) → end_from 0 rs ≡ last_offset os
+pub told-end : (os : List ℕ) (va : Validity) (rs : List Row) → rows_told os va ≡ rs → 0 < length os → slice_index os 0 ≡ 0 → ValidityFits va (rows os) → end_from 0 rs ≡ last_of os
 told-end os va rs e h k v =
     let c = told-count os va rs e v in
     let f = first-rest os h k in
@@ -105,3 +106,9 @@ told-push os ps va wa rs n b e end h p w k x l v =
 pub told-back : (os ps qs : List ℕ) (va wa : Validity) (rs : List Row) (n e : ℕ) → rows_told os va ≡ rs → ps ≡ os ++ e ∷ [] → qs ≡ take (n + 1) ps → n + 1 ≡ length os → wa ≡ va → rows_told qs wa ≡ rs
 told-back os ps qs va wa rs n e h p q k w =
     ap (λ xs. rows_told xs wa) (q ∙ ap (take (n + 1)) p ∙ ap (λ m. take m (os ++ e ∷ [])) k ∙ take-append_seam os (e ∷ [])) ∙ ap (rows_told os) w ∙ h
+
+pub not_past : (a b : ℕ) → ((b < a) → ⊥) → a ≤ b
+not_past a b h = elim (cases_lt b a) [
+  | inl lt ↦ absurd (h lt)
+  | inr ge ↦ ge
+]

@@ -4,7 +4,8 @@ use Rattle.std.proofs.Common.{◌≡◌, ℕ, zero, suc, ◌+◌, ◌-◌, ◌<�
 use Rattle.std.proofs.lemmas.List.{get_or-map}
 use Rattle.nest_memory.specs.TypeTree.{TypeTree}
 use Rattle.nest_memory.specs.Cut.{cut}
-use Rattle.nest_model.specs.Part.{Validity, valid_at, rows, begin, extent, last_offset}
+use Rattle.nest_memory.specs.Rising.{last_of}
+use Rattle.nest_model.specs.Part.{Validity, valid_at, rows, begin, extent}
 use Rattle.nest_model.specs.Fits.{ValidityFits}
 use Rattle.nest_model.specs.Slot as slots
 use Rattle.nest_model.specs.Slot.{Slot, seal}
@@ -75,7 +76,7 @@ module _ (os : List ℕ) (va : Validity) (rs : List Row) (s : Spells os va rs) w
   where-valid true c x y e h = rw (← e) h
   where-valid false c x y e h = rw (← e) refl
 
-  row-slot : (t : TypeTree) (c : Layout) (i : ℕ) → last_offset os ≤ len c → i < length rs → slot (layouts.list false t os c va) i ≡ row_at 0 rs (slots_of c) i
+  row-slot : (t : TypeTree) (c : Layout) (i : ℕ) → last_of os ≤ len c → i < length rs → slot (layouts.list false t os c va) i ≡ row_at 0 rs (slots_of c) i
   row-slot t c i l k =
       let n : i < rows os = omega (arith, count) in
       let p = starts i in
@@ -87,10 +88,10 @@ module _ (os : List ℕ) (va : Validity) (rs : List Row) (s : Spells os va rs) w
       (valids i k) (ap (λ ss. slots.list (seal ss)) (cuts ∙ same))
 
   -- so the array's slots are those of the rows
-  pub spelled : (t : TypeTree) (c : Layout) → last_offset os ≤ len c → slots_of (layouts.list false t os c va) ≡ rows_of_items 0 rs (slots_of c)
+  pub spelled : (t : TypeTree) (c : Layout) → last_of os ≤ len c → slots_of (layouts.list false t os c va) ≡ rows_of_items 0 rs (slots_of c)
   spelled t c l =
       ap (run (slot (layouts.list false t os c va)) 0) (sym count)
       ∙ sym (by-places (slot (layouts.list false t os c va)) (slots_of c) 0 0 rs (λ i k. ap (slot (layouts.list false t os c va)) (let z : 0 + i ≡ i = omega arith in z) ∙ row-slot t c i l k))
 
-  pub spelled-end : end_from 0 rs ≡ last_offset os
+  pub spelled-end : end_from 0 rs ≡ last_of os
   spelled-end = told-end os va rs s.told s.offsets.0 s.first s.fits

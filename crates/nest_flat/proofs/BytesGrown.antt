@@ -5,11 +5,11 @@ use Rattle.std.proofs.Common.{◌≡◌, ℕ, zero, suc, ◌+◌, ◌-◌, ◌<�
 use Rattle.std.proofs.lemmas.List.{length-append, length-map, length-drop, length-take-le, get_or-take, get_or_append_left, get_or-append-add, get_or-map, get_or-drop, drop-drop, drop-append-le, take-append-le, take_all}
 use Rattle.std.proofs.Math.Seq.{drop-append_seam, take-length}
 use Rattle.nest_memory.specs.Cut.{cut}
-use Rattle.nest_memory.specs.Rising.{last_of, last_of-index, NeverFalls}
+use Rattle.nest_memory.specs.Rising.{last_of, NeverFalls}
 use Rattle.nest_memory.specs.TypeTree.{TypeTree}
 use Rattle.nest_memory.specs.declared.error.Error.{Error}
 use Rattle.nest_memory.specs.declared.error.Error.TheVariants.{Memory, Overflow}
-use Rattle.nest_model.specs.Part.{Validity, valid_at, begin, extent, rows, last_offset, cut_validity}
+use Rattle.nest_model.specs.Part.{Validity, valid_at, begin, extent, rows, cut_validity}
 use Rattle.nest_model.specs.Slot as slots
 use Rattle.nest_model.specs.Slot.{Slot}
 use Rattle.nest_model.specs.Layout.{Layout, binary, text, layout_type}
@@ -30,22 +30,22 @@ use Rattle.nest_flat.proofs.Grown.{fits-joined, valid-before, valid-after, slots
 
 -- the offsets of the slots of both
 abbrev both : List ℕ → List ℕ → List ℕ
-both os ps = os ++ map (λ e. last_offset os + e) (drop 1 ps)
+both os ps = os ++ map (λ e. last_of os + e) (drop 1 ps)
 
 pub rows-both : (os ps : List ℕ) → 0 < length os → rows (both os ps) ≡ rows os + rows ps
 rows-both os ps h =
-    let f = λ (e : ℕ). last_offset os + e in
+    let f = λ (e : ℕ). last_of os + e in
     omega (arith, length-append os (map f (drop 1 ps)), length-map (drop 1 ps) f, length-drop 1 ps)
 
-begin-after : (os ps : List ℕ) (j : ℕ) → 0 < length os → begin ps 0 ≡ 0 → j < length ps → get_or (both os ps) (rows os + j) 0 ≡ last_offset os + get_or ps j 0
+begin-after : (os ps : List ℕ) (j : ℕ) → 0 < length os → begin ps 0 ≡ 0 → j < length ps → get_or (both os ps) (rows os + j) 0 ≡ last_of os + get_or ps j 0
 begin-after os ps zero h z k =
-    let f = λ (e : ℕ). last_offset os + e in
+    let f = λ (e : ℕ). last_of os + e in
     let p : rows os + 0 ≡ rows os = omega arith in
     ap (λ i. get_or (both os ps) i 0) p
     ∙ get_or_append_left os (map f (drop 1 ps)) 0 (rows os) (omega arith)
-    ∙ (let e : last_offset os ≡ last_offset os + get_or ps 0 0 = omega arith in e)
+    ∙ (let e : last_of os ≡ last_of os + get_or ps 0 0 = omega arith in e)
 begin-after os ps (suc j) h z k =
-    let f = λ (e : ℕ). last_offset os + e in
+    let f = λ (e : ℕ). last_of os + e in
     let p : rows os + suc j ≡ length os + j = omega arith in
     let q : 1 + j ≡ suc j = omega arith in
     ap (λ i. get_or (both os ps) i 0) p
@@ -53,7 +53,7 @@ begin-after os ps (suc j) h z k =
     ∙ get_or-map f (drop 1 ps) j 0 0 (omega (arith, length-drop 1 ps))
     ∙ ap f (get_or-drop 1 ps j 0 ∙ ap (λ i. get_or ps i 0) q)
 
-pub last-both : (os ps : List ℕ) → 0 < length os → 0 < length ps → begin ps 0 ≡ 0 → last_offset (both os ps) ≡ last_offset os + last_offset ps
+pub last-both : (os ps : List ℕ) → 0 < length os → 0 < length ps → begin ps 0 ≡ 0 → last_of (both os ps) ≡ last_of os + last_of ps
 last-both os ps h k z = ap (λ i. get_or (both os ps) i 0) (rows-both os ps h) ∙ begin-after os ps (rows ps) h z (omega arith)
 
 -- a window within the first of two lists, and one within the second
@@ -66,16 +66,16 @@ cut-right : (bs cs : List ℕ) (o n : ℕ) → cut (bs ++ cs) (length bs + o) n 
 cut-right bs cs o n = ap (take n) (sym (drop-drop o (length bs) (bs ++ cs)) ∙ ap (drop o) (drop-append_seam bs cs))
 
 -- the bytes of the slots of both
-before-bytes : (os ps bs cs : List ℕ) (i : ℕ) → AreOffsets os → last_offset os ≡ length bs → i < rows os
+before-bytes : (os ps bs cs : List ℕ) (i : ℕ) → AreOffsets os → last_of os ≡ length bs → i < rows os
     → cut (bs ++ cs) (begin (both os ps) i) (extent (both os ps) i) ≡ cut bs (begin os i) (extent os i)
 before-bytes os ps bs cs i h l k =
-    let more = map (λ (e : ℕ). last_offset os + e) (drop 1 ps) in
+    let more = map (λ (e : ℕ). last_of os + e) (drop 1 ps) in
     let a = get_or_append_left os more 0 i (omega arith) in
     let b = get_or_append_left os more 0 (i + 1) (omega arith) in
     let w = extent-fits os (length bs) i h (omega arith) k in
     (λ j. cut (bs ++ cs) (a j) (b j - a j)) ∙ cut-left bs cs (begin os i) (extent os i) w
 
-after-bytes : (os ps bs cs : List ℕ) (i : ℕ) → 0 < length os → last_offset os ≡ length bs → begin ps 0 ≡ 0 → i < rows ps
+after-bytes : (os ps bs cs : List ℕ) (i : ℕ) → 0 < length os → last_of os ≡ length bs → begin ps 0 ≡ 0 → i < rows ps
     → cut (bs ++ cs) (begin (both os ps) (rows os + i)) (extent (both os ps) (rows os + i)) ≡ cut cs (begin ps i) (extent ps i)
 after-bytes os ps bs cs i h l z k =
     let a = begin-after os ps i h z (omega arith) in
@@ -167,7 +167,7 @@ one-spans (Some xs) = record { rising = one-rising (length xs); first = refl; en
 pushed-one : (s : Spans) (item : Option (List ℕ)) → pushed_span item s ≡ joined_spans s (one item)
 pushed-one s item =
     let v = pushed-joined s.validity (rows s.offsets) (is_some item) in
-    λ j. record { offsets = s.offsets ++ (last_offset s.offsets + length (item_bytes item)) ∷ []; bytes = s.bytes ++ item_bytes item; validity = v j }
+    λ j. record { offsets = s.offsets ++ (last_of s.offsets + length (item_bytes item)) ∷ []; bytes = s.bytes ++ item_bytes item; validity = v j }
 
 whole-item : (xs : List ℕ) → take (length xs - 0) xs ≡ xs
 whole-item xs = ap (λ n. take n xs) (let e : length xs - 0 ≡ length xs = omega arith in e) ∙ take-length xs
@@ -184,7 +184,7 @@ each-pushed s item h u t =
 pub rows-first : (os : List ℕ) (n : ℕ) → 0 < length os → n ≤ rows os → rows (take (n + 1) os) ≡ n
 rows-first os n z h = omega (arith, length-take-le (n + 1) os (omega arith))
 
-pub last-first : (os : List ℕ) (n : ℕ) → 0 < length os → n ≤ rows os → last_offset (take (n + 1) os) ≡ begin os n
+pub last-first : (os : List ℕ) (n : ℕ) → 0 < length os → n ≤ rows os → last_of (take (n + 1) os) ≡ begin os n
 last-first os n z h = ap (λ k. get_or (take (n + 1) os) k 0) (rows-first os n z h) ∙ get_or-take (n + 1) os n 0 (omega arith)
 
 first-bytes : (os bs : List ℕ) (n i : ℕ) → AreOffsets os → n ≤ rows os → i < n
@@ -209,17 +209,17 @@ each-first s n h k t i j =
     subst IsUtf8 (sym (first-bytes s.offsets s.bytes n i h.rising k m ∙ (λ w. cut s.bytes (a w) (b w - a w)))) (t i (omega arith))
 
 -- ---- what the calls leave
-pub spans-known : (os bs : List ℕ) (va : Validity) → 0 < length os → NeverFalls os → slice_index os 0 ≡ 0 → (last_offset os ≡ length bs) × ValidityFits va (rows os)
+pub spans-known : (os bs : List ℕ) (va : Validity) → 0 < length os → NeverFalls os → slice_index os 0 ≡ 0 → (last_of os ≡ length bs) × ValidityFits va (rows os)
     → AreSpans (record { offsets = os; bytes = bs; validity = va })
 spans-known os bs va z h f w = record { rising = (z, h); first = f; ends = w.0; fits = w.1 }
 
 abbrev Whole : Spans → Type 0
-Whole s = (last_offset s.offsets ≡ length s.bytes) × ValidityFits s.validity (rows s.offsets)
+Whole s = (last_of s.offsets ≡ length s.bytes) × ValidityFits s.validity (rows s.offsets)
 
-pub whole-at : (s r : Spans) → s ≡ r → (last_offset r.offsets ≡ length r.bytes) × ValidityFits r.validity (rows r.offsets) → (last_offset s.offsets ≡ length s.bytes) × ValidityFits s.validity (rows s.offsets)
+pub whole-at : (s r : Spans) → s ≡ r → (last_of r.offsets ≡ length r.bytes) × ValidityFits r.validity (rows r.offsets) → (last_of s.offsets ≡ length s.bytes) × ValidityFits s.validity (rows s.offsets)
 whole-at s r e w = subst (λ (q : Spans). Whole q) (sym e) w
 
-pub joined-whole : (s r : Spans) → AreSpans s → AreSpans r → (last_offset (joined_spans s r).offsets ≡ length (joined_spans s r).bytes) × ValidityFits (joined_spans s r).validity (rows (joined_spans s r).offsets)
+pub joined-whole : (s r : Spans) → AreSpans s → AreSpans r → (last_of (joined_spans s r).offsets ≡ length (joined_spans s r).bytes) × ValidityFits (joined_spans s r).validity (rows (joined_spans s r).offsets)
 joined-whole s r h k =
     let l = last-both s.offsets r.offsets h.rising.0 k.rising.0 k.first in
     let e = h.ends in
@@ -228,10 +228,10 @@ joined-whole s r h k =
       fits-joined s.validity r.validity (rows s.offsets) (rows r.offsets) (rows (joined_spans s r).offsets) h.fits k.fits (rows-both s.offsets r.offsets h.rising.0),
     )
 
-pub pushed-whole : (s : Spans) (item : Option (List ℕ)) → AreSpans s → (last_offset (pushed_span item s).offsets ≡ length (pushed_span item s).bytes) × ValidityFits (pushed_span item s).validity (rows (pushed_span item s).offsets)
+pub pushed-whole : (s : Spans) (item : Option (List ℕ)) → AreSpans s → (last_of (pushed_span item s).offsets ≡ length (pushed_span item s).bytes) × ValidityFits (pushed_span item s).validity (rows (pushed_span item s).offsets)
 pushed-whole s item h = whole-at (pushed_span item s) (joined_spans s (one item)) (pushed-one s item) (joined-whole s (one item) h (one-spans item))
 
-pub first-whole : (s : Spans) (n : ℕ) → AreSpans s → n ≤ rows s.offsets → (last_offset (first_spans n s).offsets ≡ length (first_spans n s).bytes) × ValidityFits (first_spans n s).validity (rows (first_spans n s).offsets)
+pub first-whole : (s : Spans) (n : ℕ) → AreSpans s → n ≤ rows s.offsets → (last_of (first_spans n s).offsets ≡ length (first_spans n s).bytes) × ValidityFits (first_spans n s).validity (rows (first_spans n s).offsets)
 first-whole s n h k =
     let z = h.rising.0 in
     let a = h.rising.1 n (length s.offsets - 1) (omega arith) (omega arith) in
@@ -245,10 +245,10 @@ first-whole s n h k =
     fits-first (Some bits) m n h k = length-take-le n bits (omega arith)
 
 -- the parts by what each call says of its own
-pub parts-pushed : (s : Spans) (os bs xs : List ℕ) (va : Validity) (n : ℕ) (item : Option (List ℕ)) → os ≡ s.offsets ++ (last_offset s.offsets + length xs) ∷ [] → xs ≡ item_bytes item → bs ≡ s.bytes ++ item_bytes item
+pub parts-pushed : (s : Spans) (os bs xs : List ℕ) (va : Validity) (n : ℕ) (item : Option (List ℕ)) → os ≡ s.offsets ++ (last_of s.offsets + length xs) ∷ [] → xs ≡ item_bytes item → bs ≡ s.bytes ++ item_bytes item
     → va ≡ pushed_validity s.validity n (is_some item) → n ≡ rows s.offsets → record { offsets = os; bytes = bs; validity = va } ≡ pushed_span item s
 parts-pushed s os bs xs va n item e f g v m =
-    let o = e ∙ ap (λ ys. s.offsets ++ (last_offset s.offsets + length ys) ∷ []) f in
+    let o = e ∙ ap (λ ys. s.offsets ++ (last_of s.offsets + length ys) ∷ []) f in
     let w = v ∙ ap (λ i. pushed_validity s.validity i (is_some item)) m in
     λ j. record { offsets = o j; bytes = g j; validity = w j }
 
@@ -256,8 +256,7 @@ pub parts-taken : (s : Spans) (os bs : List ℕ) (va : Validity) (n last : ℕ) 
     → va ≡ (if m then cut_validity s.validity 0 n else None) → spans os bs va ≡ (if m then first_spans n s else bare_spans (first_spans n s))
 parts-taken s os bs va n last m h k e f g v =
     let z = h.rising.0 in
-    let p : 0 < length os = omega (arith, ap length e, length-take-le (n + 1) s.offsets (omega arith)) in
-    let l : last ≡ begin s.offsets n = f ∙ last_of-index os 0 p ∙ ap last_offset e ∙ last-first s.offsets n z k in
+    let l : last ≡ begin s.offsets n = f ∙ ap last_of e ∙ last-first s.offsets n z k in
     let b : bs ≡ take (begin s.offsets n) s.bytes = g ∙ ap (λ i. take i s.bytes) l in
     by-mask m v e b
   where
@@ -265,14 +264,14 @@ parts-taken s os bs va n last m h k e f g v =
     by-mask true v e b = λ w. spans (e w) (b w) (v w)
     by-mask false v e b = λ w. spans (e w) (b w) (v w)
 
-pub parts-joined : (s r : Spans) (os bs cs : List ℕ) (va vb : Validity) (n m : ℕ) → os ≡ s.offsets ++ map (λ e. last_offset s.offsets + e) (drop 1 r.offsets) → bs ≡ s.bytes ++ cs → cs ≡ r.bytes
+pub parts-joined : (s r : Spans) (os bs cs : List ℕ) (va vb : Validity) (n m : ℕ) → os ≡ s.offsets ++ map (λ e. last_of s.offsets + e) (drop 1 r.offsets) → bs ≡ s.bytes ++ cs → cs ≡ r.bytes
     → va ≡ joined_validity s.validity n vb m → vb ≡ r.validity → n ≡ rows s.offsets → m ≡ rows r.offsets → spans os bs va ≡ joined_spans s r
 parts-joined s r os bs cs va vb n m e f g v x i j =
     let b = f ∙ ap (λ ys. s.bytes ++ ys) g in
     λ w. spans (e w) (b w) ((v ∙ (λ q. joined_validity s.validity (i q) (x q) (j q))) w)
 
 pub taken-whole : (s : Spans) (n : ℕ) (m : Bool) → AreSpans s → n ≤ rows s.offsets
-    → (last_offset (if m then first_spans n s else bare_spans (first_spans n s)).offsets ≡ length (if m then first_spans n s else bare_spans (first_spans n s)).bytes) × ValidityFits (if m then first_spans n s else bare_spans (first_spans n s)).validity (rows (if m then first_spans n s else bare_spans (first_spans n s)).offsets)
+    → (last_of (if m then first_spans n s else bare_spans (first_spans n s)).offsets ≡ length (if m then first_spans n s else bare_spans (first_spans n s)).bytes) × ValidityFits (if m then first_spans n s else bare_spans (first_spans n s)).validity (rows (if m then first_spans n s else bare_spans (first_spans n s)).offsets)
 taken-whole s n true h k = first-whole s n h k
 taken-whole s n false h k = ((first-whole s n h k).0, tt)
 
@@ -370,7 +369,7 @@ module _ (make : Spans → Layout) (wrap : List ℕ → Slot) (kind : SpansKind 
   first-both : (s r : Spans) (n : ℕ) → AreSpans s → n ≤ rows s.offsets → is_some s.validity ≡ true → first_spans n (joined_spans s r) ≡ first_spans n s
   first-both s r n h k m =
       let z = h.rising.0 in
-      let more = map (λ (e : ℕ). last_offset s.offsets + e) (drop 1 r.offsets) in
+      let more = map (λ (e : ℕ). last_of s.offsets + e) (drop 1 r.offsets) in
       let os = take-append-le (n + 1) s.offsets more (omega arith) in
       let e = get_or_append_left s.offsets more 0 n (omega arith) in
       let l = h.rising.1 n (length s.offsets - 1) (omega arith) (omega arith) in
@@ -382,7 +381,7 @@ module _ (make : Spans → Layout) (wrap : List ℕ → Slot) (kind : SpansKind 
   bare-both : (s r : Spans) (n : ℕ) → AreSpans s → n ≤ rows s.offsets → bare_spans (first_spans n (joined_spans s r)) ≡ bare_spans (first_spans n s)
   bare-both s r n h k =
       let z = h.rising.0 in
-      let more = map (λ (e : ℕ). last_offset s.offsets + e) (drop 1 r.offsets) in
+      let more = map (λ (e : ℕ). last_of s.offsets + e) (drop 1 r.offsets) in
       let os = take-append-le (n + 1) s.offsets more (omega arith) in
       let e = get_or_append_left s.offsets more 0 n (omega arith) in
       let l = h.rising.1 n (length s.offsets - 1) (omega arith) (omega arith) in

@@ -1,10 +1,12 @@
 -- Builders of bytes and of texts: the parts of their slots, and what each call makes of them.
-use Rattle.std.specs.Prelude.{◌≡◌, ◌⊎◌, ◌<◌, ℕ, ◌+◌, List, [], ◌∷◌, ◌++◌, map, take, drop, length, Option, Some, None, is_some, Bool, if◌then◌else◌, alloc_error}
+use Rattle.std.specs.Prelude.{◌≡◌, nat_lt, ℕ, ◌+◌, List, [], ◌∷◌, ◌++◌, map, take, drop, length, Option, Some, None, is_some, Bool, if◌then◌else◌}
 use Rattle.nest_memory.specs.declared.error.Error.{Error}
-use Rattle.nest_memory.specs.declared.error.Error.TheVariants.{Memory, Overflow}
+use Rattle.nest_memory.specs.declared.error.Error.TheVariants.{Overflow}
 use Rattle.nest_memory.specs.TypeTree as types
 use Rattle.nest_memory.specs.TypeTree.{TypeTree}
-use Rattle.nest_model.specs.Part.{Validity, rows, begin, last_offset, cut_validity}
+use Rattle.nest_memory.specs.Rising.{last_of}
+use Rattle.nest_model.specs.Part.{Validity, rows, begin, cut_validity}
+use Rattle.nest_model.specs.Checks.{refuse_if}
 use Rattle.nest_model.specs.Fits.{ValidityFits}
 use Rattle.nest_model.specs.Array.{AreOffsets}
 use Rattle.nest_model.specs.Accessors.{validity_of, offsets_of, bytes_of}
@@ -28,7 +30,7 @@ no_spans = spans (0 ∷ []) [] None
 pub record AreSpans (s : Spans) : Type 0 where
   pub rising : AreOffsets s.offsets
   pub first : begin s.offsets 0 ≡ 0
-  pub ends : last_offset s.offsets ≡ length s.bytes
+  pub ends : last_of s.offsets ≡ length s.bytes
   pub fits : ValidityFits s.validity (rows s.offsets)
 
 -- the bytes of an item: a null has none
@@ -39,7 +41,7 @@ item_bytes (Some xs) = xs
 -- one slot more
 abbrev pub pushed_span : Option (List ℕ) → Spans → Spans
 pushed_span item s = record {
-  offsets = s.offsets ++ (last_offset s.offsets + length (item_bytes item)) ∷ [];
+  offsets = s.offsets ++ (last_of s.offsets + length (item_bytes item)) ∷ [];
   bytes = s.bytes ++ item_bytes item;
   validity = pushed_validity s.validity (rows s.offsets) (is_some item);
 }
@@ -47,7 +49,7 @@ pushed_span item s = record {
 -- the slots of another behind these
 abbrev pub joined_spans : Spans → Spans → Spans
 joined_spans s t = record {
-  offsets = s.offsets ++ map (λ e. last_offset s.offsets + e) (drop 1 t.offsets);
+  offsets = s.offsets ++ map (λ e. last_of s.offsets + e) (drop 1 t.offsets);
   bytes = s.bytes ++ t.bytes;
   validity = joined_validity s.validity (rows s.offsets) t.validity (rows t.offsets);
 }
@@ -77,9 +79,9 @@ with_spans a s = a
 abbrev pub pushed_item : Layout → Option (List ℕ) → Layout
 pushed_item a item = with_spans a (pushed_span item (spans_of a))
 
--- why an item is refused: its end is past the largest offset, or memory is wanting
-abbrev pub HasPushCause : ℕ → Error → Layout → Option (List ℕ) → Type 0
-HasPushCause largest e a item = ((e ≡ Overflow) × (largest < last_offset (offsets_of a) + length (item_bytes item))) ⊎ (e ≡ Memory alloc_error)
+-- why an item more is refused: its end is past the largest offset
+abbrev pub item_refusal : ℕ → Layout → Option (List ℕ) → Option Error
+item_refusal largest a item = refuse_if (nat_lt largest (last_of (offsets_of a) + length (item_bytes item))) Overflow None
 
 -- the types that builders of bytes and of texts begin with, by the width of their offsets
 abbrev pub binary_tree : Bool → TypeTree

@@ -1,8 +1,10 @@
 -- Builders of flat arrays: what pushed and joined slots add to the parts of an array, of this project.
-use Rattle.std.specs.Prelude.{◌≡◌, ℕ, ◌+◌, ◌≤◌, ℤ, pos, Bool, true, false, List as Seq, [], ◌∷◌, ◌++◌, length, map, take, replicate, Option, Some, None, is_some, if◌then◌else◌}
+use Rattle.std.specs.Prelude.{◌≡◌, ℕ, ◌+◌, ◌≤◌, ℤ, pos, Bool, true, false, List as Seq, [], ◌∷◌, ◌++◌, length, map, take, replicate, Option, Some, None, is_some, if◌then◌else◌, ◌⊎◌, alloc_error}
 use Rattle.std.specs.Option.{unwrap_or}
 use Rattle.std.specs.Iterator.{Count, IsFinite}
 use Rattle.nest_memory.specs.Native.{parts_of}
+use Rattle.nest_memory.specs.declared.error.Error.{Error}
+use Rattle.nest_memory.specs.declared.error.Error.TheVariants.{Memory, Overflow}
 use Rattle.nest_memory.specs.declared.datatypes.physical_type.PrimitiveType.{PrimitiveType}
 use Rattle.nest_model.specs.Part.{Validity, begin, cut_validity}
 use Rattle.nest_model.specs.Slot.{Slot}
@@ -11,7 +13,7 @@ use Rattle.nest_model.specs.Accessors.{validity_of, with_validity}
 use Rattle.nest_model.specs.Meaning.{len, slots_of}
 use Rattle.nest_model.specs.Cut.{cut_layout}
 use Rattle.nest_model.specs.BuilderSpells.{Begins}
-use Rattle.nest_model.specs.BuilderTree.{IsPast}
+use Rattle.nest_model.specs.Checks.{refuse_if, first_of, is_past}
 
 -- Validity bitmaps: one place more after n others; the bits are made at the first null
 abbrev pub pushed_validity : Validity → ℕ → Bool → Validity
@@ -51,9 +53,15 @@ abbrev pub pushed_all : {A : Type 0} → (Layout → A → Layout) → Layout �
 pushed_all pushed a [] = a
 pushed_all pushed a (x ∷ xs) = pushed_all pushed (pushed a x) xs
 
--- the items were pushed in order: the parts, and the slots that they stand for
-pub record Extended {A : Type 0} (pushed : Layout → A → Layout) (slot_of_item : A → Slot) (xs : Seq A) (old new : Layout) : Type 0 where
+-- the first refusal of items that are pushed in order, by that of one item
+abbrev pub refusal_of_all : {A : Type 0} → (Layout → A → Layout) → (Layout → A → Option Error) → Layout → Seq A → Option Error
+refusal_of_all pushed refusal a [] = None
+refusal_of_all pushed refusal a (x ∷ xs) = first_of (refusal a x) (refusal_of_all pushed refusal (pushed a x) xs)
+
+-- the items were pushed in order: the parts, the slots that they stand for, and that nothing refuses them
+pub record Extended {A : Type 0} (pushed : Layout → A → Layout) (refusal : Layout → A → Option Error) (slot_of_item : A → Slot) (xs : Seq A) (old new : Layout) : Type 0 where
   pub parts : new ≡ pushed_all pushed old xs
+  pub unrefused : refusal_of_all pushed refusal old xs ≡ None
   pub slots : slots_of new ≡ slots_of old ++ map slot_of_item xs
 
 -- whether a validity is there
@@ -81,6 +89,18 @@ pub record Grew (ss : Seq Slot) (old new : Layout) : Type 0 where
 abbrev pub CanDrain : {U T : Type 0} → (U → T → Type 0) → (T → Type 0) → (T → Count) → U → Type 0
 CanDrain {U} {T} becomes can left u = (it : T) → becomes u it → can it × IsFinite (left it)
 
--- after n slots, a beginning of what u gives passes the limit of a length
-abbrev pub BeginningPasses : {U T A : Type 0} → (U → T → Type 0) → (T → Option A → T → Type 0) → ℕ → U → Type 0
-BeginningPasses {U} {T} {A} becomes steps n u = (xs : Seq A) × Begins becomes steps u xs × IsPast (n + length xs)
+-- why a boolean more is refused: so many slots pass a length
+abbrev pub truth_refusal : Layout → Option Bool → Option Error
+truth_refusal a x = refuse_if (is_past (len a + 1)) Overflow None
+
+-- a native value is refused for want of memory alone
+abbrev pub native_refusal : {A : Type 0} → Layout → A → Option Error
+native_refusal a x = None
+
+-- e is the refusal that is due; or none is, and memory is wanting
+abbrev pub IsDue : Option Error → Error → Type 0
+IsDue refusal e = (refusal ≡ Some e) ⊎ ((e ≡ Memory alloc_error) × (refusal ≡ None))
+
+-- a beginning of what u gives was pushed up to its last item, which e refuses
+abbrev pub RefusesBeginning : {U T A : Type 0} → (U → T → Type 0) → (T → Option A → T → Type 0) → (Layout → A → Layout) → (Layout → A → Option Error) → U → Layout → Error → Type 0
+RefusesBeginning {U} {T} {A} becomes steps pushed refusal u a e = (xs : Seq A) × Begins becomes steps u xs × IsDue (refusal_of_all pushed refusal a xs) e

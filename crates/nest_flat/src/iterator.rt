@@ -1,5 +1,7 @@
 //! The slots of a flat array one after another, from both ends.
-ghost use Rattle.std.specs.Prelude.{◌≡◌, ◌<◌};
+ghost use Rattle.std.specs.Prelude.{◌≡◌, ◌<◌, length, Some, IfSome};
+ghost use Rattle.std.specs.Iterator.{at_most, UpTo};
+ghost use Rattle.std.specs.Iterator.SizeHint.{IsWithinCount};
 ghost use Rattle.nest_model.specs.Layout.{Layout};
 ghost use Rattle.nest_model.specs.Slot.{Slot};
 ghost use Rattle.nest_model.specs.Meaning.{len, slot, slots_of};
@@ -84,7 +86,11 @@ impl<S: SlotItems> Iterator for SlotsIter<S> {
         Some(item)
     }
 
-    fn size_hint(&self) -> (usize, Option<usize>) {
+    fn size_hint(&self) -> (usize, Option<usize>)
+        ensures lower { IsWithinCount result.0 (at_most (length self.now)) }
+        ensures upper { IfSome result.1 (UpTo (at_most (length self.now))) }
+        ensures exact { result ≡ (length self.now, Some (length self.now)) }
+    {
         let left = self.back - self.front;
         (left, Some(left))
     }

@@ -1,4 +1,7 @@
 //! Flat arrays in the Arrow format: each slot is null or a boolean, a native value, bytes or a text.
+//!
+//! A statement whose value is never read (`let _ends = ..`, `x.known()`) shows the prover a fact that the next step needs,
+//! and does nothing when it runs.
 #![tactic(auto)]
 
 pub mod any_primitive;

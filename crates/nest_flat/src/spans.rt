@@ -1,7 +1,8 @@
 //! Offsets over bytes: what arrays of bytes and of texts share.
 ghost use Rattle.std.specs.Prelude.{◌≡◌, ◌↔◌, ◌≤◌, ◌<◌, IsTrue, IsUtf8, length};
 ghost use Rattle.nest_memory.specs.Cut.{cut};
-ghost use Rattle.nest_model.specs.Part.{begin, extent, rows, last_offset};
+ghost use Rattle.nest_memory.specs.Rising.{last_of};
+ghost use Rattle.nest_model.specs.Part.{begin, extent, rows};
 ghost use Rattle.nest_model.specs.Array.{AreOffsets};
 ghost use Rattle.nest_model.specs.Fits.{EachText};
 
@@ -12,7 +13,7 @@ use std::str;
 
 /// The last offset.
 pub(crate) fn last<O: Offset>(offsets: &OffsetsBuffer<O>) -> usize
-    ensures last { result ≡ last_offset offsets.now }
+    ensures last { result ≡ last_of offsets.now }
     ensures known { AreOffsets offsets.now }
 {
     offsets.known();
@@ -25,7 +26,7 @@ pub(crate) fn span<'a, O: Offset>(
     bytes: &'a Buffer<u8>,
     i: usize,
 ) -> &'a [u8]
-    requires fits { last_offset offsets.now ≤ length bytes.now }
+    requires fits { last_of offsets.now ≤ length bytes.now }
     requires within { i < rows offsets.now }
     ensures { result.now ≡ cut bytes.now (begin offsets.now i) (extent offsets.now i) }
 {
@@ -54,7 +55,7 @@ pub(crate) fn text_of(bytes: &[u8]) -> &str
 
 /// Whether the bytes of each slot are UTF-8.
 pub(crate) fn are_texts<O: Offset>(offsets: &OffsetsBuffer<O>, bytes: &Buffer<u8>) -> bool
-    requires { last_offset offsets.now ≤ length bytes.now }
+    requires { last_of offsets.now ≤ length bytes.now }
     ensures { IsTrue result ↔ EachText offsets.now bytes.now }
 {
     for i in 0..offsets.len_proxy() {

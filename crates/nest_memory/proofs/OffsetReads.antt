@@ -6,7 +6,7 @@ use Rattle.std.proofs.lemmas.List.Sums.{sum_by-cons}
 use Rattle.std.specs.Cmp.{first_so, second_so}
 use Rattle.std.proofs.lemmas.Bool.{eqb-true}
 use Rattle.std.proofs.lemmas.Option.{slice_get-get_or, slice_get_within}
-use Rattle.nest_memory.specs.Rising.{numbers, are_offsets, are_offsets_from_zero, ends_from, rises_from, last_of, last_of-index, below_zero, to_nat, NeverFalls}
+use Rattle.nest_memory.specs.Rising.{numbers, are_offsets, are_offsets_from_zero, ends_from, rises_from, last_of, last_of-cons, below_zero, to_nat, NeverFalls}
 use Rattle.nest_memory.proofs.Rises.{offsets_at, offsets_order, offsets_some, numbers_get, numbers_push, numbers_last, start_push, Starts, last_more, last_before}
 
 module _ {A : Type 0} (v : A → ℤ) where
@@ -90,11 +90,11 @@ module _ {A : Type 0} where
 
 -- ---- many lengths
 last_end : (a : ℕ) (ls : List ℕ) → last_of (a ∷ ends_from a ls) ≡ a + sum ls
-unfolding last_of
 last_end a [] = omega arith
 last_end a (l ∷ ls) =
     let e = sum_by-cons (λ x. x) l ls in
     let r = last_end (a + l) ls in
+    let c = last_of-cons a (a + l) (ends_from (a + l) ls) in
     omega arith
 
 pub last_ends : (before ls : List ℕ) → 1 ≤ length before → last_of (before ++ ends_from (last_of before) ls) ≡ last_of before + sum ls
@@ -127,4 +127,4 @@ within_last ns i n rising e =
     let g = slice_get-get_or ns i 0 w in
     let here : get_or ns i 0 ≡ n = cc in
     let low = rising i (length ns - 1) (omega arith) (omega arith) in
-    omega (arith, last_of-index ns 0 (omega arith))
+    omega arith

@@ -7,8 +7,7 @@ use Rattle.std.proofs.lemmas.List.{length-map, take-map, get_or-map}
 use Rattle.std.proofs.lemmas.Option.{slice_get-get_or, slice_get_within}
 use Rattle.std.specs.List.{drop-map}
 use Rattle.std.proofs.Math.Seq.{drop-cons}
-use Rattle.nest_memory.specs.Rising.{numbers, are_offsets, ends_from, rises_from, last_of, below_zero, to_nat, NeverFalls}
-use Rattle.nest_memory.specs.Rising.{last_of-index as last_at}
+use Rattle.nest_memory.specs.Rising.{numbers, are_offsets, ends_from, rises_from, last_of, last_of-cons, below_zero, to_nat, NeverFalls}
 use Rattle.nest_memory.specs.Cut.{cut}
 
 -- ---- numbers that rise from a number
@@ -182,14 +181,13 @@ module _ {A : Type 0} where
   numbers_take v xs n = sym (take-map _ n xs)
 
 pushed : (low : ℕ) (z : ℤ) (zs : List ℤ) (n : ℕ) → rises_from low (z ∷ zs) ≡ true → last_of (map to_nat (z ∷ zs)) ≤ n → rises_from low ((z ∷ zs) ++ pos n ∷ []) ≡ true
-unfolding last_of
 pushed low (pos m) [] n r h =
     let a = first_so (nat_le low m) true r in
     let b = le-leb m n h in
     λ i. a i && (b i && true)
 pushed low (pos m) (w ∷ ws) n r h =
     let a = first_so (nat_le low m) (rises_from m (w ∷ ws)) r in
-    let b = pushed m w ws n (second_so (nat_le low m) (rises_from m (w ∷ ws)) r) h in
+    let b = pushed m w ws n (second_so (nat_le low m) (rises_from m (w ∷ ws)) r) (omega (arith, h, last_of-cons m (to_nat w) (map to_nat ws))) in
     λ i. a i && b i
 pushed low (negsuc m) zs n r h = cc
 
@@ -201,7 +199,7 @@ module _ {A : Type 0} where
       let k = slice_get-get_or (numbers v xs) (length xs - 1) 0 (omega arith) in
       let a : to_nat (v (get_or xs (length xs - 1) x)) ≡ get_or (numbers v xs) (length xs - 1) 0 = cc in
       let b : n ≡ to_nat (v (get_or xs (length xs - 1) x)) = ap to_nat p ∙ ap (λ y. to_nat (v y)) e in
-      b ∙ a ∙ sym (last_at (numbers v xs) 0 (omega arith) ∙ ap (λ k. get_or (numbers v xs) (k - 1) 0) l)
+      b ∙ a ∙ sym (ap (λ k. get_or (numbers v xs) (k - 1) 0) l)
 
   pub item_last : (v : A → ℤ) (ys : List A) (k n : ℕ) (x : A) → slice_get ys k ≡ Some x → k ≡ length ys - 1 → pos n ≡ v x → n ≡ last_of (numbers v ys)
   item_last v ys k n x e l p =
@@ -291,32 +289,29 @@ module _ {A : Type 0} (v : A → ℤ) where
   start_push xs ys y n e h l k = subst Starts (sym e) (offsets_push v xs y n h.0 l (sym k), first_push v xs y h.0 h.1)
 
 pub last_more : (before : List ℕ) (x : ℕ) → last_of (before ++ x ∷ []) ≡ x
-unfolding last_of
 last_more [] x = refl
-last_more (a ∷ []) x = refl
-last_more (a ∷ (b ∷ bs)) x = last_more (b ∷ bs) x
+last_more (a ∷ []) x = last_of-cons a x []
+last_more (a ∷ (b ∷ bs)) x = last_of-cons a b (bs ++ x ∷ []) ∙ last_more (b ∷ bs) x
 
 last_append : (before : List ℕ) (x : ℕ) (xs : List ℕ) → last_of (before ++ x ∷ xs) ≡ last_of (x ∷ xs)
-unfolding last_of
 last_append [] x xs = refl
-last_append (a ∷ []) x xs = refl
-last_append (a ∷ (b ∷ bs)) x xs = last_append (b ∷ bs) x xs
+last_append (a ∷ []) x xs = last_of-cons a x xs
+last_append (a ∷ (b ∷ bs)) x xs = last_of-cons a b (bs ++ x ∷ xs) ∙ last_append (b ∷ bs) x xs
 
 -- the last end of the first i + 1 lengths
 ends_step : (a : ℕ) (ls : List ℕ) (i l : ℕ) → i < length ls → l ≡ get_or ls i 0 → ends_from a (take (i + 1) ls) ≡ ends_from a (take i ls) ++ (last_of (a ∷ ends_from a (take i ls)) + l) ∷ []
-unfolding last_of
 ends_step a [] i l h g = absurd (omega arith)
 ends_step a (m ∷ ls) zero l h g = ap (λ k. (a + k) ∷ []) (sym g)
 ends_step a (m ∷ ls) (suc i) l h g =
     let s : suc i + 1 ≡ suc (i + 1) = omega arith in
     ap (λ k. ends_from a (take k (m ∷ ls))) s ∙ ap (λ ns. (a + m) ∷ ns) (ends_step (a + m) ls i l (omega arith) g)
+    ∙ ap (λ k. (a + m) ∷ (ends_from (a + m) (take i ls) ++ (k + l) ∷ [])) (sym (last_of-cons a (a + m) (ends_from (a + m) (take i ls))))
 
 pub last_before : (before ns : List ℕ) (a : ℕ) → 1 ≤ length before → last_of before ≡ a → last_of (before ++ ns) ≡ last_of (a ∷ ns)
-unfolding last_of
 last_before [] ns a h e = absurd (omega arith)
 last_before (b ∷ []) [] a h e = e
-last_before (b ∷ []) (n ∷ ns) a h e = refl
-last_before (b ∷ (c ∷ cs)) ns a h e = last_before (c ∷ cs) ns a (omega arith) e
+last_before (b ∷ []) (n ∷ ns) a h e = last_of-cons b n ns ∙ sym (last_of-cons a n ns)
+last_before (b ∷ (c ∷ cs)) ns a h e = last_of-cons b c (cs ++ ns) ∙ last_before (c ∷ cs) ns a (omega arith) (sym (last_of-cons b c cs) ∙ e)
 
 -- one length more
 pub ends_more : (before ls : List ℕ) (i l : ℕ) → 1 ≤ length before → i < length ls → l ≡ get_or ls i 0 → (before ++ ends_from (last_of before) (take i ls)) ++ (last_of (before ++ ends_from (last_of before) (take i ls)) + l) ∷ [] ≡ before ++ ends_from (last_of before) (take (i + 1) ls)

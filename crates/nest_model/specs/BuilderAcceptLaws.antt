@@ -1,24 +1,26 @@
 -- What nothing refuses is appended rightly, to a builder of any nesting.
-use Rattle.std.specs.Prelude.{Option, Some, None}
-use Rattle.std.proofs.Common.{◌≡◌, ◌≢◌, ℕ, zero, suc, ◌+◌, ◌*◌, Bool, true, false, List, [], ◌∷◌, ◌++◌, length, replicate, refl, sym, ap, subst, ◌∙◌, arith, inl, inr}
-use Rattle.std.proofs.lemmas.Bool.Decides.{eqb_tells}
+use Rattle.std.specs.Prelude.{Option, Some, None, not, ◌&&◌, nat_eq, if◌then◌else◌, leb, is_some}
+use Rattle.std.proofs.Common.{◌≡◌, ℕ, zero, suc, ◌+◌, ◌*◌, Bool, true, false, List, [], ◌∷◌, ◌++◌, length, replicate, refl, sym, ap, subst, ◌∙◌, arith}
+use Rattle.std.proofs.lemmas.Bool.{eqb-true}
 use Rattle.std.proofs.Math.Nat.{add-mul}
 use Rattle.std.proofs.lemmas.List.{append_assoc, length-append, length-replicate, replicate-append-replicate}
 use Rattle.nest_memory.specs.TypeTree.{TypeTree, size_of}
 use Rattle.nest_memory.specs.declared.error.Error.{Error}
-use Rattle.nest_memory.specs.declared.error.Error.TheVariants.{InvalidArgumentError}
+use Rattle.nest_memory.specs.declared.error.Error.TheVariants.{InvalidArgumentError, Overflow}
 use Rattle.nest_memory.specs.declared.error.Argument.TheVariants.{ItemSize, ItemType}
 use Rattle.nest_memory.specs.declared.datatypes.IntegerType.{IntegerType}
 use Rattle.nest_model.specs.Slot as slots
 use Rattle.nest_model.specs.Slot.{Slot}
+use Rattle.nest_model.specs.Checks.{refuse_if, first_of, is_past}
+use Rattle.nest_model.specs.Decide.{refuse-none, first-none, not-false}
 use Rattle.nest_model.specs.BuilderRow.{Row, told_row, end_from}
-use Rattle.nest_model.specs.BuilderTree.{BuilderTree, BuilderTrees, flat, list, fixed_size_list, dictionary, struct, no_builders, more_builders, builder_len}
+use Rattle.nest_model.specs.BuilderTree.{BuilderTree, BuilderTrees, flat, list, fixed_size_list, dictionary, struct, no_builders, more_builders, builder_len, key_count}
 use Rattle.nest_model.specs.BuilderLevels.{own_slots}
 use Rattle.nest_model.specs.BuilderWhole.{IsWhole, AreWhole}
 use Rattle.nest_model.specs.BuilderItem as items
 use Rattle.nest_model.specs.BuilderItem.{PlainValue, Item, Items, no_items, more_items, seal_items, unseal_items, count_items, slot_of_value, takes, place_of}
 use Rattle.nest_model.specs.BuilderAppend.{nulls_appended, nulls_appended_each, keyed, value_appended, appended, items_appended, Accepted, AcceptedAll, EachAccepted}
-use Rattle.nest_model.specs.BuilderCauses.{SomeCause, HasNoCause}
+use Rattle.nest_model.specs.BuilderRefusals.{is_known, value_refusal, plain_refusal, item_refusal, items_refusal}
 use Rattle.nest_model.specs.BuilderRowLaws.{end_from-append, end_from-same, RisesFrom-append, RisesFrom-same, values_needed-nulls}
 use Rattle.nest_model.specs.BuilderAppendLaws.{type-nulls, types-nulls, accepted_none, accepted_one, accepted_both, count-sealed, nulls-zero, flat_took, flat_took_null, list_took, list_took_null, fixed_size_list_took, fixed_size_list_took_null, dictionary_took_null, struct_took_null}
 use Rattle.nest_model.specs.BuilderKeyLaws.{dictionary_knew, dictionary_took}
@@ -31,7 +33,7 @@ len-nulls n (fixed_size_list k bits c) = omega (arith, length-append bits (repli
 len-nulls n (dictionary i k keys c) = omega (arith, length-append keys (replicate n None), length-replicate {A = Option ℕ} n None)
 len-nulls n (struct k bits cs) = omega (arith, length-append bits (replicate n false), length-replicate n false)
 
-end-nulls : (rows : List Row) (n : ℕ) → end_from 0 (rows ++ replicate n (told_row false (end_from 0 rows))) ≡ end_from 0 rows
+pub end-nulls : (rows : List Row) (n : ℕ) → end_from 0 (rows ++ replicate n (told_row false (end_from 0 rows))) ≡ end_from 0 rows
 end-nulls rows n = end_from-append 0 rows (replicate n (told_row false (end_from 0 rows))) ∙ end_from-same (end_from 0 rows) n
 
 mutual
@@ -94,60 +96,95 @@ accepted-nulls t n w =
     let all = subst (λ m. AcceptedAll (replicate n items.null) (nulls_appended 0 t) (nulls_appended m t)) e (many t 0 n w (λ j. next-null t j w)) in
     subst (λ u. AcceptedAll (replicate n items.null) u (nulls_appended n t)) (nulls-zero t) all
 
--- a value that nothing refuses
-accepted-key : (v : PlainValue) (i : IntegerType) (k : TypeTree) (keys : List (Option ℕ)) (c d : BuilderTree) (o : Option ℕ) → place_of v (own_slots c) ≡ o → IsWhole (dictionary i k keys c)
+pub some_none : {A : Type 0} (x : A) → Some x ≡ None → ⊥
+some_none x e = absurd (let a : Some x ≡ None = e in cc)
+
+-- a value that nothing refuses is taken
+key_taken : (b : Bool) (known full : Bool) (rest own : Option Error) → (known ≡ true → b ≡ true) → first_of (if known then None else refuse_if full Overflow (refuse_if (not b) (InvalidArgumentError ItemType) rest)) own ≡ None → b ≡ true
+key_taken b true full rest own f h = f refl
+key_taken b false full rest own f h =
+    not-false b (refuse-none (not b) (InvalidArgumentError ItemType) rest (refuse-none full Overflow (refuse_if (not b) (InvalidArgumentError ItemType) rest) ((first-none (refuse_if full Overflow (refuse_if (not b) (InvalidArgumentError ItemType) rest)) own h).0)).1).0
+
+and-front : (a b : Bool) → (a && b) ≡ true → a ≡ true
+and-front true b h = refl
+and-front false b h = h
+
+pub value-taken : (v : PlainValue) (t : BuilderTree) → value_refusal v t ≡ None → takes t v ≡ true
+value-taken v (flat k xs) h = not-false (takes (flat k xs) v) (refuse-none (not (takes (flat k xs) v)) (InvalidArgumentError ItemType) _ h).0
+value-taken v (list large k rows c) h = absurd (some_none (InvalidArgumentError ItemType) h)
+value-taken v (fixed_size_list k bits c) h = absurd (some_none (InvalidArgumentError ItemType) h)
+value-taken v (dictionary i k keys c) h =
+    key_taken (takes c v) (is_known c v) (leb (key_count i) (builder_len c)) (value_refusal v c) (refuse_if (is_past (length keys + 1)) Overflow None) (and-front (takes c v) (is_some (place_of v (own_slots c)))) h
+value-taken v (struct k bits cs) h = absurd (some_none (InvalidArgumentError ItemType) h)
+
+-- the two orders refuse the same values
+pub plain-none : (v : PlainValue) (t : BuilderTree) → value_refusal v t ≡ None → plain_refusal v t ≡ None
+plain-none v t h = rw (value-taken v t h, h) refl
+
+pub none-plain : (v : PlainValue) (t : BuilderTree) → plain_refusal v t ≡ None → value_refusal v t ≡ None
+none-plain v t h = (refuse-none (not (takes t v)) (InvalidArgumentError ItemType) (value_refusal v t) h).1
+
+-- a value that nothing refuses is appended
+pub new_refused : (known full other : Bool) (rest own : Option Error) → known ≡ false → first_of (if known then None else refuse_if full Overflow (refuse_if other (InvalidArgumentError ItemType) rest)) own ≡ None → rest ≡ None
+new_refused true full other rest own e h = absurd (let a : true ≡ false = e in cc)
+new_refused false full other rest own e h =
+    (refuse-none other (InvalidArgumentError ItemType) rest (refuse-none full Overflow (refuse_if other (InvalidArgumentError ItemType) rest) ((first-none (refuse_if full Overflow (refuse_if other (InvalidArgumentError ItemType) rest)) own h).0)).1).1
+
+pub unknown : (a : Bool) (o : Option ℕ) → o ≡ None → (a && is_some o) ≡ false
+unknown true o e = rw e refl
+unknown false o e = refl
+
+key : (v : PlainValue) (i : IntegerType) (k : TypeTree) (keys : List (Option ℕ)) (c d : BuilderTree) (o : Option ℕ) → place_of v (own_slots c) ≡ o → IsWhole (dictionary i k keys c)
     → (place_of v (own_slots c) ≡ None → Accepted (items.plain v) c d) → Accepted (items.plain v) (dictionary i k keys c) (keyed i k keys c d o)
-accepted-key v i k keys c d (Some j) e w h = dictionary_knew i k keys (keys ++ Some j ∷ []) c v j e refl w
-accepted-key v i k keys c d None e w h = dictionary_took i k keys (keys ++ Some (builder_len c) ∷ []) c d v e refl w (h e)
+key v i k keys c d (Some j) e w h = dictionary_knew i k keys _ c v j e refl w
+key v i k keys c d None e w h = dictionary_took i k keys _ c d v e refl w (h e)
 
-pub accepted-value : (v : PlainValue) (t : BuilderTree) → IsWhole t → HasNoCause t (items.plain v) → Accepted (items.plain v) t (value_appended v t)
-accepted-value v (flat k xs) w h = flat_took k xs (xs ++ slot_of_value v ∷ []) v refl
-accepted-value v (list large k rows c) w h = absurd (h (InvalidArgumentError ItemType) refl)
-accepted-value v (fixed_size_list k bits c) w h = absurd (h (InvalidArgumentError ItemType) refl)
+pub accepted-value : (v : PlainValue) (t : BuilderTree) → IsWhole t → value_refusal v t ≡ None → Accepted (items.plain v) t (value_appended v t)
+accepted-value v (flat k xs) w h = flat_took k xs _ v refl
+accepted-value v (list large k rows c) w h = absurd (some_none (InvalidArgumentError ItemType) h)
+accepted-value v (fixed_size_list k bits c) w h = absurd (some_none (InvalidArgumentError ItemType) h)
 accepted-value v (dictionary i k keys c) w h =
-    accepted-key v i k keys c (value_appended v c) (place_of v (own_slots c)) refl w (λ p. accepted-value v c w.0 (λ e q. h e (inr (inr (inr (inr p, q))))))
-accepted-value v (struct k bits cs) w h = absurd (h (InvalidArgumentError ItemType) refl)
+    key v i k keys c (value_appended v c) (place_of v (own_slots c)) refl w
+    (λ p. accepted-value v c w.0 (new_refused (is_known c v) (leb (key_count i) (builder_len c)) (not (takes c v)) (value_refusal v c) (refuse_if (is_past (length keys + 1)) Overflow None) (unknown (takes c v) (place_of v (own_slots c)) p) h))
+accepted-value v (struct k bits cs) w h = absurd (some_none (InvalidArgumentError ItemType) h)
 
--- a list of items that nothing refuses
+-- an item that nothing refuses is appended
 pub seal-unseal : (xs : Items) → seal_items (unseal_items xs) ≡ xs
 seal-unseal no_items = refl
 seal-unseal (more_items x xs) = ap (more_items x) (seal-unseal xs)
 
-count-unsealed : (xs : Items) → length (unseal_items xs) ≡ count_items xs
-count-unsealed xs = sym (count-sealed (unseal_items xs)) ∙ ap count_items (seal-unseal xs)
-
-same_count : (m n : ℕ) → ((m ≢ n) → ⊥) → m ≡ n
-same_count m n h = elim (eqb_tells m n) [ inl e ↦ e.1 | inr e ↦ absurd (h e.1) ]
-
-accepted-list : (large : Bool) (k : TypeTree) (rows : List Row) (c : BuilderTree) (xs : Items) → IsWhole (list large k rows c) → AcceptedAll (unseal_items xs) c (items_appended xs c)
+pub accepted-row : (large : Bool) (k : TypeTree) (rows : List Row) (c : BuilderTree) (xs : Items) → IsWhole (list large k rows c) → AcceptedAll (unseal_items xs) c (items_appended xs c)
     → Accepted (items.list_of xs) (list large k rows c) (appended (items.list_of xs) (list large k rows c))
-accepted-list large k rows c xs w a =
+accepted-row large k rows c xs w a =
     let d = items_appended xs c in
     subst (λ ys. Accepted (items.list_of ys) (list large k rows c) (list large k (rows ++ told_row true (builder_len d) ∷ []) d)) (seal-unseal xs)
     (list_took large k rows (rows ++ told_row true (builder_len d) ∷ []) c d (unseal_items xs) (builder_len d) refl refl w a)
 
-accepted-fixed : (k : TypeTree) (bits : List Bool) (c : BuilderTree) (xs : Items) → count_items xs ≡ size_of k → IsWhole (fixed_size_list k bits c) → AcceptedAll (unseal_items xs) c (items_appended xs c)
+count-unsealed : (xs : Items) → length (unseal_items xs) ≡ count_items xs
+count-unsealed xs = sym (count-sealed (unseal_items xs)) ∙ ap count_items (seal-unseal xs)
+
+pub accepted-fixed : (k : TypeTree) (bits : List Bool) (c : BuilderTree) (xs : Items) → not (nat_eq (count_items xs) (size_of k)) ≡ false → IsWhole (fixed_size_list k bits c) → AcceptedAll (unseal_items xs) c (items_appended xs c)
     → Accepted (items.list_of xs) (fixed_size_list k bits c) (appended (items.list_of xs) (fixed_size_list k bits c))
 accepted-fixed k bits c xs n w a =
     let d = items_appended xs c in
+    let m : count_items xs ≡ size_of k = eqb-true (count_items xs) (size_of k) (not-false (nat_eq (count_items xs) (size_of k)) n) in
     subst (λ ys. Accepted (items.list_of ys) (fixed_size_list k bits c) (fixed_size_list k (bits ++ true ∷ []) d)) (seal-unseal xs)
-    (fixed_size_list_took k bits (bits ++ true ∷ []) c d (unseal_items xs) (count-unsealed xs ∙ n) refl w a)
+    (fixed_size_list_took k bits (bits ++ true ∷ []) c d (unseal_items xs) (count-unsealed xs ∙ m) refl w a)
 
--- what nothing refuses is appended rightly
 mutual
-  pub accepted-appended : (x : Item) (t : BuilderTree) → IsWhole t → HasNoCause t x → Accepted x t (appended x t)
-  accepted-appended items.null t w h = accepted-null t w
-  accepted-appended (items.plain v) t w h = accepted-value v t w h
-  accepted-appended (items.list_of xs) (flat k ss) w h = absurd (h (InvalidArgumentError ItemType) refl)
-  accepted-appended (items.list_of xs) (list large k rows c) w h = accepted-list large k rows c xs w (accepted-items xs c w.0 (λ e q. h e (inl q)))
-  accepted-appended (items.list_of xs) (fixed_size_list k bits c) w h =
-      accepted-fixed k bits c xs (same_count (count_items xs) (size_of k) (λ n. h (InvalidArgumentError ItemSize) (inr (inl (refl, n))))) w (accepted-items xs c w.0 (λ e q. h e (inl q)))
-  accepted-appended (items.list_of xs) (dictionary i k keys c) w h = absurd (h (InvalidArgumentError ItemType) refl)
-  accepted-appended (items.list_of xs) (struct k bits cs) w h = absurd (h (InvalidArgumentError ItemType) refl)
+  pub accepted-item : (x : Item) (t : BuilderTree) → IsWhole t → item_refusal x t ≡ None → Accepted x t (appended x t)
+  accepted-item items.null t w h = accepted-null t w
+  accepted-item (items.plain v) t w h = accepted-value v t w h
+  accepted-item (items.list_of xs) (flat k ss) w h = absurd (some_none (InvalidArgumentError ItemType) h)
+  accepted-item (items.list_of xs) (list large k rows c) w h = accepted-row large k rows c xs w (accepted-items xs c w.0 ((first-none (items_refusal xs c) _ h).0))
+  accepted-item (items.list_of xs) (fixed_size_list k bits c) w h =
+      accepted-fixed k bits c xs (refuse-none (not (nat_eq (count_items xs) (size_of k))) (InvalidArgumentError ItemSize) _ ((first-none (items_refusal xs c) _ h).1)).0 w (accepted-items xs c w.0 ((first-none (items_refusal xs c) _ h).0))
+  accepted-item (items.list_of xs) (dictionary i k keys c) w h = absurd (some_none (InvalidArgumentError ItemType) h)
+  accepted-item (items.list_of xs) (struct k bits cs) w h = absurd (some_none (InvalidArgumentError ItemType) h)
 
-  accepted-items : (xs : Items) (t : BuilderTree) → IsWhole t → ((e : Error) → ¬ SomeCause e t xs) → AcceptedAll (unseal_items xs) t (items_appended xs t)
+  pub accepted-items : (xs : Items) (t : BuilderTree) → IsWhole t → items_refusal xs t ≡ None → AcceptedAll (unseal_items xs) t (items_appended xs t)
   accepted-items no_items t w h = accepted_none t w
   accepted-items (more_items x xs) t w h =
-      let first = accepted-appended x t w (λ e q. h e (inl q)) in
+      let first = accepted-item x t w ((first-none (item_refusal x t) _ h).0) in
       accepted_both (x ∷ []) (unseal_items xs) t (appended x t) (items_appended xs (appended x t)) (accepted_one x t (appended x t) w first)
-      (accepted-items xs (appended x t) first.whole (λ e q. h e (inr (λ f r. h f (inl r), q))))
+      (accepted-items xs (appended x t) first.whole ((first-none (item_refusal x t) _ h).1))

@@ -40,6 +40,12 @@ told_lengths ns (fixed_size_list t bits c) = fixed_size_list t bits c
 told_lengths ns (dictionary k t keys c) = dictionary k t keys c
 told_lengths ns (struct t bits cs) = struct t bits cs
 
+-- how many items lengths tell; a null row has none
+abbrev pub items_told : List (Option ℕ) → ℕ
+items_told [] = 0
+items_told (None ∷ ns) = items_told ns
+items_told (Some n ∷ ns) = n + items_told ns
+
 -- n nulls more: a null list adds no item, one of size s adds s nulls to its items, a null record a null to each child, a null key no value
 abbrev mutual
   pub nulls_appended : ℕ → BuilderTree → BuilderTree

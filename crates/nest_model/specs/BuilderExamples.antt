@@ -2,6 +2,7 @@
 use Rattle.std.specs.Prelude.{ℕ, zero, suc, pos, Bool, true, false, List, [], ◌∷◌, map, Some}
 use Rattle.nest_memory.specs.TypeTree as types
 use Rattle.nest_memory.specs.TypeTree.{TypeTree, no_fields, more_fields}
+use Rattle.nest_memory.specs.declared.datatypes.IntegerType.{IntegerType}
 use Rattle.nest_memory.specs.declared.datatypes.IntegerType.TheVariants as integers
 use Rattle.nest_memory.specs.declared.datatypes.physical_type.PrimitiveType.TheVariants as primitives
 use Rattle.nest_model.specs.Slot as slots
@@ -89,7 +90,43 @@ abbrev pub counted : ℕ → ℕ → List ℕ
 counted n zero = []
 counted n (suc m) = n ∷ counted (suc n) m
 
--- a dictionary of short keys with 128 values
+-- bytes, and texts of any letters
+abbrev pub some_bytes : List ℕ → Item
+some_bytes ns = items.plain (items.bytes ns)
+
+-- a list, a fixed-size list and a record builder of this type over that child, without rows
+abbrev pub list_of : TypeTree → BuilderTree → BuilderTree
+list_of t c = builders.list false (list_type t) [] c
+
+abbrev pub pairs_of : TypeTree → BuilderTree → BuilderTree
+pairs_of t c = builders.fixed_size_list (pair_type t) [] c
+
+abbrev pub records_of : TypeTree → BuilderTree → BuilderTree
+records_of t c = builders.struct (record_type t) [] (more_builders c no_builders)
+
+-- two bytes a value, no value yet
+abbrev pub no_bytes : BuilderTree
+no_bytes = builders.flat (types.fixed_size_binary 2) []
+
+-- a dictionary of the values that slots are at the first n numbers, each once
+abbrev pub dictionary_of : IntegerType → TypeTree → (ℕ → Slot) → ℕ → BuilderTree
+dictionary_of k t value n = builders.dictionary k (types.dictionary k t false) (map (λ m. Some m) (counted 0 n)) (builders.flat t (map value (counted 0 n)))
+
+-- the same of numbers, and of two bytes each
+abbrev pub numbers_by : IntegerType → ℕ → BuilderTree
+numbers_by k n = dictionary_of k types.int32 (λ m. slots.number (pos m ∷ [])) n
+
+abbrev pub bytes_by : IntegerType → ℕ → BuilderTree
+bytes_by k n = dictionary_of k (types.fixed_size_binary 2) (λ m. slots.bytes (0 ∷ m ∷ [])) n
+
+-- a dictionary of keys of 8 bits with 128 values
 abbrev pub full_dictionary : BuilderTree
-full_dictionary = builders.dictionary integers.Int8 (types.dictionary integers.Int8 types.int32 false) (map (λ n. Some n) (counted 0 128))
-    (builders.flat types.int32 (map (λ n. slots.number (pos n ∷ [])) (counted 0 128)))
+full_dictionary = numbers_by integers.Int8 128
+
+-- the row [1], and the items 2 and 3 wait
+abbrev pub two_pending : BuilderTree
+two_pending = in_child (all_appended (some_ints (2 ∷ 3 ∷ []))) (appended (items_of (some_ints (1 ∷ []))) (no_lists no_ints))
+
+-- a list over nulls, some of them waiting
+abbrev pub over_nulls : Bool → List Slot → BuilderTree
+over_nulls large xs = builders.list large (list_type types.null) [] (builders.flat types.null xs)

@@ -1,17 +1,10 @@
 -- One builder's rows after another's of the same kind.
-use Rattle.std.specs.Prelude.{◌≡◌, ◌≢◌, ◌⊎◌, ℕ, ◌+◌, ◌*◌, ◌<◌, List, [], ◌∷◌, ◌++◌, length, map}
-use Rattle.nest_memory.specs.TypeTree.{size_of}
-use Rattle.nest_memory.specs.Physical.{physical_type}
-use Rattle.nest_memory.specs.declared.error.Error.{Error}
-use Rattle.nest_memory.specs.declared.error.Error.TheVariants.{InvalidArgumentError, Overflow}
-use Rattle.nest_memory.specs.declared.error.Argument.TheVariants.{ItemType}
+use Rattle.std.specs.Prelude.{◌≡◌, ℕ, ◌+◌, List, [], ◌∷◌, ◌++◌, map}
 use Rattle.nest_model.specs.Slot.{Slot}
 use Rattle.nest_model.specs.BuilderRow.{Row, told_row, end_from}
-use Rattle.nest_model.specs.BuilderTree.{BuilderTree, flat, list, fixed_size_list, builder_type, builder_len, IsPast, largest_offset}
+use Rattle.nest_model.specs.BuilderTree.{BuilderTree, flat, list, fixed_size_list, builder_len}
 use Rattle.nest_model.specs.BuilderLevels.{own_slots, levels}
 use Rattle.nest_model.specs.BuilderWhole.{IsWhole, cut_builder, ValuesDiffer}
-use Rattle.nest_model.specs.BuilderItem.{bytes_held}
-use Rattle.nest_model.specs.BuilderCauses.{BytesPass}
 
 -- Variable-size List Layout: rows whose items lie s places further
 abbrev pub moved : ℕ → List Row → List Row
@@ -43,14 +36,3 @@ pub record Joined (other old new : BuilderTree) : Type 0 where
   pub whole : IsWhole new
   pub undo : cut_builder new (builder_len old) ≡ old
   pub differ : ValuesDiffer old → ValuesDiffer new
-
--- the rows of both pass a limit, here or at a level below
-abbrev pub JoinPasses : BuilderTree → BuilderTree → Type 0
-JoinPasses (flat t xs) (flat u ys) = IsPast (length xs + length ys) ⊎ (IsPast ((length xs + length ys) * size_of t) ⊎ BytesPass (physical_type t) (bytes_held xs + bytes_held ys))
-JoinPasses (list large t rows c) (list wide u more d) = IsPast (length rows + length more) ⊎ ((largest_offset large < end_from 0 rows + end_from 0 more) ⊎ JoinPasses c d)
-JoinPasses (fixed_size_list t bits c) (fixed_size_list u more d) = IsPast (length bits + length more) ⊎ (IsPast ((length bits + length more) * size_of t) ⊎ JoinPasses c d)
-JoinPasses _ _ = ⊥
-
--- why another builder's rows are refused: its data type is another, or both pass a limit
-abbrev pub HasJoinCause : Error → BuilderTree → BuilderTree → Type 0
-HasJoinCause e old other = ((e ≡ InvalidArgumentError ItemType) × (builder_type old ≢ builder_type other)) ⊎ ((e ≡ Overflow) × JoinPasses old other)

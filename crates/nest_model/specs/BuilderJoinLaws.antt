@@ -16,7 +16,7 @@ use Rattle.nest_model.specs.BuilderRowLaws.{end_from-append, RisesFrom-append}
 use Rattle.nest_model.specs.BuilderLevelLaws.{own-length, items-append, items-longer, size-longer}
 
 -- rows further on
-end_from-moved : (e s : ℕ) (rs : List Row) → end_from (e + s) (moved e rs) ≡ e + end_from s rs
+pub end_from-moved : (e s : ℕ) (rs : List Row) → end_from (e + s) (moved e rs) ≡ e + end_from s rs
 end_from-moved e s [] = refl
 end_from-moved e s (r ∷ rs) = end_from-moved e r.end rs
 

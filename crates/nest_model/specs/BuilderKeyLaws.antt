@@ -1,10 +1,10 @@
 -- A dictionary's push: where a value stands, and that the values stay different.
-use Rattle.std.specs.Prelude.{◌↔◌, Option, Some, None, if◌then◌else◌}
+use Rattle.std.specs.Prelude.{◌↔◌, Option, Some, None, ◌&&◌, is_some, if◌then◌else◌}
 use Rattle.std.specs.Bool.{Decides, beq}
 use Rattle.std.specs.Option.{option_map}
 use Rattle.std.specs.Ordering.{int_eq}
 use Rattle.std.specs.Cmp.Lexicographic.{pointwise, pointwise_decides, bytes_decides}
-use Rattle.std.proofs.Common.{◌≡◌, ◌≢◌, ℕ, ℤ, zero, suc, ◌≤◌, ◌<◌, ltb, Bool, true, false, cond, List, [], ◌∷◌, ◌++◌, length, get_or, map, refl, sym, ap, ◌∙◌, arith, inl, inr}
+use Rattle.std.proofs.Common.{◌≡◌, ◌≢◌, ℕ, ℤ, zero, suc, ◌≤◌, ◌<◌, ltb, Bool, true, false, cond, List, [], ◌∷◌, ◌++◌, length, get_or, map, refl, sym, ap, ◌∙◌, arith}
 use Rattle.std.proofs.Math.Seq.{take-append_seam}
 use Rattle.std.proofs.lemmas.Bool.{ltb-true, ltb-false}
 use Rattle.std.proofs.lemmas.Bool.Decides.{Decides-int_eq}
@@ -20,7 +20,7 @@ use Rattle.nest_model.specs.BuilderWhole.{IsWhole, AreDifferent}
 use Rattle.nest_model.specs.BuilderItem as items
 use Rattle.nest_model.specs.BuilderItem.{PlainValue, truth, native, text, bytes, slot_of_value, takes, is_value, Holds, Stands, Lacks, place_of}
 use Rattle.nest_model.specs.BuilderAppend.{Accepted}
-use Rattle.nest_model.specs.BuilderCauses.{IsNew}
+use Rattle.nest_model.specs.BuilderRefusals.{is_known}
 use Rattle.nest_model.specs.BuilderRowLaws.{values_needed-push, values_needed-nulls}
 use Rattle.nest_model.specs.BuilderLevelLaws.{own-length, len-grown, values-longer}
 use Rattle.nest_model.specs.BuilderCutLaws.{cut-whole}
@@ -140,19 +140,24 @@ place-stands c v k f g = place-first v (own_slots c) k (rw (own-length c) f.0) f
 pub place-lacks : (c : BuilderTree) (v : PlainValue) → takes c v ≡ true → Lacks c v → place_of v (own_slots c) ≡ None
 place-lacks c v t g = place-none v (own_slots c) (λ j m e. g j (rw (← (own-length c)) m, (t, e)))
 
-lacks_new : (c : BuilderTree) (v : PlainValue) (b : Bool) → takes c v ≡ b → Lacks c v → IsNew c v
-lacks_new c v true e g = inr (place-lacks c v e g)
-lacks_new c v false e g = inl e
+-- a value is known exactly where it stands
+and-parts : (a : Bool) (o : Option ℕ) → (a && is_some o) ≡ true → (a ≡ true) × ((k : ℕ) × (o ≡ Some k))
+and-parts true (Some k) h = (refl, (k, refl))
+and-parts true None h = absurd (let e : false ≡ true = h in cc)
+and-parts false o h = absurd (let e : false ≡ true = h in cc)
 
-pub lacks-new : (c : BuilderTree) (v : PlainValue) → Lacks c v → IsNew c v
-lacks-new c v g = lacks_new c v (takes c v) refl g
+pub known-stands : (c : BuilderTree) (v : PlainValue) → is_known c v ≡ true → (k : ℕ) × Stands c v k
+known-stands c v h =
+    let p = and-parts (takes c v) (place_of v (own_slots c)) h in
+    let q = place-holds v (own_slots c) p.1.0 p.1.1 in
+    (p.1.0, (omega (arith, own-length c, q.0), (p.0, q.1)))
 
-pub new-lacks : (c : BuilderTree) (v : PlainValue) → IsNew c v → Lacks c v
-new-lacks c v (inl e) = λ k s. absurd (let a : true ≡ false = sym s.1.0 ∙ e in cc)
-new-lacks c v (inr e) = λ k s. place-absent v (own_slots c) k e (rw (own-length c) s.0) s.1.1
-
-pub stands-known : (c : BuilderTree) (v : PlainValue) (k : ℕ) → Stands c v k → ¬ IsNew c v
-stands-known c v k s n = new-lacks c v n k s
+pub stands-known : (c : BuilderTree) (v : PlainValue) (k : ℕ) → Stands c v k → is_known c v ≡ true
+stands-known c v k s = by_place (place_of v (own_slots c)) refl
+  where
+    by_place : (o : Option ℕ) → place_of v (own_slots c) ≡ o → is_known c v ≡ true
+    by_place (Some j) e = rw (s.1.0, e) refl
+    by_place None e = absurd (place-absent v (own_slots c) k e (rw (own-length c) s.0) s.1.1)
 
 -- a value more that stood nowhere
 pub AreDifferent-push : (xs : List Slot) (v : Slot) → AreDifferent xs → ((j : ℕ) → j < length xs → get_or xs j slots.null ≢ v) → AreDifferent (xs ++ v ∷ [])

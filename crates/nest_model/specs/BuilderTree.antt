@@ -1,9 +1,10 @@
 -- A builder as a plain tree: its kind, its data type, the rows that it was told, its children.
-use Rattle.std.specs.Prelude.{ℕ, ◌-◌, ◌^◌, ◌<◌, Bool, List, [], ◌∷◌, length, Option, if◌then◌else◌}
+use Rattle.std.specs.Prelude.{ℕ, ◌^◌, ◌<◌, Bool, List, [], ◌∷◌, length, Option}
 use Rattle.nest_memory.specs.TypeTree.{TypeTree, FieldTrees, no_fields, more_fields, field_type}
 use Rattle.nest_memory.specs.declared.datatypes.IntegerType.{IntegerType}
 use Rattle.nest_memory.specs.declared.datatypes.IntegerType.TheVariants as integers
 use Rattle.nest_model.specs.Slot.{Slot}
+use Rattle.nest_model.specs.Checks.{largest_length}
 use Rattle.nest_model.specs.BuilderRow.{Row}
 
 mutual
@@ -57,16 +58,9 @@ abbrev pub field_types : FieldTrees → List TypeTree
 field_types no_fields = []
 field_types (more_fields f fs) = field_type f ∷ field_types fs
 
--- the largest length, of this project: lengths have 64 bits
-abbrev pub largest_length : ℕ
-largest_length = 2 ^ 64 - 1
-
+-- past the largest length
 abbrev pub IsPast : ℕ → Type 0
 IsPast n = largest_length < n
-
--- Variable-size List Layout: offsets are signed numbers of 32 bits, or of 64
-abbrev pub largest_offset : Bool → ℕ
-largest_offset large = if large then 2 ^ 63 - 1 else 2 ^ 31 - 1
 
 -- Dictionary-encoded Layout: how many values the keys of a type can name
 abbrev pub key_count : IntegerType → ℕ

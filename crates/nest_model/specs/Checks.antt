@@ -1,5 +1,5 @@
--- Checks that a constructor makes in an order, each with the error that refuses what fails it (of this project).
-use Rattle.std.specs.Prelude.{ℕ, Bool, true, false, nat_eq}
+-- Checks that a call makes in an order, each with the error that refuses what fails it (of this project).
+use Rattle.std.specs.Prelude.{◌≡◌, ◌⊎◌, ℕ, ◌-◌, ◌^◌, Bool, true, false, nat_eq, nat_lt, Option, Some, None, if◌then◌else◌}
 use Rattle.nest_memory.specs.declared.error.Spec.{Spec}
 use Rattle.nest_memory.specs.declared.error.Spec.TheVariants as spec
 use Rattle.nest_memory.specs.declared.error.Argument.{Argument}
@@ -67,3 +67,26 @@ FailsOr false p rest = p × rest
 abbrev pub FailFirst : Error → Checks → Type 0
 FailFirst f done = ⊥
 FailFirst f (check e p cs) = FailsOr (nat_eq (error_number f) (error_number e)) p (FailFirst f cs)
+
+-- one thing comes of the checks: every one passes, or one alone is the first that fails
+abbrev pub HaveOneOutcome : Checks → Type 0
+HaveOneOutcome cs =
+    (Pass cs ⊎ ((e : Error) × FailFirst e cs))
+    × ((e f : Error) → FailFirst e cs → FailFirst f cs → e ≡ f)
+    × ((e : Error) → Pass cs → FailFirst e cs → ⊥)
+
+-- A check that computes: this error where the test is true, else that of the checks behind it.
+abbrev pub refuse_if : Bool → Error → Option Error → Option Error
+refuse_if b e rest = if b then Some e else rest
+
+-- one list of checks before another
+abbrev pub first_of : Option Error → Option Error → Option Error
+first_of None rest = rest
+first_of (Some e) rest = Some e
+
+-- of this project: a length has 64 bits
+abbrev pub largest_length : ℕ
+largest_length = 2 ^ 64 - 1
+
+abbrev pub is_past : ℕ → Bool
+is_past n = nat_lt largest_length n

@@ -8,7 +8,8 @@ use Rattle.nest_memory.specs.TypeTree.{TypeTree, FieldTrees, no_fields, more_fie
 use Rattle.nest_memory.specs.declared.datatypes.physical_type.PhysicalType.TheVariants as physical
 use Rattle.nest_memory.specs.Physical.{physical_type, list_of_width, binary_of_width, text_of_width}
 use Rattle.nest_memory.specs.Cut.{cut}
-use Rattle.nest_model.specs.Part.{Validity, valid_at, begin, extent, rows, last_offset, field_named}
+use Rattle.nest_memory.specs.Rising.{last_of}
+use Rattle.nest_model.specs.Part.{Validity, valid_at, begin, extent, rows, field_named}
 use Rattle.nest_model.specs.Layout.{Layout, Layouts, null, boolean, primitive, binary, text, fixed_size_binary, fixed_size_list, list, map, struct, union, dictionary, no_layouts, more_layouts, layout_type, count_layouts}
 use Rattle.nest_model.specs.Accessors.{validity_of, raw_keys, key_at, key_type_of}
 use Rattle.nest_model.specs.Meaning.{len, first_len}
@@ -131,11 +132,11 @@ checks (primitive k t vs va) =
     check (OutOfSpec spec.ValidityLength) (ValidityFits va (length vs))
     (check (OutOfSpec spec.WrongType) (physical_type t ≡ physical.Primitive k) done)
 checks (binary large t os bs va) =
-    check (OutOfSpec spec.OffsetPastChild) (last_offset os ≤ length bs)
+    check (OutOfSpec spec.OffsetPastChild) (last_of os ≤ length bs)
     (check (OutOfSpec spec.ValidityLength) (ValidityFits va (rows os))
     (check (OutOfSpec spec.WrongType) (physical_type t ≡ binary_of_width large) done))
 checks (text large t os bs va) =
-    check (OutOfSpec spec.OffsetPastChild) (last_offset os ≤ length bs)
+    check (OutOfSpec spec.OffsetPastChild) (last_of os ≤ length bs)
     (check (OutOfSpec spec.Text) (EachText os bs)
     (check (OutOfSpec spec.ValidityLength) (ValidityFits va (rows os))
     (check (OutOfSpec spec.WrongType) (physical_type t ≡ text_of_width large) done)))
@@ -151,12 +152,12 @@ checks (fixed_size_list t c va) =
     (check (OutOfSpec spec.NotMultiple) (len c % size_of t ≡ 0)
     (check (OutOfSpec spec.ValidityLength) (ValidityFits va (len (fixed_size_list t c va))) done))))
 checks (list large t os c va) =
-    check (OutOfSpec spec.OffsetPastChild) (last_offset os ≤ len c)
+    check (OutOfSpec spec.OffsetPastChild) (last_of os ≤ len c)
     (check (OutOfSpec spec.ValidityLength) (ValidityFits va (rows os))
     (check (OutOfSpec spec.WrongType) (physical_type t ≡ list_of_width large)
     (check (OutOfSpec spec.ChildType) (item_type t ≡ Some (layout_type c)) done)))
 checks (map t os c va) =
-    check (OutOfSpec spec.OffsetPastChild) (last_offset os ≤ len c)
+    check (OutOfSpec spec.OffsetPastChild) (last_of os ≤ len c)
     (check (OutOfSpec spec.WrongType) (physical_type t ≡ physical.Map)
     (check (InvalidArgumentError argument.MapInner) (IsTrue (has_pairs t))
     (check (InvalidArgumentError argument.ChildType) (item_type t ≡ Some (layout_type c))

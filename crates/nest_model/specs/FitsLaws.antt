@@ -6,7 +6,8 @@ use Rattle.std.proofs.lemmas.List.{length-map}
 use Rattle.std.specs.Str.{IsUtf8}
 use Rattle.nest_memory.specs.TypeTree.{FieldTrees, no_fields, more_fields, size_of, ids_of, fields_of, is_dense}
 use Rattle.nest_memory.specs.Cut.{cut}
-use Rattle.nest_model.specs.Part.{Validity, cut_validity, rows, last_offset, begin, extent, field_named}
+use Rattle.nest_memory.specs.Rising.{last_of}
+use Rattle.nest_model.specs.Part.{Validity, cut_validity, rows, begin, extent, field_named}
 use Rattle.nest_model.specs.Layout.{Layout, Layouts, null, boolean, primitive, binary, text, fixed_size_binary, fixed_size_list, list, map, struct, union, dictionary, no_layouts, more_layouts, count_layouts}
 use Rattle.std.specs.List.{take-map, drop-map}
 use Rattle.nest_model.specs.Accessors.{validity_of, whole, raw_keys, key_type_of}
@@ -38,7 +39,7 @@ offsets-cut os o n h k =
           omega arith,
     )
 
-last-cut : (os : List ℕ) (o n m : ℕ) → AreOffsets os → o + n ≤ rows os → last_offset os ≤ m → last_offset (cut os o (n + 1)) ≤ m
+last-cut : (os : List ℕ) (o n m : ℕ) → AreOffsets os → o + n ≤ rows os → last_of os ≤ m → last_of (cut os o (n + 1)) ≤ m
 last-cut os o n m h k l =
     let e = rows-cut os o n k in
     let x = get_or-cut os o (n + 1) n 0 (omega arith) in

@@ -3,7 +3,7 @@ use Rattle.std.specs.Prelude.{Option, Some, None, get_or, replicate, map, length
 use Rattle.std.specs.Ordering.{int_eq}
 use Rattle.std.specs.List.{All, range_with_len}
 use Rattle.std.specs.Str.{IsUtf8}
-use Rattle.std.proofs.Common.{◌≡◌, ℕ, zero, suc, ◌+◌, ◌-◌, ◌*◌, ◌/◌, ◌%◌, ◌<◌, ◌≤◌, ◌^◌, ℤ, pos, negsuc, Bool, true, false, List, [], ◌∷◌, refl, ap, sym, ◌∙◌, subst, arith}
+use Rattle.std.proofs.Common.{◌≡◌, ℕ, zero, suc, ◌+◌, ◌-◌, ◌*◌, ◌/◌, ◌%◌, ◌<◌, ◌≤◌, ℤ, pos, negsuc, Bool, true, false, List, [], ◌∷◌, refl, ap, sym, ◌∙◌, subst, arith}
 use Rattle.std.proofs.Math.Nat.{mul-div_cancel}
 use Rattle.std.proofs.Math.Seq.{take-nil, drop-nil}
 use Rattle.std.proofs.lemmas.List.{get_or-replicate, length-replicate}
@@ -17,12 +17,12 @@ use Rattle.nest_memory.specs.declared.datatypes.UnionMode.{UnionMode}
 use Rattle.nest_memory.specs.declared.datatypes.UnionMode.TheVariants as modes
 use Rattle.nest_memory.specs.declared.datatypes.physical_type.PhysicalType.TheVariants as physical
 use Rattle.nest_memory.specs.declared.datatypes.physical_type.PrimitiveType.{PrimitiveType}
-use Rattle.nest_memory.specs.declared.error.Error.{Error}
 use Rattle.nest_memory.specs.TypeTree as types
 use Rattle.nest_memory.specs.TypeTree.{Letters, Entries, TypeTree, FieldTree, field, FieldTrees, no_fields, more_fields, field_type, count_fields, item_type, size_of, is_dense_mode, is_pair, has_pairs}
 use Rattle.nest_memory.specs.Physical.{physical_type, list_of_width, binary_of_width, text_of_width}
 use Rattle.nest_memory.specs.Cut.{cut}
-use Rattle.nest_model.specs.Part.{valid_at, begin, extent, rows, last_offset, place, last_place, field_named}
+use Rattle.nest_memory.specs.Rising.{last_of}
+use Rattle.nest_model.specs.Part.{valid_at, begin, extent, rows, place, last_place, field_named}
 use Rattle.nest_model.specs.Slot as slots
 use Rattle.nest_model.specs.Slot.{Slot}
 use Rattle.nest_model.specs.Layout.{Layout, Layouts, null, boolean, primitive, binary, text, fixed_size_binary, fixed_size_list, list, struct, union, dictionary, no_layouts, more_layouts, layout_type, count_layouts}
@@ -33,7 +33,8 @@ use Rattle.nest_model.specs.Runs.{product-exact}
 use Rattle.nest_model.specs.Fits.{Fits, ValidityFits, EachType, EachLen, EachCovers, Names, MeansField, EachMeansField, IdsCount, IdsInRange, OffsetsCount, OffsetsByMode, SlotsThere, child_len}
 use Rattle.nest_model.specs.FitsLaws.{fits-keeps}
 use Rattle.nest_model.specs.Array.{AreOffsets, AreKeys, PartsHold, ChildrenFit, AreArrays, IsArray}
-use Rattle.nest_model.specs.Nulls.{null_field, null_slot, null_pick, null_slots, refused, or_else, is_past, is_id, are_ids, ids_count_differs, has_bad_id, fault_of, field_fault, fields_fault, type_fault, empty_fault}
+use Rattle.nest_model.specs.Decide.{refuse-none, first-none, not-false}
+use Rattle.nest_model.specs.Nulls.{null_field, null_slot, null_pick, null_slots, is_id, are_ids, ids_count_differs, has_bad_id, fault_of, field_fault, fields_fault, type_fault, empty_fault}
 use Rattle.nest_model.specs.NullLayout.{zero_value, native_of_key, type_of_key, none_valid, native_nulls, null_type, null_offsets, null_array, null_item, null_children, null_layout, empty_layout}
 
 -- an array of n null slots of data type t
@@ -57,22 +58,9 @@ pub record AreNullArrays (fs : FieldTrees) (n : ℕ) (cs : Layouts) : Type 0 whe
 pub is-array : (t : TypeTree) (n : ℕ) (a : Layout) → IsNullArray t n a → IsArray a
 is-array t n a r = ((r.parts, fits-keeps a r.parts r.fits), r.children)
 
--- refusals that did not come
-refused-none : (b : Bool) (e : Error) (r : Option Error) → refused b e r ≡ None → (b ≡ false) × (r ≡ None)
-refused-none true e r h = cc
-refused-none false e r h = (refl, h)
-
-or_else-none : (a b : Option Error) → or_else a b ≡ None → (a ≡ None) × (b ≡ None)
-or_else-none None b h = (refl, h)
-or_else-none (Some e) b h = cc
-
 positive : (s : ℕ) → nat_eq s 0 ≡ false → 0 < s
 positive zero h = cc
 positive (suc s) h = omega arith
-
-not-false : (b : Bool) → not b ≡ false → b ≡ true
-not-false true h = refl
-not-false false h = cc
 
 same-number : (m n : ℕ) → nat_eq m n ≡ true → m ≡ n
 same-number m n h = grind (arith)
@@ -114,7 +102,7 @@ zero-offsets n = (
 zero-rows : (n : ℕ) → rows (replicate (suc n) 0) ≡ n
 zero-rows n = let e = length-replicate {A = ℕ} (suc n) 0 in omega arith
 
-zero-last : (n m : ℕ) → last_offset (replicate (suc n) 0) ≤ m
+zero-last : (n m : ℕ) → last_of (replicate (suc n) 0) ≤ m
 zero-last n m = let e = zero-at (suc n) (length {A = ℕ} (replicate (suc n) 0) - 1) in omega arith
 
 -- flat arrays
@@ -483,26 +471,26 @@ mutual
   null-array types.large_binary n d p h = binary-null true types.large_binary n d p refl refl
   null-array types.utf8 n d p h = text-null false types.utf8 n d p refl refl
   null-array types.large_utf8 n d p h = text-null true types.large_utf8 n d p refl refl
-  null-array (types.fixed_size_binary s) n d p h = fixed-null s n d p (positive s (refused-none _ _ _ h).0)
-  null-array (types.list f) n d p h = list-null false (types.list f) (field_type f) n d (null_item f 0 0) p refl refl refl (null-item f 0 0 (λ z. z) (refused-none _ _ _ h).1)
-  null-array (types.large_list f) n d p h = list-null true (types.large_list f) (field_type f) n d (null_item f 0 0) p refl refl refl (null-item f 0 0 (λ z. z) (refused-none _ _ _ h).1)
+  null-array (types.fixed_size_binary s) n d p h = fixed-null s n d p (positive s (refuse-none _ _ _ h).0)
+  null-array (types.list f) n d p h = list-null false (types.list f) (field_type f) n d (null_item f 0 0) p refl refl refl (null-item f 0 0 (λ z. z) (refuse-none _ _ _ h).1)
+  null-array (types.large_list f) n d p h = list-null true (types.large_list f) (field_type f) n d (null_item f 0 0) p refl refl refl (null-item f 0 0 (λ z. z) (refuse-none _ _ _ h).1)
   null-array (types.fixed_size_list f s) n d p h =
-      let a = refused-none (nat_eq s 0) _ _ h in
-      let b = refused-none _ _ _ a.1 in
+      let a = refuse-none (nat_eq s 0) _ _ h in
+      let b = refuse-none _ _ _ a.1 in
       sized-null f s n d (null_item f (n * s) d) p (positive s a.0) (null-item f (n * s) d (λ z. p (product-positive n s z)) b.1)
   null-array (types.map f b) n d p h =
-      let a = refused-none (not (is_pair (field_type f))) _ _ h in
-      let c = refused-none _ _ _ a.1 in
+      let a = refuse-none (not (is_pair (field_type f))) _ _ h in
+      let c = refuse-none _ _ _ a.1 in
       map-null f b n d (null_item f 0 0) p (not-false (is_pair (field_type f)) a.0) (null-item f 0 0 (λ z. z) c.1)
   null-array (types.struct fs) n d p h =
-      let a = refused-none (nat_eq (count_fields fs) 0) _ _ h in
+      let a = refuse-none (nat_eq (count_fields fs) 0) _ _ h in
       struct-null fs n d (null_children fs n d) p (positive (count_fields fs) a.0) (null-children fs n d p a.1)
   null-array (types.union fs ids mode) n d p h =
-      let a = refused-none (nat_lt 127 (count_fields fs)) _ _ h in
-      let b = refused-none (ids_count_differs ids (count_fields fs)) _ _ a.1 in
-      let c = refused-none (has_bad_id ids) _ _ b.1 in
-      let e = refused-none (nat_eq (count_fields fs) 0 && nat_lt 0 n) _ _ c.1 in
-      let g = refused-none _ _ _ e.1 in
+      let a = refuse-none (nat_lt 127 (count_fields fs)) _ _ h in
+      let b = refuse-none (ids_count_differs ids (count_fields fs)) _ _ a.1 in
+      let c = refuse-none (has_bad_id ids) _ _ b.1 in
+      let e = refuse-none (nat_eq (count_fields fs) 0 && nat_lt 0 n) _ _ c.1 in
+      let g = refuse-none _ _ _ e.1 in
       union-null fs ids mode n (null_children fs n d) a.0 b.0 c.0 e.0 (null-children fs n d p g.1)
   null-array (types.dictionary k t b) n d p h = dictionary-null k t b n d (null_array t d d) p (null-array t d d (λ z. z) h)
   null-array (types.extension x t m) n d p h = extension-null x t m n (null_array t n d) (null-array t n d p h)
@@ -522,7 +510,7 @@ mutual
         arrays = tt;
       }
   null-children (more_fields f fs) n d p h =
-      let e = or_else-none (field_fault f n d) (fields_fault fs n d) h in
+      let e = first-none (field_fault f n d) (fields_fault fs n d) h in
       more-null f fs n (null_item f n d) (null_children fs n d) (null-item f n d p e.0) (null-children fs n d p e.1)
 
 -- an array of n null slots that fits, where the type and the length are not refused

@@ -1,11 +1,12 @@
--- Null and empty arrays of a data type: their slots, and which types and lengths are refused (of this project).
-use Rattle.std.specs.Prelude.{ℕ, zero, suc, ◌+◌, ◌-◌, ◌*◌, ◌^◌, ℤ, pos, negsuc, Bool, true, false, not, ◌&&◌, nat_eq, nat_lt, List, [], ◌∷◌, length, replicate, Option, Some, None}
+-- Null and empty arrays of a data type: their slots, and which types and lengths are refuse_if (of this project).
+use Rattle.std.specs.Prelude.{ℕ, zero, suc, ◌+◌, ◌*◌, ◌^◌, ℤ, pos, negsuc, Bool, true, false, not, ◌&&◌, nat_eq, nat_lt, List, [], ◌∷◌, length, replicate, Option, Some, None}
 use Rattle.nest_memory.specs.TypeTree as types
 use Rattle.nest_memory.specs.TypeTree.{TypeTree, FieldTree, field, FieldTrees, no_fields, more_fields, field_type, count_fields, is_dense_mode, is_pair}
 use Rattle.nest_model.specs.Part.{last_place}
 use Rattle.nest_model.specs.Slot as slots
 use Rattle.nest_model.specs.Slot.{Slot}
 use Rattle.nest_model.specs.Meaning.{of_field}
+use Rattle.nest_model.specs.Checks.{refuse_if, first_of, is_past}
 use Rattle.nest_memory.specs.declared.error.Spec.TheVariants as spec
 use Rattle.nest_memory.specs.declared.error.Argument.TheVariants as argument
 use Rattle.nest_memory.specs.declared.error.Error.{Error}
@@ -36,20 +37,6 @@ abbrev mutual
 abbrev pub null_slots : TypeTree → ℕ → List Slot
 null_slots t n = replicate n (null_slot t)
 
--- checks that compute: this fault where the test is true, else what follows
-abbrev pub refused : Bool → Error → Option Error → Option Error
-refused true e rest = Some e
-refused false e rest = rest
-
--- a fault of the first, else of the second
-abbrev pub or_else : Option Error → Option Error → Option Error
-or_else (Some e) rest = Some e
-or_else None rest = rest
-
--- past the largest length
-abbrev pub is_past : ℕ → Bool
-is_past n = nat_lt (2 ^ 64 - 1) n
-
 abbrev pub is_id : ℤ → Bool
 is_id (pos n) = nat_lt n 128
 is_id (negsuc n) = false
@@ -73,22 +60,22 @@ abbrev mutual
   fault_of types.float16 n d = Some NotYetImplemented
   fault_of types.float32 n d = Some NotYetImplemented
   fault_of types.float64 n d = Some NotYetImplemented
-  fault_of types.binary n d = refused (is_past (n + 1)) Overflow None
-  fault_of types.large_binary n d = refused (is_past (n + 1)) Overflow None
-  fault_of types.utf8 n d = refused (is_past (n + 1)) Overflow None
-  fault_of types.large_utf8 n d = refused (is_past (n + 1)) Overflow None
-  fault_of (types.fixed_size_binary s) n d = refused (nat_eq s 0) (OutOfSpec spec.ZeroSize) (refused (is_past (n * s)) Overflow None)
-  fault_of (types.list f) n d = refused (is_past (n + 1)) Overflow (field_fault f 0 0)
-  fault_of (types.large_list f) n d = refused (is_past (n + 1)) Overflow (field_fault f 0 0)
-  fault_of (types.fixed_size_list f s) n d = refused (nat_eq s 0) (OutOfSpec spec.ZeroSize) (refused (is_past (n * s)) Overflow (field_fault f (n * s) d))
-  fault_of (types.map f b) n d = refused (not (is_pair (field_type f))) (InvalidArgumentError argument.MapInner) (refused (is_past (n + 1)) Overflow (field_fault f 0 0))
-  fault_of (types.struct fs) n d = refused (nat_eq (count_fields fs) 0) (OutOfSpec spec.NoFields) (fields_fault fs n d)
+  fault_of types.binary n d = refuse_if (is_past (n + 1)) Overflow None
+  fault_of types.large_binary n d = refuse_if (is_past (n + 1)) Overflow None
+  fault_of types.utf8 n d = refuse_if (is_past (n + 1)) Overflow None
+  fault_of types.large_utf8 n d = refuse_if (is_past (n + 1)) Overflow None
+  fault_of (types.fixed_size_binary s) n d = refuse_if (nat_eq s 0) (OutOfSpec spec.ZeroSize) (refuse_if (is_past (n * s)) Overflow None)
+  fault_of (types.list f) n d = refuse_if (is_past (n + 1)) Overflow (field_fault f 0 0)
+  fault_of (types.large_list f) n d = refuse_if (is_past (n + 1)) Overflow (field_fault f 0 0)
+  fault_of (types.fixed_size_list f s) n d = refuse_if (nat_eq s 0) (OutOfSpec spec.ZeroSize) (refuse_if (is_past (n * s)) Overflow (field_fault f (n * s) d))
+  fault_of (types.map f b) n d = refuse_if (not (is_pair (field_type f))) (InvalidArgumentError argument.MapInner) (refuse_if (is_past (n + 1)) Overflow (field_fault f 0 0))
+  fault_of (types.struct fs) n d = refuse_if (nat_eq (count_fields fs) 0) (OutOfSpec spec.NoFields) (fields_fault fs n d)
   fault_of (types.union fs ids mode) n d =
-      refused (nat_lt 127 (count_fields fs)) (OutOfSpec spec.TooManyFields)
-      (refused (ids_count_differs ids (count_fields fs)) (OutOfSpec spec.IdCount)
-      (refused (has_bad_id ids) (OutOfSpec spec.IdRange)
-      (refused (nat_eq (count_fields fs) 0 && nat_lt 0 n) (OutOfSpec spec.UnionType)
-      (refused (is_dense_mode mode && nat_lt (2 ^ 31) n) Overflow
+      refuse_if (nat_lt 127 (count_fields fs)) (OutOfSpec spec.TooManyFields)
+      (refuse_if (ids_count_differs ids (count_fields fs)) (OutOfSpec spec.IdCount)
+      (refuse_if (has_bad_id ids) (OutOfSpec spec.IdRange)
+      (refuse_if (nat_eq (count_fields fs) 0 && nat_lt 0 n) (OutOfSpec spec.UnionType)
+      (refuse_if (is_dense_mode mode && nat_lt (2 ^ 31) n) Overflow
       (fields_fault fs n d)))))
   fault_of (types.dictionary k t b) n d = fault_of t d d
   fault_of (types.extension x t m) n d = fault_of t n d
@@ -99,7 +86,7 @@ abbrev mutual
 
   pub fields_fault : FieldTrees → ℕ → ℕ → Option Error
   fields_fault no_fields n d = None
-  fields_fault (more_fields f fs) n d = or_else (field_fault f n d) (fields_fault fs n d)
+  fields_fault (more_fields f fs) n d = first_of (field_fault f n d) (fields_fault fs n d)
 
 -- the first fault of an array of n null slots, and of an empty one
 abbrev pub type_fault : TypeTree → ℕ → Option Error

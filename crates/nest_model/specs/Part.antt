@@ -22,12 +22,9 @@ begin os i = get_or os i 0
 abbrev pub extent : List ℕ → ℕ → ℕ
 extent os i = get_or os (i + 1) 0 - get_or os i 0
 
--- Variable-size List Layout: one offset more than slots; where the last slot ends
+-- Variable-size List Layout: one offset more than slots
 abbrev pub rows : List ℕ → ℕ
 rows os = length os - 1
-
-abbrev pub last_offset : List ℕ → ℕ
-last_offset os = get_or os (length os - 1) 0
 
 -- the place that an offset or a key names
 abbrev pub place : ℤ → ℕ

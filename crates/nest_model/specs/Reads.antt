@@ -5,7 +5,8 @@ use Rattle.std.proofs.lemmas.List.Elements.{All-get_or}
 use Rattle.nest_memory.specs.TypeTree.{TypeTree}
 use Rattle.nest_memory.specs.TypeTree.{size_of, ids_of}
 use Rattle.nest_memory.specs.Cut.{cut}
-use Rattle.nest_model.specs.Part.{Validity, valid_at, rows, last_offset, begin, extent, place, field_named}
+use Rattle.nest_memory.specs.Rising.{last_of}
+use Rattle.nest_model.specs.Part.{Validity, valid_at, rows, begin, extent, place, field_named}
 use Rattle.nest_model.specs.Layout.{Layout, Layouts, fixed_size_list, list, map, struct, union, dictionary, no_layouts, more_layouts, layout_type, count_layouts}
 use Rattle.nest_model.specs.Slot as slots
 use Rattle.nest_model.specs.Slot.{Slot, Slots, seal}
@@ -34,7 +35,7 @@ slot-place a i d h = get_or-run (slot a) 0 (len a) i d h ∙ ap (slot a) (let e 
 pub items-cut : (c : Layout) (o n : ℕ) → o + n ≤ len c → run (slot c) o n ≡ cut (slots_of c) o n
 items-cut c o n h = ap (λ q. run (slot c) q n) (let e : o ≡ 0 + o = omega arith in e) ∙ sym (cut-run (slot c) 0 (len c) o n h)
 
-pub extent-fits : (os : List ℕ) (m i : ℕ) → AreOffsets os → last_offset os ≤ m → i < rows os → begin os i + extent os i ≤ m
+pub extent-fits : (os : List ℕ) (m i : ℕ) → AreOffsets os → last_of os ≤ m → i < rows os → begin os i + extent os i ≤ m
 extent-fits os m i h l k =
     let a = h.1 i (i + 1) (omega arith) (omega arith) in
     let b = h.1 (i + 1) (length os - 1) (omega arith) (omega arith) in

@@ -7,14 +7,15 @@ use Rattle.std.proofs.lemmas.Str.{IsUtf8-nil, IsUtf8-append, IsUtf8-between, IsC
 use Rattle.std.proofs.Math.Seq.{take-add}
 use Rattle.std.proofs.lemmas.List.{drop-take, drop-drop}
 use Rattle.nest_memory.specs.Cut.{cut}
-use Rattle.nest_model.specs.Part.{begin, extent, rows, last_offset}
+use Rattle.nest_memory.specs.Rising.{last_of}
+use Rattle.nest_model.specs.Part.{begin, extent, rows}
 use Rattle.nest_model.specs.Fits.{EachText}
 use Rattle.nest_model.specs.Array.{AreOffsets}
 use Rattle.nest_model.specs.Runs.{cut-cut, length-cut}
 
 -- the bytes that the offsets cover
 abbrev pub covered : List ℕ → List ℕ → List ℕ
-covered os bs = cut bs (begin os 0) (last_offset os - begin os 0)
+covered os bs = cut bs (begin os 0) (last_of os - begin os 0)
 
 -- they are UTF-8, and each offset is a place between two characters
 abbrev pub WholeText : List ℕ → List ℕ → Type 0
@@ -30,7 +31,7 @@ slot-covered os bs i h k =
     let e : get_or os (i + 1) 0 - begin os 0 - (get_or os i 0 - begin os 0) ≡ extent os i = omega arith in
     let p : begin os 0 + (get_or os i 0 - begin os 0) ≡ begin os i = omega arith in
     ap (λ n. take n (drop (get_or os i 0 - begin os 0) (covered os bs))) e
-    ∙ cut-cut bs (begin os 0) (last_offset os - begin os 0) (get_or os i 0 - begin os 0) (extent os i) (omega arith)
+    ∙ cut-cut bs (begin os 0) (last_of os - begin os 0) (get_or os i 0 - begin os 0) (extent os i) (omega arith)
     ∙ ap (λ o. cut bs o (extent os i)) p
 
 pub whole-each : (os bs : List ℕ) → AreOffsets os → WholeText os bs → EachText os bs
@@ -43,7 +44,7 @@ whole-each os bs h w i k =
 
 -- from offset i on
 after : List ℕ → List ℕ → ℕ → List ℕ
-after os bs i = cut bs (get_or os i 0) (last_offset os - get_or os i 0)
+after os bs i = cut bs (get_or os i 0) (last_of os - get_or os i 0)
 
 cut-joined : (bs : List ℕ) (o n m : ℕ) → cut bs o (n + m) ≡ cut bs o n ++ cut bs (o + n) m
 cut-joined bs o n m = take-add n m (drop o bs) ∙ ap (λ r. take n (drop o bs) ++ take m r) (drop-drop n o bs)
@@ -54,9 +55,9 @@ after-joined os bs i h k =
     let a = h.1 i (i + 1) (omega arith) (omega arith) in
     let b = h.1 (i + 1) (length os - 1) (omega arith) (omega arith) in
     let p : begin os i + extent os i ≡ get_or os (i + 1) 0 = omega arith in
-    let q : extent os i + (last_offset os - get_or os (i + 1) 0) ≡ last_offset os - get_or os i 0 = omega arith in
-    ap (λ o. cut bs (begin os i) (extent os i) ++ cut bs o (last_offset os - get_or os (i + 1) 0)) (sym p)
-    ∙ sym (cut-joined bs (begin os i) (extent os i) (last_offset os - get_or os (i + 1) 0))
+    let q : extent os i + (last_of os - get_or os (i + 1) 0) ≡ last_of os - get_or os i 0 = omega arith in
+    ap (λ o. cut bs (begin os i) (extent os i) ++ cut bs o (last_of os - get_or os (i + 1) 0)) (sym p)
+    ∙ sym (cut-joined bs (begin os i) (extent os i) (last_of os - get_or os (i + 1) 0))
     ∙ ap (cut bs (begin os i)) q
 
 text-after : (os bs : List ℕ) (n i : ℕ) → AreOffsets os → EachText os bs → i + n + 1 ≡ length os → IsUtf8 (after os bs i)
@@ -64,7 +65,7 @@ unfolding after
 text-after os bs zero i h t e =
     let p : i ≡ length os - 1 = omega arith in
     let q = ap (λ j. get_or os j 0) p in
-    let z : 0 ≡ last_offset os - get_or os i 0 = omega arith in
+    let z : 0 ≡ last_of os - get_or os i 0 = omega arith in
     subst (λ n. IsUtf8 (take n (drop (get_or os i 0) bs))) z IsUtf8-nil
 text-after os bs (suc n) i h t e =
     let k : i < rows os = omega arith in
@@ -76,17 +77,17 @@ after-covered os bs i h k =
     let a = h.1 0 i (omega arith) k in
     let b = h.1 i (length os - 1) (omega arith) (omega arith) in
     let p : begin os 0 + (get_or os i 0 - begin os 0) ≡ get_or os i 0 = omega arith in
-    let q : last_offset os - begin os 0 ≡ (get_or os i 0 - begin os 0) + (last_offset os - get_or os i 0) = omega arith in
+    let q : last_of os - begin os 0 ≡ (get_or os i 0 - begin os 0) + (last_of os - get_or os i 0) = omega arith in
     sym (ap (λ n. drop (get_or os i 0 - begin os 0) (take n (drop (begin os 0) bs))) q
-    ∙ drop-take (get_or os i 0 - begin os 0) (last_offset os - get_or os i 0) (drop (begin os 0) bs)
-    ∙ ap (take (last_offset os - get_or os i 0)) (drop-drop (get_or os i 0 - begin os 0) (begin os 0) bs)
-    ∙ ap (λ o. cut bs o (last_offset os - get_or os i 0)) p)
+    ∙ drop-take (get_or os i 0 - begin os 0) (last_of os - get_or os i 0) (drop (begin os 0) bs)
+    ∙ ap (take (last_of os - get_or os i 0)) (drop-drop (get_or os i 0 - begin os 0) (begin os 0) bs)
+    ∙ ap (λ o. cut bs o (last_of os - get_or os i 0)) p)
 
-pub each-whole : (os bs : List ℕ) → AreOffsets os → last_offset os ≤ length bs → EachText os bs → WholeText os bs
+pub each-whole : (os bs : List ℕ) → AreOffsets os → last_of os ≤ length bs → EachText os bs → WholeText os bs
 unfolding after
 each-whole os bs h l t =
     let m = h.1 0 (length os - 1) (omega arith) (let z = h.0 in omega arith) in
-    let e = length-cut bs (begin os 0) (last_offset os - begin os 0) (omega arith) in
+    let e = length-cut bs (begin os 0) (last_of os - begin os 0) (omega arith) in
     let z = h.0 in (
       text-after os bs (length os - 1) 0 h t (omega arith),
       λ i k.
@@ -97,5 +98,5 @@ each-whole os bs h l t =
     )
 
 -- both ways
-pub text-whole : (os bs : List ℕ) → AreOffsets os → last_offset os ≤ length bs → EachText os bs ↔ WholeText os bs
+pub text-whole : (os bs : List ℕ) → AreOffsets os → last_of os ≤ length bs → EachText os bs ↔ WholeText os bs
 text-whole os bs h l = (each-whole os bs h l, whole-each os bs h)

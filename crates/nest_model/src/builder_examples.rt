@@ -1,13 +1,9 @@
 //! Worked examples of builders.
 
-ghost use Rattle.std.specs.Prelude.{◌≡◌, ℕ, ◌-◌, ◌^◌, pos, true, false, List, [], ◌∷◌, length, Some, None};
+ghost use Rattle.std.specs.Prelude.{◌≡◌, ◌-◌, false, [], ◌∷◌, Some, None};
 ghost use Rattle.nest_memory.specs.TypeTree as types;
 ghost use Rattle.nest_memory.specs.declared.datatypes.IntegerType.TheVariants as integers;
-ghost use Rattle.nest_memory.specs.declared.datatypes.physical_type.PrimitiveType.TheVariants as primitives;
-ghost use Rattle.nest_memory.specs.declared.error.Error.TheVariants.{InvalidArgumentError, Overflow};
-ghost use Rattle.nest_memory.specs.declared.error.Argument.TheVariants.{ItemSize, ItemType, Unfinished, LengthsSum};
 ghost use Rattle.nest_model.specs.Slot as slots;
-ghost use Rattle.nest_model.specs.Slot.{Slot};
 ghost use Rattle.nest_model.specs.Examples.{number, numbers, list_slot, record_slot};
 ghost use Rattle.nest_model.specs.BuilderTree as builders;
 ghost use Rattle.nest_model.specs.BuilderTree.{builder_len};
@@ -15,8 +11,7 @@ ghost use Rattle.nest_model.specs.BuilderLevels.{own_slots, levels, rows_needed}
 ghost use Rattle.nest_model.specs.BuilderWhole.{IsWhole, cut_builder, emptied};
 ghost use Rattle.nest_model.specs.BuilderItem as items;
 ghost use Rattle.nest_model.specs.BuilderAppend.{told, told_lengths, appended, all_appended};
-ghost use Rattle.nest_model.specs.BuilderCauses.{HasCause, HasRowCause, HasLengthsCause};
-ghost use Rattle.nest_model.specs.BuilderExamples.{an_int, some_ints, items_of, a_text, text_slot, no_ints, no_lists, no_pairs, no_texts, no_records, short_keys, in_child, with_record, lists_of_records, three_pending, records_with_a_null, letters, full_dictionary};
+ghost use Rattle.nest_model.specs.BuilderExamples.{an_int, some_ints, items_of, a_text, text_slot, no_ints, no_pairs, no_records, short_keys, with_record, lists_of_records, three_pending, records_with_a_null, letters, full_dictionary};
 
 /// Lists of records of a dictionary: each level, with one value for two equal texts.
 pub fn dictionary_in_records_in_lists()
@@ -31,12 +26,9 @@ pub fn dictionary_in_records_in_lists()
     ensures emptied { cut_builder lists_of_records 0 ≡ emptied lists_of_records }
 {}
 
-/// Rows of a fixed-size list: two items make one, no other number does.
+/// Rows of a fixed-size list: two items make one, and a null one has two nulls below.
 pub fn pairs()
     ensures two { levels (appended (items_of (some_ints (5 ∷ 6 ∷ []))) no_pairs) ≡ (numbers (5 ∷ 6 ∷ []) ∷ []) ∷ (number 5 ∷ number 6 ∷ []) ∷ [] }
-    ensures four { HasCause (InvalidArgumentError ItemSize) no_pairs (items_of (some_ints (1 ∷ 2 ∷ 3 ∷ 4 ∷ []))) }
-    ensures nothing { HasCause (InvalidArgumentError ItemSize) no_pairs (items_of []) }
-    ensures at_a_level_below { HasCause (InvalidArgumentError ItemSize) (no_lists no_pairs) (items_of (items_of (some_ints (1 ∷ 2 ∷ [])) ∷ items_of (some_ints (3 ∷ [])) ∷ [])) }
     ensures null_row { levels (appended items.null no_pairs) ≡ (slots.null ∷ []) ∷ (slots.null ∷ slots.null ∷ []) ∷ [] }
 {}
 
@@ -45,10 +37,7 @@ pub fn rows_over_waiting_items()
     ensures by_lengths { own_slots (told_lengths (Some 2 ∷ None ∷ Some 1 ∷ []) three_pending) ≡ numbers (1 ∷ 2 ∷ []) ∷ slots.null ∷ numbers (3 ∷ []) ∷ [] }
     ensures child_stays { levels (told_lengths (Some 2 ∷ None ∷ Some 1 ∷ []) three_pending)
         ≡ (numbers (1 ∷ 2 ∷ []) ∷ slots.null ∷ numbers (3 ∷ []) ∷ []) ∷ (number 1 ∷ number 2 ∷ number 3 ∷ []) ∷ [] }
-    ensures another_sum { HasLengthsCause (InvalidArgumentError LengthsSum) (Some 2 ∷ []) three_pending }
     ensures under_a_null { levels (told false three_pending) ≡ (slots.null ∷ []) ∷ (number 1 ∷ number 2 ∷ number 3 ∷ []) ∷ [] }
-    ensures too_many_for_a_pair { HasRowCause (InvalidArgumentError ItemSize) (in_child (all_appended (some_ints (1 ∷ 2 ∷ 3 ∷ 4 ∷ []))) no_pairs) }
-    ensures too_few_for_a_pair { HasRowCause (InvalidArgumentError Unfinished) (in_child (appended (an_int 1)) no_pairs) }
 {}
 
 /// A dictionary keeps each value once, in order of first acceptance; a null has no value.
@@ -57,16 +46,13 @@ pub fn values_of_a_dictionary()
     ensures slots { own_slots letters ≡ text_slot 65 ∷ text_slot 66 ∷ slots.null ∷ text_slot 67 ∷ [] }
     ensures again { levels (appended (a_text 66) letters)
         ≡ (text_slot 65 ∷ text_slot 66 ∷ slots.null ∷ text_slot 67 ∷ text_slot 66 ∷ []) ∷ (text_slot 65 ∷ text_slot 66 ∷ text_slot 67 ∷ []) ∷ [] }
-    ensures full { HasCause Overflow full_dictionary (an_int 128) }
     ensures known { builder_len (appended (an_int 127) full_dictionary) ≡ 129 }
-    ensures another_kind { HasCause (InvalidArgumentError ItemType) letters (an_int 1) }
 {}
 
-/// Records: under a null row the child has a null too, and a row is told once each child has its own.
+/// Records: under a null row the child has a null too.
 pub fn records()
     ensures slots { levels records_with_a_null ≡ (record_slot (number 1 ∷ []) ∷ slots.null ∷ record_slot (number 2 ∷ []) ∷ []) ∷ (number 1 ∷ slots.null ∷ number 2 ∷ []) ∷ [] }
     ensures null_row { appended items.null (no_records no_ints) ≡ with_record false items.null (no_records no_ints) }
-    ensures untold { HasRowCause (InvalidArgumentError Unfinished) (no_records no_ints) }
 {}
 
 /// First rows keep what they need below them, and no more.
@@ -77,12 +63,8 @@ pub fn first_rows()
     ensures of_records { levels (cut_builder records_with_a_null 2) ≡ (record_slot (number 1 ∷ []) ∷ slots.null ∷ []) ∷ (number 1 ∷ slots.null ∷ []) ∷ [] }
 {}
 
-/// A null list adds no item; a value that isn't taken, and a builder of no more length.
-pub fn nulls_and_refusals()
+/// A null list adds no item.
+pub fn null_lists()
     ensures null_list { levels (appended items.null (told_lengths (Some 2 ∷ None ∷ Some 1 ∷ []) three_pending))
         ≡ (numbers (1 ∷ 2 ∷ []) ∷ slots.null ∷ numbers (3 ∷ []) ∷ slots.null ∷ []) ∷ (number 1 ∷ number 2 ∷ number 3 ∷ []) ∷ [] }
-    ensures text_for_numbers { HasCause (InvalidArgumentError ItemType) no_ints (a_text 120) }
-    ensures another_number { HasCause (InvalidArgumentError ItemType) no_ints (items.plain (items.native primitives.Int64 (pos 7 ∷ []))) }
-    ensures value_for_a_list { HasCause (InvalidArgumentError ItemType) (no_lists no_ints) (an_int 1) }
-    ensures longest { (xs : List Slot) → length xs ≡ 2 ^ 64 - 1 → HasCause Overflow (builders.flat types.null xs) items.null }
 {}

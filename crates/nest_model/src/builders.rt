@@ -1,20 +1,18 @@
 //! Laws of builders.
 
-ghost use Rattle.std.specs.Prelude.{◌≡◌, ◌⊎◌, ℕ, ◌+◌, ◌≤◌, ℤ, Bool, true, List, [], ◌∷◌, ◌++◌, length, map, replicate, Option, Some};
+ghost use Rattle.std.specs.Prelude.{◌≡◌, ℕ, ◌+◌, ◌≤◌, ℤ, Bool, true, List, [], ◌∷◌, ◌++◌, length, map, replicate, Option, Some};
 ghost use Rattle.nest_memory.specs.TypeTree.{TypeTree, size_of};
 ghost use Rattle.nest_memory.specs.declared.datatypes.IntegerType.{IntegerType};
 ghost use Rattle.nest_memory.specs.declared.datatypes.physical_type.PrimitiveType.{PrimitiveType};
-ghost use Rattle.nest_memory.specs.declared.error.Error.{Error};
 ghost use Rattle.nest_model.specs.BuilderRow.{Row, end_from};
 ghost use Rattle.nest_model.specs.BuilderTree as builders;
 ghost use Rattle.nest_model.specs.BuilderTree.{BuilderTree, BuilderTrees, builder_len, builder_type};
 ghost use Rattle.nest_model.specs.BuilderLevels.{own_slots, levels, levels_below, rows_needed, cut_levels};
 ghost use Rattle.nest_model.specs.BuilderWhole.{IsWhole, cut_builder, emptied, ValuesDiffer};
 ghost use Rattle.nest_model.specs.BuilderItem as items;
-ghost use Rattle.nest_model.specs.BuilderItem.{PlainValue, Item, seal_items, native_number, takes, Stands, Lacks, place_of};
-ghost use Rattle.nest_model.specs.BuilderAppend.{told, told_lengths, appended, nulls_appended, all_appended, Accepted, AcceptedAll, IsReady, Told, ToldLengths};
+ghost use Rattle.nest_model.specs.BuilderItem.{PlainValue, Item, native_number, takes, Stands, Lacks, place_of};
+ghost use Rattle.nest_model.specs.BuilderAppend.{told, told_lengths, items_told, appended, nulls_appended, all_appended, Accepted, AcceptedAll, IsReady, Told, ToldLengths};
 ghost use Rattle.nest_model.specs.BuilderJoin.{AreAlike, joined, Joined};
-ghost use Rattle.nest_model.specs.BuilderCauses.{NullsPass, HasCause, SomeCause, HasNoCause, HaveNoCause, items_told};
 
 /// A builder has as many slots of its own as rows.
 pub fn own_count()
@@ -67,26 +65,14 @@ pub fn accepted_null()
     ensures { (t : BuilderTree) → IsWhole t → Accepted items.null t (appended items.null t) }
 {}
 
-/// What nothing refuses is appended rightly, to a builder of any nesting.
-pub fn accepted_without_cause()
-    ensures { (x : Item) (t : BuilderTree) → IsWhole t → HasNoCause t x → Accepted x t (appended x t) }
-{}
-
 /// No call changes a builder's data type.
 pub fn appending_keeps_type()
     ensures { (x : Item) (t : BuilderTree) → builder_type (appended x t) ≡ builder_type t }
 {}
 
-/// Nulls that follow nulls are nulls together, and pass a limit where the ones or the others do.
+/// Nulls that follow nulls are nulls together.
 pub fn nulls_in_order()
-    ensures together { (t : BuilderTree) (m n : ℕ) → nulls_appended n (nulls_appended m t) ≡ nulls_appended (m + n) t }
-    ensures first_or_after { (t : BuilderTree) (m n : ℕ) → NullsPass (m + n) t → NullsPass m t ⊎ NullsPass n (nulls_appended m t) }
-    ensures after { (t : BuilderTree) (m n : ℕ) → NullsPass n (nulls_appended m t) → NullsPass (m + n) t }
-{}
-
-/// The first refused of several items is the cause of the list that they make.
-pub fn first_refused_item()
-    ensures { (e : Error) (xs ys : List Item) (x : Item) (t : BuilderTree) → HaveNoCause t xs → HasCause e (all_appended xs t) x → SomeCause e t (seal_items (xs ++ x ∷ ys)) }
+    ensures { (t : BuilderTree) (m n : ℕ) → nulls_appended n (nulls_appended m t) ≡ nulls_appended (m + n) t }
 {}
 
 /// A row told over items that make it adds its slot, and keeps the levels below.

@@ -1,6 +1,6 @@
 //! Worked examples: the slots that arrays stand for.
 
-ghost use Rattle.std.specs.Prelude.{◌≡◌, ◌≢◌, ◌+◌, ◌-◌, ◌^◌, ℕ, ℤ, pos, negsuc, true, false, map, List, [], ◌∷◌, Some, None};
+ghost use Rattle.std.specs.Prelude.{◌≡◌, ◌≢◌, ◌-◌, ◌^◌, pos, negsuc, true, false, map, [], ◌∷◌, Some, None};
 ghost use Rattle.nest_memory.specs.declared.datatypes.UnionMode.TheVariants as modes;
 ghost use Rattle.nest_memory.specs.declared.datatypes.physical_type.PrimitiveType.TheVariants as primitives;
 ghost use Rattle.nest_memory.specs.TypeTree as types;
@@ -15,7 +15,7 @@ ghost use Rattle.nest_model.specs.Nullness.{is_null_at, null_count};
 ghost use Rattle.nest_model.specs.SameArray.{IsSameArray};
 ghost use Rattle.nest_model.specs.Chosen.{chosen, mask_places};
 ghost use Rattle.nest_model.specs.Fits.{Fits};
-ghost use Rattle.nest_model.specs.Examples.{text_dictionary, ints, texts, dictionaries, both, number, list_slot, record_slot, numbers, small_lists, deep_lists, small_map, structs, with_ids, eleven_types, in_turn, seven_of, one_row, first_twice, keys_of_keys, one_number, dense_of, one_id, null_text, null_over_items, null_over_nothing, five_by, pairs, two_bytes, greetings, accented, map_over, one_entry, short_keys};
+ghost use Rattle.nest_model.specs.Examples.{ints, texts, dictionaries, number, list_slot, record_slot, numbers, small_lists, deep_lists, small_map, structs, with_ids, eleven_types, in_turn, seven_of, one_row, first_twice, keys_of_keys, one_number, dense_of, one_id, null_text, null_over_items, null_over_nothing, five_by, pairs, two_bytes, greetings, accented, map_over, one_entry, short_keys};
 
 /// A list whose second row is empty, and ranges of its child by offsets that begin later or end earlier.
 pub fn lists_of_numbers()

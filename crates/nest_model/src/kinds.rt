@@ -1,6 +1,6 @@
 //! What a slot of each nested kind is, in the children's lists of slots.
 
-ghost use Rattle.std.specs.Prelude.{◌≡◌, ℕ, ◌+◌, ◌*◌, ◌<◌, ℤ, pos, Bool, List, map, length, get_or, Option, Some};
+ghost use Rattle.std.specs.Prelude.{◌≡◌, ℕ, ◌*◌, ◌<◌, ℤ, Bool, List, map, length, get_or, Option};
 ghost use Rattle.nest_memory.specs.declared.datatypes.physical_type.PrimitiveType.{PrimitiveType};
 ghost use Rattle.nest_memory.specs.TypeTree.{TypeTree, size_of};
 ghost use Rattle.nest_memory.specs.Cut.{cut};

@@ -1,6 +1,6 @@
 //! Worked examples: null and empty arrays of data types.
 
-ghost use Rattle.std.specs.Prelude.{◌≡◌, ◌+◌, ◌-◌, ◌^◌, ℕ, pos, true, false, List, [], ◌∷◌, replicate, Some, None};
+ghost use Rattle.std.specs.Prelude.{◌≡◌, ◌+◌, ◌-◌, ◌^◌, pos, false, [], ◌∷◌, Some, None};
 ghost use Rattle.nest_memory.specs.declared.datatypes.IntegerType.TheVariants as integers;
 ghost use Rattle.nest_memory.specs.declared.datatypes.UnionMode.TheVariants as modes;
 ghost use Rattle.nest_memory.specs.declared.error.Spec.TheVariants as spec;
@@ -8,7 +8,6 @@ ghost use Rattle.nest_memory.specs.declared.error.Argument.TheVariants as argume
 ghost use Rattle.nest_memory.specs.declared.error.Error.TheVariants.{OutOfSpec, InvalidArgumentError, Overflow, NotYetImplemented};
 ghost use Rattle.nest_memory.specs.TypeTree as types;
 ghost use Rattle.nest_model.specs.Slot as slots;
-ghost use Rattle.nest_model.specs.Layout.{layout_type};
 ghost use Rattle.nest_model.specs.Accessors.{types_of, natives_of, union_offsets_of, keys_of, child_of};
 ghost use Rattle.nest_model.specs.Meaning.{len, slots_of};
 ghost use Rattle.nest_model.specs.Nullness.{null_count};

@@ -1,6 +1,6 @@
 //! Worked examples: which parts make an array, and how the others are refused.
 
-ghost use Rattle.std.specs.Prelude.{◌≡◌, ◌+◌, ◌-◌, ◌^◌, ℤ, pos, negsuc, true, false, List, [], ◌∷◌, replicate, Some, None};
+ghost use Rattle.std.specs.Prelude.{◌-◌, ◌^◌, pos, negsuc, true, false, [], ◌∷◌, replicate, Some, None};
 ghost use Rattle.nest_memory.specs.declared.datatypes.IntegerType.TheVariants as integers;
 ghost use Rattle.nest_memory.specs.declared.datatypes.UnionMode.TheVariants as modes;
 ghost use Rattle.nest_memory.specs.declared.datatypes.physical_type.PrimitiveType.TheVariants as primitives;
@@ -12,7 +12,7 @@ ghost use Rattle.nest_model.specs.Layout as layouts;
 ghost use Rattle.nest_model.specs.Layout.{more_layouts, no_layouts};
 ghost use Rattle.nest_model.specs.Checks.{Pass};
 ghost use Rattle.nest_model.specs.Fits.{Fits, FirstFault, validity_checks, ValidityFault};
-ghost use Rattle.nest_model.specs.Examples.{a_field, two_fields, list_type, ints, texts, lists, both, small_lists, deep_lists, structs, with_ids, eleven_types, in_turn, null_keys, dense_of, five_by, pairs, accented, three_ints, two_texts, number_and_text, map_over, one_entry, extended, short_keys, x_by, short_child, one_number, of_fields, six};
+ghost use Rattle.nest_model.specs.Examples.{a_field, two_fields, list_type, ints, lists, both, small_lists, with_ids, eleven_types, in_turn, null_keys, dense_of, five_by, pairs, accented, three_ints, two_texts, number_and_text, map_over, one_entry, extended, short_keys, x_by, short_child, one_number, of_fields, six};
 
 /// Offsets may end before the child does, not past it; the child has the item type.
 pub fn lists_refused()
@@ -83,6 +83,7 @@ pub fn unions_refused()
     ensures negative_offset { FirstFault (OutOfSpec spec.UnionSlot) (one_number modes.Dense None (pos 0 ∷ []) (Some (negsuc 0 ∷ []))) }
     ensures negative_type { FirstFault (OutOfSpec spec.UnionType) (one_number modes.Sparse None (negsuc 0 ∷ []) None) }
     ensures offsets_for_sparse { FirstFault (OutOfSpec spec.UnionMode) (one_number modes.Sparse None (pos 0 ∷ []) (Some (pos 0 ∷ []))) }
+    ensures count_first { FirstFault (OutOfSpec spec.OffsetCount) (one_number modes.Sparse None (pos 0 ∷ []) (Some [])) }
     ensures none_for_dense { FirstFault (OutOfSpec spec.UnionMode) (one_number modes.Dense None (pos 0 ∷ []) None) }
     ensures another_count { FirstFault (OutOfSpec spec.OffsetCount) (one_number modes.Dense None (pos 0 ∷ []) (Some [])) }
     ensures past_its_field { FirstFault (OutOfSpec spec.UnionSlot) (dense_of 1) }

@@ -1,11 +1,11 @@
 //! Arrays in arrays by their worked slots. A failed `expect` ends the test, and what has a data type is let go in generic
 //! helpers and by `drop`, which keeps the proofs short.
 mod kinds;
-mod lists;
+pub(crate) mod lists;
 mod memory;
 mod reads;
-mod sizes;
-mod structs;
+pub(crate) mod sizes;
+pub(crate) mod structs;
 mod windows;
 
 use nest_array::{AnyArray, ListArray};
@@ -21,18 +21,24 @@ use nest_memory::offsets::OffsetsBuffer;
 use std::alloc::Global;
 
 /// Both values, or the first refusal.
-fn both<A: Drop, B: Drop>(a: Result<A, Error>, b: Result<B, Error>) -> Result<(A, B), Error> {
+pub(crate) fn both<A: Drop, B: Drop>(
+    a: Result<A, Error>,
+    b: Result<B, Error>,
+) -> Result<(A, B), Error> {
     Ok((a?, b?))
 }
 
 /// Whether both were made and are equal; both are let go.
-fn are_same<A: PartialEq + Drop>(x: Result<A, Error>, y: Result<A, Error>) -> Result<bool, Error> {
+pub(crate) fn are_same<A: PartialEq + Drop>(
+    x: Result<A, Error>,
+    y: Result<A, Error>,
+) -> Result<bool, Error> {
     let (x, y) = both(x, y)?;
     Ok(x == y)
 }
 
 /// Both items, or the first refusal.
-fn two<T: Drop>(
+pub(crate) fn two<T: Drop>(
     alloc: Global,
     first: Result<T, Error>,
     second: Result<T, Error>,
@@ -43,23 +49,26 @@ fn two<T: Drop>(
     Ok(items)
 }
 
-fn buffer<T: Copy + Drop>(alloc: Global, items: &[T]) -> Result<Buffer<T>, Error> {
+pub(crate) fn buffer<T: Copy + Drop>(alloc: Global, items: &[T]) -> Result<Buffer<T>, Error> {
     Buffer::from_vec(alloc, Vec::from_slice(alloc, items)?)
 }
 
-fn offsets_of<O: Offset>(alloc: Global, offsets: &[O]) -> Result<OffsetsBuffer<O>, Error> {
+pub(crate) fn offsets_of<O: Offset>(
+    alloc: Global,
+    offsets: &[O],
+) -> Result<OffsetsBuffer<O>, Error> {
     OffsetsBuffer::try_new(alloc, Vec::from_slice(alloc, offsets)?)
 }
 
 /// The validity of these bits.
-fn validity(alloc: Global, bits: Option<&[bool]>) -> Result<Option<Bitmap>, Error> {
+pub(crate) fn validity(alloc: Global, bits: Option<&[bool]>) -> Result<Option<Bitmap>, Error> {
     match bits {
         None => Ok(None),
         Some(bits) => Ok(Some(Bitmap::from_bools(alloc, bits)?)),
     }
 }
 
-fn int32s(
+pub(crate) fn int32s(
     alloc: Global,
     items: &[i32],
     bits: Option<&[bool]>,
@@ -70,7 +79,7 @@ fn int32s(
     }
 }
 
-fn truths(alloc: Global, items: &[bool]) -> Result<BooleanArray, Error> {
+pub(crate) fn truths(alloc: Global, items: &[bool]) -> Result<BooleanArray, Error> {
     match Bitmap::from_bools(alloc, items) {
         Ok(values) => BooleanArray::try_new(DataType::Boolean, values, None),
         Err(error) => Err(error),
@@ -78,12 +87,12 @@ fn truths(alloc: Global, items: &[bool]) -> Result<BooleanArray, Error> {
 }
 
 /// Numbers of 32 bits as an array of any kind.
-fn numbers(alloc: Global, items: &[i32]) -> Result<AnyArray, Error> {
+pub(crate) fn numbers(alloc: Global, items: &[i32]) -> Result<AnyArray, Error> {
     int32s(alloc, items, None).map(|array| AnyArray::Primitive(i32::wrap(array)))
 }
 
 /// Whether an array was made and has these numbers of 32 bits; it is let go.
-fn has_numbers(array: Result<AnyArray, Error>, items: &[i32]) -> bool {
+pub(crate) fn has_numbers(array: Result<AnyArray, Error>, items: &[i32]) -> bool {
     match array {
         Ok(array) => {
             let same = is_numbers(&array, items);
@@ -94,7 +103,7 @@ fn has_numbers(array: Result<AnyArray, Error>, items: &[i32]) -> bool {
     }
 }
 
-fn is_numbers(array: &AnyArray, items: &[i32]) -> bool {
+pub(crate) fn is_numbers(array: &AnyArray, items: &[i32]) -> bool {
     match array {
         AnyArray::Primitive(AnyPrimitive::Int32(array)) => *array.values().as_slice() == *items,
         _ => false,
@@ -102,7 +111,7 @@ fn is_numbers(array: &AnyArray, items: &[i32]) -> bool {
 }
 
 /// A copy of an array's data type.
-fn type_of(alloc: Global, array: &Result<AnyArray, Error>) -> Result<DataType, Error> {
+pub(crate) fn type_of(alloc: Global, array: &Result<AnyArray, Error>) -> Result<DataType, Error> {
     match array {
         Ok(array) => array.data_type().clone(alloc),
         Err(error) => Err(*error),
@@ -110,7 +119,7 @@ fn type_of(alloc: Global, array: &Result<AnyArray, Error>) -> Result<DataType, E
 }
 
 /// Lists under this type.
-fn lists_under(
+pub(crate) fn lists_under(
     alloc: Global,
     data_type: Result<DataType, Error>,
     items: Result<AnyArray, Error>,
@@ -127,11 +136,11 @@ fn lists_under(
 }
 
 /// The type of lists of such items.
-fn list_type(alloc: Global, items: Result<DataType, Error>) -> Result<DataType, Error> {
+pub(crate) fn list_type(alloc: Global, items: Result<DataType, Error>) -> Result<DataType, Error> {
     items.and_then(|items| ListArray::default_datatype(alloc, items))
 }
 
-fn list_array(
+pub(crate) fn list_array(
     alloc: Global,
     items: Result<AnyArray, Error>,
     offsets: &[i32],
@@ -142,12 +151,12 @@ fn list_array(
 }
 
 /// An array of lists as one of any kind.
-fn any_list(array: Result<ListArray, Error>) -> Result<AnyArray, Error> {
+pub(crate) fn any_list(array: Result<ListArray, Error>) -> Result<AnyArray, Error> {
     array.map(|array| array.boxed())
 }
 
 /// Lists of lists of the numbers from 1 to 10.
-fn lists_of_lists(alloc: Global) -> Result<ListArray, Error> {
+pub(crate) fn lists_of_lists(alloc: Global) -> Result<ListArray, Error> {
     let items = numbers(alloc, &[1, 2, 3, 4, 5, 6, 7, 8, 9, 10]);
     let inner = list_array(alloc, items, &[0, 2, 4, 7, 7, 8, 10], None);
     list_array(alloc, any_list(inner), &[0, 2, 5, 6], None)

@@ -1,13 +1,11 @@
 //! Arrays of byte strings by their worked rows. Values with a data type are let go by `drop`, which keeps the proofs short.
 
-use nest_array::FixedSizeBinaryArray;
-use nest_flat::binary::BinaryArray;
+use nest_array::{Array, FixedSizeBinaryArray};
 use nest_memory::bitmap::immutable::Bitmap;
 use nest_memory::buffer::Buffer;
 use nest_memory::datatypes::DataType;
 use nest_memory::datatypes::physical_type::PhysicalType;
 use nest_memory::error::{Error, Spec};
-use nest_memory::offsets::OffsetsBuffer;
 use std::alloc::Global;
 use std::test::Fail;
 
@@ -174,49 +172,4 @@ fn nulls_and_types_tell_arrays_apart(rt: HostRuntime) -> Result<(), Fail> {
     assert!(rt; !is_same(&array, extended(rt.alloc(), &array)));
     drop(array);
     Ok(())
-}
-
-/// An array of bytes with these offsets and bits.
-fn binary(
-    alloc: Global,
-    bytes: &[u8],
-    offsets: &[i32],
-    bits: &[bool],
-) -> Result<BinaryArray<i32>, Error> {
-    let offsets = OffsetsBuffer::try_new(alloc, Vec::from_slice(alloc, offsets)?)?;
-    let values = bytes_of(alloc, bytes)?;
-    let validity = bits_of(alloc, Some(bits))?;
-    BinaryArray::try_new(DataType::Binary, offsets, values, validity)
-}
-
-fn are_same(x: &Result<BinaryArray<i32>, Error>, y: &Result<BinaryArray<i32>, Error>) -> bool {
-    match x {
-        Err(_) => false,
-        Ok(x) => match y {
-            Err(_) => false,
-            Ok(y) => x == y,
-        },
-    }
-}
-
-#[test]
-fn equal_arrays_have_equal_slots(rt: HostRuntime) {
-    let two = [true, false, false, true, false, false].as_slice();
-    let three = [true, true, false, true, false, false].as_slice();
-    let hello = binary(
-        rt.alloc(),
-        b"helloworld",
-        [0i32, 5, 5, 5, 10, 10, 10].as_slice(),
-        two,
-    );
-    let offsets = [0i32, 5, 8, 8, 13, 13, 13].as_slice();
-    let foo = binary(rt.alloc(), b"hellofooworld", offsets, three);
-    let under_null = binary(rt.alloc(), b"hellofooworld", offsets, two);
-    assert!(rt; are_same(&hello, &hello));
-    assert!(rt; are_same(&foo, &foo));
-    assert!(rt; !are_same(&hello, &foo));
-    assert!(rt; are_same(&hello, &under_null));
-    drop(hello);
-    drop(foo);
-    drop(under_null);
 }

@@ -1,11 +1,37 @@
 //! Tests of `nest_array`: its public calls, as a crate above sees them.
+//!
+//! | What the row shows | Test |
+//! |---|---|
+//! | Numbers from 1 to 5 by the offsets 0, 2, 2, 3, 5 are [1,2], [], [3], [4,5] | `rows::lists_of_numbers_item_by_item` |
+//! | Numbers from 1 to 10 in lists of lists, slot by slot, and equal to a copy that was built over other parts | `rows::lists_of_lists_item_by_item`, `rows::rebuilt_lists_of_lists_are_equal` |
+//! | Lists under the type of lists of numbers are refused for their child's type | `arrays::lists::children_of_their_type` |
+//! | Offsets 0, 2 over five numbers are one list, 0, 6 are past the child | `arrays::lists::offsets_within_the_child` |
+//! | Records {false,42}, {false,28}, null, {true,31}, equal whatever lies under the null | `rows::records_field_by_field`, `arrays::structs::numbers_under_a_null` |
+//! | Three nulls: each place is null, three are counted, and no validity is taken, `None` neither | `nulls::each_slot_is_null`, `arrays::sizes::nulls_take_no_validity` |
+//! | Pairs of 1 to 6 cut to the last two under a validity: null, [5,6]; under the null lies [3,4] | `arrays::sizes::cut_pairs_under_a_validity` |
+//! | The same under a validity that is too long: refused, nothing changed, and the array handed back | `arrays::sizes::long_validity_refused` |
+//! | Records of a number and a text over children in another order: their types; of two lengths, under a validity of a third: their lengths | `refusals::children_in_another_order_than_the_fields`, `refusals::children_of_two_lengths_before_the_validity` |
+//! | Each kind under the type of another, and no fields, or not as many as children | `refusals::lists_under_another_type`, `refusals::other_lists_under_the_type_of_lists`, `refusals::records_under_another_type`, `nulls::other_types_are_refused`, `arrays::structs::a_child_for_each_field` |
+//! | A cut to nothing at the end, of each kind | `arrays::kinds::flat_arrays_end_empty`, `arrays::kinds::nested_arrays_end_empty` |
+//! | Each call of the trait `Array` on each kind, the twelve natives one by one | `calls::native_arrays`, `calls::native_arrays_of_other_kinds`, `calls::flat_arrays`, `calls::nested_arrays`, `calls::null_arrays`, `calls::copies_are_in_their_variant` |
+//! | Clones, shared arrays and new validities are there where memory is | `copies::clones_are_equal`, `copies::arrays_are_shared`, `copies::lists_take_new_validities`, `copies::pairs_and_records_take_new_validities` |
+//! | What list types tell of their fields | `refusals::fields_of_list_types`, `refusals::fields_of_large_list_types` |
+//! | Windows over arrays and in windows | `arrays::windows::windows_in_windows`, `arrays::reads::lists_of_other_kinds_lend_their_items` |
 #![tactic(auto)]
 
 #[cfg(test)]
 mod arrays;
+#[cfg(test)]
+mod calls;
+#[cfg(test)]
+mod copies;
 #[cfg(test)]
 mod fixed_size_binaries;
 #[cfg(test)]
 mod generic_binaries;
 #[cfg(test)]
 mod nulls;
+#[cfg(test)]
+mod refusals;
+#[cfg(test)]
+mod rows;

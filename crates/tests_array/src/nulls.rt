@@ -1,6 +1,6 @@
 //! Arrays of nulls by their worked rows.
 
-use nest_array::null::NullArray;
+use nest_array::{Array, NullArray};
 use nest_memory::datatypes::DataType;
 use nest_memory::error::{Error, Spec};
 

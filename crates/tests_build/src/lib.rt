@@ -1,5 +1,16 @@
 //! Tests of `nest_build`: its public calls, as a crate above sees them.
+//!
+//! | What the row shows | Test |
+//! |---|---|
+//! | Pushed [1,null], null, [] is frozen to these slots, by the offsets 0, 2, 2, 2 | `lists::pushed_rows_are_the_slots` |
+//! | The same rows equal an array with a 5 under its null | `rows::pushed_rows_equal_an_array_with_a_number_under_a_null` |
+//! | Numbers of 64 bits from 1 to 5 by the offsets 0, 2, 2, 3, 5, and by 0, 2 and 0, 6 | `rows::four_lists_of_five_numbers`, `rows::offsets_within_and_past_the_numbers` |
+//! | Items wait until their row is told, and a builder with waiting items is not frozen | `lists::items_wait_for_their_row` |
+//! | A builder has no validity before its first null, its child neither | `rows::no_validity_before_the_first_null` |
+//! | Any one request for memory refused: no row is added, and a freeze empties | `lists::refused_rows_change_nothing` |
 #![tactic(auto)]
 
 #[cfg(test)]
 mod lists;
+#[cfg(test)]
+mod rows;

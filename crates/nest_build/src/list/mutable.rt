@@ -1,5 +1,5 @@
 //! The builder of arrays of lists.
-ghost use Rattle.std.specs.Prelude.{◌≡◌, ◌+◌, ◌≤◌, ◌<◌, ◌⊎◌, ◌↔◌, ◌++◌, ◌∷◌, [], false, true, map, IsTrue, OnOk, OnErr, IfOk, IfErr, IsErrOf, IsOkUnless, alloc_error, length, Some};
+ghost use Rattle.std.specs.Prelude.{◌≡◌, ◌+◌, ◌≤◌, ◌<◌, ◌⊎◌, ◌↔◌, ◌++◌, ◌∷◌, [], false, true, map, IsTrue, OnOk, OnErr, IfOk, IfErr, IsErrOf, IsOkUnless, alloc_error, length, Some, None};
 ghost use Rattle.std.specs.Borrow.{sem, Lends};
 ghost use Rattle.std.specs.Option.{option_copied};
 ghost use Rattle.nest_memory.specs.declared.error.Error.TheVariants.{Memory, Overflow, InvalidArgumentError};
@@ -8,15 +8,20 @@ ghost use Rattle.nest_memory.specs.declared.datatypes.physical_type.PhysicalType
 ghost use Rattle.nest_memory.specs.Physical.{physical_type};
 ghost use Rattle.nest_memory.specs.TypeTree as types;
 ghost use Rattle.nest_memory.specs.TypeTree.{item_type};
+ghost use Rattle.nest_memory.specs.Rising.{largest_offset};
 ghost use Rattle.nest_memory.specs.TypeOf.{type_of};
 ghost use Rattle.nest_model.specs.Layout.{layout_type};
 ghost use Rattle.nest_model.specs.Meaning.{slots_of};
+ghost use Rattle.nest_model.specs.BuilderRow.{RisesFrom};
 ghost use Rattle.nest_model.specs.BuilderTree as builders;
-ghost use Rattle.nest_model.specs.BuilderTree.{builder_type, builder_len, largest_offset};
+ghost use Rattle.nest_model.specs.BuilderTree.{builder_type, builder_len};
 ghost use Rattle.nest_model.specs.BuilderLevels.{own_slots};
 ghost use Rattle.nest_model.specs.BuilderWhole.{IsWhole, emptied};
 ghost use Rattle.nest_model.specs.BuilderItem.{null as null_item};
 ghost use Rattle.nest_model.specs.BuilderAppend.{told, pending_slot, Accepted, IsReady};
+ghost use Rattle.nest_model.specs.BuilderRefusals.{item_refusal};
+ghost use Rattle.nest_model.specs.BuilderRowChecks.{row_checks};
+ghost use Rattle.nest_model.specs.Checks.{Pass, FailFirst};
 ghost use Rattle.nest_build.specs.Items.{item_slot, row_item, row_slot, row_len};
 ghost use Rattle.nest_array.specs.Types.{default_list_type};
 
@@ -160,9 +165,11 @@ impl MutableListArray {
     pub fn try_push(&mut self, row: Option<&[Option<i64>]>) -> Result<(), Error>
         requires { IsWhole (tree_of self.old) }
         ensures accepted { OnOk result (Accepted (row_item (option_copied row.entry)) (tree_of self.old) (tree_of self.new)) }
+        ensures fits { OnOk result (item_refusal (row_item (option_copied row.entry)) (tree_of self.old) ≡ None) }
         ensures own { OnOk result (own_slots (tree_of self.new) ≡ own_slots (tree_of self.old) ++ row_slot (option_copied row.entry) ∷ []) }
         ensures items { OnOk result (item_count self.new ≡ item_count self.old + row_len (option_copied row.entry)) }
         ensures err { OnErr result (tree_of self.new ≡ tree_of self.old) }
+        ensures refused { IfErr result (λ e. (e ≡ Memory alloc_error) ⊎ (item_refusal (row_item (option_copied row.entry)) (tree_of self.old) ≡ Some e)) }
         ensures overflow { IsErrOf result Overflow ↔ (largest_offset false < item_count self.old + row_len (option_copied row.entry)) }
         ensures errors { IfErr result (λ e. (e ≡ Overflow) ⊎ (e ≡ Memory alloc_error)) }
     {
@@ -175,6 +182,7 @@ impl MutableListArray {
     fn push_null(&mut self) -> Result<(), Error>
         requires { IsWhole (tree_of self.old) }
         ensures accepted { OnOk result (Accepted null_item (tree_of self.old) (tree_of self.new)) }
+        ensures fits { OnOk result (item_refusal null_item (tree_of self.old) ≡ None) }
         ensures items { OnOk result (item_count self.new ≡ item_count self.old) }
         ensures err { OnErr result (tree_of self.new ≡ tree_of self.old) }
         ensures within { item_count self.old ≤ largest_offset false }
@@ -187,11 +195,14 @@ impl MutableListArray {
     fn push_items(&mut self, items: &[Option<i64>]) -> Result<(), Error>
         requires { IsWhole (tree_of self.old) }
         ensures accepted { OnOk result (Accepted (row_item (Some items.now)) (tree_of self.old) (tree_of self.new)) }
+        ensures fits { OnOk result (item_refusal (row_item (Some items.now)) (tree_of self.old) ≡ None) }
         ensures items { OnOk result (item_count self.new ≡ item_count self.old + length items.now) }
         ensures err { OnErr result (tree_of self.new ≡ tree_of self.old) }
+        ensures refused { IfErr result (λ e. (e ≡ Memory alloc_error) ⊎ (item_refusal (row_item (Some items.now)) (tree_of self.old) ≡ Some e)) }
         ensures overflow { IsErrOf result Overflow ↔ (largest_offset false < item_count self.old + length items.now) }
         ensures errors { IfErr result (λ e. (e ≡ Overflow) ⊎ (e ≡ Memory alloc_error)) }
     {
+        self.values.known();
         let end = self.values.len().saturating_add(items.len());
         if end > LARGEST_OFFSET {
             return Err(Error::Overflow);
@@ -204,10 +215,12 @@ impl MutableListArray {
         requires ends { end ≡ item_count self.old + length items.now }
         requires within { end ≤ largest_offset false }
         ensures accepted { OnOk result (Accepted (row_item (Some items.now)) (tree_of self.old) (tree_of self.new)) }
+        ensures fits { OnOk result (item_refusal (row_item (Some items.now)) (tree_of self.old) ≡ None) }
         ensures items { OnOk result (item_count self.new ≡ end) }
         ensures err { OnErr result (tree_of self.new ≡ tree_of self.old) }
         ensures memory { IsOkUnless result (Memory alloc_error) }
     {
+        self.values.known();
         let len = self.values.len();
         extend(&mut self.values, items)?;
         if let Err(error) = self.rows.push(true, end) {
@@ -225,7 +238,9 @@ impl MutableListArray {
     pub fn try_push_valid(&mut self) -> Result<(), Error>
         ensures ok { OnOk result (tree_of self.new ≡ told true (tree_of self.old)) }
         ensures own { OnOk result (own_slots (tree_of self.new) ≡ own_slots (tree_of self.old) ++ pending_slot true (tree_of self.old) ∷ []) }
+        ensures passed { OnOk result (Pass (row_checks (tree_of self.old))) }
         ensures err { OnErr result (tree_of self.new ≡ tree_of self.old) }
+        ensures refused { IfErr result (λ e. (e ≡ Memory alloc_error) ⊎ FailFirst e (row_checks (tree_of self.old))) }
         ensures unfinished { IsErrOf result (InvalidArgumentError Unfinished) ↔ ¬ IsReady (tree_of self.old) }
         ensures overflow { IsErrOf result Overflow ↔ IsReady (tree_of self.old) × (largest_offset false < item_count self.old) }
         ensures errors { IfErr result (λ e. (e ≡ InvalidArgumentError Unfinished) ⊎ ((e ≡ Overflow) ⊎ (e ≡ Memory alloc_error))) }
@@ -239,7 +254,8 @@ impl MutableListArray {
 
     /// Whether the items that wait in the child make a row.
     fn is_ready(&self) -> bool
-        ensures { IsTrue result ↔ IsReady (tree_of self.now) }
+        ensures ready { IsTrue result ↔ IsReady (tree_of self.now) }
+        ensures rising { RisesFrom 0 self.now.rows }
     {
         let end = self.rows.last();
         self.values.len() >= end && self.data_type.has_items(self.values.data_type())

@@ -1,8 +1,9 @@
 //! The rows of a builder of lists, without their items.
-ghost use Rattle.std.specs.Prelude.{◌≡◌, ◌≤◌, ◌<◌, ◌⊎◌, ◌↔◌, ◌++◌, ◌∷◌, [], false, length, OnOk, OnErr, IfOk, IfErr, IsErrOf, IsOkUnless, alloc_error};
+ghost use Rattle.std.specs.Prelude.{◌≡◌, ◌×◌, ◌+◌, ◌≤◌, ◌<◌, ◌⊎◌, ◌↔◌, ◌++◌, ◌∷◌, [], false, length, OnOk, OnErr, IfOk, IfErr, IsErrOf, IsOkUnless, alloc_error};
 ghost use Rattle.nest_memory.specs.declared.error.Error.TheVariants.{Memory, Overflow};
+ghost use Rattle.nest_memory.specs.Rising.{largest_offset};
 ghost use Rattle.nest_model.specs.BuilderRow.{end_from, told_row, RisesFrom};
-ghost use Rattle.nest_model.specs.BuilderTree.{largest_offset};
+ghost use Rattle.nest_model.specs.Checks.{largest_length};
 ghost use Rattle.nest_build.specs.Rows.{Spells};
 
 use nest_flat::growth::validity;
@@ -73,6 +74,8 @@ impl ListRows {
         requires { end_from 0 self.old ≤ end }
         ensures ok { OnOk result (self.new ≡ self.old ++ told_row valid end ∷ []) }
         ensures err { OnErr result (self.new ≡ self.old) }
+        ensures within { OnOk result ((length self.old + 1 ≤ largest_length) × (end ≤ largest_offset false)) }
+        ensures refused { IfErr result (λ e. (e ≡ Memory alloc_error) ⊎ ((e ≡ Overflow) × (largest_offset false < end))) }
         ensures overflow { IsErrOf result Overflow ↔ (largest_offset false < end) }
         ensures errors { IfErr result (λ e. (e ≡ Overflow) ⊎ (e ≡ Memory alloc_error)) }
     {

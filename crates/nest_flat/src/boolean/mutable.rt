@@ -18,7 +18,7 @@ ghost use Rattle.nest_model.specs.Meaning.{len, slots_of};
 ghost use Rattle.nest_model.specs.Part.{valid_at};
 ghost use Rattle.nest_model.specs.Slot as slots;
 ghost use Rattle.nest_flat.specs.FlatParts.{optional};
-ghost use Rattle.nest_flat.specs.Growth.{BeginningPasses, CanDrain, Extended, Grew, joined_parts, pushed_truth};
+ghost use Rattle.nest_flat.specs.Growth.{CanDrain, Extended, Grew, RefusesBeginning, joined_parts, pushed_truth, truth_refusal};
 
 use crate::boolean::BooleanArray;
 use crate::growth::extend::{Grow, extend_by_push};
@@ -177,11 +177,10 @@ impl MutableBooleanArray {
     ) -> Result<(), Error>
         requires { CanDrain I.into_iter_gives I.IntoIter.can_next I.IntoIter.remaining items }
         ensures ok { OnOk result ((xs : List (Option Bool)) × Gives I.into_iter_gives I.IntoIter.next_gives items xs
-            × Extended pushed_truth (optional slots.truth) xs self.old self.new) }
+            × Extended pushed_truth truth_refusal (optional slots.truth) xs self.old self.new) }
         ensures err { OnErr result (self.new ≡ self.old) }
         ensures same_type { layout_type self.new ≡ layout_type self.old }
-        ensures errors { IfErr result (λ e.
-            ((e ≡ Overflow) × BeginningPasses {A = Option Bool} I.into_iter_gives I.IntoIter.next_gives (len self.old) items) ⊎ (e ≡ Memory alloc_error)) }
+        ensures cause { IfErr result (λ e. RefusesBeginning I.into_iter_gives I.IntoIter.next_gives pushed_truth truth_refusal items self.old e) }
     {
         extend_by_push(self, items)
     }
@@ -295,7 +294,7 @@ impl Grow<Option<bool>> for MutableBooleanArray {
 
     ghost pushed = { pushed_truth };
 
-    ghost refuses = { λ e a x. ((e ≡ Overflow) × IsPast (len a + 1)) ⊎ (e ≡ Memory alloc_error) };
+    ghost refusal = { truth_refusal };
 
     fn count(&self) -> usize {
         self.values.len()

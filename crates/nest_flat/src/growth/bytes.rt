@@ -3,8 +3,9 @@ ghost use Rattle.std.specs.Prelude.{◌≡◌, ◌↔◌, ◌⊎◌, ◌+◌, �
 ghost use Rattle.std.specs.Option.{option_copied};
 ghost use Rattle.nest_memory.specs.Cut.{cut};
 ghost use Rattle.nest_memory.specs.declared.error.Error.TheVariants.{Memory, Overflow};
+ghost use Rattle.nest_memory.specs.Rising.{last_of};
 ghost use Rattle.nest_model.specs.Fits.{ValidityFits};
-ghost use Rattle.nest_model.specs.Part.{rows, begin, extent, last_offset, valid_at};
+ghost use Rattle.nest_model.specs.Part.{rows, begin, extent, valid_at};
 ghost use Rattle.nest_flat.specs.Growth.{pushed_validity, joined_validity};
 ghost use Rattle.nest_flat.specs.BytesGrowth.{AreSpans, spans, no_spans, item_bytes, pushed_span, joined_spans, first_spans, bare_spans};
 
@@ -33,15 +34,16 @@ pub(crate) struct BytesBuilder<O: Offset> {
 
 impl<O: Offset> Model for BytesBuilder<O> {
     ghost use Rattle.std.specs.Prelude.{◌≡◌, length};
+    ghost use Rattle.nest_memory.specs.Rising.{last_of};
     ghost use Rattle.nest_model.specs.Fits.{ValidityFits};
-    ghost use Rattle.nest_model.specs.Part.{rows, last_offset};
+    ghost use Rattle.nest_model.specs.Part.{rows};
     ghost use Rattle.nest_flat.specs.BytesGrowth.{Spans};
 
     ghost Value = { Spans };
 
     ghost view = { λ b. record { offsets = b.offsets; bytes = b.bytes.items; validity = b.validity } };
 
-    ghost invariant = { λ b. (last_offset b.offsets ≡ length b.bytes.items) × ValidityFits b.validity (rows b.offsets) };
+    ghost invariant = { λ b. (last_of b.offsets ≡ length b.bytes.items) × ValidityFits b.validity (rows b.offsets) };
 }
 
 /// The bytes of an item: a null has none.
@@ -106,9 +108,9 @@ fn join_items(
 
 /// Adds the offset that ends a slot of n bytes more.
 fn push_end<O: Offset>(offsets: &mut Offsets<O>, n: usize) -> Result<(), Error>
-    ensures ok { OnOk result (offsets.new ≡ offsets.old ++ (last_offset offsets.old + n) ∷ []) }
+    ensures ok { OnOk result (offsets.new ≡ offsets.old ++ (last_of offsets.old + n) ∷ []) }
     ensures err { OnErr result (offsets.new ≡ offsets.old) }
-    ensures overflow { IsErrOf result Overflow ↔ (O.largest < last_offset offsets.old + n) }
+    ensures overflow { IsErrOf result Overflow ↔ (O.largest < last_of offsets.old + n) }
     ensures errors { IfErr result (λ e. (e ≡ Overflow) ⊎ (e ≡ Memory alloc_error)) }
 {
     offsets.known();
@@ -117,9 +119,9 @@ fn push_end<O: Offset>(offsets: &mut Offsets<O>, n: usize) -> Result<(), Error>
 
 /// Adds the offsets of other slots.
 fn join_ends<O: Offset>(offsets: &mut Offsets<O>, more: &Offsets<O>) -> Result<(), Error>
-    ensures ok { OnOk result (offsets.new ≡ offsets.old ++ map (λ e. last_offset offsets.old + e) (drop 1 more.now)) }
+    ensures ok { OnOk result (offsets.new ≡ offsets.old ++ map (λ e. last_of offsets.old + e) (drop 1 more.now)) }
     ensures err { OnErr result (offsets.new ≡ offsets.old) }
-    ensures overflow { IsErrOf result Overflow ↔ (O.largest < last_offset offsets.old + last_offset more.now) }
+    ensures overflow { IsErrOf result Overflow ↔ (O.largest < last_of offsets.old + last_of more.now) }
     ensures errors { IfErr result (λ e. (e ≡ Overflow) ⊎ (e ≡ Memory alloc_error)) }
 {
     offsets.known();
@@ -144,7 +146,7 @@ impl<O: Offset> BytesBuilder<O> {
     pub(crate) fn known(&self)
         ensures spans { AreSpans self.now }
         ensures room { length self.now.offsets < 2 ^ 64 }
-        ensures fits { last_offset self.now.offsets ≤ O.largest }
+        ensures fits { last_of self.now.offsets ≤ O.largest }
     {
         let _ = &self.bytes;
         self.offsets.known();
@@ -161,7 +163,7 @@ impl<O: Offset> BytesBuilder<O> {
     pub(crate) fn try_push(&mut self, item: Option<&[u8]>) -> Result<(), Error>
         ensures ok { OnOk result (self.new ≡ pushed_span (option_copied item.entry) self.old) }
         ensures err { OnErr result (self.new ≡ self.old) }
-        ensures overflow { IsErrOf result Overflow ↔ (O.largest < last_offset self.old.offsets + length (item_bytes (option_copied item.entry))) }
+        ensures overflow { IsErrOf result Overflow ↔ (O.largest < last_of self.old.offsets + length (item_bytes (option_copied item.entry))) }
         ensures errors { IfErr result (λ e. (e ≡ Overflow) ⊎ (e ≡ Memory alloc_error)) }
     {
         let len = self.offsets.len_proxy();
@@ -179,7 +181,7 @@ impl<O: Offset> BytesBuilder<O> {
     pub(crate) fn try_extend_from_self(&mut self, other: &BytesBuilder<O>) -> Result<(), Error>
         ensures ok { OnOk result (self.new ≡ joined_spans self.old other.now) }
         ensures err { OnErr result (self.new ≡ self.old) }
-        ensures overflow { IsErrOf result Overflow ↔ (O.largest < last_offset self.old.offsets + last_offset other.now.offsets) }
+        ensures overflow { IsErrOf result Overflow ↔ (O.largest < last_of self.old.offsets + last_of other.now.offsets) }
         ensures errors { IfErr result (λ e. (e ≡ Overflow) ⊎ (e ≡ Memory alloc_error)) }
     {
         other.known();

@@ -1,11 +1,11 @@
 //! Items pushed one after another, all or none.
-ghost use Rattle.std.specs.Prelude.{◌≡◌, ◌≤◌, ◌∷◌, ◌++◌, [], List, OnOk, OnErr, IfErr};
+ghost use Rattle.std.specs.Prelude.{◌≡◌, ◌≤◌, ◌∷◌, [], List, Option, None, OnOk, OnErr, IfErr};
 ghost use Rattle.nest_memory.specs.declared.error.Error.{Error};
-ghost use Rattle.nest_model.specs.BuilderSpells.{Gives, Begins};
+ghost use Rattle.nest_model.specs.BuilderSpells.{Gives};
 ghost use Rattle.nest_model.specs.Layout.{Layout, layout_type};
 ghost use Rattle.nest_model.specs.Meaning.{len};
 ghost use Rattle.nest_model.specs.Slot.{Slot};
-ghost use Rattle.nest_flat.specs.Growth.{CanDrain, Extended, Grew, is_masked, pushed_all, taken_back};
+ghost use Rattle.nest_flat.specs.Growth.{CanDrain, Extended, Grew, IsDue, RefusesBeginning, is_masked, taken_back};
 
 use nest_memory::error::Error;
 
@@ -20,8 +20,8 @@ pub(crate) trait Grow<A> {
     /// The parts with an item more.
     ghost pushed: { Layout → A → Layout };
 
-    /// The errors that may refuse an item.
-    ghost refuses: { Error → Layout → A → Type 0 };
+    /// Why an item more is refused, but for want of memory.
+    ghost refusal: { Layout → A → Option Error };
 
     /// How many slots there are.
     fn count(&self) -> usize
@@ -37,7 +37,8 @@ pub(crate) trait Grow<A> {
         ensures parts { OnOk result (layout self.new ≡ pushed (layout self.old) item) }
         ensures grew { OnOk result (Grew (slot_of_item item ∷ []) (layout self.old) (layout self.new)) }
         ensures err { OnErr result (layout self.new ≡ layout self.old) }
-        ensures cause { IfErr result (λ e. refuses e (layout self.old) item) };
+        ensures unrefused { OnOk result (refusal (layout self.old) item ≡ None) }
+        ensures cause { IfErr result (λ e. IsDue (refusal (layout self.old) item) e) };
 
     /// Keeps the first n slots, and drops the validity where none was there.
     fn take_back(&mut self, n: usize, masked: bool)
@@ -51,10 +52,10 @@ pub(crate) fn extend_by_push<A, B: Grow<A>, I: IntoIterator<Item = A>>(
     items: I,
 ) -> Result<(), Error>
     requires { CanDrain I.into_iter_gives I.IntoIter.can_next I.IntoIter.remaining items }
-    ensures ok { OnOk result ((xs : List A) × Gives I.into_iter_gives I.IntoIter.next_gives items xs × Extended B.pushed B.slot_of_item xs (B.layout builder.old) (B.layout builder.new)) }
+    ensures ok { OnOk result ((xs : List A) × Gives I.into_iter_gives I.IntoIter.next_gives items xs × Extended B.pushed B.refusal B.slot_of_item xs (B.layout builder.old) (B.layout builder.new)) }
     ensures same_type { layout_type (B.layout builder.new) ≡ layout_type (B.layout builder.old) }
     ensures err { OnErr result (B.layout builder.new ≡ B.layout builder.old) }
-    ensures cause { IfErr result (λ e. (xs : List A) × (x : A) × Begins I.into_iter_gives I.IntoIter.next_gives items (xs ++ x ∷ []) × B.refuses e (pushed_all B.pushed (B.layout builder.old) xs) x) }
+    ensures cause { IfErr result (λ e. RefusesBeginning I.into_iter_gives I.IntoIter.next_gives B.pushed B.refusal items (B.layout builder.old) e) }
 {
     let len = builder.count();
     let masked = builder.has_validity();

@@ -13,6 +13,8 @@ use nest_memory::error::Error;
 use std::alloc::Global;
 
 /// The bits of n valid places and a null one.
+#[cold]
+#[inline(never)]
 fn first_null(alloc: Global, n: usize) -> Result<MutableBitmap, Error>
     requires { n + 1 < 2 ^ 64 }
     ensures ok { IfOk result (λ bits. bits ≡ replicate n true ++ false ∷ []) }
@@ -25,6 +27,7 @@ fn first_null(alloc: Global, n: usize) -> Result<MutableBitmap, Error>
 }
 
 /// Adds the bit of one place more, after `len` others.
+#[inline]
 pub fn push(
     alloc: Global,
     validity: &mut Option<MutableBitmap>,

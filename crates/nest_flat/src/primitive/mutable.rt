@@ -17,7 +17,7 @@ ghost use Rattle.nest_model.specs.Meaning.{len, slots_of};
 ghost use Rattle.nest_model.specs.Part.{valid_at};
 ghost use Rattle.nest_model.specs.Slot as slots;
 ghost use Rattle.nest_flat.specs.FlatParts.{optional};
-ghost use Rattle.nest_flat.specs.Growth.{CanDrain, Extended, Grew, joined_parts, pushed_native, zeros};
+ghost use Rattle.nest_flat.specs.Growth.{CanDrain, Extended, Grew, joined_parts, native_refusal, pushed_native, zeros};
 
 use crate::growth::extend::{Grow, extend_by_push};
 use crate::growth::validity;
@@ -156,7 +156,7 @@ impl<T: NativeType> MutablePrimitiveArray<T> {
     pub fn try_extend<I: IntoIterator<Item = Option<T>>>(&mut self, items: I) -> Result<(), Error>
         requires { CanDrain I.into_iter_gives I.IntoIter.can_next I.IntoIter.remaining items }
         ensures ok { OnOk result ((xs : List (Option T)) × Gives I.into_iter_gives I.IntoIter.next_gives items xs
-            × Extended (λ a x. pushed_native a (option_map T.numbers x)) (optional (λ x. slots.number (T.numbers x))) xs self.old self.new) }
+            × Extended (λ a x. pushed_native a (option_map T.numbers x)) native_refusal (optional (λ x. slots.number (T.numbers x))) xs self.old self.new) }
         ensures err { OnErr result (self.new ≡ self.old) }
         ensures same_type { layout_type self.new ≡ layout_type self.old }
         ensures memory { IsOkUnless result (Memory alloc_error) }
@@ -264,7 +264,7 @@ impl<T: NativeType> Grow<Option<T>> for MutablePrimitiveArray<T> {
 
     ghost pushed = { λ a x. pushed_native a (option_map T.numbers x) };
 
-    ghost refuses = { λ e a x. e ≡ Memory alloc_error };
+    ghost refusal = { native_refusal };
 
     fn count(&self) -> usize {
         self.values.len()

@@ -7,18 +7,19 @@ ghost use Rattle.nest_memory.specs.TypeOf.{type_of};
 ghost use Rattle.nest_memory.specs.Physical.{physical_type, text_of_width};
 ghost use Rattle.nest_memory.specs.declared.error.Argument.TheVariants.{ItemType};
 ghost use Rattle.nest_memory.specs.declared.error.Error.TheVariants.{InvalidArgumentError, Memory, Overflow};
+ghost use Rattle.nest_memory.specs.Rising.{last_of};
 ghost use Rattle.nest_model.specs.Accessors.{validity_of, offsets_of, bytes_of};
 ghost use Rattle.nest_model.specs.Array.{TopFits};
-ghost use Rattle.nest_model.specs.BuilderSpells.{Gives, Begins};
+ghost use Rattle.nest_model.specs.BuilderSpells.{Gives};
 ghost use Rattle.nest_model.specs.Layout as layouts;
 ghost use Rattle.nest_model.specs.Layout.{layout_type};
 ghost use Rattle.nest_model.specs.Meaning.{len, slot, slots_of};
-ghost use Rattle.nest_model.specs.Part.{valid_at, begin, extent, last_offset};
+ghost use Rattle.nest_model.specs.Part.{valid_at, begin, extent};
 ghost use Rattle.nest_model.specs.Reads.{where_valid};
 ghost use Rattle.nest_model.specs.Slot as slots;
 ghost use Rattle.nest_flat.specs.FlatParts.{optional};
-ghost use Rattle.nest_flat.specs.Growth.{CanDrain, Extended, Grew, first_slots, is_masked, pushed_all, taken_back};
-ghost use Rattle.nest_flat.specs.BytesGrowth.{AreSpans, HasPushCause, text_tree, item_bytes, joined_spans, pushed_item, spans_of, with_spans};
+ghost use Rattle.nest_flat.specs.Growth.{CanDrain, Extended, Grew, RefusesBeginning, first_slots, is_masked, taken_back};
+ghost use Rattle.nest_flat.specs.BytesGrowth.{AreSpans, text_tree, item_bytes, item_refusal, joined_spans, pushed_item, spans_of, with_spans};
 
 use crate::growth::bytes::BytesBuilder;
 use crate::growth::extend::{Grow, extend_by_push};
@@ -105,7 +106,7 @@ impl<O: Offset> MutableUtf8Array<O> {
         ensures fits { TopFits self.now }
         ensures kind { self.now ≡ layouts.text O.IS_LARGE (layout_type self.now) (offsets_of self.now) (bytes_of self.now) (validity_of self.now) }
         ensures spans { AreSpans (spans_of self.now) }
-        ensures room { last_offset (offsets_of self.now) ≤ O.largest }
+        ensures room { last_of (offsets_of self.now) ≤ O.largest }
     {
         let _ = &self.data_type;
         self.spans.known();
@@ -179,7 +180,7 @@ impl<O: Offset> MutableUtf8Array<O> {
         ensures slots { OnOk result (slots_of self.new ≡ slots_of self.old ++ optional slots.text (option_copied item.entry) ∷ []) }
         ensures err { OnErr result (self.new ≡ self.old) }
         ensures same_type { layout_type self.new ≡ layout_type self.old }
-        ensures overflow { IsErrOf result Overflow ↔ (O.largest < last_offset (offsets_of self.old) + length (item_bytes (option_copied item.entry))) }
+        ensures overflow { IsErrOf result Overflow ↔ (O.largest < last_of (offsets_of self.old) + length (item_bytes (option_copied item.entry))) }
         ensures errors { IfErr result (λ e. (e ≡ Overflow) ⊎ (e ≡ Memory alloc_error)) }
     {
         self.spans.known();
@@ -197,7 +198,7 @@ impl<O: Offset> MutableUtf8Array<O> {
         ensures same_type { layout_type self.new ≡ layout_type self.old }
         ensures item_type { IsErrOf result (InvalidArgumentError ItemType) ↔ layout_type self.old ≢ layout_type other.now }
         ensures overflow { IsErrOf result Overflow
-            ↔ (layout_type self.old ≡ layout_type other.now) × (O.largest < last_offset (offsets_of self.old) + last_offset (offsets_of other.now)) }
+            ↔ (layout_type self.old ≡ layout_type other.now) × (O.largest < last_of (offsets_of self.old) + last_of (offsets_of other.now)) }
         ensures errors { IfErr result (λ e. (e ≡ InvalidArgumentError ItemType) ⊎ ((e ≡ Overflow) ⊎ (e ≡ Memory alloc_error))) }
     {
         let same_type = *self.data_type() == *other.data_type();
@@ -212,7 +213,7 @@ impl<O: Offset> MutableUtf8Array<O> {
         ensures slots { OnOk result (slots_of self.new ≡ slots_of self.old ++ slots_of other.now) }
         ensures err { OnErr result (self.new ≡ self.old) }
         ensures same_type { layout_type self.new ≡ layout_type self.old }
-        ensures overflow { IsErrOf result Overflow ↔ (O.largest < last_offset (offsets_of self.old) + last_offset (offsets_of other.now)) }
+        ensures overflow { IsErrOf result Overflow ↔ (O.largest < last_of (offsets_of self.old) + last_of (offsets_of other.now)) }
         ensures errors { IfErr result (λ e. (e ≡ Overflow) ⊎ (e ≡ Memory alloc_error)) }
     {
         self.spans.known();
@@ -230,11 +231,11 @@ impl<O: Offset> MutableUtf8Array<O> {
     ) -> Result<(), Error>
         requires { CanDrain I.into_iter_gives I.IntoIter.can_next I.IntoIter.remaining items }
         ensures ok { OnOk result ((xs : List (Option (Bor (List ℕ)))) × Gives I.into_iter_gives I.IntoIter.next_gives items xs
-            × Extended (λ a x. pushed_item a (option_copied x)) (λ x. optional slots.text (option_copied x)) xs self.old self.new) }
+            × Extended (λ a x. pushed_item a (option_copied x)) (λ a x. item_refusal O.largest a (option_copied x)) (λ x. optional slots.text (option_copied x)) xs self.old self.new) }
         ensures err { OnErr result (self.new ≡ self.old) }
         ensures same_type { layout_type self.new ≡ layout_type self.old }
-        ensures cause { IfErr result (λ e. (xs : List (Option (Bor (List ℕ)))) × (x : Option (Bor (List ℕ))) × Begins I.into_iter_gives I.IntoIter.next_gives items (xs ++ x ∷ [])
-            × HasPushCause O.largest e (pushed_all (λ a y. pushed_item a (option_copied y)) self.old xs) (option_copied x)) }
+        ensures cause { IfErr result (λ e. RefusesBeginning I.into_iter_gives I.IntoIter.next_gives
+            (λ a x. pushed_item a (option_copied x)) (λ a x. item_refusal O.largest a (option_copied x)) items self.old e) }
     {
         extend_by_push(self, items)
     }
@@ -298,7 +299,7 @@ impl<'a, O: Offset> Grow<Option<&'a str>> for MutableUtf8Array<O> {
 
     ghost pushed = { λ a x. pushed_item a (option_copied x) };
 
-    ghost refuses = { λ e a x. HasPushCause O.largest e a (option_copied x) };
+    ghost refusal = { λ a x. item_refusal O.largest a (option_copied x) };
 
     fn count(&self) -> usize
         ensures { result ≡ len self.now }

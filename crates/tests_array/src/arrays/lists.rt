@@ -87,7 +87,7 @@ fn large_lists(alloc: Global, items: AnyArray, offsets: &[i64]) -> Result<LargeL
 }
 
 /// The lists 1, none, and 2 and 3, by offsets of 64 bits.
-pub(super) fn by_large_offsets(alloc: Global) -> Result<LargeListArray, Error> {
+pub(crate) fn by_large_offsets(alloc: Global) -> Result<LargeListArray, Error> {
     numbers(alloc, &[1, 2, 3]).and_then(|items| large_lists(alloc, items, &[0, 1, 1, 3]))
 }
 

@@ -21,7 +21,7 @@ fn fixed_lists(alloc: Global, items: AnyArray, size: usize) -> Result<FixedSizeL
 }
 
 /// The numbers from 1 to 6 in pairs.
-pub(super) fn pairs(alloc: Global) -> Result<FixedSizeListArray, Error> {
+pub(crate) fn pairs(alloc: Global) -> Result<FixedSizeListArray, Error> {
     let items = numbers(alloc, &[1, 2, 3, 4, 5, 6]);
     items.and_then(|items| fixed_lists(alloc, items, 2))
 }

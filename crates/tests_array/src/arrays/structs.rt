@@ -1,6 +1,6 @@
 //! Records of a truth and a number.
 use super::{are_same, both, numbers, truths, two, validity};
-use nest_array::{AnyArray, StructArray};
+use nest_array::{AnyArray, Array, StructArray};
 use nest_memory::datatypes::DataType;
 use nest_memory::datatypes::field::Field;
 use nest_memory::error::{Error, Spec};
@@ -44,7 +44,7 @@ fn records(
 }
 
 /// Four records, of which the third is null.
-pub(super) fn four(alloc: Global, items: &[i32]) -> Result<StructArray, Error> {
+pub(crate) fn four(alloc: Global, items: &[i32]) -> Result<StructArray, Error> {
     let bits = [true, true, false, true].as_slice();
     records(alloc, &[false, false, true, true], items, Some(bits))
 }

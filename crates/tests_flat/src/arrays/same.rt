@@ -66,3 +66,19 @@ fn texts_by_other_offsets(rt: HostRuntime) {
     let other = texts(alloc, b"ac", &[0, 1, 2], None);
     assert_eq!(rt; are_same(array, other), Ok(false));
 }
+
+#[test]
+fn a_null_is_no_value(rt: HostRuntime) {
+    let alloc = rt.alloc();
+    let two = Some([true, false, false, true, false, false].as_slice());
+    let three = Some([true, true, false, true, false, false].as_slice());
+    let short = [0, 5, 5, 5, 10, 10, 10].as_slice();
+    let long = [0, 5, 8, 8, 13, 13, 13].as_slice();
+    let hello = || binaries(alloc, b"helloworld", short, two);
+    let foo = || binaries(alloc, b"hellofooworld", long, three);
+    assert_eq!(rt; are_same(hello(), foo()), Ok(false));
+    assert_eq!(rt; are_same(hello(), hello()), Ok(true));
+    assert_eq!(rt; are_same(foo(), foo()), Ok(true));
+    let under_null = binaries(alloc, b"hellofooworld", long, two);
+    assert_eq!(rt; are_same(hello(), under_null), Ok(true));
+}

@@ -1,12 +1,15 @@
-use Rattle.std.proofs.Common.{ap, sym, ◌∙◌, rules, arith}
+use Rattle.std.specs.Prelude.{Option}
+use Rattle.std.proofs.Common.{ap, sym, ◌∙◌, [], ◌∷◌, ◌++◌, subst, rules, arith}
+use Rattle.nest_memory.specs.declared.error.Error.{Error}
 use Rattle.std.proofs.iter.Next.{Yields-more}
 use Rattle.nest_model.specs.Layout.{Layout, layout_type}
-use Rattle.nest_flat.specs.Growth.{taken_back}
+use Rattle.nest_flat.specs.Growth.{IsDue, taken_back}
+use Rattle.nest_flat.proofs.Refusing.{refusal-next}
 use Rattle.nest_flat.proofs.Extending.{grew-len, took-none, took-more, took-back}
 use Rattle.nest_flat.proofs.growth.extend.extend_by_push.Goals as goal
 
 pub loop-item-init : goal.loop-item-init
-loop-item-init g c = (search rules, search rules, took-none g.B.Grow.pushed g.B.Grow.slot_of_item _)
+loop-item-init g c = (search rules, search rules, took-none g.B.Grow.pushed g.B.Grow.refusal g.B.Grow.slot_of_item _)
 
 pub take_back-requires : goal.take_back-requires
 take_back-requires g c =
@@ -16,12 +19,12 @@ take_back-requires g c =
 
 pub loop-item-preserved : goal.loop-item-preserved
 loop-item-preserved g c =
-    let more = took-more g.B.Grow.pushed g.B.Grow.slot_of_item c.loop-item.yielded c.in-Some.item _ _ _ c.loop-item.invariant.2 c.in_default.ensures.parts c.in_default.ensures.grew in
+    let more = took-more g.B.Grow.pushed g.B.Grow.refusal g.B.Grow.slot_of_item c.loop-item.yielded c.in-Some.item _ _ _ c.loop-item.invariant.2 c.in_default.ensures.parts c.in_default.ensures.unrefused c.in_default.ensures.grew in
     (search rules, search rules, more)
 
 pub returns-in-Err-clause-err : goal.returns-in-Err-clause-err
 returns-in-Err-clause-err g c =
-    took-back g.B.Grow.pushed g.B.Grow.slot_of_item c.loop-item.yielded _ _ _ c.count-len.result c.has_validity-masked.result c.loop-item.invariant.2
+    took-back g.B.Grow.pushed g.B.Grow.refusal g.B.Grow.slot_of_item c.loop-item.yielded _ _ _ c.count-len.result c.has_validity-masked.result c.loop-item.invariant.2
     c.count-len.ensures c.has_validity-masked.ensures.masked c.has_validity-masked.ensures.whole
     (c.take_back.ensures ∙ ap (λ (a : Layout). taken_back a c.count-len.result c.has_validity-masked.result) c.in-Err.ensures.err)
 
@@ -34,4 +37,6 @@ returns-in-Err-clause-cause g c =
     let xs = c.loop-item.yielded in
     let x = c.in-Some.item in
     let more = Yields-more g.I.IntoIter.Iterator.next_gives it.result xs c.loop-item.item-iterator x c.next.new.self c.loop-item.yielded_by c.in-Some.ensures.steps in
-    (xs, x, (it.result, c.next.new.self, it.ensures.into_iter_gives, more), rw (sym (c.loop-item.invariant.2.parts)) c.in-Err.ensures.cause)
+    let took = c.loop-item.invariant.2 in
+    let next = refusal-next g.B.Grow.pushed g.B.Grow.refusal xs x _ _ took.unrefused took.parts in
+    (xs ++ x ∷ [], (it.result, c.next.new.self, it.ensures.into_iter_gives, more), subst (λ (r : Option Error). IsDue r c.in-Err.error) (sym next) c.in-Err.ensures.cause)

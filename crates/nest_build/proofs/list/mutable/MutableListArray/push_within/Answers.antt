@@ -8,6 +8,7 @@ use Rattle.nest_model.specs.BuilderTree.{flat}
 use Rattle.nest_model.specs.BuilderAppendLaws.{list_took}
 use Rattle.nest_build.specs.Items.{item_slot, number_item}
 use Rattle.nest_build.proofs.Pushed.{slots-count, items-back, same-tree, flat-took}
+use Rattle.nest_build.proofs.Refused.{number-physical, row-fits}
 use Rattle.nest_build.proofs.list.mutable.MutableListArray.push_within.Goals as goal
 
 pub truncate-requires : goal.truncate-requires
@@ -40,3 +41,12 @@ returns-clause-accepted c =
     list_took false b.data_type b.rows c.push.new.self (flat (layout_type b.values) (slots_of b.values)) (flat (layout_type new) (slots_of new)) (map number_item items) c.args.end
     count c.in_default.ensures.ok c.requires.whole
     (flat-took (layout_type b.values) (layout_type new) (slots_of b.values) (slots_of new) items c.in_ok-extend.ensures.ok c.in_ok-extend.ensures.same_type)
+
+pub returns-clause-fits : goal.returns-clause-fits
+returns-clause-fits c =
+    let b = c.args.self.now in
+    let p = number-physical b.values c.known.ensures.fits c.known.ensures.kind in
+    let n = slots-count b.values c.len-len.result c.len-len.ensures in
+    let w = c.in_default.ensures.within in
+    let ends = c.requires.ends in
+    row-fits (layout_type b.values) p b.data_type b.rows (slots_of b.values) c.args.items.now w.0 (omega (arith, w.1, ends))

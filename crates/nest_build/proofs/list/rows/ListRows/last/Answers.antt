@@ -1,5 +1,4 @@
 use Rattle.std.proofs.Common.{sym, ◌∙◌}
-use Rattle.nest_memory.specs.Rising.{last_of-index}
 use Rattle.nest_build.proofs.Rows.{told-end, told-rises}
 use Rattle.nest_build.proofs.list.rows.ListRows.last.Goals as goal
 
@@ -7,7 +6,6 @@ pub returns-clause-value : goal.returns-clause-value
 returns-clause-value c =
     let a = c.self.inside in
     c.last.ensures
-    ∙ last_of-index a.offsets 0 c.known.ensures.some
     ∙ sym (told-end a.offsets a.validity c.args.self.now c.self.view_is c.known.ensures.some c.known.ensures.first c.self.invariant)
 
 pub returns-clause-rising : goal.returns-clause-rising

@@ -1,22 +1,32 @@
-use Rattle.std.proofs.Common.{◌≡◌, ◌+◌, ◌-◌, arith}
-use Rattle.nest_memory.specs.Rising.{last_of, last_of-index}
+use Rattle.std.proofs.Common.{◌≡◌, ◌+◌, ◌-◌, ◌≤◌, length, arith}
+use Rattle.nest_memory.specs.Rising.{last_of}
 use Rattle.nest_model.specs.Part.{rows}
-use Rattle.nest_build.proofs.Rows.{told-end, told-push}
+use Rattle.nest_model.specs.Checks.{largest_length}
+use Rattle.nest_build.proofs.Rows.{told-end, told-push, told-count, not_past}
 use Rattle.nest_build.proofs.list.rows.ListRows.push.Goals as goal
 
 pub overflow_sub-end : goal.overflow_sub-end
 overflow_sub-end c =
     let a = c.self.inside in
     let e = told-end a.offsets a.validity c.args.self.now c.self.view_is c.known.ensures.some c.known.ensures.first c.self.invariant in
-    let l = last_of-index a.offsets 0 c.known.ensures.some in
     omega arith
 
 pub returns-clause-ok : goal.returns-clause-ok
 returns-clause-ok c =
     let a = c.self.inside in
     let e = told-end a.offsets a.validity c.args.self.now c.self.view_is c.known.ensures.some c.known.ensures.first c.self.invariant in
-    let l = last_of-index a.offsets 0 c.known.ensures.some in
     let n : c.len_proxy-len.result ≡ rows a.offsets = omega arith in
     let x : last_of a.offsets + (c.args.end - c.last-last.result) ≡ c.args.end = omega arith in
     told-push a.offsets c.try_push_usize.new.self a.validity c.push.new.validity c.args.self.now c.len_proxy-len.result c.args.valid _ c.args.end
     c.self.view_is c.in_ok-try_push_usize.ensures.ok c.in_default.ensures.ok n x c.known.ensures.some c.self.invariant
+
+pub returns-clause-within : goal.returns-clause-within
+returns-clause-within c =
+    let a = c.self.inside in
+    let e = told-end a.offsets a.validity c.args.self.now c.self.view_is c.known.ensures.some c.known.ensures.first c.self.invariant in
+    let n = told-count a.offsets a.validity c.args.self.now c.self.view_is c.self.invariant in
+    let room = c.known.ensures.room in
+    let x : last_of a.offsets + (c.args.end - c.last-last.result) ≡ c.args.end = omega arith in
+    let count : length c.args.self.now + 1 ≤ largest_length = omega arith in
+    let small = not_past (last_of a.offsets + (c.args.end - c.last-last.result)) 2147483647 (λ p. let q = c.in_ok-try_push_usize.ensures.overflow.1 p in cc) in
+    (count, omega (arith, x, small))

@@ -1,14 +1,15 @@
 use Rattle.std.proofs.Common.{◌≡◌, length, ap, ◌∙◌, arith}
 use Rattle.std.specs.Prelude.{Err}
 use Rattle.std.specs.Option.{option_copied}
-use Rattle.nest_model.specs.Part.{rows, last_offset}
+use Rattle.nest_memory.specs.Rising.{last_of}
+use Rattle.nest_model.specs.Part.{rows}
 use Rattle.nest_flat.specs.BytesGrowth.{Spans, spans, pushed_span}
 use Rattle.nest_flat.proofs.BytesGrown.{spans-known, whole-at, pushed-whole, parts-pushed, memory-alone}
 use Rattle.nest_flat.proofs.growth.bytes.BytesBuilder.try_push.Goals as goal
 
 pub returns-in-Err-clause-overflow : goal.returns-in-Err-clause-overflow
 returns-in-Err-clause-overflow g c =
-    let e = ap (λ (s : Spans). last_offset s.offsets) c.self.view_is in
+    let e = ap (λ (s : Spans). last_of s.offsets) c.self.view_is in
     let l = ap length c.bytes_of.ensures in
     memory-alone (Err c.in-Err.error) c.in_ok-push_end.field-0 _ c.in-Err.ensures.memory (λ p. c.in_ok-push_end.ensures.overflow.1 (omega (arith, p, e, l)))
 

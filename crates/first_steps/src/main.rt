@@ -1,0 +1,60 @@
+//! First steps: a column of lists is built, cut and compared. The README shows these functions.
+#![tactic(auto)]
+
+ghost use Rattle.std.specs.Prelude.{◌≡◌, ◌-◌, ◌≤◌, ◌×◌, ◌↔◌, IsTrue, IfOk};
+ghost use Rattle.nest_memory.specs.Cut.{cut};
+ghost use Rattle.nest_array.specs.Seen.{layout_of};
+ghost use Rattle.nest_model.specs.Layout.{layout_type};
+ghost use Rattle.nest_model.specs.Meaning.{len, slots_of};
+ghost use Rattle.first_steps.specs.Columns.{four_rows, last_two};
+
+use anyhow::Result;
+use nest_array::equal::equal_windows;
+use nest_array::{AnyArray, ListArray, Window};
+use nest_build::list::MutableListArray;
+use nest_memory::error::Error;
+use std::alloc::Global;
+
+/// The rows [1, 2], null, [] and [3, null].
+fn four_rows(alloc: Global) -> Result<ListArray, Error>
+    ensures { IfOk result (λ a. slots_of a ≡ four_rows) }
+{
+    let mut builder = MutableListArray::new(alloc)?;
+    builder.try_push(Some(&[Some(1), Some(2)]))?;
+    builder.try_push(None)?;
+    builder.try_push(Some(&[]))?;
+    builder.try_push(Some(&[Some(3), None]))?;
+    builder.freeze()
+}
+
+/// The rows [] and [3, null].
+fn two_rows(alloc: Global) -> Result<ListArray, Error>
+    ensures { IfOk result (λ a. slots_of a ≡ last_two) }
+{
+    let mut builder = MutableListArray::new(alloc)?;
+    builder.try_push(Some(&[]))?;
+    builder.try_push(Some(&[Some(3), None]))?;
+    builder.freeze()
+}
+
+/// Whether a column ends with the rows of another, which is told without memory.
+fn ends_with(column: &AnyArray, tail: &AnyArray) -> bool
+    requires { len (layout_of tail.now) ≤ len (layout_of column.now) }
+    ensures { IsTrue result ↔ (layout_type (layout_of column.now) ≡ layout_type (layout_of tail.now))
+        × (cut (slots_of (layout_of column.now)) (len (layout_of column.now) - len (layout_of tail.now)) (len (layout_of tail.now)) ≡ slots_of (layout_of tail.now)) }
+{
+    let count = tail.len();
+    let start = column.len() - count;
+    equal_windows(&Window::new(column, start, count), &Window::of(tail))
+}
+
+fn main(rt: HostRuntime) -> Result<()> {
+    let column = AnyArray::List(four_rows(rt.alloc())?);
+    let tail = AnyArray::List(two_rows(rt.alloc())?);
+    println!(rt; "{} rows, {} null", column.len(), column.null_count())?;
+    if tail.len() <= column.len() {
+        println!(rt; "it ends with [], [3, null]: {}", ends_with(&column, &tail))?;
+    }
+    let front = column.sliced(0, 2);
+    Ok(())
+}

@@ -1,0 +1,60 @@
+-- Values that are pushed one after another, and the first that is refused.
+use Rattle.std.specs.Prelude.{Option, Some, None, Result, Ok, Err}
+use Rattle.std.specs.Result.{is_ok}
+use Rattle.std.proofs.Common.{◌≡◌, List, [], ◌∷◌, ◌++◌, Bool, length, refl, sym, ap, ◌∙◌, inl, inr, OnOk, OnErr}
+use Rattle.std.specs.List.{items_where_true}
+use Rattle.nest_memory.specs.declared.error.Error.{Error}
+use Rattle.nest_model.specs.BuilderTree.{BuilderTree, flat, list, fixed_size_list, dictionary, struct}
+use Rattle.nest_model.specs.BuilderWhole.{IsWhole}
+use Rattle.nest_model.specs.BuilderItem.{Item, seal_items}
+use Rattle.nest_model.specs.BuilderAppend.{appended, all_appended}
+use Rattle.nest_model.specs.BuilderSpells.{Begins}
+use Rattle.nest_model.specs.BuilderSpellsLaws.{AllZip-push, where_true-push, where_false-push}
+use Rattle.nest_model.specs.BuilderAppendLaws.{accepted_none, accepted_more}
+use Rattle.nest_model.specs.Checks.{first_of}
+use Rattle.nest_model.specs.BuilderRefusals.{item_refusal, items_refusal}
+use Rattle.nest_model.specs.BuilderReading.{Read, whole, begun, read_refusal, ReadOf, Took, Refused, TookEach, RefusedSome}
+use Rattle.nest_model.specs.BuilderRefusalLaws.{none-more, items-both}
+
+pub took_none : {A : Type 0} (reads : A → Read → Type 0) (t : BuilderTree) → IsWhole t → TookEach reads [] t t
+took_none reads t w = ([], tt, accepted_none t w, refl)
+
+pub took_more : {A : Type 0} (reads : A → Read → Type 0) (given : List A) (a : A) (s t u : BuilderTree) → TookEach reads given s t → Took reads a t u → TookEach reads (given ++ a ∷ []) s u
+took_more reads given a s t u h k =
+    (h.0 ++ k.0 ∷ [], AllZip-push (λ b x. reads b (whole x)) given h.0 a k.0 h.1 k.1, accepted_more h.0 k.0 s t u h.2 k.2, none-more h.0 k.0 s h.3 (ap (item_refusal k.0) (sym h.2.exact) ∙ k.3))
+
+pub refused_some : {U T A : Type 0} (becomes : U → T → Type 0) (steps : T → Option A → T → Type 0) (reads : A → Read → Type 0) (u : U) (given : List A) (a : A) (e : Error) (s t : BuilderTree)
+    → Begins becomes steps u (given ++ a ∷ []) → TookEach reads given s t → Refused reads a t e → RefusedSome becomes steps reads u s e
+refused_some becomes steps reads u given a e s t b h (inl m) = inl m
+refused_some becomes steps reads u given a e s t b h (inr k) =
+    inr (h.0, k.0, (given, a, b, h.1, k.1), rw h.3 (ap (read_refusal k.0) (sym h.2.exact) ∙ k.2))
+
+-- one value tried: its mark says whether it was accepted
+pub tried : {A E : Type 0} (reads : A → Read → Type 0) (marks : List Bool) (given : List A) (a : A) (r : Result (Unit {0}) E) (s t u : BuilderTree) → length marks ≡ length given → TookEach reads (items_where_true marks given) s t
+    → OnOk r (Took reads a t u) → OnErr r (u ≡ t) → TookEach reads (items_where_true (marks ++ is_ok r ∷ []) (given ++ a ∷ [])) s u
+tried reads marks given a (Ok v) s t u e h k n = rw (where_true-push marks given a e) (took_more reads (items_where_true marks given) a s t u h k)
+tried reads marks given a (Err v) s t u e h k n = rw (where_false-push marks given a e, n) h
+
+-- what refuses a beginning of an item refuses the item
+some_front : (o q : Option Error) (e : Error) → o ≡ Some e → first_of o q ≡ Some e
+some_front o q e h = rw h refl
+
+begun-refused : (xs ys : List Item) (y : Item) (o q : Option Error) (c : BuilderTree) (e : Error) → ((f : Error) → o ≡ Some f → item_refusal y (all_appended xs c) ≡ Some f)
+    → first_of (items_refusal (seal_items xs) c) o ≡ Some e → first_of (items_refusal (seal_items (xs ++ y ∷ ys)) c) q ≡ Some e
+begun-refused xs ys y o q c e f h =
+    some_front (items_refusal (seal_items (xs ++ y ∷ ys)) c) q e
+    (items-both xs (y ∷ ys) c ∙ by_case (items_refusal (seal_items xs) c) (item_refusal y (all_appended xs c)) (items_refusal (seal_items ys) (appended y (all_appended xs c))) o f h)
+  where
+    by_case : (a p r o : Option Error) → ((g : Error) → o ≡ Some g → p ≡ Some g) → first_of a o ≡ Some e → first_of a (first_of p r) ≡ Some e
+    by_case None p r o g k = rw (g e k) refl
+    by_case (Some a) p r o g k = k
+
+pub read-refused : (r : Read) (x : Item) (t : BuilderTree) (e : Error) → ReadOf r x → read_refusal r t ≡ Some e → item_refusal x t ≡ Some e
+read-refused (whole y) x t e b h = rw (← b) h
+read-refused (begun xs r) x (flat k ss) e b h = rw b.2 h
+read-refused (begun xs r) x (list large k rows c) e b h =
+    rw b.2 (begun-refused xs b.1 b.0 (read_refusal r (all_appended xs c)) _ c e (λ f i. read-refused r b.0 (all_appended xs c) f b.3 i) h)
+read-refused (begun xs r) x (fixed_size_list k bits c) e b h =
+    rw b.2 (begun-refused xs b.1 b.0 (read_refusal r (all_appended xs c)) _ c e (λ f i. read-refused r b.0 (all_appended xs c) f b.3 i) h)
+read-refused (begun xs r) x (dictionary i k keys c) e b h = rw b.2 h
+read-refused (begun xs r) x (struct k bits cs) e b h = rw b.2 h

@@ -1,0 +1,147 @@
+//! Worked examples: what builders refuse, and why.
+
+ghost use Rattle.std.specs.Prelude.{◌≡◌, ◌+◌, ◌-◌, ◌^◌, pos, Bool, true, false, List, [], ◌∷◌, length, Some, None};
+ghost use Rattle.nest_memory.specs.TypeTree as types;
+ghost use Rattle.nest_memory.specs.TypeTree.{TypeTree};
+ghost use Rattle.nest_memory.specs.declared.datatypes.IntegerType.TheVariants as integers;
+ghost use Rattle.nest_memory.specs.declared.datatypes.physical_type.PrimitiveType.TheVariants as primitives;
+ghost use Rattle.nest_memory.specs.declared.error.Error.TheVariants.{InvalidArgumentError, Overflow};
+ghost use Rattle.nest_memory.specs.declared.error.Argument.TheVariants.{ItemSize, ItemType, Unfinished, LengthsSum};
+ghost use Rattle.nest_model.specs.Checks.{Pass, FailFirst};
+ghost use Rattle.nest_model.specs.Slot.{Slot};
+ghost use Rattle.nest_model.specs.BuilderTree as builders;
+ghost use Rattle.nest_model.specs.BuilderTree.{BuilderTree, BuilderTrees, key_count};
+ghost use Rattle.nest_model.specs.BuilderItem as items;
+ghost use Rattle.nest_model.specs.BuilderAppend.{appended, all_appended};
+ghost use Rattle.nest_model.specs.BuilderRefusals.{flat_passes, item_refusal, value_refusal, plain_refusal};
+ghost use Rattle.nest_model.specs.BuilderReading.{whole, begun, read_refusal};
+ghost use Rattle.nest_model.specs.BuilderRowChecks.{row_checks, lengths_checks, join_checks};
+ghost use Rattle.nest_model.specs.Examples.{list_type};
+ghost use Rattle.nest_model.specs.BuilderRow.{Row};
+ghost use Rattle.nest_model.specs.BuilderExamples.{pair_type, an_int, some_ints, items_of, a_text, some_bytes, no_ints, no_lists, no_pairs, no_records, no_bytes, list_of, pairs_of, records_of, in_child, three_pending, two_pending, letters, full_dictionary, numbers_by, bytes_by, over_nulls};
+
+/// Rows of a fixed-size list: another number of items is refused, also at a level below; a refused item comes before the number.
+pub fn pairs()
+    ensures two { item_refusal (items_of (some_ints (5 ∷ 6 ∷ []))) no_pairs ≡ None }
+    ensures four { item_refusal (items_of (some_ints (1 ∷ 2 ∷ 3 ∷ 4 ∷ []))) no_pairs ≡ Some (InvalidArgumentError ItemSize) }
+    ensures nothing { item_refusal (items_of []) no_pairs ≡ Some (InvalidArgumentError ItemSize) }
+    ensures below { item_refusal (items_of (items_of (some_ints (1 ∷ 2 ∷ [])) ∷ items_of (some_ints (3 ∷ [])) ∷ [])) (no_lists no_pairs) ≡ Some (InvalidArgumentError ItemSize) }
+    ensures item_first { item_refusal (items_of (a_text 120 ∷ [])) no_pairs ≡ Some (InvalidArgumentError ItemType) }
+    ensures begun { read_refusal (begun (items_of (some_ints (1 ∷ 2 ∷ [])) ∷ []) (whole (items_of (some_ints (3 ∷ []))))) (no_lists no_pairs) ≡ Some (InvalidArgumentError ItemSize) }
+    ensures one_of_two { read_refusal (begun (an_int 1 ∷ []) (whole (an_int 2))) no_pairs ≡ None }
+{}
+
+/// A value of another kind is refused as that before its size is looked at; bytes of a fixed size are refused where they are shorter or longer.
+pub fn values()
+    ensures text_for_numbers { item_refusal (a_text 120) no_ints ≡ Some (InvalidArgumentError ItemType) }
+    ensures another_number { item_refusal (items.plain (items.native primitives.Int64 (pos 7 ∷ []))) no_ints ≡ Some (InvalidArgumentError ItemType) }
+    ensures value_for_a_list { item_refusal (an_int 1) (no_lists no_ints) ≡ Some (InvalidArgumentError ItemType) }
+    ensures bytes_for_texts { item_refusal (some_bytes (1 ∷ [])) (builders.flat types.large_utf8 []) ≡ Some (InvalidArgumentError ItemType) }
+    ensures text_for_bytes { item_refusal (a_text 120) no_bytes ≡ Some (InvalidArgumentError ItemType) }
+    ensures shorter { item_refusal (some_bytes (1 ∷ [])) no_bytes ≡ Some (InvalidArgumentError ItemSize) }
+    ensures longer { item_refusal (some_bytes (1 ∷ 2 ∷ 3 ∷ [])) no_bytes ≡ Some (InvalidArgumentError ItemSize) }
+    ensures of_that_size { item_refusal (some_bytes (1 ∷ 2 ∷ [])) no_bytes ≡ None }
+{}
+
+/// A dictionary with no key left refuses a new value for that, before its values refuse it, and takes a known one; where the kind is checked first,
+/// a value of another kind is refused as that.
+pub fn full_dictionaries()
+    ensures new { item_refusal (an_int 128) full_dictionary ≡ Some Overflow }
+    ensures known { item_refusal (an_int 127) full_dictionary ≡ None }
+    ensures last { item_refusal (an_int 127) (numbers_by integers.Int8 127) ≡ None }
+    ensures last_of_unsigned { item_refusal (an_int 255) (numbers_by integers.UInt8 255) ≡ None }
+    ensures new_of_unsigned { item_refusal (an_int 256) (numbers_by integers.UInt8 256) ≡ Some Overflow }
+    ensures another_size { item_refusal (some_bytes (1 ∷ 2 ∷ 3 ∷ [])) (bytes_by integers.Int8 128) ≡ Some Overflow }
+    ensures known_bytes { item_refusal (some_bytes (0 ∷ 127 ∷ [])) (bytes_by integers.Int8 128) ≡ None }
+    ensures another_size_of_none { item_refusal (some_bytes (1 ∷ 2 ∷ 3 ∷ [])) (bytes_by integers.Int8 0) ≡ Some (InvalidArgumentError ItemSize) }
+    ensures another_kind { item_refusal (an_int 1) letters ≡ Some (InvalidArgumentError ItemType) }
+    ensures another_kind_in_full { value_refusal (items.text (120 ∷ [])) full_dictionary ≡ Some Overflow }
+    ensures kind_first { plain_refusal (items.text (120 ∷ [])) full_dictionary ≡ Some (InvalidArgumentError ItemType) }
+{}
+
+/// A row is told over the items that wait: of another type, or too few, they make none; too many are refused for a row of a fixed size.
+pub fn told_rows()
+    ensures list { Pass (row_checks three_pending) }
+    ensures empty_row { Pass (row_checks (appended (items_of (some_ints (1 ∷ []))) (no_lists no_ints))) }
+    ensures behind_its_rows { FailFirst (InvalidArgumentError Unfinished) (row_checks (in_child (λ c. no_ints) (appended (items_of (some_ints (1 ∷ []))) (no_lists no_ints)))) }
+    ensures list_of_another { FailFirst (InvalidArgumentError Unfinished) (row_checks (list_of types.utf8 no_ints)) }
+    ensures pair { Pass (row_checks (in_child (all_appended (some_ints (1 ∷ 2 ∷ []))) no_pairs)) }
+    ensures too_few { FailFirst (InvalidArgumentError Unfinished) (row_checks (in_child (appended (an_int 1)) no_pairs)) }
+    ensures too_many { FailFirst (InvalidArgumentError ItemSize) (row_checks (in_child (all_appended (some_ints (1 ∷ 2 ∷ 3 ∷ 4 ∷ []))) no_pairs)) }
+    ensures pair_of_another { FailFirst (InvalidArgumentError Unfinished) (row_checks (in_child (all_appended (some_ints (1 ∷ 2 ∷ 3 ∷ []))) (pairs_of types.utf8 no_ints))) }
+    ensures record { Pass (row_checks (in_child (appended (an_int 1)) (no_records no_ints))) }
+    ensures untold { FailFirst (InvalidArgumentError Unfinished) (row_checks (no_records no_ints)) }
+    ensures two_records { FailFirst (InvalidArgumentError Unfinished) (row_checks (in_child (all_appended (some_ints (1 ∷ 2 ∷ []))) (no_records no_ints))) }
+    ensures record_of_another { FailFirst (InvalidArgumentError Unfinished) (row_checks (in_child (appended (an_int 1)) (records_of types.utf8 no_ints))) }
+    ensures no_rows { FailFirst (InvalidArgumentError ItemType) (row_checks letters) }
+    ensures never_past_of_size { (t : TypeTree) (bits : List Bool) (c : BuilderTree) → FailFirst Overflow (row_checks (builders.fixed_size_list t bits c)) → ⊥ }
+    ensures never_past_of_records { (t : TypeTree) (bits : List Bool) (cs : BuilderTrees) → FailFirst Overflow (row_checks (builders.struct t bits cs)) → ⊥ }
+{}
+
+/// Rows told by their lengths end where the items end, from the last row on; the items have the list's type.
+pub fn told_lengths()
+    ensures all { Pass (lengths_checks (Some 2 ∷ None ∷ Some 1 ∷ []) three_pending) }
+    ensures fewer { FailFirst (InvalidArgumentError LengthsSum) (lengths_checks (Some 2 ∷ []) three_pending) }
+    ensures after_a_row { Pass (lengths_checks (Some 2 ∷ []) two_pending) }
+    ensures with_that_row { FailFirst (InvalidArgumentError LengthsSum) (lengths_checks (Some 3 ∷ []) two_pending) }
+    ensures of_another { FailFirst (InvalidArgumentError Unfinished) (lengths_checks (Some 2 ∷ []) (list_of types.utf8 (all_appended (some_ints (1 ∷ 2 ∷ 3 ∷ [])) no_ints))) }
+{}
+
+/// Another builder of the same type is joined; one of another type is refused as that, also where both together are too long.
+pub fn joins()
+    ensures same { Pass (join_checks three_pending two_pending) }
+    ensures texts { Pass (join_checks (builders.flat types.large_utf8 []) (builders.flat types.large_utf8 [])) }
+    ensures another { FailFirst (InvalidArgumentError ItemType) (join_checks no_ints (builders.flat types.date32 [])) }
+    ensures another_first { (xs ys : List Slot) → length xs ≡ 2 ^ 64 - 1 → length ys ≡ 1 → FailFirst (InvalidArgumentError ItemType) (join_checks (builders.flat types.null xs) (builders.flat types.boolean ys)) }
+    ensures past { (xs ys : List Slot) → length xs ≡ 2 ^ 64 - 1 → length ys ≡ 1 → FailFirst Overflow (join_checks (builders.flat types.null xs) (builders.flat types.null ys)) }
+    ensures longest { (xs ys : List Slot) → length xs ≡ 2 ^ 64 - 2 → length ys ≡ 1 → Pass (join_checks (builders.flat types.null xs) (builders.flat types.null ys)) }
+{}
+
+/// The largest lengths, products and offsets are taken; one more is past them.
+pub fn limits()
+    ensures longest { flat_passes types.null (2 ^ 64 - 1) 0 ≡ false }
+    ensures too_long { flat_passes types.null (2 ^ 64) 0 ≡ true }
+    ensures longest_product { flat_passes (types.fixed_size_binary (2 ^ 32 + 1)) (2 ^ 32 - 1) 0 ≡ false }
+    ensures too_long_product { flat_passes (types.fixed_size_binary 2) (2 ^ 63) 0 ≡ true }
+    ensures most_bytes { flat_passes types.binary 1 (2 ^ 31 - 1) ≡ false }
+    ensures too_many_bytes { flat_passes types.binary 1 (2 ^ 31) ≡ true }
+    ensures most_of_text { flat_passes types.utf8 1 (2 ^ 31 - 1) ≡ false }
+    ensures too_much_text { flat_passes types.utf8 1 (2 ^ 31) ≡ true }
+    ensures most_large_bytes { flat_passes types.large_binary 1 (2 ^ 63 - 1) ≡ false }
+    ensures too_many_large_bytes { flat_passes types.large_binary 1 (2 ^ 63) ≡ true }
+    ensures most_of_large_text { flat_passes types.large_utf8 1 (2 ^ 63 - 1) ≡ false }
+    ensures too_much_large_text { flat_passes types.large_utf8 1 (2 ^ 63) ≡ true }
+{}
+
+/// A list's last offset: the largest is taken, one more is past it.
+pub fn largest_offsets()
+    ensures largest { (xs : List Slot) → length xs ≡ 2 ^ 31 - 1 → Pass (row_checks (over_nulls false xs)) }
+    ensures past { (xs : List Slot) → length xs ≡ 2 ^ 31 → FailFirst Overflow (row_checks (over_nulls false xs)) }
+    ensures largest_of_large { (xs : List Slot) → length xs ≡ 2 ^ 63 - 1 → Pass (row_checks (over_nulls true xs)) }
+    ensures past_of_large { (xs : List Slot) → length xs ≡ 2 ^ 63 → FailFirst Overflow (row_checks (over_nulls true xs)) }
+{}
+
+/// A level's limit is looked at after its items and their number; a null row asks for room where it adds a null, also at a level below.
+pub fn limits_of_rows()
+    ensures item_first { (rows : List Row) → length rows ≡ 2 ^ 64 - 1 → item_refusal (items_of (a_text 120 ∷ [])) (builders.list false (list_type types.int32) rows no_ints) ≡ Some (InvalidArgumentError ItemType) }
+    ensures then_rows { (rows : List Row) → length rows ≡ 2 ^ 64 - 1 → item_refusal (items_of []) (builders.list false (list_type types.int32) rows no_ints) ≡ Some Overflow }
+    ensures number_first { (bits : List Bool) → length bits ≡ 2 ^ 64 - 1 → item_refusal (items_of []) (builders.fixed_size_list (pair_type types.int32) bits no_ints) ≡ Some (InvalidArgumentError ItemSize) }
+    ensures last_row { (rows : List Row) → length rows ≡ 2 ^ 64 - 2 → item_refusal items.null (builders.list false (list_type types.int32) rows no_ints) ≡ None }
+    ensures one_row_more { (rows : List Row) → length rows ≡ 2 ^ 64 - 1 → item_refusal items.null (builders.list false (list_type types.int32) rows no_ints) ≡ Some Overflow }
+    ensures last_pair { (bits : List Bool) → length bits ≡ 2 ^ 63 - 2 → item_refusal items.null (builders.fixed_size_list (pair_type types.int32) bits no_ints) ≡ None }
+    ensures one_pair_more { (bits : List Bool) → length bits ≡ 2 ^ 63 - 1 → item_refusal items.null (builders.fixed_size_list (pair_type types.int32) bits no_ints) ≡ Some Overflow }
+    ensures over_full_items { (xs : List Slot) → length xs ≡ 2 ^ 64 - 1 → item_refusal items.null (over_nulls false xs) ≡ None }
+    ensures over_a_full_field { (xs : List Slot) → length xs ≡ 2 ^ 64 - 1 → item_refusal items.null (no_records (builders.flat types.null xs)) ≡ Some Overflow }
+{}
+
+/// How many values the keys of each type can name.
+pub fn keys()
+    ensures int8 { key_count integers.Int8 ≡ 128 }
+    ensures int16 { key_count integers.Int16 ≡ 32768 }
+    ensures int32 { key_count integers.Int32 ≡ 2147483648 }
+    ensures int64 { key_count integers.Int64 ≡ 9223372036854775808 }
+    ensures uint8 { key_count integers.UInt8 ≡ 256 }
+    ensures uint16 { key_count integers.UInt16 ≡ 65536 }
+    ensures uint32 { key_count integers.UInt32 ≡ 4294967296 }
+    ensures uint64 { key_count integers.UInt64 ≡ 18446744073709551616 }
+{}

@@ -1,0 +1,70 @@
+//! Laws of what refuses a push, a told row, lengths and a join.
+
+ghost use Rattle.std.specs.Prelude.{◌≡◌, ◌↔◌, ◌||◌, ℕ, ◌+◌, true, false, List, ◌∷◌, ◌++◌, length, Option, Some, None};
+ghost use Rattle.nest_memory.specs.declared.error.Error.{Error};
+ghost use Rattle.nest_model.specs.Checks.{Pass, HaveOneOutcome, first_of};
+ghost use Rattle.nest_model.specs.BuilderTree.{BuilderTree};
+ghost use Rattle.nest_model.specs.BuilderWhole.{IsWhole};
+ghost use Rattle.nest_model.specs.BuilderItem.{PlainValue, Item, seal_items, Stands};
+ghost use Rattle.nest_model.specs.BuilderAppend.{appended, all_appended, nulls_appended, Accepted, IsReady};
+ghost use Rattle.nest_model.specs.BuilderJoin.{AreAlike, joined};
+ghost use Rattle.nest_model.specs.BuilderRefusals.{nulls_pass, is_known, item_refusal, items_refusal, value_refusal, plain_refusal};
+ghost use Rattle.nest_model.specs.BuilderReading.{Read, ReadOf, read_refusal};
+ghost use Rattle.nest_model.specs.BuilderRowChecks.{HasWholeChildren, AreReady, FitsLimits, row_checks, lengths_checks, join_checks, over_limits};
+
+/// What nothing refuses is appended rightly, to a builder of any nesting.
+pub fn accepted_unless_refused()
+    ensures { (x : Item) (t : BuilderTree) → IsWhole t → item_refusal x t ≡ None → Accepted x t (appended x t) }
+{}
+
+/// What nothing refuses leaves no level past a limit.
+pub fn accepted_within_limits()
+    ensures { (x : Item) (t : BuilderTree) → over_limits t ≡ false → item_refusal x t ≡ None → over_limits (appended x t) ≡ false }
+{}
+
+/// A value is refused by a push and by a push that checks its kind first, or by neither.
+pub fn refused_alike()
+    ensures { (v : PlainValue) (t : BuilderTree) → (value_refusal v t ≡ None) ↔ (plain_refusal v t ≡ None) }
+{}
+
+/// A value is known to a builder exactly where it stands at one of its places.
+pub fn known_values()
+    ensures stands { (c : BuilderTree) (v : PlainValue) → is_known c v ≡ true → (k : ℕ) × Stands c v k }
+    ensures back { (c : BuilderTree) (v : PlainValue) (k : ℕ) → Stands c v k → is_known c v ≡ true }
+{}
+
+/// Nulls pass a limit where the first of them do, or the others after them.
+pub fn nulls_passing()
+    ensures { (t : BuilderTree) (m n : ℕ) → nulls_pass (m + n) t ≡ (nulls_pass m t || nulls_pass n (nulls_appended m t)) }
+{}
+
+/// Items are refused as the first of them are, else as the others after them; so the first refused item tells why.
+pub fn refused_in_order()
+    ensures both { (xs ys : List Item) (t : BuilderTree)
+        → items_refusal (seal_items (xs ++ ys)) t ≡ first_of (items_refusal (seal_items xs) t) (items_refusal (seal_items ys) (all_appended xs t)) }
+    ensures first { (e : Error) (xs ys : List Item) (x : Item) (t : BuilderTree) → items_refusal (seal_items xs) t ≡ None
+        → item_refusal x (all_appended xs t) ≡ Some e → items_refusal (seal_items (xs ++ x ∷ ys)) t ≡ Some e }
+{}
+
+/// What refuses the beginning of an item that was read refuses the item.
+pub fn refused_while_reading()
+    ensures { (r : Read) (x : Item) (t : BuilderTree) (e : Error) → ReadOf r x → read_refusal r t ≡ Some e → item_refusal x t ≡ Some e }
+{}
+
+/// One thing comes of the checks of a told row, of rows told by their lengths, and of a join: every check passes, or one alone is the first that fails.
+pub fn one_outcome()
+    ensures row { (t : BuilderTree) → HaveOneOutcome (row_checks t) }
+    ensures lengths { (ns : List (Option ℕ)) (t : BuilderTree) → HaveOneOutcome (lengths_checks ns t) }
+    ensures join { (t other : BuilderTree) → HaveOneOutcome (join_checks t other) }
+{}
+
+/// No check of a told row fails exactly where it is ready and within the limits; the same of rows told by their lengths.
+pub fn rows_ready()
+    ensures row { (t : BuilderTree) → HasWholeChildren t → Pass (row_checks t) ↔ (IsReady t × FitsLimits 1 t) }
+    ensures lengths { (ns : List (Option ℕ)) (t : BuilderTree) → HasWholeChildren t → Pass (lengths_checks ns t) ↔ (AreReady ns t × FitsLimits (length ns) t) }
+{}
+
+/// Builders of the same kinds are joined exactly where no level of the joined one is past a limit.
+pub fn joins_within_limits()
+    ensures { (t other : BuilderTree) → AreAlike t other → Pass (join_checks t other) ↔ (over_limits (joined t other) ≡ false) }
+{}

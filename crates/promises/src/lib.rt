@@ -1,0 +1,45 @@
+//! What is promised of the public calls, layer by layer. Each function here is one promise: its contract says it in the
+//! model's words, and its body is the call (or the calls) that keep it. Nothing that runs stands on this crate; it is here to be
+//! read, and to be broken: each edit in `must-fail/` puts a wrong body in place of one of these calls, and the prover has to
+//! refuse it. So a promise that a library's contract no longer carries is found here, and so is one that says too little.
+//!
+//! # The main theorem
+//!
+//! *Every array, however nested and cut, stands for the one list of slots that its parts spell.* The parts of an array are its
+//! layout, a tree of the model: `layout_of` an array of any kind, `A.layout` of an `A: Array`; an array of one kind is seen as
+//! its layout itself. `slots_of` a layout is the list: a slot is null, a truth, a number, a text, bytes, a list of slots or a
+//! record of slots. [`arrays`] promises that a cut is the cut of that list (`cut_in_place`, `cut_shared`, `cut_of_any`), that a
+//! length, a null and a value are those of the list (`count`, `is_null_place`, `items_at`, `row_at`; of flat arrays `native_at`
+//! and its neighbours in [`flat`]), and that a copy has the same parts, so the same list (`copy_of_any`).
+//!
+//! *A constructor answers Ok exactly where the parts fit, with just those parts, and else the first check that fails*, want of
+//! memory aside: `natives`, `truths`, `byte_strings`, `texts` in [`flat`]; `nulls`, `rows_of_bytes`, `lists_of_one_size`,
+//! `lists`, `large_lists`, `records` in [`arrays`]. A new validity is taken exactly where it has no fault, and a refused one
+//! changes nothing (`under_new_validity`, `new_validity_in_place`).
+//!
+//! *`equal` answers true exactly for equal data types and equal lists*: `are_equal` in [`equality`], and the same of `==`, of
+//! windows, of runs and of each kind.
+//!
+//! *A builder freezes to what was pushed, and a refused push changes no slot at any depth*: `push_native`, `push_truth`,
+//! `push_bytes`, `push_text` and their freezes in [`builders`]; `push_row`, `tell_row`, `freeze_rows`, and both together in
+//! `push_and_freeze`, in [`rows`].
+//!
+//! # Below and above
+//!
+//! [`memory`] has what all this stands on: buffers, bitmaps and offsets are lists, and data types are trees. What follows from
+//! the definitions alone (a cut of a cut, what a slot of each kind is, exactly one refusal) is proved in `nest_model`.
+//! The program `listcut` cannot be called from a library: its promise, from bytes to bytes, is the contract of its `run`.
+//!
+//! # How to read a contract
+//!
+//! `ok` and `err` say what holds where the call answers `Ok` and `Err`; `x.old` and `x.new` are a value before and after the
+//! call, `x.now` a value that is only read. A clause with `↔` says when, and only when, an error comes. `Memory alloc_error`
+//! is the one refusal that no contract can rule out.
+#![tactic(auto)]
+
+pub mod arrays;
+pub mod builders;
+pub mod equality;
+pub mod flat;
+pub mod memory;
+pub mod rows;
