@@ -4,8 +4,10 @@ ghost use Rattle.nest_memory.specs.declared.datatypes.physical_type.PhysicalType
 ghost use Rattle.nest_model.specs.Checks.{Pass};
 ghost use Rattle.nest_model.specs.Fits.{validity_checks};
 ghost use Rattle.nest_model.specs.Slot as slots;
+ghost use Rattle.nest_flat.specs.AnyPrimitive.{primitive_layout};
 ghost use Rattle.nest_array.specs.Words.{Memory, TopFits, ValidityFault, cut, cut_layout, has_keys, is_null_at, layout_of, layout_type, len, null_count, physical_type, slot, slots_of, type_of, validity_of, with_validity};
 
+use crate::array::Array;
 use crate::equal::kinds::as_primitive;
 use crate::fixed_size_binary::FixedSizeBinaryArray;
 use crate::fixed_size_list::FixedSizeListArray;
@@ -211,18 +213,78 @@ impl AnyArray {
         ensures err { IsOkUnless result (Memory alloc_error) }
     {
         match self {
-            AnyArray::Null(array) => Ok(AnyArray::Null(array.clone(alloc)?)),
-            AnyArray::Boolean(array) => Ok(AnyArray::Boolean(array.clone(alloc)?)),
-            AnyArray::Primitive(array) => Ok(AnyArray::Primitive(array.clone(alloc)?)),
-            AnyArray::Binary(array) => Ok(AnyArray::Binary(array.clone(alloc)?)),
-            AnyArray::LargeBinary(array) => Ok(AnyArray::LargeBinary(array.clone(alloc)?)),
-            AnyArray::Utf8(array) => Ok(AnyArray::Utf8(array.clone(alloc)?)),
-            AnyArray::LargeUtf8(array) => Ok(AnyArray::LargeUtf8(array.clone(alloc)?)),
-            AnyArray::FixedSizeBinary(array) => Ok(AnyArray::FixedSizeBinary(array.clone(alloc)?)),
-            AnyArray::FixedSizeList(array) => Ok(AnyArray::FixedSizeList(array.clone(alloc)?)),
-            AnyArray::List(array) => Ok(AnyArray::List(array.clone(alloc)?)),
-            AnyArray::LargeList(array) => Ok(AnyArray::LargeList(array.clone(alloc)?)),
-            AnyArray::Struct(array) => Ok(AnyArray::Struct(array.clone(alloc)?)),
+            AnyArray::Null(array) => array.to_boxed(alloc),
+            AnyArray::Boolean(array) => array.to_boxed(alloc),
+            AnyArray::Primitive(array) => boxed_primitive(alloc, array),
+            AnyArray::Binary(array) => array.to_boxed(alloc),
+            AnyArray::LargeBinary(array) => array.to_boxed(alloc),
+            AnyArray::Utf8(array) => array.to_boxed(alloc),
+            AnyArray::LargeUtf8(array) => array.to_boxed(alloc),
+            AnyArray::FixedSizeBinary(array) => array.to_boxed(alloc),
+            AnyArray::FixedSizeList(array) => boxed_fixed_size_list(alloc, array),
+            AnyArray::List(array) => boxed_list(alloc, array),
+            AnyArray::LargeList(array) => boxed_large_list(alloc, array),
+            AnyArray::Struct(array) => boxed_struct(alloc, array),
         }
+    }
+}
+
+// Copies by kind, each out of line: else the room for all of them would be cleared for each.
+#[inline(never)]
+fn boxed_primitive(alloc: Global, array: &AnyPrimitive) -> Result<AnyArray, Error>
+    ensures ok { IfOk result (λ a. layout_of a ≡ primitive_layout array.now) }
+    ensures err { IsOkUnless result (Memory alloc_error) }
+{
+    match array.clone(alloc) {
+        Ok(array) => Ok(AnyArray::Primitive(array)),
+        Err(error) => Err(error),
+    }
+}
+
+#[cycle(clone)]
+#[inline(never)]
+fn boxed_fixed_size_list(alloc: Global, array: &FixedSizeListArray) -> Result<AnyArray, Error>
+    ensures ok { IfOk result (λ a. layout_of a ≡ array.now) }
+    ensures err { IsOkUnless result (Memory alloc_error) }
+{
+    match array.clone(alloc) {
+        Ok(array) => Ok(array.boxed()),
+        Err(error) => Err(error),
+    }
+}
+
+#[cycle(clone)]
+#[inline(never)]
+fn boxed_list(alloc: Global, array: &ListArray) -> Result<AnyArray, Error>
+    ensures ok { IfOk result (λ a. layout_of a ≡ array.now) }
+    ensures err { IsOkUnless result (Memory alloc_error) }
+{
+    match array.clone(alloc) {
+        Ok(array) => Ok(array.boxed()),
+        Err(error) => Err(error),
+    }
+}
+
+#[cycle(clone)]
+#[inline(never)]
+fn boxed_large_list(alloc: Global, array: &LargeListArray) -> Result<AnyArray, Error>
+    ensures ok { IfOk result (λ a. layout_of a ≡ array.now) }
+    ensures err { IsOkUnless result (Memory alloc_error) }
+{
+    match array.clone(alloc) {
+        Ok(array) => Ok(array.boxed()),
+        Err(error) => Err(error),
+    }
+}
+
+#[cycle(clone)]
+#[inline(never)]
+fn boxed_struct(alloc: Global, array: &StructArray) -> Result<AnyArray, Error>
+    ensures ok { IfOk result (λ a. layout_of a ≡ array.now) }
+    ensures err { IsOkUnless result (Memory alloc_error) }
+{
+    match array.clone(alloc) {
+        Ok(array) => Ok(array.boxed()),
+        Err(error) => Err(error),
     }
 }

@@ -1,9 +1,8 @@
 //! What arrays of bytes have in common: their bytes, and where each slot lies in them.
 ghost use Rattle.std.specs.Prelude.{◌≡◌, ◌≤◌, ◌<◌, ◌%◌, length};
-ghost use Rattle.nest_memory.specs.Rising.{numbers};
+ghost use Rattle.nest_memory.specs.Rising.{last_of, numbers};
 ghost use Rattle.nest_model.specs.Accessors.{bytes_of};
 ghost use Rattle.nest_model.specs.Array.{AreOffsets};
-ghost use Rattle.nest_model.specs.Part.{last_offset};
 ghost use Rattle.nest_array.specs.Words.{Layout, layout_type, offsets_of, size_of};
 
 use crate::array::Array;
@@ -22,7 +21,7 @@ pub trait GenericBinaryArray<O: Offset>: Array {
     fn offsets(&self) -> &[O]
         ensures shown { numbers O.value result.now ≡ offsets_of (Self.layout self.now) }
         ensures rising { AreOffsets (offsets_of (Self.layout self.now)) }
-        ensures within { last_offset (offsets_of (Self.layout self.now)) ≤ length (bytes_of (Self.layout self.now)) };
+        ensures within { last_of (offsets_of (Self.layout self.now)) ≤ length (bytes_of (Self.layout self.now)) };
 }
 
 impl GenericBinaryArray<i32> for BinaryArray<i32> {

@@ -5,22 +5,34 @@ use Rattle.nest_array.specs.Seen.{layout_of, layouts_of}
 use Rattle.nest_array.proofs.+clone.Given as goal
 
 abbrev pub decreases-any::AnyArray::clone : goal.decreases-any::AnyArray::clone
-decreases-any::AnyArray::clone l = 3 * weight (layout_of l.self.now) + 2
+decreases-any::AnyArray::clone l = 4 * weight (layout_of l.self.now) + 3
+
+abbrev pub decreases-any::boxed_fixed_size_list : goal.decreases-any::boxed_fixed_size_list
+decreases-any::boxed_fixed_size_list l = 4 * weight l.array.now + 2
+
+abbrev pub decreases-any::boxed_list : goal.decreases-any::boxed_list
+decreases-any::boxed_list l = 4 * weight l.array.now + 2
+
+abbrev pub decreases-any::boxed_large_list : goal.decreases-any::boxed_large_list
+decreases-any::boxed_large_list l = 4 * weight l.array.now + 2
+
+abbrev pub decreases-any::boxed_struct : goal.decreases-any::boxed_struct
+decreases-any::boxed_struct l = 4 * weight l.array.now + 2
 
 abbrev pub decreases-fixed_size_list::FixedSizeListArray::clone : goal.decreases-fixed_size_list::FixedSizeListArray::clone
-decreases-fixed_size_list::FixedSizeListArray::clone l = 3 * weight l.self.now + 1
+decreases-fixed_size_list::FixedSizeListArray::clone l = 4 * weight l.self.now + 1
 
 abbrev pub decreases-list::ListArray::clone : goal.decreases-list::ListArray::clone
-decreases-list::ListArray::clone l = 3 * weight l.self.now + 1
+decreases-list::ListArray::clone l = 4 * weight l.self.now + 1
 
 abbrev pub decreases-list::large::LargeListArray::clone : goal.decreases-list::large::LargeListArray::clone
-decreases-list::large::LargeListArray::clone l = 3 * weight l.self.now + 1
+decreases-list::large::LargeListArray::clone l = 4 * weight l.self.now + 1
 
 abbrev pub decreases-struct_::StructArray::clone : goal.decreases-struct_::StructArray::clone
-decreases-struct_::StructArray::clone l = 3 * weight l.self.now + 1
+decreases-struct_::StructArray::clone l = 4 * weight l.self.now + 1
 
 abbrev pub decreases-struct_::clone_all : goal.decreases-struct_::clone_all
-decreases-struct_::clone_all l = 3 * weight_all (layouts_of l.children.now)
+decreases-struct_::clone_all l = 4 * weight_all (layouts_of l.children.now)
 
 abbrev pub invariant-struct_::clone_all-loop-i : goal.invariant-struct_::clone_all-loop-i
 invariant-struct_::clone_all-loop-i l =

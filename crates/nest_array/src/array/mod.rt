@@ -152,6 +152,7 @@ impl<A: Variant> Array for A {
         Slotted::slice(self, o, n)
     }
 
+    #[inline(never)]
     fn to_boxed(&self, alloc: Global) -> Result<AnyArray, Error> {
         match self.again(alloc) {
             Ok(array) => Ok(array.into_any()),

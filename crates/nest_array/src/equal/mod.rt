@@ -23,13 +23,13 @@ use rows::{Lists, Rows};
 pub fn equal(a: &AnyArray, b: &AnyArray) -> bool
     ensures { IsTrue result ↔ IsSameArray (layout_of a.now) (layout_of b.now) }
 {
-    equal_windows(Window::of(a), Window::of(b))
+    equal_windows(&Window::of(a), &Window::of(b))
 }
 
 /// Whether two windows have the same data type and the same slots.
-pub fn equal_windows(x: Window, y: Window) -> bool
+pub fn equal_windows(x: &Window, y: &Window) -> bool
     ensures { IsTrue result
-        ↔ (layout_type x.array ≡ layout_type y.array) × (window_slots x ≡ window_slots y) }
+        ↔ (layout_type x.now.array ≡ layout_type y.now.array) × (window_slots x.now ≡ window_slots y.now) }
 {
     x.known();
     y.known();

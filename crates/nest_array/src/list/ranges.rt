@@ -3,7 +3,8 @@ ghost use Rattle.std.specs.Prelude.{◌≡◌, ◌+◌, ◌≤◌, ◌<◌, IfOk
 ghost use Rattle.nest_memory.specs.Physical.{list_of_width};
 ghost use Rattle.nest_model.specs.Array.{AreOffsets};
 ghost use Rattle.nest_model.specs.Layout as layouts;
-ghost use Rattle.nest_model.specs.Part.{rows, last_offset, cut_validity};
+ghost use Rattle.nest_memory.specs.Rising.{last_of};
+ghost use Rattle.nest_model.specs.Part.{rows, cut_validity};
 ghost use Rattle.nest_array.specs.Words.{FirstFault, Fits, Memory, ValidityFits, begin, cut, extent, layout_of, type_of};
 
 use crate::any::AnyArray;
@@ -33,7 +34,7 @@ impl<O: Offset> Ranges<O> {
 
     /// Where the last list ends.
     pub(crate) fn end(&self) -> usize
-        ensures last { result ≡ last_offset self.now.offsets }
+        ensures last { result ≡ last_of self.now.offsets }
         ensures rising { AreOffsets self.now.offsets }
     {
         self.offsets.known();

@@ -1,5 +1,6 @@
 use Rattle.std.specs.Prelude.{◌⊎◌}
 use Rattle.std.proofs.Common.{◌≡◌, ◌+◌, inl, inr, length, refl, sym, ap, ◌∙◌, subst, arith}
+use Rattle.nest_memory.specs.TypeTree.{logical_type}
 use Rattle.nest_model.specs.Layout.{layout_type}
 use Rattle.nest_model.specs.LayoutCode.{weight, weight_all}
 use Rattle.nest_model.specs.Meaning.{run, slot, len}
@@ -50,7 +51,7 @@ records::is_same_record-returns t c =
 pub records::same_children-same_run-requires : goal.records::same_children-same_run-requires
 records::same_children-same_run-requires t c =
     let h = left-first _ _ _ _ _ _ _ _ _ _ _ c.in-Some.ensures.steps.0 c.in-Some.ensures.steps.1 c.loop-x.invariant in
-    (omega (arith, h.fewer), (h.same_types.0, (h.within.0, h.other_within.0)))
+    (omega (arith, h.fewer), (ap logical_type h.same_types.0, (h.within.0, h.other_within.0)))
 
 pub records::same_children-loop-x-preserved : goal.records::same_children-loop-x-preserved
 records::same_children-loop-x-preserved t c =
