@@ -33,7 +33,7 @@ fn refused(
 ) -> Result<Option<Error>, Error> {
     let values = bytes_of(alloc, bytes)?;
     let validity = bits_of(alloc, bits)?;
-    let data_type = FixedSizeBinaryArray::default_data_type(size);
+    let data_type = FixedSizeBinaryArray::default_datatype(size);
     Ok(refusal(FixedSizeBinaryArray::try_new(data_type, values, validity)))
 }
 
@@ -119,7 +119,7 @@ fn rows_are_the_slots(rt: HostRuntime) -> Result<(), Fail> {
 /// A type of the user's over byte strings of two bytes.
 fn extension(alloc: Global) -> Result<DataType, Error> {
     let name = String::from_str(alloc, "pair")?;
-    let inner = FixedSizeBinaryArray::default_data_type(2);
+    let inner = FixedSizeBinaryArray::default_datatype(2);
     Ok(DataType::Extension(name, Box::new(alloc, inner)?, None))
 }
 
