@@ -1,8 +1,9 @@
 //! What arrays of bytes have in common: their bytes, and where each slot lies in them.
 ghost use Rattle.std.specs.Prelude.{◌≡◌, ◌≤◌, ◌<◌, ◌%◌, length};
-ghost use Rattle.nest_memory.specs.Rising.{last_of, numbers};
+ghost use Rattle.nest_memory.specs.Rising.{numbers};
 ghost use Rattle.nest_model.specs.Accessors.{bytes_of};
 ghost use Rattle.nest_model.specs.Array.{AreOffsets};
+ghost use Rattle.nest_memory.specs.Rising.{last_of};
 ghost use Rattle.nest_array.specs.Words.{Layout, layout_type, offsets_of, size_of};
 
 use crate::array::Array;

@@ -73,6 +73,37 @@ pub trait FlatArray: Copy {
         }
         true
     }
+
+    /// Whether slot i is slot j of the other array.
+    fn is_same_slot(&self, i: usize, other: &Self, j: usize) -> bool
+        requires within { i < len (layout self.now) }
+        requires other_within { j < len (layout other.now) }
+        ensures { IsTrue result ↔ (slot (layout self.now) i ≡ slot (layout other.now) j) }
+    {
+        let null = self.is_null_slot(i);
+        if other.is_null_slot(j) {
+            return null;
+        }
+        if null {
+            return false;
+        }
+        self.is_same_value(i, other, j)
+    }
+
+    /// Whether the n slots from place o are those of the other array from place p, one after another.
+    fn each_same_slot(&self, o: usize, other: &Self, p: usize, n: usize) -> bool
+        requires within { o + n ≤ len (layout self.now) }
+        requires other_within { p + n ≤ len (layout other.now) }
+        ensures { IsTrue result ↔ (run (slot (layout self.now)) o n ≡ run (slot (layout other.now)) p n) }
+    {
+        let _ends = (self.count(), other.count());
+        for k in 0..n {
+            if !self.is_same_slot(o + k, other, p + k) {
+                return false;
+            }
+        }
+        true
+    }
 }
 
 /// The slots of an array, `None` where one is null.
@@ -122,37 +153,6 @@ impl<A: FlatArray> SlotItems for Values<A> {
     }
 }
 
-// Whether slot i of a is slot j of b.
-fn is_same_slot<A: FlatArray>(a: A, i: usize, b: A, j: usize) -> bool
-    requires within { i < len (A.layout a) }
-    requires other_within { j < len (A.layout b) }
-    ensures { IsTrue result ↔ (slot (A.layout a) i ≡ slot (A.layout b) j) }
-{
-    let null = a.is_null_slot(i);
-    if b.is_null_slot(j) {
-        return null;
-    }
-    if null {
-        return false;
-    }
-    a.is_same_value(i, &b, j)
-}
-
-// Whether the n slots of a from place o are those of b from place p, one after another.
-fn each_same_slot<A: FlatArray>(a: A, o: usize, b: A, p: usize, n: usize) -> bool
-    requires within { o + n ≤ len (A.layout a) }
-    requires other_within { p + n ≤ len (A.layout b) }
-    ensures { IsTrue result ↔ (run (slot (A.layout a)) o n ≡ run (slot (A.layout b)) p n) }
-{
-    let _ends = (a.count(), b.count());
-    for k in 0..n {
-        if !is_same_slot(a, o + k, b, p + k) {
-            return false;
-        }
-    }
-    true
-}
-
 /// Whether the n slots of a from place o are those of b from place p. Where neither has a validity, raw
 /// values alone are compared.
 pub fn same_run<A: FlatArray>(a: A, o: usize, b: A, p: usize, n: usize) -> bool
@@ -161,7 +161,7 @@ pub fn same_run<A: FlatArray>(a: A, o: usize, b: A, p: usize, n: usize) -> bool
     ensures { IsTrue result ↔ (run (slot (A.layout a)) o n ≡ run (slot (A.layout b)) p n) }
 {
     if a.has_validity() || b.has_validity() {
-        return each_same_slot(a, o, b, p, n);
+        return a.each_same_slot(o, &b, p, n);
     }
     a.same_values(o, &b, p, n)
 }
@@ -175,7 +175,7 @@ pub(crate) fn same_slots<A: FlatArray>(a: A, b: A) -> bool
     if a.nulls() == 0 && b.nulls() == 0 {
         return a.same_values(0, &b, 0, n);
     }
-    each_same_slot(a, 0, b, 0, n)
+    a.each_same_slot(0, &b, 0, n)
 }
 
 /// Whether two arrays have the same data type and the same slots.

@@ -1,5 +1,5 @@
 //! The bits of a builder's places, which are there from the first null on.
-ghost use Rattle.std.specs.Prelude.{◌≡◌, ◌+◌, ◌^◌, ◌<◌, ◌++◌, ◌∷◌, [], length, true, false, None, OnOk, OnErr, IfOk, replicate, IsOkUnless, alloc_error, ◌≤◌, if◌then◌else◌};
+ghost use Rattle.std.specs.Prelude.{◌≡◌, ◌+◌, ◌^◌, ◌<◌, ◌++◌, ◌∷◌, [], length, true, false, None, Some, OnOk, OnErr, IfOk, replicate, IsOkUnless, alloc_error, ◌≤◌, if◌then◌else◌};
 ghost use Rattle.nest_memory.specs.declared.error.Error.TheVariants.{Memory};
 ghost use Rattle.nest_model.specs.Fits.{ValidityFits};
 ghost use Rattle.nest_model.specs.Part.{cut_validity, valid_at};
@@ -13,8 +13,6 @@ use nest_memory::error::Error;
 use std::alloc::Global;
 
 /// The bits of n valid places and a null one.
-#[cold]
-#[inline(never)]
 fn first_null(alloc: Global, n: usize) -> Result<MutableBitmap, Error>
     requires { n + 1 < 2 ^ 64 }
     ensures ok { IfOk result (λ bits. bits ≡ replicate n true ++ false ∷ []) }
@@ -24,6 +22,19 @@ fn first_null(alloc: Global, n: usize) -> Result<MutableBitmap, Error>
     bits.extend_constant(n, true)?;
     bits.push(false)?;
     Ok(bits)
+}
+
+/// Makes the bits, with that of a null after n valid places. Out of line, since it happens once in a builder's life.
+#[cold]
+#[inline(never)]
+fn begin(alloc: Global, validity: &mut Option<MutableBitmap>, n: usize) -> Result<(), Error>
+    requires { n + 1 < 2 ^ 64 }
+    ensures ok { OnOk result (validity.new ≡ Some (replicate n true ++ false ∷ [])) }
+    ensures err { OnErr result (validity.new ≡ validity.old) }
+    ensures memory { IsOkUnless result (Memory alloc_error) }
+{
+    *validity = Some(first_null(alloc, n)?);
+    Ok(())
 }
 
 /// Adds the bit of one place more, after `len` others.
@@ -43,10 +54,10 @@ pub fn push(
     if let Some(bits) = validity {
         return bits.push(valid);
     }
-    if !valid {
-        *validity = Some(first_null(alloc, len)?);
+    if valid {
+        return Ok(());
     }
-    Ok(())
+    begin(alloc, validity, len)
 }
 
 /// The bits of n valid places, and others behind them.

@@ -1,8 +1,9 @@
 //! The slots and the raw values of an array of native values, from both ends.
-ghost use Rattle.std.specs.Prelude.{◌≡◌, ◌+◌, ◌≤◌, None, map};
-ghost use Rattle.nest_model.specs.Accessors.{with_validity};
+ghost use Rattle.std.specs.Prelude.{◌≡◌, ◌↔◌, ◌+◌, ◌≤◌, ◌<◌, IsTrue, None, map};
+ghost use Rattle.nest_model.specs.Accessors.{natives_of, with_validity};
 ghost use Rattle.nest_model.specs.Meaning.{len, run, slot, slots_of};
 ghost use Rattle.nest_model.specs.Slot as slots;
+ghost use Rattle.nest_flat.specs.FlatParts.{optional};
 
 use crate::flat_array::{FlatArray, Slots, Values};
 use crate::iterator::SlotsIter;
@@ -54,6 +55,31 @@ impl<'a, T: NativeType> FlatArray for &'a PrimitiveArray<T> {
     fn same_values(&self, o: usize, other: &&'a PrimitiveArray<T>, p: usize, n: usize) -> bool {
         self.values_from(o, n) == other.values_from(p, n)
     }
+
+    // The values are taken once for all slots.
+    fn each_same_slot(&self, o: usize, other: &&'a PrimitiveArray<T>, p: usize, n: usize) -> bool {
+        let (left, right) = (self.values.as_slice(), other.values.as_slice());
+        let _ends = (self.len(), other.len());
+        for k in 0..n {
+            if !is_same_item(self.item_in(left, o + k), other.item_in(right, p + k)) {
+                return false;
+            }
+        }
+        true
+    }
+}
+
+// Whether two items are the same slot.
+#[inline]
+fn is_same_item<T: NativeType>(x: Option<T>, y: Option<T>) -> bool
+    ensures { IsTrue result
+        ↔ (optional (λ v. slots.number (T.numbers v)) x ≡ optional (λ v. slots.number (T.numbers v)) y) }
+{
+    match (x, y) {
+        (Some(x), Some(y)) => x == y,
+        (None, None) => true,
+        _ => false,
+    }
 }
 
 impl<T: NativeType> PrimitiveArray<T> {
@@ -70,6 +96,7 @@ impl<T: NativeType> PrimitiveArray<T> {
     {
         SlotsIter::new(Values(self))
     }
+
     // The raw values of the n slots from place o.
     fn values_from(&self, o: usize, n: usize) -> &[T]
         requires { o + n ≤ len self.now }
@@ -78,5 +105,19 @@ impl<T: NativeType> PrimitiveArray<T> {
         let _end = self.len();
         let values = self.values.as_slice();
         &values[o..o + n]
+    }
+
+    // The value of slot i, `None` where it is null, out of all raw values.
+    #[inline]
+    fn item_in(&self, values: &[T], i: usize) -> Option<T>
+        requires shown { map T.numbers values.now ≡ natives_of self.now }
+        requires within { i < len self.now }
+        ensures { optional (λ x. slots.number (T.numbers x)) result ≡ slot self.now i }
+    {
+        let _len = self.values.len();
+        if self.is_null(i) {
+            return None;
+        }
+        Some(values[i])
     }
 }

@@ -1,6 +1,0 @@
-use Rattle.std.proofs.Common.{◌≡◌, ℕ, ◌+◌, ◌<◌}
-use Rattle.nest_model.specs.Meaning.{slot}
-use Rattle.nest_flat.proofs.flat_array.each_same_slot.Given as goal
-
-abbrev pub invariant-loop-k : goal.invariant-loop-k
-invariant-loop-k g l = (j : ℕ) → j < l.k → slot (g.A.FlatArray.layout l.a) (l.o + j) ≡ slot (g.A.FlatArray.layout l.b) (l.p + j)
