@@ -5,9 +5,11 @@
 //! nulls, byte strings of one size, lists of three kinds, structs, and of `AnyArray`, which is any of them. What a kind does
 //! alone, its constructor and its values, follows kind by kind.
 
-ghost use Rattle.std.specs.Prelude.{◌≡◌, ◌+◌, ◌*◌, ◌≤◌, ◌<◌, ◌^◌, ◌↔◌, ◌⊎◌, false, true, IsTrue, IfOk, IfErr, IsErrOf, IsOkUnless, MatchResult, length, map, not, alloc_error};
+ghost use Rattle.std.specs.Prelude.{◌≡◌, ◌+◌, ◌*◌, ◌≤◌, ◌<◌, ◌^◌, ◌↔◌, ◌⊎◌, false, true, IsTrue, IfOk, IfErr, IsErrOf, IsOkUnless, MatchOption, MatchResult, length, map, not, alloc_error};
 ghost use Rattle.nest_memory.specs.declared.error.Error.TheVariants.{Memory, Overflow};
 ghost use Rattle.nest_memory.specs.Cut.{cut};
+ghost use Rattle.nest_memory.specs.declared.datatypes.physical_type.PhysicalType.TheVariants as physical;
+ghost use Rattle.nest_memory.specs.Physical.{physical_type};
 ghost use Rattle.nest_memory.specs.TypeOf.{type_of, field_list_of};
 ghost use Rattle.nest_memory.specs.TypeTree.{fields_of};
 ghost use Rattle.nest_model.specs.Accessors.{validity_of, offsets_of, child_of, children_of, with_validity};
@@ -32,6 +34,7 @@ use nest_array::{
     AnyArray, Array, FixedSizeBinaryArray, FixedSizeListArray, LargeListArray, ListArray,
     NullArray, StructArray, Window,
 };
+use nest_flat::any_primitive::Native;
 use nest_memory::bitmap::immutable::Bitmap;
 use nest_memory::buffer::Buffer;
 use nest_memory::datatypes::{DataType, Field};
@@ -144,6 +147,15 @@ pub fn copy_of_any(array: &AnyArray, alloc: Global) -> Result<AnyArray, Error>
     ensures err { IsOkUnless result (Memory alloc_error) }
 {
     array.clone(alloc)
+}
+
+/// An array of native values is found by its kind, and no other array is.
+pub fn natives_in<T: Native>(array: &AnyArray) -> Option<&T::Array>
+    ensures { MatchOption result
+        (physical_type (layout_type (layout_of array.now)) ≡ physical.Primitive T.PRIMITIVE → ⊥)
+        (λ a. (physical_type (layout_type (layout_of array.now)) ≡ physical.Primitive T.PRIMITIVE) × (T.layout_of_array a.now ≡ layout_of array.now)) }
+{
+    array.as_primitive::<T>()
 }
 
 /// Every array keeps what its constructor checked, at its top and below.

@@ -2,7 +2,7 @@
 //! parts, and else the first check that fails; a value lies at its place; iterators give each slot once, from both ends.
 //! Cuts, lengths, nulls and new validities are promised of every array at once, in `arrays`.
 
-ghost use Rattle.std.specs.Prelude.{◌≡◌, ◌<◌, MatchResult, Some, slice_get, map};
+ghost use Rattle.std.specs.Prelude.{◌≡◌, ◌<◌, MatchResult, Some, length, slice_get, map};
 ghost use Rattle.std.specs.Iterator.{YieldsFirstBy, YieldsLastBy};
 ghost use Rattle.nest_memory.specs.TypeOf.{type_of};
 ghost use Rattle.nest_model.specs.Accessors.{validity_of, natives_of};
@@ -138,6 +138,13 @@ pub fn last_slot<S: SlotItems>(to_come: &mut SlotsIter<S>) -> Option<S::Item>
     ensures { YieldsLastBy S.slot_of_item (λ s. s) to_come.old result to_come.new }
 {
     to_come.next_back()
+}
+
+/// As many slots as are still to come, told exactly.
+pub fn slots_left<S: SlotItems>(to_come: &SlotsIter<S>) -> (usize, Option<usize>)
+    ensures { result ≡ (length to_come.now, Some (length to_come.now)) }
+{
+    to_come.size_hint()
 }
 
 /// Each of the twelve native kinds keeps its slots among arrays of any kind.

@@ -3,7 +3,8 @@
 use crate::arrays::lists::by_large_offsets;
 use crate::arrays::sizes::pairs;
 use crate::arrays::structs::four;
-use crate::arrays::{lists_of_lists, validity};
+use crate::arrays::{lists_of_lists, numbers, validity};
+use nest_array::any::clone;
 use nest_array::{
     AnyArray, FixedSizeBinaryArray, FixedSizeListArray, LargeListArray, ListArray, NullArray,
     StructArray,
@@ -122,5 +123,24 @@ fn pairs_and_records_take_new_validities(rt: HostRuntime) {
     let (array, taken): (StructArray, bool) = kept(array.with_validity(None));
     assert!(rt; taken);
     assert_eq!(rt; array.null_count(), 0);
+    drop(array);
+}
+
+#[test]
+fn copies_by_the_free_call(rt: HostRuntime) {
+    let array = numbers(rt.alloc(), &[1, 2]).expect(&rt, "two numbers");
+    assert!(rt; is_equal(clone(rt.alloc(), &array), &array));
+    drop(array);
+}
+
+#[test]
+fn natives_by_their_kind(rt: HostRuntime) {
+    let array = numbers(rt.alloc(), &[1, 2]).expect(&rt, "two numbers");
+    assert_eq!(rt;
+        array.as_primitive::<i32>().map(|numbers| numbers.len()),
+        Some(2)
+    );
+    assert!(rt; array.as_primitive::<u32>().is_none());
+    assert!(rt; array.as_primitive::<i64>().is_none());
     drop(array);
 }

@@ -294,3 +294,29 @@ fn texts_of_errors(rt: HostRuntime) -> Result<(), Fail> {
     }
     Ok(())
 }
+
+#[test]
+fn parts_of_dictionaries(rt: HostRuntime) {
+    let words = words(rt.alloc()).expect(&rt, "a dictionary of texts");
+    assert_eq!(rt; words.key_type(), Some(IntegerType::Int8));
+    assert!(rt; words.is_ordered());
+    assert!(rt; words.value_type().is_some());
+    drop(words);
+    let plain = DataType::Utf8;
+    assert_eq!(rt; plain.key_type(), None);
+    assert!(rt; !plain.is_ordered());
+    drop(plain);
+    assert!(rt; UnionMode::Sparse.is_sparse());
+    assert!(rt; !UnionMode::Dense.is_sparse());
+}
+
+#[test]
+fn fields_that_are_taken_out(rt: HostRuntime) {
+    let entries = entries(rt.alloc()).expect(&rt, "a field of records");
+    assert_eq!(rt; entries.data_type().fields().len(), 2);
+    let Field { data_type, .. } = entries;
+    let fields = data_type.into_fields();
+    assert_eq!(rt; fields.as_ref().map(|fields| fields.len()), Some(2));
+    drop(fields);
+    assert!(rt; DataType::Utf8.into_fields().is_none());
+}

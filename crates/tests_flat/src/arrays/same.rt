@@ -82,3 +82,42 @@ fn a_null_is_no_value(rt: HostRuntime) {
     let under_null = binaries(alloc, b"hellofooworld", long, two);
     assert_eq!(rt; are_same(hello(), under_null), Ok(true));
 }
+
+#[test]
+fn runs_of_slots(rt: HostRuntime) {
+    let alloc = rt.alloc();
+    let bits = Some([true, false, true].as_slice());
+    let x = numbers(alloc, DataType::Int32, &[1, 2, 3], bits).expect(&rt, "three numbers");
+    let y = numbers(alloc, DataType::Int32, &[9, 3, 1], bits).expect(&rt, "three numbers");
+    if x.len() == 3 && y.len() == 3 {
+        assert!(rt; x.same_run(0, &y, 2, 0));
+        assert!(rt; x.same_run(1, &y, 1, 1));
+        assert!(rt; x.same_run(0, &y, 2, 1));
+        assert!(rt; !x.same_run(0, &y, 0, 2));
+    }
+    drop(x);
+    drop(y);
+}
+
+#[test]
+fn runs_of_other_kinds(rt: HostRuntime) {
+    let alloc = rt.alloc();
+    let x = truths(alloc, &[true, false, true], None).expect(&rt, "three truths");
+    if x.len() == 3 {
+        assert!(rt; x.same_run(0, &x, 2, 1));
+        assert!(rt; !x.same_run(0, &x, 1, 2));
+    }
+    drop(x);
+    let x = binaries(alloc, &[4, 5, 4], &[0, 1, 2, 3], None).expect(&rt, "three slots");
+    if x.len() == 3 {
+        assert!(rt; x.same_run(0, &x, 2, 1));
+        assert!(rt; !x.same_run(0, &x, 1, 2));
+    }
+    drop(x);
+    let x = texts(alloc, b"aba", &[0, 1, 2, 3], None).expect(&rt, "three texts");
+    if x.len() == 3 {
+        assert!(rt; x.same_run(0, &x, 2, 1));
+        assert!(rt; !x.same_run(0, &x, 1, 2));
+    }
+    drop(x);
+}
