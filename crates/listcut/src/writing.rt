@@ -40,6 +40,7 @@ fn push_items(
     requires { o + n ≤ len items.now }
     ensures { OnOk result (out.new.items ≡ out.old.items ++ join_with_byte 44 (map item_text (cut (slots_of items.now) o n))) }
 {
+    let _end = items.len();
     for i in 0..n {
         if i > 0 {
             out.push(b',')?;
@@ -62,7 +63,8 @@ fn push_row(out: &mut Vec<u8>, rows: &ListArray, i: usize) -> Result<(), AllocEr
     let row = rows.window(i);
     row.known();
     push_items(out, numbers(row.array()), row.offset(), row.len())?;
-    out.push(b']')
+    out.push(b']')?;
+    Ok(())
 }
 
 /// The one spelling of the rows.
