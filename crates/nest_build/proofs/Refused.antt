@@ -75,9 +75,9 @@ module _ (u : TypeTree) (p : physical_type u ≡ physical.Primitive primitives.I
   numbers-past [] ss l h = absurd (omega arith)
   numbers-past (x ∷ xs) ss l h = elim (cases_lt (length ss) largest_length) [
     | inl lt ↦
-      ap (λ o. first_of o (items_refusal (seal_items (map number_item xs)) (appended (number_item x) (flat u ss)))) (number-none ss x (omega arith))
-      ∙ ap (items_refusal (seal_items (map number_item xs))) (flat-appended u ss x)
-      ∙ numbers-past xs (ss ++ item_slot x ∷ []) (omega (arith, grown ss x)) (omega (arith, grown ss x))
+        ap (λ o. first_of o (items_refusal (seal_items (map number_item xs)) (appended (number_item x) (flat u ss)))) (number-none ss x (omega arith))
+        ∙ ap (items_refusal (seal_items (map number_item xs))) (flat-appended u ss x)
+        ∙ numbers-past xs (ss ++ item_slot x ∷ []) (omega (arith, grown ss x)) (omega (arith, grown ss x))
     | inr ge ↦ ap (λ o. first_of o (items_refusal (seal_items (map number_item xs)) (appended (number_item x) (flat u ss)))) (number-past ss x (omega arith))
   ]
 
@@ -96,6 +96,6 @@ module _ (u : TypeTree) (p : physical_type u ≡ physical.Primitive primitives.I
     row-past l h = elim (cases_lt largest_length (length ss + length xs)) [
       | inl lt ↦ ap (λ o. first_of o (refuse_if (is_past (length rows + 1) || ltb (largest_offset false) (builder_len (items_appended (seal_items (map number_item xs)) (flat u ss)))) Overflow None)) (numbers-past xs ss l lt)
       | inr le ↦
-        list_past false t rows (flat u ss) (flat u (ss ++ map item_slot xs)) (map number_item xs) (numbers-none xs ss le)
-        (flat-took u u ss (ss ++ map item_slot xs) xs refl refl) (omega (arith, ends))
+          list_past false t rows (flat u ss) (flat u (ss ++ map item_slot xs)) (map number_item xs) (numbers-none xs ss le)
+          (flat-took u u ss (ss ++ map item_slot xs) xs refl refl) (omega (arith, ends))
     ]
