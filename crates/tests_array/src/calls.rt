@@ -8,6 +8,7 @@ use nest_flat::any_primitive::AnyPrimitive;
 use nest_flat::binary::BinaryArray;
 use nest_flat::primitive::PrimitiveArray;
 use nest_flat::utf8::Utf8Array;
+use nest_memory::buffer::Buffer;
 use nest_memory::datatypes::DataType;
 use nest_memory::error::Error;
 use nest_memory::offset::Offset;
@@ -99,9 +100,17 @@ fn expect_array<A: Array + Drop>(
     drop(array);
 }
 
+/// Two values 0.
+fn two_zeros<T: NativeType>(alloc: Global) -> Result<Buffer<T>, Error> {
+    let mut values = Vec::with_capacity(alloc, 2)?;
+    values.push(T::zero())?;
+    values.push(T::zero())?;
+    Buffer::from_vec(alloc, values)
+}
+
 /// The native values 0, of the type that stands for them.
 fn zeros<T: NativeType>(alloc: Global) -> Result<PrimitiveArray<T>, Error> {
-    match buffer(alloc, &[T::zero(), T::zero()]) {
+    match two_zeros(alloc) {
         Ok(values) => PrimitiveArray::try_new(DataType::from(T::PRIMITIVE), values, None),
         Err(error) => Err(error),
     }
