@@ -115,7 +115,8 @@ fn children_of_two_lengths_before_the_validity(rt: HostRuntime) {
 
 #[test]
 fn fields_of_list_types(rt: HostRuntime) {
-    let data_type = list_type(rt.alloc(), Ok(DataType::Int32)).expect(&rt, "a type of lists");
+    let lists = ListArray::default_datatype(rt.alloc(), DataType::Int32);
+    let data_type = lists.expect(&rt, "a type of lists");
     let field = ListArray::get_child_field(&data_type);
     assert_eq!(rt; field.name.as_str(), "item");
     assert!(rt; field.is_nullable);
