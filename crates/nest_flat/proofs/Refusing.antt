@@ -7,7 +7,7 @@ use Rattle.nest_memory.specs.declared.error.Error.TheVariants.{Memory, Overflow}
 use Rattle.nest_model.specs.Checks.{refuse_if, first_of}
 use Rattle.nest_model.specs.Decide.{first-none}
 use Rattle.nest_model.specs.Layout.{Layout}
-use Rattle.nest_flat.specs.Growth.{IsDue, native_refusal, pushed_all, refusal_of_all}
+use Rattle.nest_flat.specs.Growth.{IsDue, pushed_all, refusal_of_all}
 
 -- what says exactly when a limit is passed, as a refusal
 module _ {X : Type 0} where
@@ -41,14 +41,10 @@ module _ {A : Type 0} (pushed : Layout → A → Layout) (refusal : Layout → A
       let n = first-none (refusal a y) (refusal_of_all pushed refusal (pushed a y) xs) h in
       ap (λ r. first_of r (refusal_of_all pushed refusal (pushed a y) (xs ++ x ∷ []))) n.0 ∙ refusal-next xs x (pushed a y) b n.1 e
 
--- native values are never refused
-pub native-unrefused : {A : Type 0} (pushed : Layout → A → Layout) (xs : List A) (a : Layout) → refusal_of_all pushed native_refusal a xs ≡ None
-native-unrefused pushed [] a = refl
-native-unrefused pushed (x ∷ xs) a = native-unrefused pushed xs (pushed a x)
-
-pub native-due : {A : Type 0} (pushed : Layout → A → Layout) (xs : List A) (a : Layout) (e : Error) → IsDue (refusal_of_all pushed native_refusal a xs) e → e ≡ Memory alloc_error
-native-due pushed xs a e (inl h) = let n = native-unrefused pushed xs a in cc
-native-due pushed xs a e (inr h) = h.0
+-- where nothing is refused, memory alone is wanting
+pub none-due : (e : Error) → IsDue None e → e ≡ Memory alloc_error
+none-due e (inl h) = cc
+none-due e (inr h) = h.0
 
 pub if_err-map : {T E : Type 0} (r : Result T E) (P Q : E → Type 0) → ((e : E) → P e → Q e) → IfErr r P → IfErr r Q
 if_err-map (Ok x) P Q f h = h

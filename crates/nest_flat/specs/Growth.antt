@@ -101,6 +101,7 @@ native_refusal a x = None
 abbrev pub IsDue : Option Error → Error → Type 0
 IsDue refusal e = (refusal ≡ Some e) ⊎ ((e ≡ Memory alloc_error) × (refusal ≡ None))
 
--- a beginning of what u gives was pushed up to its last item, which e refuses
+-- Of what u gives some items and a further one were asked for: nothing refuses the items, and after them e is due to the further one.
 abbrev pub RefusesBeginning : {U T A : Type 0} → (U → T → Type 0) → (T → Option A → T → Type 0) → (Layout → A → Layout) → (Layout → A → Option Error) → U → Layout → Error → Type 0
-RefusesBeginning {U} {T} {A} becomes steps pushed refusal u a e = (xs : Seq A) × Begins becomes steps u xs × IsDue (refusal_of_all pushed refusal a xs) e
+RefusesBeginning {U} {T} {A} becomes steps pushed refusal u a e =
+    (front : Seq A) × (next : A) × Begins becomes steps u (front ++ next ∷ []) × (refusal_of_all pushed refusal a front ≡ None) × IsDue (refusal (pushed_all pushed a front) next) e

@@ -1,10 +1,7 @@
-use Rattle.std.specs.Prelude.{Option}
-use Rattle.std.proofs.Common.{ap, sym, ◌∙◌, [], ◌∷◌, ◌++◌, subst, rules, arith}
-use Rattle.nest_memory.specs.declared.error.Error.{Error}
+use Rattle.std.proofs.Common.{ap, ◌∙◌, subst, rules, arith}
 use Rattle.std.proofs.iter.Next.{Yields-more}
 use Rattle.nest_model.specs.Layout.{Layout, layout_type}
 use Rattle.nest_flat.specs.Growth.{IsDue, taken_back}
-use Rattle.nest_flat.proofs.Refusing.{refusal-next}
 use Rattle.nest_flat.proofs.Extending.{grew-len, took-none, took-more, took-back}
 use Rattle.nest_flat.proofs.growth.extend.extend_by_push.Goals as goal
 
@@ -38,5 +35,4 @@ returns-in-Err-clause-cause g c =
     let x = c.in-Some.item in
     let more = Yields-more g.I.IntoIter.Iterator.next_gives it.result xs c.loop-item.item-iterator x c.next.new.self c.loop-item.yielded_by c.in-Some.ensures.steps in
     let took = c.loop-item.invariant.2 in
-    let next = refusal-next g.B.Grow.pushed g.B.Grow.refusal xs x _ _ took.unrefused took.parts in
-    (xs ++ x ∷ [], (it.result, c.next.new.self, it.ensures.into_iter_gives, more), subst (λ (r : Option Error). IsDue r c.in-Err.error) (sym next) c.in-Err.ensures.cause)
+    (xs, x, (it.result, c.next.new.self, it.ensures.into_iter_gives, more), took.unrefused, subst (λ (b : Layout). IsDue (g.B.Grow.refusal b x) c.in-Err.error) took.parts c.in-Err.ensures.cause)
