@@ -1,5 +1,4 @@
-//! Equality of arrays of any kind: equal data types and equal slots. No call takes memory, and each pair of
-//! slots is looked at once.
+//! Equality of arrays of any kind: equal data types and equal slots. No call takes memory.
 pub(crate) mod kinds;
 mod records;
 mod rows;
