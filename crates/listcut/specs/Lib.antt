@@ -3,3 +3,4 @@ pub mod Grammar
 pub mod Spelling
 pub mod Outcome
 pub mod SeenRow
+pub mod Words

@@ -1,8 +1,7 @@
 //! Items as whole numbers of 64 bits.
 ghost use Rattle.std.specs.Prelude.{◌≡◌};
 ghost use Rattle.nest_memory.specs.TypeTree as types;
-ghost use Rattle.nest_model.specs.Layout.{layout_type};
-ghost use Rattle.nest_array.specs.Seen.{layout_of};
+ghost use Rattle.listcut.specs.Words.{layout_of, layout_type};
 
 use nest_array::AnyArray;
 use nest_flat::primitive::PrimitiveArray;

@@ -1,10 +1,7 @@
 //! What holds of the grammar and the spelling: each function's contract is a law, and its body is empty.
 
 ghost use Rattle.std.specs.Prelude.{◌≡◌, ◌↔◌, ℕ, List, Ok, Err};
-ghost use Rattle.nest_model.specs.Slot.{Slot};
-ghost use Rattle.listcut.specs.Rows.{AreRows};
-ghost use Rattle.listcut.specs.Grammar.{lines_of, rows_of};
-ghost use Rattle.listcut.specs.Spelling.{text_of, IsTextOf, IsFirstFault};
+ghost use Rattle.listcut.specs.Words.{AreRows, IsFirstFault, IsTextOf, Slot, lines_of, rows_of, text_of};
 
 /// What is spelled is read again.
 pub fn text_is_read_again()

@@ -1,18 +1,8 @@
 //! Rows from bytes.
 ghost use Rattle.std.specs.Prelude.{◌≡◌, ℕ, ◌+◌, ◌<◌, ◌∷◌, ◌++◌, ◌==◌, [], false, All, MatchOption, option_map, map, IfOk, IfErr, OnOk, Ok, length};
 ghost use Rattle.std.specs.Bool.{then_some};
-ghost use Rattle.nest_build.specs.Items.{item_slot};
-ghost use Rattle.listcut.specs.SeenRow.{seen_row};
 ghost use Rattle.nest_memory.specs.TypeTree as types;
-ghost use Rattle.nest_model.specs.Layout.{layout_type};
-ghost use Rattle.nest_model.specs.Meaning.{slots_of};
-ghost use Rattle.nest_model.specs.BuilderTree.{builder_type};
-ghost use Rattle.nest_model.specs.BuilderLevels.{own_slots};
-ghost use Rattle.nest_model.specs.BuilderWhole.{IsWhole};
-ghost use Rattle.nest_array.specs.Types.{default_list_type};
-ghost use Rattle.nest_build.specs.Seen.{tree_of, item_count};
-ghost use Rattle.listcut.specs.Outcome.{ReadFault};
-ghost use Rattle.listcut.specs.Grammar.{item_of, items_of, row_of, lines_of, rows_of};
+ghost use Rattle.listcut.specs.Words.{IsWhole, ReadFault, builder_type, default_list_type, item_count, item_of, item_slot, items_of, layout_type, lines_of, own_slots, row_of, rows_of, seen_row, slots_of, tree_of};
 
 use crate::fault::Fault;
 use crate::numbers::parse_number;

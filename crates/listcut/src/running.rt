@@ -1,9 +1,7 @@
 //! A whole run: words and bytes in, bytes out.
 ghost use Rattle.std.specs.Prelude.{◌≡◌, ℕ, ◌↔◌, None, map, length, string_bytes, IfOk, OnOk, IfErr, IfSome, IsErrOf};
 ghost use Rattle.std.specs.Io.KnownBytes.{IsAtEnd};
-ghost use Rattle.nest_model.specs.Meaning.{len, slots_of};
-ghost use Rattle.listcut.specs.Grammar.{window_of};
-ghost use Rattle.listcut.specs.Outcome.{answer_to, Answers, IsInputOrMemory};
+ghost use Rattle.listcut.specs.Words.{Answers, IsInputOrMemory, answer_to, len, slots_of, window_of};
 
 use crate::fault::Fault;
 use crate::numbers::parse_window;

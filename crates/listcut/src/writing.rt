@@ -1,14 +1,8 @@
 //! Rows as bytes, and bytes out.
 ghost use Rattle.std.specs.Prelude.{◌≡◌, ℕ, ◌+◌, ◌<◌, ◌≤◌, ◌++◌, ◌∷◌, Some, map, OnOk, IfOk};
 ghost use Rattle.std.specs.List.{join_with_byte};
-ghost use Rattle.nest_memory.specs.Cut.{cut};
 ghost use Rattle.nest_memory.specs.TypeTree as types;
-ghost use Rattle.nest_memory.specs.TypeTree.{item_type};
-ghost use Rattle.nest_model.specs.Layout.{layout_type};
-ghost use Rattle.nest_model.specs.Meaning.{len, slot, slots_of};
-ghost use Rattle.nest_build.specs.Items.{item_slot};
-ghost use Rattle.listcut.specs.Spelling.{item_text, row_text, text_of};
-ghost use Rattle.listcut.specs.Outcome.{Writes};
+ghost use Rattle.listcut.specs.Words.{Writes, cut, item_slot, item_text, item_type, layout_type, len, row_text, slot, slots_of, text_of};
 
 use crate::fault::Fault;
 use crate::int64::numbers;

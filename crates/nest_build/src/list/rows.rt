@@ -1,10 +1,6 @@
 //! The rows of a builder of lists, without their items.
 ghost use Rattle.std.specs.Prelude.{◌≡◌, ◌+◌, ◌≤◌, ◌<◌, ◌⊎◌, ◌↔◌, ◌++◌, ◌∷◌, [], false, length, OnOk, OnErr, IfOk, IfErr, IsErrOf, IsOkUnless, alloc_error};
-ghost use Rattle.nest_memory.specs.declared.error.Error.TheVariants.{Memory, Overflow};
-ghost use Rattle.nest_memory.specs.Rising.{largest_offset};
-ghost use Rattle.nest_model.specs.BuilderRow.{end_from, told_row, RisesFrom};
-ghost use Rattle.nest_model.specs.Checks.{largest_length};
-ghost use Rattle.nest_build.specs.Rows.{Spells};
+ghost use Rattle.nest_build.specs.Words.{Memory, Overflow, RisesFrom, Spells, end_from, largest_length, largest_offset, told_row};
 
 use nest_flat::growth::validity;
 use nest_memory::bitmap::immutable::Bitmap;
