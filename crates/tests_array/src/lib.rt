@@ -30,6 +30,8 @@ mod fixed_size_binaries;
 #[cfg(test)]
 mod generic_binaries;
 #[cfg(test)]
+mod maps;
+#[cfg(test)]
 mod nulls;
 #[cfg(test)]
 mod refusals;
