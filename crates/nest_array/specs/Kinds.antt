@@ -22,6 +22,7 @@ physical_kind (any.FixedSizeList a) = physical.FixedSizeList
 physical_kind (any.List a) = physical.List
 physical_kind (any.LargeList a) = physical.LargeList
 physical_kind (any.Struct a) = physical.Struct
+physical_kind (any.Map a) = physical.Map
 
 -- it is the physical type of native values
 abbrev pub IsPrimitive : PhysicalType → Type 0

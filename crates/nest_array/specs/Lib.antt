@@ -7,6 +7,7 @@ pub mod SeenFixedSizeList
 pub mod SeenLargeList
 pub mod SeenList
 pub mod SeenLists
+pub mod SeenMap
 pub mod SeenStruct
 pub mod Types
 pub mod WindowParts

@@ -13,6 +13,7 @@ use crate::fixed_size_binary::FixedSizeBinaryArray;
 use crate::fixed_size_list::FixedSizeListArray;
 use crate::list::ListArray;
 use crate::list::large::LargeListArray;
+use crate::map::MapArray;
 use crate::null::NullArray;
 use crate::struct_::StructArray;
 use nest_flat::any_primitive::{AnyPrimitive, Native};
@@ -41,6 +42,7 @@ pub enum AnyArray {
     List(ListArray),
     LargeList(LargeListArray),
     Struct(StructArray),
+    Map(MapArray),
 }
 
 // The same expression over the array of each variant.
@@ -59,6 +61,7 @@ macro_rules! each_array {
             AnyArray::List($array) => $body,
             AnyArray::LargeList($array) => $body,
             AnyArray::Struct($array) => $body,
+            AnyArray::Map($array) => $body,
         }
     };
 }
@@ -182,6 +185,7 @@ impl AnyArray {
             AnyArray::List(array) => with_known!(array, validity),
             AnyArray::LargeList(array) => with_known!(array, validity),
             AnyArray::Struct(array) => with_known!(array, validity),
+            AnyArray::Map(array) => with_known!(array, validity),
         }
     }
 
@@ -203,6 +207,7 @@ impl AnyArray {
             AnyArray::List(array) => array.slice(o, n),
             AnyArray::LargeList(array) => array.slice(o, n),
             AnyArray::Struct(array) => array.cut(o, n),
+            AnyArray::Map(array) => array.slice(o, n),
         }
     }
 
@@ -225,6 +230,7 @@ impl AnyArray {
             AnyArray::List(array) => boxed_list(alloc, array),
             AnyArray::LargeList(array) => boxed_large_list(alloc, array),
             AnyArray::Struct(array) => boxed_struct(alloc, array),
+            AnyArray::Map(array) => boxed_map(alloc, array),
         }
     }
 }
@@ -280,6 +286,18 @@ fn boxed_large_list(alloc: Global, array: &LargeListArray) -> Result<AnyArray, E
 #[cycle(clone)]
 #[inline(never)]
 fn boxed_struct(alloc: Global, array: &StructArray) -> Result<AnyArray, Error>
+    ensures ok { IfOk result (λ a. layout_of a ≡ array.now) }
+    ensures err { IsOkUnless result (Memory alloc_error) }
+{
+    match array.clone(alloc) {
+        Ok(array) => Ok(array.boxed()),
+        Err(error) => Err(error),
+    }
+}
+
+#[cycle(clone)]
+#[inline(never)]
+fn boxed_map(alloc: Global, array: &MapArray) -> Result<AnyArray, Error>
     ensures ok { IfOk result (λ a. layout_of a ≡ array.now) }
     ensures err { IsOkUnless result (Memory alloc_error) }
 {

@@ -2,7 +2,7 @@
 //! layout, and `slots_of` the layout is that list.
 //!
 //! What every kind does is promised once, of any `A: Array`: so of the twelve native kinds, of truths, bytes and texts, of
-//! nulls, byte strings of one size, lists of three kinds, structs, and of `AnyArray`, which is any of them. What a kind does
+//! nulls, byte strings of one size, lists of three kinds, structs, maps, and of `AnyArray`, which is any of them. What a kind does
 //! alone, its constructor and its values, follows kind by kind.
 
 ghost use Rattle.std.specs.Prelude.{◌≡◌, ◌+◌, ◌*◌, ◌≤◌, ◌<◌, ◌^◌, ◌↔◌, ◌⊎◌, false, true, IsTrue, IfOk, IfErr, IsErrOf, IsOkUnless, MatchOption, MatchResult, length, map, not, alloc_error};
@@ -31,7 +31,7 @@ ghost use Rattle.nest_array.specs.Seen.{layout_of, layouts_of};
 ghost use Rattle.nest_array.specs.WindowParts.{window_parts, window_slots};
 
 use nest_array::{
-    AnyArray, Array, FixedSizeBinaryArray, FixedSizeListArray, LargeListArray, ListArray,
+    AnyArray, Array, FixedSizeBinaryArray, FixedSizeListArray, LargeListArray, ListArray, MapArray,
     NullArray, StructArray, Window,
 };
 use nest_flat::any_primitive::Native;
@@ -238,6 +238,20 @@ pub fn records(
     StructArray::try_new(data_type, children, validity)
 }
 
+/// Maps: lists of entries, which are records of exactly two fields, by offsets of 32 bits.
+pub fn maps(
+    alloc: Global,
+    data_type: DataType,
+    offsets: OffsetsBuffer<i32>,
+    entries: AnyArray,
+    validity: Option<Bitmap>,
+) -> Result<MapArray, Error>
+    ensures { let parts = layouts.map (type_of data_type) offsets (layout_of entries) validity in
+        MatchResult result (λ a. Fits parts × (a ≡ parts)) (λ e. RefusesOrMemory e parts) }
+{
+    MapArray::try_new(alloc, data_type, offsets, entries, validity)
+}
+
 /// The bytes of a row, `None` where it is null.
 pub fn row_at(rows: &FixedSizeBinaryArray, i: usize) -> Option<&[u8]>
     requires { i < len rows.now }
@@ -302,6 +316,24 @@ pub fn items_of_size_at(
     ensures err { IsOkUnless result (Memory alloc_error) }
 {
     pairs.get(alloc, i)
+}
+
+/// The entries of a map are a cut of all entries, and the slot is their list, or null.
+pub fn entries_at(maps: &MapArray, alloc: Global, i: usize) -> Result<AnyArray, Error>
+    requires { i < len maps.now }
+    ensures parts { IfOk result (λ a. layout_of a ≡ cut_layout (child_of maps.now) (begin (offsets_of maps.now) i) (extent (offsets_of maps.now) i)) }
+    ensures entries { IfOk result (λ a. slot maps.now i ≡ where_valid (validity_of maps.now) i (slots.list (seal (slots_of (layout_of a))))) }
+    ensures err { IsOkUnless result (Memory alloc_error) }
+{
+    maps.value(alloc, i)
+}
+
+/// The same entries, lent: no memory is taken.
+pub fn lent_entries_at(maps: &MapArray, i: usize) -> Window<'_>
+    requires { i < len maps.now }
+    ensures { slot maps.now i ≡ where_valid (validity_of maps.now) i (slots.list (seal (window_slots result))) }
+{
+    maps.window(i)
 }
 
 /// The children of records, one for each field; each is cut as its records are.

@@ -10,7 +10,7 @@ ghost use Rattle.nest_array.specs.Seen.{layout_of};
 ghost use Rattle.nest_array.specs.WindowParts.{window_slots};
 
 use nest_array::equal::{equal, equal_windows};
-use nest_array::{AnyArray, ListArray, StructArray, Window};
+use nest_array::{AnyArray, ListArray, MapArray, StructArray, Window};
 use nest_flat::flat_array::{FlatArray, same_arrays, same_run};
 use nest_memory::error::Error;
 use std::alloc::Global;
@@ -62,6 +62,13 @@ pub fn are_equal_lists(a: &ListArray, b: &ListArray) -> bool
 
 /// Of records.
 pub fn are_equal_records(a: &StructArray, b: &StructArray) -> bool
+    ensures { IsTrue result ↔ IsSameArray a.now b.now }
+{
+    *a == *b
+}
+
+/// Of maps.
+pub fn are_equal_maps(a: &MapArray, b: &MapArray) -> bool
     ensures { IsTrue result ↔ IsSameArray a.now b.now }
 {
     *a == *b

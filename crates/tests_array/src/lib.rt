@@ -12,6 +12,10 @@
 //! | The same under a validity that is too long: refused, nothing changed, and the array handed back | `arrays::sizes::long_validity_refused` |
 //! | Records of a number and a text over children in another order: their types; of two lengths, under a validity of a third: their lengths | `refusals::children_in_another_order_than_the_fields`, `refusals::children_of_two_lengths_before_the_validity` |
 //! | Each kind under the type of another, and no fields, or not as many as children | `refusals::lists_under_another_type`, `refusals::other_lists_under_the_type_of_lists`, `refusals::records_under_another_type`, `nulls::other_types_are_refused`, `arrays::structs::a_child_for_each_field` |
+//! | Maps from "a" to "b" and from "aa" to "bb" over three records, entry by entry; cut to the second: from "aa" to "bb" | `maps::two_maps_entry_by_entry`, `maps::cuts::cut_to_the_second_map` |
+//! | Maps whose entries are under an extension of a struct of two fields, or a struct of three, are refused for their inner type; a null over one record is a null | `maps::refusals::extension_of_records_inside`, `maps::refusals::three_fields_inside`, `maps::cuts::null_over_one_record` |
+//! | Each refusal of maps, where all later checks fail too | `maps::refusals::first_of_the_checks` |
+//! | Maps are the same whatever lies under a null or before their first entry; each of their calls with memory, and with any one request refused | `maps::equality::entries_under_a_null`, `maps::equality::rebuilt_maps_are_equal`, `maps::memory::copies_are_equal_or_refused`, `maps::memory::parts_are_told_or_refused` |
 //! | A cut to nothing at the end, of each kind | `arrays::kinds::flat_arrays_end_empty`, `arrays::kinds::nested_arrays_end_empty` |
 //! | Each call of the trait `Array` on each kind, the twelve natives one by one | `calls::native_arrays`, `calls::native_arrays_of_other_kinds`, `calls::flat_arrays`, `calls::nested_arrays`, `calls::null_arrays`, `calls::copies_are_in_their_variant` |
 //! | Clones, shared arrays and new validities are there where memory is | `copies::clones_are_equal`, `copies::arrays_are_shared`, `copies::lists_take_new_validities`, `copies::pairs_and_records_take_new_validities` |
@@ -29,6 +33,8 @@ mod copies;
 mod fixed_size_binaries;
 #[cfg(test)]
 mod generic_binaries;
+#[cfg(test)]
+mod maps;
 #[cfg(test)]
 mod nulls;
 #[cfg(test)]

@@ -19,6 +19,9 @@ decreases-any::boxed_large_list l = 4 * weight l.array.now + 2
 abbrev pub decreases-any::boxed_struct : goal.decreases-any::boxed_struct
 decreases-any::boxed_struct l = 4 * weight l.array.now + 2
 
+abbrev pub decreases-any::boxed_map : goal.decreases-any::boxed_map
+decreases-any::boxed_map l = 4 * weight l.array.now + 2
+
 abbrev pub decreases-fixed_size_list::FixedSizeListArray::clone : goal.decreases-fixed_size_list::FixedSizeListArray::clone
 decreases-fixed_size_list::FixedSizeListArray::clone l = 4 * weight l.self.now + 1
 
@@ -27,6 +30,9 @@ decreases-list::ListArray::clone l = 4 * weight l.self.now + 1
 
 abbrev pub decreases-list::large::LargeListArray::clone : goal.decreases-list::large::LargeListArray::clone
 decreases-list::large::LargeListArray::clone l = 4 * weight l.self.now + 1
+
+abbrev pub decreases-map::MapArray::clone : goal.decreases-map::MapArray::clone
+decreases-map::MapArray::clone l = 4 * weight l.self.now + 1
 
 abbrev pub decreases-struct_::StructArray::clone : goal.decreases-struct_::StructArray::clone
 decreases-struct_::StructArray::clone l = 4 * weight l.self.now + 1

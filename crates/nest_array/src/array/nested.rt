@@ -5,6 +5,7 @@ use crate::fixed_size_binary::FixedSizeBinaryArray;
 use crate::fixed_size_list::FixedSizeListArray;
 use crate::list::ListArray;
 use crate::list::large::LargeListArray;
+use crate::map::MapArray;
 use crate::null::NullArray;
 use crate::struct_::StructArray;
 use nest_memory::bitmap::immutable::Bitmap;
@@ -237,5 +238,43 @@ impl Slotted for StructArray {
 impl Variant for StructArray {
     fn into_any(self) -> AnyArray {
         AnyArray::Struct(self)
+    }
+}
+
+impl Slotted for MapArray {
+    ghost parts = { λ a. a };
+
+    fn len(&self) -> usize {
+        MapArray::len(self)
+    }
+
+    fn data_type(&self) -> &DataType {
+        MapArray::data_type(self)
+    }
+
+    fn validity(&self) -> Option<&Bitmap> {
+        MapArray::validity(self)
+    }
+
+    fn is_null(&self, i: usize) -> bool {
+        MapArray::is_null(self, i)
+    }
+
+    fn null_count(&self) -> usize {
+        MapArray::null_count(self)
+    }
+
+    fn slice(&mut self, o: usize, n: usize) {
+        MapArray::slice(self, o, n)
+    }
+
+    fn again(&self, alloc: Global) -> Result<MapArray, Error> {
+        self.clone(alloc)
+    }
+}
+
+impl Variant for MapArray {
+    fn into_any(self) -> AnyArray {
+        AnyArray::Map(self)
     }
 }

@@ -10,6 +10,7 @@ use crate::fixed_size_binary::FixedSizeBinaryArray;
 use crate::fixed_size_list::FixedSizeListArray;
 use crate::list::ListArray;
 use crate::list::large::LargeListArray;
+use crate::map::MapArray;
 use crate::null::NullArray;
 use crate::struct_::StructArray;
 use nest_flat::any_primitive::AnyPrimitive;
@@ -34,6 +35,7 @@ pub(crate) fn kind(a: &AnyArray)
         AnyArray::List(x) => x.known(),
         AnyArray::LargeList(x) => x.known(),
         AnyArray::Struct(x) => x.known(),
+        AnyArray::Map(x) => x.known(),
     }
 }
 
@@ -186,6 +188,18 @@ pub(crate) fn as_struct(b: &AnyArray) -> &StructArray
     kind(b);
     match b {
         AnyArray::Struct(y) => y,
+        _ => unreachable!(),
+    }
+}
+
+/// The array whose data type is that of maps.
+pub(crate) fn as_map(b: &AnyArray) -> &MapArray
+    requires { physical_type (layout_type (layout_of b.now)) ≡ physical.Map }
+    ensures { result.now ≡ layout_of b.now }
+{
+    kind(b);
+    match b {
+        AnyArray::Map(y) => y,
         _ => unreachable!(),
     }
 }

@@ -83,6 +83,11 @@ pub(crate) fn same_run(a: &AnyArray, o: usize, b: &AnyArray, p: usize, n: usize)
             same_rows(&Lists::LargeList(x), o, &Lists::LargeList(y), p, n)
         }
         AnyArray::Struct(x) => same_records(x, o, kinds::as_struct(b), p, n),
+        AnyArray::Map(x) => {
+            x.known();
+            let y = kinds::as_map(b);
+            same_rows(&Lists::Map(x), o, &Lists::Map(y), p, n)
+        }
     }
 }
 

@@ -7,6 +7,7 @@ use crate::any::AnyArray;
 use crate::fixed_size_list::FixedSizeListArray;
 use crate::list::ListArray;
 use crate::list::large::LargeListArray;
+use crate::map::MapArray;
 
 /// What a comparison asks of an array of lists.
 pub(crate) trait Rows {
@@ -91,12 +92,34 @@ impl Rows for FixedSizeListArray {
     }
 }
 
+impl Rows for MapArray {
+    ghost layout = { λ x. x };
+
+    fn count(&self) -> usize {
+        self.len()
+    }
+
+    fn items(&self) -> &AnyArray {
+        self.known();
+        self.field()
+    }
+
+    fn row(&self, i: usize) -> Option<(usize, usize)> {
+        self.known();
+        if self.is_null(i) {
+            return None;
+        }
+        Some(self.range(i))
+    }
+}
+
 /// An array of lists of any kind.
 #[derive(Clone, Copy)]
 pub(crate) enum Lists<'a> {
     List(&'a ListArray),
     LargeList(&'a LargeListArray),
     FixedSizeList(&'a FixedSizeListArray),
+    Map(&'a MapArray),
 }
 
 impl<'a> Rows for Lists<'a> {
@@ -109,6 +132,7 @@ impl<'a> Rows for Lists<'a> {
             Lists::List(lists) => lists.count(),
             Lists::LargeList(lists) => lists.count(),
             Lists::FixedSizeList(lists) => lists.count(),
+            Lists::Map(lists) => lists.count(),
         }
     }
 
@@ -117,6 +141,7 @@ impl<'a> Rows for Lists<'a> {
             Lists::List(lists) => lists.items(),
             Lists::LargeList(lists) => lists.items(),
             Lists::FixedSizeList(lists) => lists.items(),
+            Lists::Map(lists) => lists.items(),
         }
     }
 
@@ -125,6 +150,7 @@ impl<'a> Rows for Lists<'a> {
             Lists::List(lists) => lists.row(i),
             Lists::LargeList(lists) => lists.row(i),
             Lists::FixedSizeList(lists) => lists.row(i),
+            Lists::Map(lists) => lists.row(i),
         }
     }
 }

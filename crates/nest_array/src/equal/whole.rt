@@ -10,6 +10,7 @@ use crate::equal::{equal, same_rows, same_shape};
 use crate::fixed_size_list::FixedSizeListArray;
 use crate::list::ListArray;
 use crate::list::large::LargeListArray;
+use crate::map::MapArray;
 use crate::struct_::StructArray;
 
 /// An array whose slots are compared in runs.
@@ -182,6 +183,35 @@ impl PartialEq for StructArray {
 }
 
 impl Eq for StructArray {
+    ghost use Rattle.nest_flat.specs.SameFlat.{same_array-equiv};
+
+    ghost laws = { same_array-equiv };
+}
+
+impl SlotRuns for MapArray {
+    fn is_same_run(&self, o: usize, other: &MapArray, p: usize, n: usize) -> bool {
+        same_rows(&Lists::Map(self), o, &Lists::Map(other), p, n)
+    }
+}
+
+impl PartialEq for MapArray {
+    ghost use Rattle.std.specs.Cmp.{partial_equiv_from_equiv};
+    ghost use Rattle.nest_model.specs.SameArray.{same_array};
+    ghost use Rattle.nest_flat.specs.SameFlat.{same_array-equiv};
+
+    ghost eq = { same_array };
+
+    ghost laws = { partial_equiv_from_equiv same_array-equiv };
+
+    fn eq(&self, other: &MapArray) -> bool
+        ensures computes { result ≡ same_array self.now other.now }
+        ensures decides { IsTrue result ↔ IsSameArray self.now other.now }
+    {
+        same_arrays(self, other)
+    }
+}
+
+impl Eq for MapArray {
     ghost use Rattle.nest_flat.specs.SameFlat.{same_array-equiv};
 
     ghost laws = { same_array-equiv };

@@ -1,14 +1,11 @@
 //! New validities and copies of arrays of lists.
-ghost use Rattle.std.specs.Prelude.{◌≡◌, false, IfOk, IsOkUnless, MatchResult, alloc_error};
-ghost use Rattle.nest_model.specs.Layout as layouts;
-ghost use Rattle.nest_array.specs.Words.{Memory, TopFits, ValidityFault, ValidityFits, layout_of, len, type_of, with_validity};
+ghost use Rattle.std.specs.Prelude.{◌≡◌, IfOk, IsOkUnless, MatchResult, alloc_error};
+ghost use Rattle.nest_array.specs.Words.{Memory, ValidityFault, ValidityFits, layout_of, len, with_validity};
 
 use crate::any::AnyArray;
 use crate::list::ListArray;
-use crate::list::ranges::Ranges;
 use nest_flat::validity;
 use nest_memory::bitmap::immutable::Bitmap;
-use nest_memory::datatypes::DataType;
 use nest_memory::error::{Error, Spec};
 use std::alloc::Global;
 use std::rc::Rc;
@@ -49,36 +46,9 @@ impl ListArray {
     {
         let values: &AnyArray = &self.values;
         let values = values.clone(alloc)?;
-        ListArray::again(alloc, &self.data_type, &self.ranges, values)
-    }
-
-    // The array of a type and ranges that are shared, and of items.
-    fn again(
-        alloc: Global,
-        data_type: &DataType,
-        ranges: &Ranges<i32>,
-        values: AnyArray,
-    ) -> Result<ListArray, Error>
-        requires { TopFits (layouts.list false (type_of data_type.now) ranges.now.offsets (layout_of values) ranges.now.validity) }
-        ensures ok { IfOk result (λ a. a ≡ layouts.list false (type_of data_type.now) ranges.now.offsets (layout_of values) ranges.now.validity) }
-        ensures err { IsOkUnless result (Memory alloc_error) }
-    {
-        let values = Box::new(alloc, values)?;
-        let ranges = match ranges.clone() {
-            Ok(ranges) => ranges,
+        match self.ranges.again(alloc, &self.data_type) {
+            Ok((data_type, ranges)) => ListArray::of(alloc, data_type, ranges, values),
             Err(error) => {
-                drop(values);
-                return Err(error);
-            }
-        };
-        match data_type.clone(alloc) {
-            Ok(data_type) => Ok(ListArray {
-                data_type,
-                ranges,
-                values,
-            }),
-            Err(error) => {
-                drop(ranges);
                 drop(values);
                 Err(error)
             }

@@ -3,7 +3,7 @@ mod copies;
 mod data_type;
 pub mod large;
 pub mod offset;
-mod ranges;
+pub(crate) mod ranges;
 
 ghost use Rattle.std.specs.Prelude.{◌≡◌, ◌+◌, ◌≤◌, ◌<◌, ◌↔◌, false, IsTrue, IfOk, IsOkUnless, MatchResult, option_map, alloc_error};
 ghost use Rattle.nest_model.specs.Layout as layouts;

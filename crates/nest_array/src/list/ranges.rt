@@ -1,4 +1,5 @@
-//! Where the items of each list lie, and which lists are valid: what lists of both widths of offsets have in common.
+//! Where the items of each list lie, and which lists are valid: what lists of both widths of offsets and maps have in
+//! common.
 ghost use Rattle.std.specs.Prelude.{◌≡◌, ◌+◌, ◌≤◌, ◌<◌, IfOk, IsOkUnless, MatchOption, alloc_error};
 ghost use Rattle.nest_memory.specs.Physical.{list_of_width};
 ghost use Rattle.nest_model.specs.Array.{AreOffsets};
@@ -16,6 +17,7 @@ use nest_memory::datatypes::physical_type::PhysicalType;
 use nest_memory::error::{Error, Spec};
 use nest_memory::offset::Offset;
 use nest_memory::offsets::OffsetsBuffer;
+use std::alloc::Global;
 
 /// The offsets of some lists and their validity.
 #[derive(Drop)]
@@ -74,6 +76,25 @@ impl<O: Offset> Ranges<O> {
             offsets: self.offsets.clone()?,
             validity: validity::clone(&self.validity)?,
         })
+    }
+
+    /// The same ranges beside the same data type, on shared memory.
+    pub(crate) fn again(
+        &self,
+        alloc: Global,
+        data_type: &DataType,
+    ) -> Result<(DataType, Ranges<O>), Error>
+        ensures ok { IfOk result (λ p. (type_of p.0 ≡ type_of data_type.now) × (p.1.offsets ≡ self.now.offsets) × (p.1.validity ≡ self.now.validity)) }
+        ensures err { IsOkUnless result (Memory alloc_error) }
+    {
+        let ranges = self.clone()?;
+        match data_type.clone(alloc) {
+            Ok(data_type) => Ok((data_type, ranges)),
+            Err(error) => {
+                drop(ranges);
+                Err(error)
+            }
+        }
     }
 }
 

@@ -1,10 +1,10 @@
-use Rattle.std.proofs.Common.{false, rules}
+use Rattle.std.proofs.Common.{false, subst, rules}
 use Rattle.nest_memory.specs.TypeOf.{type_of}
 use Rattle.nest_array.specs.Seen.{layout_of}
-use Rattle.nest_array.proofs.Lists.{slot-window}
+use Rattle.nest_array.proofs.Lists.{IsByOffsets, list-by_offsets, slot-window}
 use Rattle.nest_array.proofs.list.ListArray.window.Goals as goal
 
 pub returns-clause-items : goal.returns-clause-items
 returns-clause-items c =
-    slot-window false (type_of c.self.inside.data_type) c.self.inside.ranges.offsets (layout_of c.self.inside.values.value) c.self.inside.ranges.validity c.args.self.now c.new.result c.args.i c.self.view_is
-    c.self.invariant c.requires (search rules)
+    slot-window c.args.self.now c.new.result c.args.i
+    (subst IsByOffsets c.self.view_is (list-by_offsets false (type_of c.self.inside.data_type) c.self.inside.ranges.offsets (layout_of c.self.inside.values.value) c.self.inside.ranges.validity c.self.invariant)) c.requires (search rules)

@@ -1,0 +1,10 @@
+use Rattle.std.proofs.Common.{subst, rules}
+use Rattle.nest_memory.specs.TypeOf.{type_of}
+use Rattle.nest_array.specs.Seen.{layout_of}
+use Rattle.nest_array.proofs.Lists.{IsByOffsets, map-by_offsets, slot-window}
+use Rattle.nest_array.proofs.map.MapArray.window.Goals as goal
+
+pub returns-clause-items : goal.returns-clause-items
+returns-clause-items c =
+    slot-window c.args.self.now c.new.result c.args.i
+    (subst IsByOffsets c.self.view_is (map-by_offsets (type_of c.self.inside.data_type) c.self.inside.ranges.offsets (layout_of c.self.inside.field.value) c.self.inside.ranges.validity c.self.invariant)) c.requires (search rules)

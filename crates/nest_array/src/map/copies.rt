@@ -1,0 +1,72 @@
+//! New validities and copies of arrays of maps.
+ghost use Rattle.std.specs.Prelude.{◌≡◌, IfOk, IsOkUnless, MatchResult, alloc_error};
+ghost use Rattle.nest_array.specs.Words.{Memory, ValidityFault, ValidityFits, layout_of, len, with_validity};
+
+use crate::any::AnyArray;
+use crate::map::MapArray;
+use nest_flat::validity;
+use nest_memory::bitmap::immutable::Bitmap;
+use nest_memory::error::{Error, Spec};
+use std::alloc::Global;
+use std::rc::Rc;
+
+impl MapArray {
+    /// Takes a new validity. `ValidityLength` where it has not a bit for each slot; the array stays
+    /// as it was then.
+    pub fn set_validity(&mut self, validity: Option<Bitmap>) -> Result<(), Error>
+        ensures { MatchResult result
+            (λ _. ValidityFits validity (len self.old) × (self.new ≡ with_validity self.old validity))
+            (λ e. ValidityFault e self.old validity × (self.new ≡ self.old)) }
+    {
+        if !validity::fits(&validity, self.len()) {
+            return Err(Error::OutOfSpec(Spec::ValidityLength));
+        }
+        self.ranges.validity = validity;
+        Ok(())
+    }
+
+    /// The array under a new validity, or as it was beside the refusal.
+    pub fn with_validity(self, validity: Option<Bitmap>) -> Result<MapArray, (MapArray, Error)>
+        ensures { MatchResult result
+            (λ a. ValidityFits validity (len self) × (a ≡ with_validity self validity))
+            (λ r. ValidityFault r.1 self validity × (r.0 ≡ self)) }
+    {
+        let mut array = self;
+        match array.set_validity(validity) {
+            Ok(()) => Ok(array),
+            Err(e) => Err((array, e)),
+        }
+    }
+
+    /// The same array, on shared memory.
+    #[cycle(clone)]
+    pub fn clone(&self, alloc: Global) -> Result<MapArray, Error>
+        ensures ok { IfOk result (λ a. a ≡ self.now) }
+        ensures err { IsOkUnless result (Memory alloc_error) }
+    {
+        let field: &AnyArray = &self.field;
+        let field = field.clone(alloc)?;
+        match self.ranges.again(alloc, &self.data_type) {
+            Ok((data_type, ranges)) => MapArray::of(alloc, data_type, ranges, field),
+            Err(error) => {
+                drop(field);
+                Err(error)
+            }
+        }
+    }
+
+    /// The same array in its variant.
+    pub fn boxed(self) -> AnyArray
+        ensures { layout_of result ≡ self }
+    {
+        AnyArray::Map(self)
+    }
+
+    /// The same array, owned by what shares it.
+    pub fn arced(self, alloc: Global) -> Result<Rc<AnyArray>, Error>
+        ensures ok { IfOk result (λ r. layout_of r.value ≡ self) }
+        ensures err { IsOkUnless result (Memory alloc_error) }
+    {
+        Ok(Rc::new(alloc, self.boxed())?)
+    }
+}
