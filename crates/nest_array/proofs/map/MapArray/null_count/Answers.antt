@@ -1,4 +1,4 @@
-use Rattle.std.proofs.Common.{false, ap, ◌∙◌}
+use Rattle.std.proofs.Common.{ap, ◌∙◌}
 use Rattle.nest_memory.specs.TypeOf.{type_of}
 use Rattle.nest_array.specs.Seen.{layout_of}
 use Rattle.nest_model.specs.Facts.{map-facts}
