@@ -87,6 +87,31 @@ fn values_of_several_numbers_come_back(rt: HostRuntime) {
     assert!(rt; comes_back(LONG_SPAN));
 }
 
+/// Whether two values of one kind have the same numbers; `None` for values of two kinds.
+fn have_same_numbers<T: Native>(x: AnyNative, y: AnyNative) -> Option<bool> {
+    if T::from_any(x).is_some() && T::from_any(y).is_some() {
+        return Some(x.same_numbers(y));
+    }
+    None
+}
+
+#[test]
+fn numbers_of_one_kind_are_compared(rt: HostRuntime) {
+    let whole = i256::from_words(1, 2).to_any();
+    let other = i256::from_words(1, 3).to_any();
+    assert_eq!(rt;
+        have_same_numbers::<i8>(5i8.to_any(), 5i8.to_any()),
+        Some(true)
+    );
+    assert_eq!(rt;
+        have_same_numbers::<i8>(5i8.to_any(), (-5i8).to_any()),
+        Some(false)
+    );
+    assert_eq!(rt; have_same_numbers::<i256>(whole, whole), Some(true));
+    assert_eq!(rt; have_same_numbers::<i256>(whole, other), Some(false));
+    assert_eq!(rt; have_same_numbers::<i256>(whole, 1u8.to_any()), None);
+}
+
 #[test]
 fn values_of_any_kind_are_compared(rt: HostRuntime) {
     assert_eq!(rt; 5i8.to_any(), AnyNative::Int8(5));
