@@ -2,6 +2,7 @@
 #![tactic(auto)]
 
 pub mod any;
+pub mod any_native;
 pub mod array;
 pub mod equal;
 pub mod fixed_size_binary;
@@ -9,6 +10,7 @@ pub mod fixed_size_list;
 pub mod generic_binary;
 pub mod list;
 pub mod null;
+pub mod scalar;
 pub mod struct_;
 mod types;
 pub mod window;
@@ -22,5 +24,6 @@ pub use list::ListArray;
 pub use list::large::LargeListArray;
 pub use list::offset::ListOffset;
 pub use null::NullArray;
+pub use scalar::{AnyScalar, ScalarValue, new_scalar};
 pub use struct_::StructArray;
 pub use window::Window;
