@@ -1,9 +1,9 @@
 //! Native values of any kind.
-ghost use Rattle.std.specs.Prelude.{◌≡◌};
+ghost use Rattle.std.specs.Prelude.{◌≡◌, ◌↔◌, IsTrue};
 ghost use Rattle.nest_array.specs.AnyNative.{native_kind, native_numbers};
 
 use nest_flat::any_primitive::Native;
-use nest_memory::types::{days_ms, i256, months_days_ns};
+use nest_memory::types::{NativeType, days_ms, i256, months_days_ns};
 
 /// A native value, in the variant of its kind.
 #[derive(Clone, Copy, Debug, PartialEq, Eq, Hash)]
@@ -98,5 +98,34 @@ impl ToAny for days_ms {
 impl ToAny for months_days_ns {
     fn to_any(self) -> AnyNative {
         AnyNative::MonthDayNano(self)
+    }
+}
+
+fn are_same<T: NativeType>(x: T, y: T) -> bool
+    ensures { IsTrue result ↔ (T.numbers x ≡ T.numbers y) }
+{
+    x == y
+}
+
+impl AnyNative {
+    pub fn same_numbers(self, other: AnyNative) -> bool
+        requires { native_kind self ≡ native_kind other }
+        ensures { IsTrue result ↔ (native_numbers self ≡ native_numbers other) }
+    {
+        match (self, other) {
+            (AnyNative::Int8(x), AnyNative::Int8(y)) => are_same(x, y),
+            (AnyNative::Int16(x), AnyNative::Int16(y)) => are_same(x, y),
+            (AnyNative::Int32(x), AnyNative::Int32(y)) => are_same(x, y),
+            (AnyNative::Int64(x), AnyNative::Int64(y)) => are_same(x, y),
+            (AnyNative::Int128(x), AnyNative::Int128(y)) => are_same(x, y),
+            (AnyNative::Int256(x), AnyNative::Int256(y)) => are_same(x, y),
+            (AnyNative::UInt8(x), AnyNative::UInt8(y)) => are_same(x, y),
+            (AnyNative::UInt16(x), AnyNative::UInt16(y)) => are_same(x, y),
+            (AnyNative::UInt32(x), AnyNative::UInt32(y)) => are_same(x, y),
+            (AnyNative::UInt64(x), AnyNative::UInt64(y)) => are_same(x, y),
+            (AnyNative::DaysMs(x), AnyNative::DaysMs(y)) => are_same(x, y),
+            (AnyNative::MonthDayNano(x), AnyNative::MonthDayNano(y)) => are_same(x, y),
+            _ => unreachable!(),
+        }
     }
 }

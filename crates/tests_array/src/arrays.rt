@@ -2,7 +2,7 @@
 //! helpers and by `drop`, which keeps the proofs short.
 mod kinds;
 pub(crate) mod lists;
-mod memory;
+pub(crate) mod memory;
 mod reads;
 pub(crate) mod sizes;
 pub(crate) mod structs;

@@ -44,7 +44,7 @@ fn same_value(a: &AnyScalar, b: &AnyScalar) -> bool
     match (&a.value, &b.value) {
         (ScalarValue::Null, ScalarValue::Null) => true,
         (ScalarValue::Boolean(x), ScalarValue::Boolean(y)) => *x == *y,
-        (ScalarValue::Native(x), ScalarValue::Native(y)) => *x == *y,
+        (ScalarValue::Native(x), ScalarValue::Native(y)) => x.same_numbers(*y),
         (ScalarValue::Text(x), ScalarValue::Text(y)) => x.as_str() == y.as_str(),
         (ScalarValue::Bytes(x), ScalarValue::Bytes(y)) => x.as_slice() == y.as_slice(),
         (ScalarValue::List(x), ScalarValue::List(y)) => equal(x, y),

@@ -107,7 +107,7 @@ fn any_native_at(natives: &AnyPrimitive, i: usize) -> ScalarValue
 }
 
 fn bytes_value(alloc: Global, bytes: Option<&[u8]>) -> Result<ScalarValue, Error>
-    ensures ok { IfOk result (λ v. slot_of_value v ≡ optional (λ x. slots.bytes x.now) bytes) }
+    ensures ok { IfOk result (λ v. slot_of_value v ≡ optional (λ x. slots.bytes x.now) bytes.entry) }
     ensures fits { IfOk result (λ v. (t : TypeTree) → ValueFits t v) }
     ensures err { IsOkUnless result (Memory alloc_error) }
 {
@@ -118,7 +118,7 @@ fn bytes_value(alloc: Global, bytes: Option<&[u8]>) -> Result<ScalarValue, Error
 }
 
 fn text_value(alloc: Global, text: Option<&str>) -> Result<ScalarValue, Error>
-    ensures ok { IfOk result (λ v. slot_of_value v ≡ optional (λ x. slots.text x.now) text) }
+    ensures ok { IfOk result (λ v. slot_of_value v ≡ optional (λ x. slots.text x.now) text.entry) }
     ensures fits { IfOk result (λ v. (t : TypeTree) → ValueFits t v) }
     ensures err { IsOkUnless result (Memory alloc_error) }
 {

@@ -5,7 +5,7 @@ use std::alloc::AllocError;
 use std::process::Abort;
 
 /// What a call gave, or `None` where memory was refused; nothing else may be.
-fn unless_refused<T>(rt: &impl Abort, outcome: Result<T, Error>) -> Option<T> {
+pub(crate) fn unless_refused<T>(rt: &impl Abort, outcome: Result<T, Error>) -> Option<T> {
     match outcome {
         Ok(value) => Some(value),
         Err(error) => {
