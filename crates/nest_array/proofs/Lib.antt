@@ -6,4 +6,7 @@ pub mod Lists
 pub mod LogicalTypes
 pub mod NullArrays
 pub mod SameRows
+pub mod SameScalars
+pub mod Scalars
+pub mod ShownTypes
 pub mod Windows

@@ -1,13 +1,17 @@
+pub mod AnyNative
 pub mod Falls
 pub mod Kinds
 pub mod Refusals
 pub mod RowSlots
+pub mod ScalarFalls
+pub mod ScalarParts
 pub mod Seen
 pub mod SeenFixedSizeList
 pub mod SeenLargeList
 pub mod SeenList
 pub mod SeenLists
 pub mod SeenMap
+pub mod SeenScalar
 pub mod SeenStruct
 pub mod Types
 pub mod WindowParts

@@ -2,6 +2,7 @@
 #![tactic(auto)]
 
 pub mod any;
+pub mod any_native;
 pub mod array;
 pub mod equal;
 pub mod fixed_size_binary;
@@ -10,6 +11,7 @@ pub mod generic_binary;
 pub mod list;
 pub mod map;
 pub mod null;
+pub mod scalar;
 pub mod struct_;
 mod types;
 pub mod window;
@@ -24,5 +26,6 @@ pub use list::large::LargeListArray;
 pub use list::offset::ListOffset;
 pub use map::MapArray;
 pub use null::NullArray;
+pub use scalar::{AnyScalar, ScalarValue, new_scalar};
 pub use struct_::StructArray;
 pub use window::Window;

@@ -140,7 +140,7 @@ fn native_arrays_of_other_kinds(rt: HostRuntime) {
 }
 
 /// The slots a and bc as bytes.
-fn bytes<O: Offset>(
+pub(crate) fn bytes<O: Offset>(
     alloc: Global,
     data_type: DataType,
     offsets: &[O],
@@ -155,7 +155,7 @@ fn bytes<O: Offset>(
 }
 
 /// The slots a and bc as texts.
-fn texts<O: Offset>(
+pub(crate) fn texts<O: Offset>(
     alloc: Global,
     data_type: DataType,
     offsets: &[O],

@@ -21,6 +21,9 @@
 //! | Clones, shared arrays and new validities are there where memory is | `copies::clones_are_equal`, `copies::arrays_are_shared`, `copies::lists_take_new_validities`, `copies::pairs_and_records_take_new_validities` |
 //! | What list types tell of their fields | `refusals::fields_of_list_types`, `refusals::fields_of_large_list_types` |
 //! | Windows over arrays and in windows | `arrays::windows::windows_in_windows`, `arrays::reads::lists_of_other_kinds_lend_their_items` |
+//! | What a slot of each kind holds as a scalar, a null among them | `scalars::whole_numbers`, `scalars::wide_numbers_and_spans`, `scalars::nulls`, `scalars::truths_texts_and_bytes`, `scalars::lists_of_each_kind`, `scalars::records` |
+//! | Scalars are equal by data type and slot, whatever the offsets, and whatever lies under a null | `scalars::equality` |
+//! | A scalar for which memory is refused leaves its array | `scalars::memory::refused_memory` |
 #![tactic(auto)]
 
 #[cfg(test)]
@@ -41,3 +44,5 @@ mod nulls;
 mod refusals;
 #[cfg(test)]
 mod rows;
+#[cfg(test)]
+mod scalars;

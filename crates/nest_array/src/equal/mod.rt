@@ -1,7 +1,7 @@
 //! Equality of arrays of any kind: equal data types and equal slots. No call takes memory.
 pub(crate) mod kinds;
 mod records;
-mod rows;
+pub(crate) mod rows;
 mod whole;
 
 ghost use Rattle.std.specs.Prelude.{◌≡◌, ◌↔◌, ◌+◌, ◌≤◌, IsTrue};

@@ -1,0 +1,35 @@
+//! The test passes whichever request for memory is refused: the refusal is told, and leaves the array.
+use super::scalar_at;
+use crate::arrays::memory::unless_refused;
+use crate::arrays::structs::four;
+use crate::arrays::{any_list, lists_of_lists};
+use nest_array::{AnyArray, Array};
+use nest_memory::error::Error;
+use std::alloc::Global;
+use std::process::Abort;
+
+/// Two scalars of slot 1, where memory is there for them, are equal.
+fn expect_same_twice(rt: &impl Abort, alloc: Global, array: Result<AnyArray, Error>) {
+    let Some(array) = unless_refused(rt, array) else {
+        return;
+    };
+    let n = array.len();
+    if let Some(scalar) = unless_refused(rt, scalar_at(alloc, &array, 1)) {
+        if let Some(again) = unless_refused(rt, scalar_at(alloc, &array, 1)) {
+            assert!(rt; again == scalar);
+            drop(again);
+        }
+        assert!(rt; scalar.is_valid());
+        drop(scalar);
+    }
+    assert_eq!(rt; array.len(), n);
+    drop(array);
+}
+
+#[test]
+fn refused_memory(rt: HostRuntime) {
+    let alloc = rt.alloc();
+    expect_same_twice(&rt, alloc, any_list(lists_of_lists(alloc)));
+    let records = four(alloc, &[42, 28, 19, 31]);
+    expect_same_twice(&rt, alloc, records.map(|records| records.boxed()));
+}
