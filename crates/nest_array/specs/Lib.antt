@@ -8,6 +8,8 @@ pub mod SeenLargeList
 pub mod SeenList
 pub mod SeenLists
 pub mod SeenStruct
+pub mod Tells
+pub mod Total
 pub mod Types
 pub mod WindowParts
 pub mod Words
