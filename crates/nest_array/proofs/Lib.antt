@@ -1,10 +1,12 @@
 pub mod ChildTypes
 pub mod Children
+pub mod Counts
 pub mod FixedSizeBinaries
 pub mod FixedSizes
+pub mod Joined
+pub mod Leaves
 pub mod Lists
 pub mod LogicalTypes
-pub mod NullArrays
 pub mod SameRows
 pub mod SameScalars
 pub mod Scalars

@@ -1,6 +1,6 @@
 -- When rows and records are the same.
-use Rattle.std.specs.Prelude.{◌↔◌, ◌⊎◌, IsTrue, IsSome, not, if◌then◌else◌, List as Seq, [], ◌∷◌}
-use Rattle.std.proofs.Common.{◌≡◌, ℕ, ◌+◌, ◌<◌, ◌≤◌, Bool, true, false, length, refl, ap, sym, ◌∙◌, subst, inl, inr, arith}
+use Rattle.std.specs.Prelude.{◌↔◌, ◌⊎◌, IsTrue, Some, not, if◌then◌else◌, List as Seq, [], ◌∷◌}
+use Rattle.std.proofs.Common.{◌≡◌, ℕ, zero, suc, ◌+◌, ◌<◌, ◌≤◌, Bool, true, false, length, refl, ap, sym, ◌∙◌, subst, inl, inr, arith}
 use Rattle.nest_memory.specs.TypeTree.{TypeTree, FieldTrees, no_fields, more_fields, fields_of, logical_type}
 use Rattle.nest_model.specs.Accessors.{children_of, validity_of}
 use Rattle.nest_model.specs.Array.{TopFits}
@@ -14,15 +14,16 @@ use Rattle.nest_model.specs.Part.{Validity, valid_at}
 use Rattle.nest_model.specs.Reads.{slots-length, items-cut}
 use Rattle.nest_model.specs.Runs.{length-run, length-cut, run-ext}
 use Rattle.nest_model.specs.Slot as slots
-use Rattle.nest_model.specs.Slot.{Slot, Slots, seal}
-use Rattle.nest_model.specs.SlotLaws.{seal-one}
-use Rattle.nest_flat.specs.SameRuns.{same-at, no-validity}
+use Rattle.nest_model.specs.Slot.{Slot, Slots, seal, node_count, node_counts, count_within}
+use Rattle.nest_model.specs.SlotLaws.{seal-one, count_within-seal}
+use Rattle.nest_flat.specs.SameRuns.{same-at}
 use Rattle.nest_array.specs.declared.any.AnyArray.{AnyArray}
-use Rattle.nest_array.specs.RowSlots.{SameTypes, SameChildren}
+use Rattle.nest_array.specs.RowSlots.{SameTypes, SameChildren, EachValid, children_nodes, row_slot}
 use Rattle.nest_array.specs.Seen.{layout_of, layouts_of}
-use Rattle.nest_array.proofs.LogicalTypes.{same-fields}
 use Rattle.nest_array.specs.WindowParts.{WindowParts, window_slots}
 use Rattle.nest_array.proofs.Children.{covers}
+use Rattle.nest_array.proofs.Counts.{nodes-more}
+use Rattle.nest_array.proofs.LogicalTypes.{same-fields}
 
 -- lists of the same items are the same
 list-one : (xs ys : Slots) → slots.list xs ≡ slots.list ys → xs ≡ ys
@@ -35,6 +36,9 @@ lists-same xs ys r h = (λ t. ap (λ ss. slots.list (seal ss)) (h.0 t), λ e. h.
 pub lists-differ : (f g : ℕ → Slot) (o n p m : ℕ) → (n ≡ m → ⊥) → IsTrue false ↔ (slots.list (seal (run f o n)) ≡ slots.list (seal (run g p m)))
 lists-differ f g o n p m d =
     (λ t. cc, λ e. absurd (d (sym (length-run f o n) ∙ ap length (seal-one (run f o n) (run g p m) (list-one _ _ e)) ∙ length-run g p m)))
+
+pub row-nodes : (c : Layout) (o n : ℕ) → node_count (row_slot c (Some (o, n))) ≡ 1 + node_counts (run (slot c) o n)
+row-nodes c o n = ap (λ m. 1 + m) (count_within-seal (run (slot c) o n))
 
 -- children of the same fields have the same data types
 pub types-same : (fs : FieldTrees) (cs ds : Layouts) → EachType fs cs → EachType fs ds → SameTypes cs ds
@@ -74,11 +78,11 @@ record-one : (x y : Slots) → slots.record_of x ≡ slots.record_of y → x ≡
 record-one x y e = cc
 
 -- what the children's runs say of runs of records, where all of them are valid
-pub records-same : (f g : ℕ → Slot) (cs ds : Layouts) (o p n : ℕ) (r : Bool) → ((i : ℕ) → f i ≡ slots.record_of (each cs i)) → ((i : ℕ) → g i ≡ slots.record_of (each ds i))
+pub records-same : (f g : ℕ → Slot) (cs ds : Layouts) (o p n : ℕ) (r : Bool) → ((i : ℕ) → i < n → f (o + i) ≡ slots.record_of (each cs (o + i))) → ((i : ℕ) → i < n → g (p + i) ≡ slots.record_of (each ds (p + i)))
     → SameTypes cs ds → (IsTrue r ↔ SameChildren cs o ds p n) → IsTrue r ↔ (run f o n ≡ run g p n)
 records-same f g cs ds o p n r a b t h = (
-  λ u. run-ext f g o p n (λ i k. a (o + i) ∙ ap slots.record_of (same-each cs ds o p n i (h.0 u) k) ∙ sym (b (p + i))),
-  λ e. h.1 (each-same cs ds o p n t (λ i k. record-one _ _ (sym (a (o + i)) ∙ same-at f g o p n i e k ∙ b (p + i)))),
+  λ u. run-ext f g o p n (λ i k. a i k ∙ ap slots.record_of (same-each cs ds o p n i (h.0 u) k) ∙ sym (b i k)),
+  λ e. h.1 (each-same cs ds o p n t (λ i k. record-one _ _ (sym (a i k) ∙ same-at f g o p n i e k ∙ b i k))),
 )
 
 -- and of one record
@@ -114,11 +118,47 @@ record-shown a cs i r e f p q =
     ∙ shown (valid_at (validity_of a) i) (slots.record_of (each (children_of a) i)) (sym (ap (λ b. is_null_at b i) e) ∙ sym p ∙ q)
     ∙ ap (λ ds. slots.record_of (each ds i)) (sym f)
 
-pub records-shown : (a : Layout) (cs : Layouts) (i : ℕ) (r : Bool) → a ≡ struct (layout_type a) (children_of a) (validity_of a) → cs ≡ children_of a → (IsTrue r ↔ IsSome (validity_of a)) → r ≡ false → slot a i ≡ slots.record_of (each cs i)
-records-shown a cs i r e f p q =
-    ap (λ b. slot b i) e
-    ∙ ap (λ va. slot (struct (layout_type a) (children_of a) va) i) (no-validity (validity_of a) r p q)
-    ∙ ap (λ ds. slots.record_of (each ds i)) (sym f)
+shown-valid : (b : Bool) (s : Slot) → b ≡ true → (if b then s else slots.null) ≡ s
+shown-valid true s h = refl
+shown-valid false s h = cc
+
+pub records-shown : (a : Layout) (cs : Layouts) (o n i : ℕ) → a ≡ struct (layout_type a) (children_of a) (validity_of a) → cs ≡ children_of a → EachValid (validity_of a) o n → i < n → slot a (o + i) ≡ slots.record_of (each cs (o + i))
+records-shown a cs o n i e f v h =
+    ap (λ b. slot b (o + i)) e
+    ∙ shown-valid (valid_at (validity_of a) (o + i)) (slots.record_of (each (children_of a) (o + i))) (v i h)
+    ∙ ap (λ ds. slots.record_of (each ds (o + i))) (sym f)
+
+-- the nodes of records are one each and those of the children
+children-more : (cs : Layouts) (o k : ℕ) → children_nodes cs o (k + 1) ≡ children_nodes cs o k + count_within (each cs (o + k))
+children-more no_layouts o k = refl
+children-more (more_layouts c cs) o k = let a = nodes-more (slot c) o k in let b = children-more cs o k in omega arith
+
+children-none : (cs : Layouts) (o : ℕ) → children_nodes cs o 0 ≡ 0
+children-none no_layouts o = refl
+children-none (more_layouts c cs) o = let a = children-none cs o in omega arith
+
+pub records-nodes : (f : ℕ → Slot) (cs : Layouts) (o n k : ℕ) → ((i : ℕ) → i < n → f (o + i) ≡ slots.record_of (each cs (o + i))) → k ≤ n → node_counts (run f o k) ≡ k + children_nodes cs o k
+records-nodes f cs o n zero h l = let a = children-none cs o in omega arith
+records-nodes f cs o n (suc k) h l =
+    let i = records-nodes f cs o n k h (omega arith) in
+    let a = nodes-more f o k in
+    let b = children-more cs o k in
+    let d = ap node_count (h k (omega arith)) in
+    let z : k + 1 ≡ suc k = omega arith in
+    let x = ap (λ m. node_counts (run f o m)) z in
+    let y = ap (λ m. children_nodes cs o m) z in
+    omega arith
+
+pub record-nodes : (s : Slot) (cs : Layouts) (i : ℕ) → s ≡ slots.record_of (each cs i) → node_count s ≡ 1 + children_nodes cs i 1
+record-nodes s cs i e =
+    let a = children-more cs i 0 in
+    let b = children-none cs i in
+    let z : i + 0 ≡ i = omega arith in
+    let y = ap (λ m. count_within (each cs m)) z in
+    let x = ap node_count e in
+    let w : 0 + 1 ≡ 1 = omega arith in
+    let v = ap (children_nodes cs i) w in
+    omega arith
 
 -- children that are still to be compared, where those before are the same
 pub record Left (xs ys zs ws : Seq AnyArray) (o p n : ℕ) : Type 0 where

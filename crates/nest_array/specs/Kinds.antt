@@ -1,5 +1,5 @@
 -- The kind of an array, by its variant and by its data type.
-use Rattle.std.specs.Prelude.{◌≡◌}
+use Rattle.std.specs.Prelude.{◌≡◌, Bool, true, false}
 use Rattle.nest_memory.specs.declared.datatypes.physical_type.PhysicalType.{PhysicalType}
 use Rattle.nest_memory.specs.declared.datatypes.physical_type.PhysicalType.TheVariants as physical
 use Rattle.nest_memory.specs.Physical.{physical_type, list_of_width, binary_of_width, text_of_width}
@@ -57,3 +57,24 @@ typed (map t os c va) h = h.1.1.0
 typed (struct t cs va) h = h.1.0
 typed (union t ks cs os start) h = h.1.0
 typed (dictionary t ks c) h = tt
+
+-- it has no children
+abbrev pub has_leaves : AnyArray → Bool
+has_leaves (any.FixedSizeList a) = false
+has_leaves (any.List a) = false
+has_leaves (any.LargeList a) = false
+has_leaves (any.Struct a) = false
+has_leaves (any.Map a) = false
+has_leaves a = true
+
+-- the values of this physical type have no children
+abbrev pub leaf_type : PhysicalType → Bool
+leaf_type physical.Null = true
+leaf_type physical.Boolean = true
+leaf_type (physical.Primitive k) = true
+leaf_type physical.Binary = true
+leaf_type physical.LargeBinary = true
+leaf_type physical.Utf8 = true
+leaf_type physical.LargeUtf8 = true
+leaf_type physical.FixedSizeBinary = true
+leaf_type p = false

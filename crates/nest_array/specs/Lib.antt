@@ -1,4 +1,3 @@
-pub mod AnyNative
 pub mod Falls
 pub mod Kinds
 pub mod Refusals
@@ -13,6 +12,8 @@ pub mod SeenLists
 pub mod SeenMap
 pub mod SeenScalar
 pub mod SeenStruct
+pub mod Tells
+pub mod Total
 pub mod Types
 pub mod WindowParts
 pub mod Words

@@ -1,10 +1,12 @@
 -- Rows of items of a child: where they lie, and the slots that they are (of this project).
-use Rattle.std.specs.Prelude.{◌≡◌, ℕ, ◌+◌, ◌≤◌, Option, Some, None}
-use Rattle.nest_memory.specs.TypeTree.{logical_type}
-use Rattle.nest_model.specs.Layout.{Layout, Layouts, no_layouts, more_layouts, layout_type}
-use Rattle.nest_model.specs.Meaning.{run, slot}
+use Rattle.std.specs.Prelude.{◌≡◌, ℕ, suc, ◌+◌, ◌-◌, ◌*◌, ◌≤◌, ◌<◌, true, get_or, Option, Some, None}
+use Rattle.nest_memory.specs.TypeTree.{logical_type, size_of}
+use Rattle.nest_model.specs.Accessors.{validity_of, offsets_of, child_of}
+use Rattle.nest_model.specs.Layout.{Layout, Layouts, fixed_size_list, no_layouts, more_layouts, layout_type}
+use Rattle.nest_model.specs.Meaning.{run, len, slot}
+use Rattle.nest_model.specs.Part.{Validity, valid_at}
 use Rattle.nest_model.specs.Slot as slots
-use Rattle.nest_model.specs.Slot.{Slot, seal}
+use Rattle.nest_model.specs.Slot.{Slot, seal, node_counts}
 
 -- the items that begin at one place, so many of them, are among n
 abbrev pub IsWithin : Option (ℕ × ℕ) → ℕ → Type 0
@@ -20,6 +22,25 @@ row_slot c (Some r) = slots.list (seal (run (slot c) r.0 r.1))
 abbrev pub Alike : Layout → Layout → Type 0
 Alike a b = logical_type (layout_type a) ≡ logical_type (layout_type b)
 
+-- each of the n slots from place o is valid
+abbrev pub EachValid : Validity → ℕ → ℕ → Type 0
+EachValid va o n = (j : ℕ) → j < n → valid_at va (o + j) ≡ true
+
+-- where the items of list i begin, which is where those of the list before it end
+abbrev pub bound_of : Layout → ℕ → ℕ
+bound_of (fixed_size_list t c va) i = i * size_of t
+bound_of a i = get_or (offsets_of a) i 0
+
+-- what is known of an array of lists: bounds never fall and end within the items, and a valid list has the items up to the next bound
+pub record AreRows (a : Layout) : Type 0 where
+  pub rises : (i : ℕ) → i < len a → bound_of a i ≤ bound_of a (suc i)
+  pub ends : bound_of a (len a) ≤ len (child_of a)
+  pub shown : (i : ℕ) → i < len a → valid_at (validity_of a) i ≡ true → slot a i ≡ slots.list (seal (run (slot (child_of a)) (bound_of a i) (bound_of a (suc i) - bound_of a i)))
+
+-- the n lists from place o have as many items each as those from place p
+abbrev pub SameBounds : Layout → ℕ → Layout → ℕ → ℕ → Type 0
+SameBounds a o b p n = (j : ℕ) → j ≤ n → bound_of a (o + j) + bound_of b p ≡ bound_of b (p + j) + bound_of a o
+
 -- as many children, of the same data types in order
 abbrev pub SameTypes : Layouts → Layouts → Type 0
 SameTypes no_layouts no_layouts = Unit {0}
@@ -33,3 +54,8 @@ SameChildren no_layouts o no_layouts p n = Unit {0}
 SameChildren no_layouts o (more_layouts d ds) p n = ⊥
 SameChildren (more_layouts c cs) o no_layouts p n = ⊥
 SameChildren (more_layouts c cs) o (more_layouts d ds) p n = (run (slot c) o n ≡ run (slot d) p n) × SameChildren cs o ds p n
+
+-- the nodes of the n slots from place o of each of them
+abbrev pub children_nodes : Layouts → ℕ → ℕ → ℕ
+children_nodes no_layouts o n = 0
+children_nodes (more_layouts c cs) o n = node_counts (run (slot c) o n) + children_nodes cs o n

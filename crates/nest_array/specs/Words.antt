@@ -1,7 +1,8 @@
 -- The words of this crate's contracts, by one name.
 pub use Rattle.nest_array.specs.Refusals.{RefusesOrMemory}
-pub use Rattle.nest_array.specs.RowSlots.{Alike}
+pub use Rattle.nest_array.specs.RowSlots.{Alike, EachValid}
 pub use Rattle.nest_array.specs.Seen.{layout_of, layouts_of}
+pub use Rattle.nest_array.specs.Tells.{Tells}
 pub use Rattle.nest_array.specs.WindowParts.{window_parts, window_slots}
 pub use Rattle.nest_memory.specs.Cut.{cut}
 pub use Rattle.nest_memory.specs.Physical.{physical_type}
@@ -18,4 +19,4 @@ pub use Rattle.nest_model.specs.Nullness.{has_keys, is_null_at, null_count}
 pub use Rattle.nest_model.specs.Part.{begin, extent}
 pub use Rattle.nest_model.specs.Reads.{where_valid}
 pub use Rattle.nest_model.specs.SameArray.{IsSameArray, same_array}
-pub use Rattle.nest_model.specs.Slot.{seal}
+pub use Rattle.nest_model.specs.Slot.{node_count, node_counts, seal}

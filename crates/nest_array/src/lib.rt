@@ -2,7 +2,6 @@
 #![tactic(auto)]
 
 pub mod any;
-pub mod any_native;
 pub mod array;
 pub mod equal;
 pub mod fixed_size_binary;
@@ -12,6 +11,7 @@ pub mod list;
 pub mod map;
 pub mod null;
 pub mod scalar;
+pub mod steps;
 pub mod struct_;
 mod types;
 pub mod window;
@@ -27,5 +27,6 @@ pub use list::offset::ListOffset;
 pub use map::MapArray;
 pub use null::NullArray;
 pub use scalar::{AnyScalar, ScalarValue, new_scalar};
+pub use steps::Steps;
 pub use struct_::StructArray;
 pub use window::Window;

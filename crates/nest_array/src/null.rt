@@ -2,7 +2,7 @@
 ghost use Rattle.std.specs.Prelude.{◌≡◌, ◌+◌, ◌≤◌, ◌<◌, ◌↔◌, IsTrue, IfOk, IsOkUnless, MatchResult, option_map, alloc_error};
 ghost use Rattle.nest_model.specs.Layout as layouts;
 ghost use Rattle.nest_model.specs.Slot as slots;
-ghost use Rattle.nest_array.specs.Words.{FirstFault, Fits, IsSameArray, Memory, TopFits, cut, cut_layout, is_null_at, layout_of, layout_type, len, null_count, same_array, slot, slots_of, type_of, validity_of};
+ghost use Rattle.nest_array.specs.Words.{FirstFault, Fits, Memory, TopFits, cut, cut_layout, is_null_at, layout_of, layout_type, len, null_count, slot, slots_of, type_of, validity_of};
 
 use crate::any::AnyArray;
 use nest_memory::bitmap::immutable::Bitmap;
@@ -157,37 +157,4 @@ impl NullArray {
     {
         Ok(Rc::new(alloc, self.boxed())?)
     }
-}
-
-impl PartialEq for NullArray {
-    ghost use Rattle.std.specs.Cmp.{partial_equiv_from_equiv};
-    ghost use Rattle.nest_model.specs.SameArray.{same_array};
-    ghost use Rattle.nest_flat.specs.SameFlat.{same_array-equiv};
-
-    ghost eq = { same_array };
-
-    ghost laws = { partial_equiv_from_equiv same_array-equiv };
-
-    fn eq(&self, other: &NullArray) -> bool
-        ensures computes { result ≡ same_array self.now other.now }
-        ensures decides { IsTrue result ↔ IsSameArray self.now other.now }
-    {
-        same_arrays(self, other)
-    }
-}
-
-impl Eq for NullArray {
-    ghost use Rattle.nest_flat.specs.SameFlat.{same_array-equiv};
-
-    ghost laws = { same_array-equiv };
-}
-
-/// Whether both have one data type and one length, so the same nulls.
-fn same_arrays(x: &NullArray, y: &NullArray) -> bool
-    ensures { IsTrue result ↔ IsSameArray x.now y.now }
-{
-    if x.count != y.count {
-        return false;
-    }
-    x.data_type == y.data_type
 }

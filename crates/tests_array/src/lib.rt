@@ -24,6 +24,11 @@
 //! | What a slot of each kind holds as a scalar, a null among them | `scalars::whole_numbers`, `scalars::wide_numbers_and_spans`, `scalars::nulls`, `scalars::truths_texts_and_bytes`, `scalars::lists_of_each_kind`, `scalars::records` |
 //! | Scalars are equal by data type and slot, whatever the offsets, and whatever lies under a null | `scalars::equality` |
 //! | A scalar for which memory is refused leaves its array | `scalars::memory::refused_memory` |
+//! | Comparisons that are told: of natives by blocks of 16 and a rest (0, 1, 15, 16, 17, 33 values; the last or the first differs) | `counts::native_values_by_blocks_and_a_rest`, `counts::last_value_of_blocks_and_of_a_rest`, `counts::first_value_of_a_block` |
+//! | Of lists at other offsets 9, of lists of lists 19, of records with a null 10, of pairs 9, of nulls one each | `counts::lists_at_other_offsets`, `counts::each_node_of_lists_of_lists`, `counts::records_but_not_under_a_null`, `counts::pairs_and_their_items`, `counts::each_null` |
+//! | Other lengths over the same items are told apart, items under a null are not | `counts::lists_of_other_lengths_over_the_same_items`, `counts::items_under_a_null_of_the_child` |
+//! | No comparison for other types and lengths, one where the first slot alone is null, two where the second item of bytes differs | `counts::nothing_for_other_lengths_and_types`, `counts::a_null_in_the_first_place`, `counts::a_null_list_in_the_first_place`, `counts::bytes_up_to_the_first_that_differ` |
+//! | What is read of a count stops at 2^64 - 1 | `counts::a_count_stops_at_the_largest_number` |
 #![tactic(auto)]
 
 #[cfg(test)]
@@ -32,6 +37,8 @@ mod arrays;
 mod calls;
 #[cfg(test)]
 mod copies;
+#[cfg(test)]
+mod counts;
 #[cfg(test)]
 mod fixed_size_binaries;
 #[cfg(test)]

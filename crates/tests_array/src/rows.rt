@@ -133,7 +133,7 @@ fn lists_of_lists_item_by_item(rt: HostRuntime) {
 }
 
 /// The same lists of lists over other parts: the items begin at place 1, and a null list of lists stands before them.
-fn rebuilt_lists_of_lists(alloc: Global) -> Result<ListArray, Error> {
+pub(crate) fn rebuilt_lists_of_lists(alloc: Global) -> Result<ListArray, Error> {
     let items = numbers(alloc, &[0, 1, 2, 3, 4, 5, 6, 7, 8, 9, 10, 11]);
     let inner = list_array(alloc, items, &[0, 1, 3, 5, 8, 8, 9, 11], None);
     list_array(alloc, any_list(inner), &[1, 3, 6, 7], None)

@@ -1,28 +1,45 @@
-//! Equality of arrays of any kind: equal data types and equal slots. No call takes memory.
+//! Equality of arrays of any kind: equal data types and equal slots, by comparisons that are told to a count. No call
+//! takes memory.
+mod flat;
 pub(crate) mod kinds;
 mod records;
 pub(crate) mod rows;
-mod whole;
+pub(crate) mod whole;
 
-ghost use Rattle.std.specs.Prelude.{◌≡◌, ◌↔◌, ◌+◌, ◌≤◌, IsTrue};
+ghost use Rattle.std.specs.Prelude.{◌≡◌, ◌↔◌, ◌+◌, ◌≤◌, ◌<◌, IsTrue};
+ghost use Rattle.nest_array.specs.Kinds.{has_leaves};
 ghost use Rattle.nest_array.specs.RowSlots.{IsWithin, row_slot};
 ghost use Rattle.nest_array.specs.SeenLists.{lists_layout};
-ghost use Rattle.nest_array.specs.Words.{Alike, IsSameArray, layout_of, layout_type, len, run, slot, type_of, window_slots};
+ghost use Rattle.nest_array.specs.Words.{Alike, EachValid, IsSameArray, Layout, Tells, layout_of, layout_type, len, node_count, node_counts, physical_type, run, slot, slots_of, type_of, validity_of, window_slots};
 
 use crate::any::AnyArray;
+use crate::array::Slotted;
 use crate::null::NullArray;
+use crate::steps::Steps;
 use crate::window::Window;
+use flat::{each_same_slot, same_primitives};
 use kinds::kind;
-use nest_flat::{any_primitive, flat_array};
 use nest_memory::datatypes::DataType;
 use records::same_records;
-use rows::{Lists, Rows};
+use rows::{Lists, Rows, same_counts};
 
 /// Whether two arrays have the same data type and the same slots.
 pub fn equal(a: &AnyArray, b: &AnyArray) -> bool
     ensures { IsTrue result ↔ IsSameArray (layout_of a.now) (layout_of b.now) }
 {
-    equal_windows(&Window::of(a), &Window::of(b))
+    let mut steps = Steps::new();
+    equal_counted(a, b, &mut steps)
+}
+
+/// Whether two arrays have the same data type and the same slots. A step is told for each pair of slots that is
+/// compared, at any depth, and 16 for a block of native values; none where data types or lengths differ.
+pub fn equal_counted(a: &AnyArray, b: &AnyArray, steps: &mut Steps) -> bool
+    ensures same { IsTrue result ↔ IsSameArray (layout_of a.now) (layout_of b.now) }
+    ensures told { Tells result steps.old steps.new (node_counts (slots_of (layout_of a.now))) }
+    ensures none { (layout_type (layout_of a.now) ≡ layout_type (layout_of b.now) → len (layout_of a.now) ≡ len (layout_of b.now) → ⊥)
+        → steps.new ≡ steps.old }
+{
+    whole::same_arrays_counted(a, b, steps)
 }
 
 /// Whether two windows have the same data type and the same slots.
@@ -36,7 +53,8 @@ pub fn equal_windows(x: &Window, y: &Window) -> bool
     if !same_shape(a.data_type(), x.len(), b.data_type(), y.len()) {
         return false;
     }
-    same_run(a, x.offset(), b, y.offset(), x.len())
+    let mut steps = Steps::new();
+    same_run(a, x.offset(), b, y.offset(), x.len(), &mut steps)
 }
 
 /// Whether two data types and two lengths are the same.
@@ -46,72 +64,169 @@ pub(crate) fn same_shape(t: &DataType, m: usize, u: &DataType, n: usize) -> bool
     m == n && *t == *u
 }
 
+/// Whether none of the n slots from place o is null by the validity.
+pub(crate) fn is_full<A: Slotted>(a: &A, o: usize, n: usize) -> bool
+    requires { o + n ≤ len (A.parts a.now) }
+    ensures { IsTrue result ↔ EachValid (validity_of (A.parts a.now)) o n }
+{
+    if a.validity().is_none() {
+        return true;
+    }
+    let _end = a.len();
+    for k in 0..n {
+        if a.is_null(o + k) {
+            return false;
+        }
+    }
+    true
+}
+
 /// Whether the n slots of a from place o are those of b from place p. The kind is matched once.
 #[cycle(equal)]
-pub(crate) fn same_run(a: &AnyArray, o: usize, b: &AnyArray, p: usize, n: usize) -> bool
+pub(crate) fn same_run(
+    a: &AnyArray,
+    o: usize,
+    b: &AnyArray,
+    p: usize,
+    n: usize,
+    steps: &mut Steps,
+) -> bool
     requires alike { Alike (layout_of a.now) (layout_of b.now) }
     requires within { o + n ≤ len (layout_of a.now) }
     requires other_within { p + n ≤ len (layout_of b.now) }
-    ensures { IsTrue result ↔ (run (slot (layout_of a.now)) o n ≡ run (slot (layout_of b.now)) p n) }
+    ensures same { IsTrue result ↔ (run (slot (layout_of a.now)) o n ≡ run (slot (layout_of b.now)) p n) }
+    ensures told { Tells result steps.old steps.new (node_counts (run (slot (layout_of a.now)) o n)) }
 {
-    kind(a);
     kinds::same_kind(a, b);
+    kind(a);
     match a {
-        AnyArray::Null(x) => same_nulls(x, o, kinds::as_null(b), p, n),
-        AnyArray::Boolean(x) => x.same_run(o, kinds::as_boolean(b), p, n),
-        AnyArray::Primitive(x) => any_primitive::same_run(x, o, kinds::as_primitive(b), p, n),
-        AnyArray::Binary(x) => x.same_run(o, kinds::as_binary(b), p, n),
-        AnyArray::LargeBinary(x) => x.same_run(o, kinds::as_large_binary(b), p, n),
-        AnyArray::Utf8(x) => x.same_run(o, kinds::as_utf8(b), p, n),
-        AnyArray::LargeUtf8(x) => x.same_run(o, kinds::as_large_utf8(b), p, n),
-        AnyArray::FixedSizeBinary(x) => {
-            flat_array::same_run(x, o, kinds::as_fixed_size_binary(b), p, n)
-        }
         AnyArray::FixedSizeList(x) => {
             x.known();
             let y = kinds::as_fixed_size_list(b);
-            same_rows(&Lists::FixedSizeList(x), o, &Lists::FixedSizeList(y), p, n)
+            same_rows(
+                &Lists::FixedSizeList(x),
+                o,
+                &Lists::FixedSizeList(y),
+                p,
+                n,
+                steps,
+            )
         }
         AnyArray::List(x) => {
             x.known();
             let y = kinds::as_list(b);
-            same_rows(&Lists::List(x), o, &Lists::List(y), p, n)
+            same_rows(&Lists::List(x), o, &Lists::List(y), p, n, steps)
         }
         AnyArray::LargeList(x) => {
             x.known();
             let y = kinds::as_large_list(b);
-            same_rows(&Lists::LargeList(x), o, &Lists::LargeList(y), p, n)
+            same_rows(&Lists::LargeList(x), o, &Lists::LargeList(y), p, n, steps)
         }
-        AnyArray::Struct(x) => same_records(x, o, kinds::as_struct(b), p, n),
+        AnyArray::Struct(x) => same_records(x, o, kinds::as_struct(b), p, n, steps),
         AnyArray::Map(x) => {
             x.known();
             let y = kinds::as_map(b);
-            same_rows(&Lists::Map(x), o, &Lists::Map(y), p, n)
+            same_rows(&Lists::Map(x), o, &Lists::Map(y), p, n, steps)
         }
+        _ => same_leaves(a, o, b, p, n, steps),
+    }
+}
+
+/// Whether the n slots of a from place o are those of b from place p, where a has no children.
+fn same_leaves(a: &AnyArray, o: usize, b: &AnyArray, p: usize, n: usize, steps: &mut Steps) -> bool
+    requires flat { IsTrue (has_leaves a.now) }
+    requires same_kind { physical_type (layout_type (layout_of a.now)) ≡ physical_type (layout_type (layout_of b.now)) }
+    requires within { o + n ≤ len (layout_of a.now) }
+    requires other_within { p + n ≤ len (layout_of b.now) }
+    ensures same { IsTrue result ↔ (run (slot (layout_of a.now)) o n ≡ run (slot (layout_of b.now)) p n) }
+    ensures told { Tells result steps.old steps.new (node_counts (run (slot (layout_of a.now)) o n)) }
+{
+    a.known();
+    kind(a);
+    same_flat(a, o, b, p, n, steps)
+}
+
+fn same_flat(a: &AnyArray, o: usize, b: &AnyArray, p: usize, n: usize, steps: &mut Steps) -> bool
+    requires flat { IsTrue (has_leaves a.now) }
+    requires same_kind { physical_type (layout_type (layout_of a.now)) ≡ physical_type (layout_type (layout_of b.now)) }
+    requires within { o + n ≤ len (layout_of a.now) }
+    requires other_within { p + n ≤ len (layout_of b.now) }
+    ensures same { IsTrue result ↔ (run (slot (layout_of a.now)) o n ≡ run (slot (layout_of b.now)) p n) }
+    ensures told { Tells result steps.old steps.new n }
+{
+    kind(a);
+    match a {
+        AnyArray::Null(x) => same_nulls(x, o, kinds::as_null(b), p, n, steps),
+        AnyArray::Boolean(x) => each_same_slot(x, o, kinds::as_boolean(b), p, n, steps),
+        AnyArray::Primitive(x) => same_primitives(x, o, kinds::as_primitive(b), p, n, steps),
+        AnyArray::Binary(x) => each_same_slot(x, o, kinds::as_binary(b), p, n, steps),
+        AnyArray::LargeBinary(x) => each_same_slot(x, o, kinds::as_large_binary(b), p, n, steps),
+        AnyArray::Utf8(x) => each_same_slot(x, o, kinds::as_utf8(b), p, n, steps),
+        AnyArray::LargeUtf8(x) => each_same_slot(x, o, kinds::as_large_utf8(b), p, n, steps),
+        AnyArray::FixedSizeBinary(x) => {
+            each_same_slot(x, o, kinds::as_fixed_size_binary(b), p, n, steps)
+        }
+        _ => unreachable!(),
     }
 }
 
 /// Whether n nulls from place o are n nulls from place p, as always.
-fn same_nulls(x: &NullArray, o: usize, y: &NullArray, p: usize, n: usize) -> bool
-    ensures { IsTrue result ↔ (run (slot x.now) o n ≡ run (slot y.now) p n) }
+fn same_nulls(x: &NullArray, o: usize, y: &NullArray, p: usize, n: usize, steps: &mut Steps) -> bool
+    ensures same { IsTrue result ↔ (run (slot x.now) o n ≡ run (slot y.now) p n) }
+    ensures told { Tells result steps.old steps.new n }
 {
     x.known();
     y.known();
+    steps.tell(n as u64);
     true
 }
 
-/// Whether the n lists of xs from place o are those of ys from place p.
+/// Whether the n lists of xs from place o are those of ys from place p. Where none is null, their lengths are
+/// compared and then all items as one run.
 #[cycle(equal)]
-pub(crate) fn same_rows(xs: &Lists, o: usize, ys: &Lists, p: usize, n: usize) -> bool
+pub(crate) fn same_rows(
+    xs: &Lists,
+    o: usize,
+    ys: &Lists,
+    p: usize,
+    n: usize,
+    steps: &mut Steps,
+) -> bool
     requires alike { Alike (lists_layout xs.now) (lists_layout ys.now) }
     requires within { o + n ≤ len (lists_layout xs.now) }
     requires other_within { p + n ≤ len (lists_layout ys.now) }
-    ensures { IsTrue result ↔ (run (slot (lists_layout xs.now)) o n ≡ run (slot (lists_layout ys.now)) p n) }
+    ensures same { IsTrue result ↔ (run (slot (lists_layout xs.now)) o n ≡ run (slot (lists_layout ys.now)) p n) }
+    ensures told { Tells result steps.old steps.new (node_counts (run (slot (lists_layout xs.now)) o n)) }
+{
+    if n == 0 {
+        return true;
+    }
+    if !xs.are_full(o, n) || !ys.are_full(p, n) {
+        return each_same_row(xs, o, ys, p, n, steps);
+    }
+    xs.known_rows();
+    ys.known_rows();
+    let Some(total) = same_counts(xs, o, ys, p, n, steps) else {
+        return false;
+    };
+    let (start, _) = xs.span(o);
+    let (other_start, _) = ys.span(p);
+    let (items, other_items) = (xs.items(), ys.items());
+    same_run(items, start, other_items, other_start, total, steps)
+}
+
+#[cycle(equal)]
+fn each_same_row(xs: &Lists, o: usize, ys: &Lists, p: usize, n: usize, steps: &mut Steps) -> bool
+    requires alike { Alike (lists_layout xs.now) (lists_layout ys.now) }
+    requires within { o + n ≤ len (lists_layout xs.now) }
+    requires other_within { p + n ≤ len (lists_layout ys.now) }
+    ensures same { IsTrue result ↔ (run (slot (lists_layout xs.now)) o n ≡ run (slot (lists_layout ys.now)) p n) }
+    ensures told { Tells result steps.old steps.new (node_counts (run (slot (lists_layout xs.now)) o n)) }
 {
     let _ends = (xs.count(), ys.count());
     let (items, other_items) = (xs.items(), ys.items());
     for k in 0..n {
-        if !same_row(items, xs.row(o + k), other_items, ys.row(p + k)) {
+        if !same_row(items, xs.row(o + k), other_items, ys.row(p + k), steps) {
             return false;
         }
     }
@@ -125,12 +240,15 @@ fn same_row(
     row: Option<(usize, usize)>,
     other_items: &AnyArray,
     other_row: Option<(usize, usize)>,
+    steps: &mut Steps,
 ) -> bool
     requires alike { Alike (layout_of items.now) (layout_of other_items.now) }
     requires within { IsWithin row (len (layout_of items.now)) }
     requires other_within { IsWithin other_row (len (layout_of other_items.now)) }
-    ensures { IsTrue result ↔ (row_slot (layout_of items.now) row ≡ row_slot (layout_of other_items.now) other_row) }
+    ensures same { IsTrue result ↔ (row_slot (layout_of items.now) row ≡ row_slot (layout_of other_items.now) other_row) }
+    ensures told { Tells result steps.old steps.new (node_count (row_slot (layout_of items.now) row)) }
 {
+    steps.tell(1);
     let Some((start, count)) = row else {
         return other_row.is_none();
     };
@@ -140,5 +258,5 @@ fn same_row(
     if count != other_count {
         return false;
     }
-    same_run(items, start, other_items, other_start, count)
+    same_run(items, start, other_items, other_start, count, steps)
 }

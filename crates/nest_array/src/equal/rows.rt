@@ -1,13 +1,15 @@
 //! Arrays whose slots are lists of the items of one child.
-ghost use Rattle.std.specs.Prelude.{◌≡◌, ◌<◌, Some};
-ghost use Rattle.nest_array.specs.RowSlots.{IsWithin, row_slot};
-ghost use Rattle.nest_array.specs.Words.{Layout, child_of, item_type, layout_of, layout_type, len, slot};
+ghost use Rattle.std.specs.Prelude.{◌≡◌, ◌↔◌, ◌+◌, ◌≤◌, ◌<◌, suc, IsTrue, Some, MatchOption};
+ghost use Rattle.nest_array.specs.RowSlots.{AreRows, IsWithin, SameBounds, bound_of, row_slot};
+ghost use Rattle.nest_array.specs.Words.{EachValid, Layout, child_of, item_type, layout_of, layout_type, len, slot, validity_of};
 
 use crate::any::AnyArray;
+use crate::equal::is_full;
 use crate::fixed_size_list::FixedSizeListArray;
 use crate::list::ListArray;
 use crate::list::large::LargeListArray;
 use crate::map::MapArray;
+use crate::steps::Steps;
 
 /// What a comparison asks of an array of lists.
 pub(crate) trait Rows {
@@ -27,6 +29,22 @@ pub(crate) trait Rows {
         requires { i < len (layout self.now) }
         ensures within { IsWithin result (len (child_of (layout self.now))) }
         ensures slot { row_slot (child_of (layout self.now)) result ≡ slot (layout self.now) i };
+
+    /// What holds of every such array.
+    fn known_rows(&self)
+        ensures { AreRows (layout self.now) };
+
+    /// Whether none of the n lists from place o is null.
+    fn are_full(&self, o: usize, n: usize) -> bool
+        requires { o + n ≤ len (layout self.now) }
+        ensures { IsTrue result ↔ EachValid (validity_of (layout self.now)) o n };
+
+    /// Where the items of list i begin and how many there are, also where it is null.
+    fn span(&self, i: usize) -> (usize, usize)
+        requires { i < len (layout self.now) }
+        ensures start { result.0 ≡ bound_of (layout self.now) i }
+        ensures end { result.0 + result.1 ≡ bound_of (layout self.now) (suc i) }
+        ensures within { result.0 + result.1 ≤ len (child_of (layout self.now)) };
 }
 
 impl Rows for ListArray {
@@ -47,6 +65,19 @@ impl Rows for ListArray {
             return None;
         }
         Some(self.range(i))
+    }
+
+    fn known_rows(&self) {
+        self.known();
+    }
+
+    fn are_full(&self, o: usize, n: usize) -> bool {
+        is_full(self, o, n)
+    }
+
+    fn span(&self, i: usize) -> (usize, usize) {
+        self.known();
+        self.range(i)
     }
 }
 
@@ -69,6 +100,19 @@ impl Rows for LargeListArray {
         }
         Some(self.range(i))
     }
+
+    fn known_rows(&self) {
+        self.known();
+    }
+
+    fn are_full(&self, o: usize, n: usize) -> bool {
+        is_full(self, o, n)
+    }
+
+    fn span(&self, i: usize) -> (usize, usize) {
+        self.known();
+        self.range(i)
+    }
 }
 
 impl Rows for FixedSizeListArray {
@@ -90,6 +134,19 @@ impl Rows for FixedSizeListArray {
         }
         Some((self.start(i), self.size()))
     }
+
+    fn known_rows(&self) {
+        self.known();
+    }
+
+    fn are_full(&self, o: usize, n: usize) -> bool {
+        is_full(self, o, n)
+    }
+
+    fn span(&self, i: usize) -> (usize, usize) {
+        self.known();
+        (self.start(i), self.size())
+    }
 }
 
 impl Rows for MapArray {
@@ -110,6 +167,19 @@ impl Rows for MapArray {
             return None;
         }
         Some(self.range(i))
+    }
+
+    fn known_rows(&self) {
+        self.known();
+    }
+
+    fn are_full(&self, o: usize, n: usize) -> bool {
+        is_full(self, o, n)
+    }
+
+    fn span(&self, i: usize) -> (usize, usize) {
+        self.known();
+        self.range(i)
     }
 }
 
@@ -153,4 +223,65 @@ impl<'a> Rows for Lists<'a> {
             Lists::Map(lists) => lists.row(i),
         }
     }
+
+    fn known_rows(&self) {
+        match self {
+            Lists::List(lists) => lists.known_rows(),
+            Lists::LargeList(lists) => lists.known_rows(),
+            Lists::FixedSizeList(lists) => lists.known_rows(),
+            Lists::Map(lists) => lists.known_rows(),
+        }
+    }
+
+    fn are_full(&self, o: usize, n: usize) -> bool {
+        match self {
+            Lists::List(lists) => lists.are_full(o, n),
+            Lists::LargeList(lists) => lists.are_full(o, n),
+            Lists::FixedSizeList(lists) => lists.are_full(o, n),
+            Lists::Map(lists) => lists.are_full(o, n),
+        }
+    }
+
+    fn span(&self, i: usize) -> (usize, usize) {
+        match self {
+            Lists::List(lists) => lists.span(i),
+            Lists::LargeList(lists) => lists.span(i),
+            Lists::FixedSizeList(lists) => lists.span(i),
+            Lists::Map(lists) => lists.span(i),
+        }
+    }
+}
+
+/// How many items the n lists from place o have, where those of ys from place p have as many each, a step a list;
+/// `None` where they haven't.
+pub(crate) fn same_counts<R: Rows, S: Rows>(
+    xs: &R,
+    o: usize,
+    ys: &S,
+    p: usize,
+    n: usize,
+    steps: &mut Steps,
+) -> Option<usize>
+    requires within { o + n ≤ len (R.layout xs.now) }
+    requires other_within { p + n ≤ len (S.layout ys.now) }
+    ensures same { MatchOption result (SameBounds (R.layout xs.now) o (S.layout ys.now) p n → ⊥)
+        (λ m. SameBounds (R.layout xs.now) o (S.layout ys.now) p n × (bound_of (R.layout xs.now) o + m ≡ bound_of (R.layout xs.now) (o + n))) }
+    ensures told { MatchOption result (steps.new ≤ steps.old + n) (λ m. steps.new ≡ steps.old + n) }
+{
+    xs.known_rows();
+    let _ends = (xs.count(), ys.count());
+    let items = xs.items();
+    let _items = items.len();
+    let mut total = 0;
+    for k in 0..n {
+        let (_, count) = xs.span(o + k);
+        let (_, other_count) = ys.span(p + k);
+        if count != other_count {
+            steps.tell(k as u64 + 1);
+            return None;
+        }
+        total += count;
+    }
+    steps.tell(n as u64);
+    Some(total)
 }

@@ -1,26 +1,31 @@
-//! Equality of whole arrays: of any kind, and of each kind that has children.
+//! Equality of whole arrays: of any kind, and of each kind.
 ghost use Rattle.std.specs.Prelude.{◌≡◌, ◌↔◌, ◌+◌, ◌≤◌, IsTrue};
-ghost use Rattle.nest_array.specs.Words.{Alike, IsSameArray, layout_of, len, run, same_array, slot};
+ghost use Rattle.nest_array.specs.Words.{Alike, IsSameArray, Tells, layout_of, layout_type, len, node_counts, run, same_array, slot, slots_of};
 
 use crate::any::AnyArray;
 use crate::array::Array;
+use crate::equal::flat::each_same_slot;
 use crate::equal::records::same_records;
 use crate::equal::rows::Lists;
-use crate::equal::{equal, same_rows, same_shape};
+use crate::equal::{same_nulls, same_rows, same_run, same_shape};
+use crate::fixed_size_binary::FixedSizeBinaryArray;
 use crate::fixed_size_list::FixedSizeListArray;
 use crate::list::ListArray;
 use crate::list::large::LargeListArray;
 use crate::map::MapArray;
+use crate::null::NullArray;
+use crate::steps::Steps;
 use crate::struct_::StructArray;
 
 /// An array whose slots are compared in runs.
 pub(crate) trait SlotRuns: Array {
     /// Whether the n slots from place o are those of the other array from place p.
-    fn is_same_run(&self, o: usize, other: &Self, p: usize, n: usize) -> bool
+    fn is_same_run(&self, o: usize, other: &Self, p: usize, n: usize, steps: &mut Steps) -> bool
         requires alike { Alike (Self.layout self.now) (Self.layout other.now) }
         requires within { o + n ≤ len (Self.layout self.now) }
         requires other_within { p + n ≤ len (Self.layout other.now) }
-        ensures { IsTrue result ↔ (run (slot (Self.layout self.now)) o n ≡ run (slot (Self.layout other.now)) p n) };
+        ensures same { IsTrue result ↔ (run (slot (Self.layout self.now)) o n ≡ run (slot (Self.layout other.now)) p n) }
+        ensures told { Tells result steps.old steps.new (node_counts (run (slot (Self.layout self.now)) o n)) };
 }
 
 /// Whether two arrays of one kind have the same data type and the same slots.
@@ -28,16 +33,34 @@ pub(crate) fn same_arrays<A: SlotRuns>(x: &A, y: &A) -> bool
     ensures computes { result ≡ same_array (A.layout x.now) (A.layout y.now) }
     ensures decides { IsTrue result ↔ IsSameArray (A.layout x.now) (A.layout y.now) }
 {
-    same_type_and_slots(x, y)
+    let mut steps = Steps::new();
+    same_arrays_counted(x, y, &mut steps)
 }
 
-fn same_type_and_slots<A: SlotRuns>(x: &A, y: &A) -> bool
-    ensures { IsTrue result ↔ IsSameArray (A.layout x.now) (A.layout y.now) }
+/// The same, counted.
+pub(crate) fn same_arrays_counted<A: SlotRuns>(x: &A, y: &A, steps: &mut Steps) -> bool
+    ensures same { IsTrue result ↔ IsSameArray (A.layout x.now) (A.layout y.now) }
+    ensures told { Tells result steps.old steps.new (node_counts (slots_of (A.layout x.now))) }
+    ensures none { (layout_type (A.layout x.now) ≡ layout_type (A.layout y.now) → len (A.layout x.now) ≡ len (A.layout y.now) → ⊥)
+        → steps.new ≡ steps.old }
 {
     if !same_shape(x.data_type(), x.len(), y.data_type(), y.len()) {
         return false;
     }
-    x.is_same_run(0, y, 0, x.len())
+    x.is_same_run(0, y, 0, x.len(), steps)
+}
+
+impl SlotRuns for AnyArray {
+    fn is_same_run(
+        &self,
+        o: usize,
+        other: &AnyArray,
+        p: usize,
+        n: usize,
+        steps: &mut Steps,
+    ) -> bool {
+        same_run(self, o, other, p, n, steps)
+    }
 }
 
 impl PartialEq for AnyArray {
@@ -54,7 +77,7 @@ impl PartialEq for AnyArray {
         ensures computes { result ≡ same_array (layout_of self.now) (layout_of other.now) }
         ensures decides { IsTrue result ↔ IsSameArray (layout_of self.now) (layout_of other.now) }
     {
-        equal(self, other)
+        same_arrays(self, other)
     }
 }
 
@@ -67,8 +90,15 @@ impl Eq for AnyArray {
 }
 
 impl SlotRuns for ListArray {
-    fn is_same_run(&self, o: usize, other: &ListArray, p: usize, n: usize) -> bool {
-        same_rows(&Lists::List(self), o, &Lists::List(other), p, n)
+    fn is_same_run(
+        &self,
+        o: usize,
+        other: &ListArray,
+        p: usize,
+        n: usize,
+        steps: &mut Steps,
+    ) -> bool {
+        same_rows(&Lists::List(self), o, &Lists::List(other), p, n, steps)
     }
 }
 
@@ -96,8 +126,22 @@ impl Eq for ListArray {
 }
 
 impl SlotRuns for LargeListArray {
-    fn is_same_run(&self, o: usize, other: &LargeListArray, p: usize, n: usize) -> bool {
-        same_rows(&Lists::LargeList(self), o, &Lists::LargeList(other), p, n)
+    fn is_same_run(
+        &self,
+        o: usize,
+        other: &LargeListArray,
+        p: usize,
+        n: usize,
+        steps: &mut Steps,
+    ) -> bool {
+        same_rows(
+            &Lists::LargeList(self),
+            o,
+            &Lists::LargeList(other),
+            p,
+            n,
+            steps,
+        )
     }
 }
 
@@ -125,13 +169,21 @@ impl Eq for LargeListArray {
 }
 
 impl SlotRuns for FixedSizeListArray {
-    fn is_same_run(&self, o: usize, other: &FixedSizeListArray, p: usize, n: usize) -> bool {
+    fn is_same_run(
+        &self,
+        o: usize,
+        other: &FixedSizeListArray,
+        p: usize,
+        n: usize,
+        steps: &mut Steps,
+    ) -> bool {
         same_rows(
             &Lists::FixedSizeList(self),
             o,
             &Lists::FixedSizeList(other),
             p,
             n,
+            steps,
         )
     }
 }
@@ -160,8 +212,15 @@ impl Eq for FixedSizeListArray {
 }
 
 impl SlotRuns for StructArray {
-    fn is_same_run(&self, o: usize, other: &StructArray, p: usize, n: usize) -> bool {
-        same_records(self, o, other, p, n)
+    fn is_same_run(
+        &self,
+        o: usize,
+        other: &StructArray,
+        p: usize,
+        n: usize,
+        steps: &mut Steps,
+    ) -> bool {
+        same_records(self, o, other, p, n, steps)
     }
 }
 
@@ -188,9 +247,90 @@ impl Eq for StructArray {
     ghost laws = { same_array-equiv };
 }
 
+impl SlotRuns for NullArray {
+    fn is_same_run(
+        &self,
+        o: usize,
+        other: &NullArray,
+        p: usize,
+        n: usize,
+        steps: &mut Steps,
+    ) -> bool {
+        self.known();
+        same_nulls(self, o, other, p, n, steps)
+    }
+}
+
+impl PartialEq for NullArray {
+    ghost use Rattle.std.specs.Cmp.{partial_equiv_from_equiv};
+    ghost use Rattle.nest_model.specs.SameArray.{same_array};
+    ghost use Rattle.nest_flat.specs.SameFlat.{same_array-equiv};
+
+    ghost eq = { same_array };
+
+    ghost laws = { partial_equiv_from_equiv same_array-equiv };
+
+    fn eq(&self, other: &NullArray) -> bool
+        ensures computes { result ≡ same_array self.now other.now }
+        ensures decides { IsTrue result ↔ IsSameArray self.now other.now }
+    {
+        same_arrays(self, other)
+    }
+}
+
+impl Eq for NullArray {
+    ghost use Rattle.nest_flat.specs.SameFlat.{same_array-equiv};
+
+    ghost laws = { same_array-equiv };
+}
+
+impl SlotRuns for FixedSizeBinaryArray {
+    fn is_same_run(
+        &self,
+        o: usize,
+        other: &FixedSizeBinaryArray,
+        p: usize,
+        n: usize,
+        steps: &mut Steps,
+    ) -> bool {
+        self.known();
+        each_same_slot(self, o, other, p, n, steps)
+    }
+}
+
+impl PartialEq for FixedSizeBinaryArray {
+    ghost use Rattle.std.specs.Cmp.{partial_equiv_from_equiv};
+    ghost use Rattle.nest_model.specs.SameArray.{same_array};
+    ghost use Rattle.nest_flat.specs.SameFlat.{same_array-equiv};
+
+    ghost eq = { same_array };
+
+    ghost laws = { partial_equiv_from_equiv same_array-equiv };
+
+    fn eq(&self, other: &FixedSizeBinaryArray) -> bool
+        ensures computes { result ≡ same_array self.now other.now }
+        ensures decides { IsTrue result ↔ IsSameArray self.now other.now }
+    {
+        same_arrays(self, other)
+    }
+}
+
+impl Eq for FixedSizeBinaryArray {
+    ghost use Rattle.nest_flat.specs.SameFlat.{same_array-equiv};
+
+    ghost laws = { same_array-equiv };
+}
+
 impl SlotRuns for MapArray {
-    fn is_same_run(&self, o: usize, other: &MapArray, p: usize, n: usize) -> bool {
-        same_rows(&Lists::Map(self), o, &Lists::Map(other), p, n)
+    fn is_same_run(
+        &self,
+        o: usize,
+        other: &MapArray,
+        p: usize,
+        n: usize,
+        steps: &mut Steps,
+    ) -> bool {
+        same_rows(&Lists::Map(self), o, &Lists::Map(other), p, n, steps)
     }
 }
 

@@ -12,11 +12,10 @@ ghost use Rattle.nest_array.specs.SeenScalar.{IsValue, ValueFits, slot_of_value}
 ghost use Rattle.nest_array.specs.Words.{Memory, layout_of, layout_type, layouts_of, len, slot};
 
 use crate::any::AnyArray;
-use crate::any_native::{AnyNative, ToAny};
 use crate::equal::rows::{Lists, Rows};
 use crate::scalar::{AnyScalar, ScalarValue};
 use crate::struct_::StructArray;
-use nest_flat::any_primitive::AnyPrimitive;
+use nest_flat::any_primitive::{AnyPrimitive, Native};
 use nest_flat::boolean::BooleanArray;
 use nest_flat::primitive::PrimitiveArray;
 use nest_memory::error::Error;
@@ -62,6 +61,7 @@ fn value_at(alloc: Global, array: &AnyArray, i: usize) -> Result<ScalarValue, Er
         AnyArray::List(lists) => list_at(alloc, &Lists::List(lists), i),
         AnyArray::LargeList(lists) => list_at(alloc, &Lists::LargeList(lists), i),
         AnyArray::Struct(records) => record_at(alloc, records, i),
+        AnyArray::Map(maps) => list_at(alloc, &Lists::Map(maps), i),
     }
 }
 
@@ -75,7 +75,7 @@ fn truth_at(truths: &BooleanArray, i: usize) -> ScalarValue
     }
 }
 
-fn native_at<T: ToAny>(natives: &PrimitiveArray<T>, i: usize) -> ScalarValue
+fn native_at<T: Native>(natives: &PrimitiveArray<T>, i: usize) -> ScalarValue
     requires { i < len natives.now }
     ensures { IsValue natives.now i result }
 {

@@ -1,28 +1,71 @@
-use Rattle.std.specs.Prelude.{◌⊎◌}
-use Rattle.std.proofs.Common.{◌≡◌, ◌+◌, inl, inr, length, refl, sym, ap, ◌∙◌, subst, arith}
-use Rattle.nest_memory.specs.TypeTree.{logical_type}
+use Rattle.std.proofs.Common.{◌+◌, refl, sym, ap, ◌∙◌, subst, arith}
+use Rattle.nest_model.specs.Accessors.{child_of}
 use Rattle.nest_model.specs.Layout.{layout_type}
 use Rattle.nest_model.specs.LayoutCode.{weight, weight_all}
 use Rattle.nest_model.specs.Meaning.{run, slot, len}
-use Rattle.nest_flat.specs.BareSlots.{no-same, not-null, same-along}
-use Rattle.nest_flat.specs.SameRuns.{runs-differ, runs-same}
-use Rattle.nest_array.specs.RowSlots.{IsWithin, row_slot}
+use Rattle.nest_model.specs.Slot.{node_count, node_counts}
+use Rattle.nest_flat.specs.BareSlots.{same-along}
+use Rattle.nest_flat.specs.SameRuns.{runs-differ}
+use Rattle.nest_array.specs.RowSlots.{Alike, IsWithin, row_slot, bound_of}
 use Rattle.nest_array.specs.Seen.{layout_of, layouts_of}
 use Rattle.nest_array.specs.SeenLists.{lists_layout}
+use Rattle.nest_array.proofs.Counts.{same-more, told-more, told-stops, null-told, tells-after, tells-more, tells-exact, tells-stopped, nodes-least}
+use Rattle.nest_array.proofs.Joined.{lists-bounds, lists-joined, lists-nodes, rows-within, items-along}
 use Rattle.nest_array.proofs.LogicalTypes.{same-items}
-use Rattle.nest_array.proofs.SameRows.{lists-same, lists-differ, struct-known, children-typed, children-cover, record-shown, records-shown, records-same, record-same, left-first, left-rest, none-left}
+use Rattle.nest_array.proofs.SameRows.{row-nodes, lists-same, lists-differ, struct-known, children-typed, children-cover, record-shown, records-shown, records-same, record-same, record-nodes, records-nodes}
 use Rattle.nest_array.proofs.equal.+equal.Goals as goal
 
-pub records::each_same_record-returns-then-not-is_same_record : goal.records::each_same_record-returns-then-not-is_same_record
-records::each_same_record-returns-then-not-is_same_record t c =
-    runs-differ (slot c.args.x.now) (slot c.args.y.now) c.args.o c.args.p c.args.n c.loop-k.k _ c.is_same_record.ensures c.if-not-is_same_record.true c.loop-k-test.true
+pub each_same_row-same_row-requires : goal.each_same_row-same_row-requires
+each_same_row-same_row-requires t c =
+    let w = ap weight c.items-items.ensures.shown in (
+      omega arith,
+      (
+        same-items (layout_type (lists_layout c.args.xs.now)) (layout_type (lists_layout c.args.ys.now)) (layout_type (layout_of c.items-items.result.now)) (layout_type (layout_of c.items-other_items.result.now)) c.requires.alike c.items-items.ensures.typed c.items-other_items.ensures.typed,
+        (
+          subst (λ d. IsWithin c.row.result (len d)) (sym c.items-items.ensures.shown) c.row.ensures.within,
+          subst (λ d. IsWithin c.row-in-loop-k.result (len d)) (sym c.items-other_items.ensures.shown) c.row-in-loop-k.ensures.within,
+        ),
+      ),
+    )
 
-pub records::each_same_record-returns : goal.records::each_same_record-returns
-records::each_same_record-returns t c =
-    runs-same (slot c.args.x.now) (slot c.args.y.now) c.args.o c.args.p c.args.n c.loop-k.k c.loop-k.invariant (omega (arith, c.loop-k-test.false))
+pub each_same_row-returns-then-not-same_row-clause-same : goal.each_same_row-returns-then-not-same_row-clause-same
+each_same_row-returns-then-not-same_row-clause-same t c =
+    runs-differ (slot (lists_layout c.args.xs.now)) (slot (lists_layout c.args.ys.now)) c.args.o c.args.p c.args.n c.loop-k.k _
+    (same-along _ _ _ _ _ (ap (λ d. row_slot d c.row.result) c.items-items.ensures.shown ∙ c.row.ensures.slot)
+    (ap (λ d. row_slot d c.row-in-loop-k.result) c.items-other_items.ensures.shown ∙ c.row-in-loop-k.ensures.slot) c.same_row.ensures.same)
+    c.if-not-same_row.true c.loop-k-test.true
 
-pub records::is_same_record-returns-then-null : goal.records::is_same_record-returns-then-null
-records::is_same_record-returns-then-null t c = no-same _ _ _ c.is_null-null.ensures.slot c.if-null.true (not-null _ _ c.is_null.ensures.slot c.if-is_null.false)
+pub each_same_row-returns-then-not-same_row-clause-told : goal.each_same_row-returns-then-not-same_row-clause-told
+each_same_row-returns-then-not-same_row-clause-told t c =
+    told-stops (slot (lists_layout c.args.xs.now)) c.args.o c.loop-k.k c.args.n _ _ _ _ _ c.if-not-same_row.true c.loop-k-test.true c.loop-k.invariant.told c.same_row.ensures.told
+    (ap node_count (ap (λ d. row_slot d c.row.result) c.items-items.ensures.shown ∙ c.row.ensures.slot))
+
+pub each_same_row-loop-k-preserved : goal.each_same_row-loop-k-preserved
+each_same_row-loop-k-preserved t c =
+    let x = ap (λ d. row_slot d c.row.result) c.items-items.ensures.shown ∙ c.row.ensures.slot in
+    let y = ap (λ d. row_slot d c.row-in-loop-k.result) c.items-other_items.ensures.shown ∙ c.row-in-loop-k.ensures.slot in
+    record {
+      same = same-more (slot (lists_layout c.args.xs.now)) (slot (lists_layout c.args.ys.now)) c.args.o c.args.p c.loop-k.k c.loop-k.invariant.same (sym x ∙ c.same_row.ensures.same.0 c.if-not-same_row.false ∙ y);
+      told = told-more (slot (lists_layout c.args.xs.now)) c.args.o c.loop-k.k _ _ _ _ _ c.if-not-same_row.false c.loop-k.invariant.told c.same_row.ensures.told (ap node_count x);
+    }
+
+pub records::each_same_record-returns-then-not-is_same_record-clause-same : goal.records::each_same_record-returns-then-not-is_same_record-clause-same
+records::each_same_record-returns-then-not-is_same_record-clause-same t c =
+    runs-differ (slot c.args.x.now) (slot c.args.y.now) c.args.o c.args.p c.args.n c.loop-k.k _ c.is_same_record.ensures.same c.if-not-is_same_record.true c.loop-k-test.true
+
+pub records::each_same_record-returns-then-not-is_same_record-clause-told : goal.records::each_same_record-returns-then-not-is_same_record-clause-told
+records::each_same_record-returns-then-not-is_same_record-clause-told t c =
+    told-stops (slot c.args.x.now) c.args.o c.loop-k.k c.args.n _ _ _ _ _ c.if-not-is_same_record.true c.loop-k-test.true c.loop-k.invariant.told c.is_same_record.ensures.told refl
+
+pub records::each_same_record-loop-k-preserved : goal.records::each_same_record-loop-k-preserved
+records::each_same_record-loop-k-preserved t c =
+    record {
+      same = same-more (slot c.args.x.now) (slot c.args.y.now) c.args.o c.args.p c.loop-k.k c.loop-k.invariant.same (c.is_same_record.ensures.same.0 c.if-not-is_same_record.false);
+      told = told-more (slot c.args.x.now) c.args.o c.loop-k.k _ _ _ _ _ c.if-not-is_same_record.false c.loop-k.invariant.told c.is_same_record.ensures.told refl;
+    }
+
+pub records::is_same_record-returns-then-is_null-clause-told : goal.records::is_same_record-returns-then-is_null-clause-told
+records::is_same_record-returns-then-is_null-clause-told t c = null-told _ _ _ _ c.tell.ensures c.is_null-null.ensures.slot
 
 pub records::is_same_record-same_children-requires : goal.records::is_same_record-same_children-requires
 records::is_same_record-same_children-requires t c =
@@ -40,38 +83,23 @@ records::is_same_record-same_children-requires t c =
       ),
     )
 
-pub records::is_same_record-returns : goal.records::is_same_record-returns
-records::is_same_record-returns t c =
+pub records::is_same_record-returns-clause-same : goal.records::is_same_record-returns-clause-same
+records::is_same_record-returns-clause-same t c =
     let x = struct-known c.args.x.now (layouts_of c.values.result.now) c.known.ensures.fits c.known.ensures.kind c.values.ensures in
     let y = struct-known c.args.y.now (layouts_of c.values-2.result.now) c.known-2.ensures.fits c.known-2.ensures.kind c.values-2.ensures in
     record-same _ _ _ _ c.args.i c.args.j _ (record-shown c.args.x.now _ c.args.i _ c.known.ensures.kind c.values.ensures c.is_null-null.ensures.place c.if-null.false)
     (record-shown c.args.y.now _ c.args.j _ c.known-2.ensures.kind c.values-2.ensures c.is_null.ensures.place c.if-is_null.false)
-    (children-typed (layout_type c.args.x.now) (layout_type c.args.y.now) _ _ _ _ x y c.requires.alike) c.same_children.ensures
+    (children-typed (layout_type c.args.x.now) (layout_type c.args.y.now) _ _ _ _ x y c.requires.alike) c.same_children.ensures.same
 
-pub records::same_children-same_run-requires : goal.records::same_children-same_run-requires
-records::same_children-same_run-requires t c =
-    let h = left-first _ _ _ _ _ _ _ _ _ _ _ c.in-Some.ensures.steps.0 c.in-Some.ensures.steps.1 c.loop-x.invariant in
-    (omega (arith, h.fewer), (ap logical_type h.same_types.0, (h.within.0, h.other_within.0)))
-
-pub records::same_children-loop-x-preserved : goal.records::same_children-loop-x-preserved
-records::same_children-loop-x-preserved t c =
-    let h = left-first _ _ _ _ _ _ _ _ _ _ _ c.in-Some.ensures.steps.0 c.in-Some.ensures.steps.1 c.loop-x.invariant in
-    left-rest _ _ _ _ _ _ _ _ _ (c.same_run.ensures.0 c.if-not-same_run.false) h
-
-pub records::same_children-returns-then-not-same_run : goal.records::same_children-returns-then-not-same_run
-records::same_children-returns-then-not-same_run t c =
-    let h = left-first _ _ _ _ _ _ _ _ _ _ _ c.in-Some.ensures.steps.0 c.in-Some.ensures.steps.1 c.loop-x.invariant in
-    (λ u. cc, λ s. sym c.if-not-same_run.true ∙ c.same_run.ensures.1 (h.same.0 s).0)
-
-pub records::same_children-returns : goal.records::same_children-returns
-records::same_children-returns t c =
-    let e : (length c.loop-x.x-iterator.a.rest.now ≡ 0) ⊎ (length c.loop-x.x-iterator.b.rest.now ≡ 0) = elim c.in-None.ensures.steps [ inl w ↦ inl w.1.0 | inr w ↦ inr w.1.0 ] in
-    (λ u. c.loop-x.invariant.same.1 (none-left _ _ _ _ _ c.loop-x.invariant.same_types e), λ s. refl)
+pub records::is_same_record-returns-clause-told : goal.records::is_same_record-returns-clause-told
+records::is_same_record-returns-clause-told t c =
+    tells-after _ _ _ _ _ _ c.tell.ensures c.same_children.ensures.told
+    (record-nodes _ _ c.args.i (record-shown c.args.x.now _ c.args.i _ c.known.ensures.kind c.values.ensures c.is_null-null.ensures.place c.if-null.false))
 
 pub records::same_records-same_children-requires : goal.records::same_records-same_children-requires
 records::same_records-same_children-requires t c =
     let x = struct-known c.args.x.now (layouts_of c.values.result.now) c.known.ensures.fits c.known.ensures.kind c.values.ensures in
-    let y = struct-known c.args.y.now (layouts_of c.values-2.result.now) c.known-2.ensures.fits c.known-2.ensures.kind c.values-2.ensures in
+    let y = struct-known c.args.y.now (layouts_of c.values-then-is_full-2.result.now) c.known-then-is_full-2.ensures.fits c.known-then-is_full-2.ensures.kind c.values-then-is_full-2.ensures in
     let w = ap weight c.known.ensures.kind in
     let v = ap weight_all c.values.ensures in (
       omega arith,
@@ -79,48 +107,80 @@ records::same_records-same_children-requires t c =
         children-typed (layout_type c.args.x.now) (layout_type c.args.y.now) _ _ _ _ x y c.requires.alike,
         (
           children-cover c.args.x.now _ (c.args.o + c.args.n) x c.known.ensures.kind c.values.ensures c.requires.within,
-          children-cover c.args.y.now _ (c.args.p + c.args.n) y c.known-2.ensures.kind c.values-2.ensures c.requires.other_within,
+          children-cover c.args.y.now _ (c.args.p + c.args.n) y c.known-then-is_full-2.ensures.kind c.values-then-is_full-2.ensures c.requires.other_within,
         ),
       ),
     )
 
-pub records::same_records-returns : goal.records::same_records-returns
-records::same_records-returns t c =
+pub records::same_records-returns-then-is_full-2-clause-same : goal.records::same_records-returns-then-is_full-2-clause-same
+records::same_records-returns-then-is_full-2-clause-same t c =
     let x = struct-known c.args.x.now (layouts_of c.values.result.now) c.known.ensures.fits c.known.ensures.kind c.values.ensures in
-    let y = struct-known c.args.y.now (layouts_of c.values-2.result.now) c.known-2.ensures.fits c.known-2.ensures.kind c.values-2.ensures in
-    records-same _ _ _ _ c.args.o c.args.p c.args.n _ (λ i. records-shown c.args.x.now _ i _ c.known.ensures.kind c.values.ensures c.has_validity.ensures c.if-has_validity.false)
-    (λ i. records-shown c.args.y.now _ i _ c.known-2.ensures.kind c.values-2.ensures c.has_validity-else-has_validity.ensures c.if-has_validity-2.false)
-    (children-typed (layout_type c.args.x.now) (layout_type c.args.y.now) _ _ _ _ x y c.requires.alike) c.same_children.ensures
+    let y = struct-known c.args.y.now (layouts_of c.values-then-is_full-2.result.now) c.known-then-is_full-2.ensures.fits c.known-then-is_full-2.ensures.kind c.values-then-is_full-2.ensures in
+    records-same _ _ _ _ c.args.o c.args.p c.args.n _ (λ i h. records-shown c.args.x.now _ c.args.o c.args.n i c.known.ensures.kind c.values.ensures (c.is_full.ensures.0 c.if-is_full.true) h)
+    (λ i h. records-shown c.args.y.now _ c.args.p c.args.n i c.known-then-is_full-2.ensures.kind c.values-then-is_full-2.ensures (c.is_full-then-is_full.ensures.0 c.if-is_full-2.true) h)
+    (children-typed (layout_type c.args.x.now) (layout_type c.args.y.now) _ _ _ _ x y c.requires.alike) c.same_children.ensures.same
 
-pub same_row-returns-then-count-other_count : goal.same_row-returns-then-count-other_count
-same_row-returns-then-count-other_count t c =
+pub records::same_records-returns-then-is_full-2-clause-told : goal.records::same_records-returns-then-is_full-2-clause-told
+records::same_records-returns-then-is_full-2-clause-told t c =
+    tells-more _ _ _ _ c.args.n _ _ (tells-exact _ _ _ c.args.n c.tell.ensures) c.same_children.ensures.told
+    (sym (records-nodes (slot c.args.x.now) (layouts_of c.values.result.now) c.args.o c.args.n c.args.n (λ i h. records-shown c.args.x.now _ c.args.o c.args.n i c.known.ensures.kind c.values.ensures (c.is_full.ensures.0 c.if-is_full.true) h) (omega arith)))
+
+pub same_row-returns-then-count-other_count-clause-same : goal.same_row-returns-then-count-other_count-clause-same
+same_row-returns-then-count-other_count-clause-same t c =
     rw (c.in-Some.is, c.in-Some-other_row.is) (lists-differ (slot (layout_of c.args.items.now)) (slot (layout_of c.args.other_items.now)) _ _ _ _ c.if-count-other_count.true)
 
-pub same_row-returns : goal.same_row-returns
-same_row-returns t c =
+pub same_row-returns-clause-same : goal.same_row-returns-clause-same
+same_row-returns-clause-same t c =
     rw (c.in-Some.is, c.in-Some-other_row.is)
-    (lists-same _ _ _ (same-along _ _ _ _ _ refl (ap (run (slot (layout_of c.args.other_items.now)) c.in-Some-other_row.other_start) c.if-count-other_count.false) c.same_run.ensures))
+    (lists-same _ _ _ (same-along _ _ _ _ _ refl (ap (run (slot (layout_of c.args.other_items.now)) c.in-Some-other_row.other_start) c.if-count-other_count.false) c.same_run.ensures.same))
 
-pub same_rows-returns-then-not-same_row : goal.same_rows-returns-then-not-same_row
-same_rows-returns-then-not-same_row t c =
-    runs-differ (slot (lists_layout c.args.xs.now)) (slot (lists_layout c.args.ys.now)) c.args.o c.args.p c.args.n c.loop-k.k _
-    (same-along _ _ _ _ _ (ap (λ d. row_slot d c.row.result) c.items-items.ensures.shown ∙ c.row.ensures.slot)
-    (ap (λ d. row_slot d c.row-in-loop-k.result) c.items-other_items.ensures.shown ∙ c.row-in-loop-k.ensures.slot) c.same_row.ensures)
-    c.if-not-same_row.true c.loop-k-test.true
+pub same_row-returns-clause-told : goal.same_row-returns-clause-told
+same_row-returns-clause-told t c =
+    tells-after _ _ _ _ _ _ c.tell.ensures c.same_run.ensures.told
+    (ap (λ r. node_count (row_slot (layout_of c.args.items.now) r)) c.in-Some.is ∙ row-nodes (layout_of c.args.items.now) c.in-Some.start c.in-Some.count)
 
-pub same_rows-returns : goal.same_rows-returns
-same_rows-returns t c =
-    runs-same (slot (lists_layout c.args.xs.now)) (slot (lists_layout c.args.ys.now)) c.args.o c.args.p c.args.n c.loop-k.k c.loop-k.invariant (omega (arith, c.loop-k-test.false))
+pub same_rows-returns-in_default-clause-same : goal.same_rows-returns-in_default-clause-same
+same_rows-returns-in_default-clause-same t c = (
+  λ u. cc,
+  λ e. absurd (c.in_default.ensures.same (lists-bounds (lists_layout c.args.xs.now) (lists_layout c.args.ys.now) c.args.o c.args.p c.args.n c.known_rows.ensures c.known_rows-2.ensures c.requires.within c.requires.other_within (c.are_full.ensures.0 c.if-not-are_full.false) (c.are_full-else-not-are_full.ensures.0 c.if-not-are_full-2.false) e)),
+)
 
-pub same_rows-same_row-requires : goal.same_rows-same_row-requires
-same_rows-same_row-requires t c =
-    let w = ap weight c.items-items.ensures.shown in (
+pub same_rows-returns-in_default-clause-told : goal.same_rows-returns-in_default-clause-told
+same_rows-returns-in_default-clause-told t c = tells-stopped _ _ c.args.n _ c.in_default.ensures.told (nodes-least (slot (lists_layout c.args.xs.now)) c.args.o c.args.n)
+
+pub same_rows-same_run-requires : goal.same_rows-same_run-requires
+same_rows-same_run-requires t c =
+    let a = lists_layout c.args.xs.now in
+    let b = lists_layout c.args.ys.now in
+    let w = ap weight c.items-items.ensures.shown in
+    let x = rows-within a (c.args.o + c.args.n) c.known_rows.ensures c.requires.within in
+    let y = rows-within b (c.args.p + c.args.n) c.known_rows-2.ensures c.requires.other_within in
+    let u = ap len c.items-items.ensures.shown in
+    let v = ap len c.items-other_items.ensures.shown in
+    let s = c.in-Some.ensures.same.0 c.args.n (omega arith) in
+    let m = c.in-Some.ensures.same.1 in (
       omega arith,
       (
         same-items (layout_type (lists_layout c.args.xs.now)) (layout_type (lists_layout c.args.ys.now)) (layout_type (layout_of c.items-items.result.now)) (layout_type (layout_of c.items-other_items.result.now)) c.requires.alike c.items-items.ensures.typed c.items-other_items.ensures.typed,
         (
-          subst (λ d. IsWithin c.row.result (len d)) (sym c.items-items.ensures.shown) c.row.ensures.within,
-          subst (λ d. IsWithin c.row-in-loop-k.result (len d)) (sym c.items-other_items.ensures.shown) c.row-in-loop-k.ensures.within,
+          omega (arith, x, u, m, c.span-start.ensures.start),
+          omega (arith, y, v, m, s, c.span-other_start.ensures.start),
         ),
       ),
     )
+
+pub same_rows-returns-clause-same : goal.same_rows-returns-clause-same
+same_rows-returns-clause-same t c =
+    let a = lists_layout c.args.xs.now in
+    let b = lists_layout c.args.ys.now in
+    lists-joined a b c.args.o c.args.p c.args.n c.in-Some.total c.same_run.result c.known_rows.ensures c.known_rows-2.ensures c.requires.within c.requires.other_within (c.are_full.ensures.0 c.if-not-are_full.false) (c.are_full-else-not-are_full.ensures.0 c.if-not-are_full-2.false)
+    c.in-Some.ensures.same.0 c.in-Some.ensures.same.1
+    (same-along _ _ _ _ _ (items-along (layout_of c.items-items.result.now) (child_of a) c.span-start.result.0 (bound_of a c.args.o) c.in-Some.total c.items-items.ensures.shown c.span-start.ensures.start)
+    (items-along (layout_of c.items-other_items.result.now) (child_of b) c.span-other_start.result.0 (bound_of b c.args.p) c.in-Some.total c.items-other_items.ensures.shown c.span-other_start.ensures.start) c.same_run.ensures.same)
+
+pub same_rows-returns-clause-told : goal.same_rows-returns-clause-told
+same_rows-returns-clause-told t c =
+    let a = lists_layout c.args.xs.now in
+    tells-more _ _ _ _ c.args.n _ _ (tells-exact _ _ _ c.args.n c.in-Some.ensures.told) c.same_run.ensures.told
+    (ap (λ ss. c.args.n + node_counts ss) (items-along (layout_of c.items-items.result.now) (child_of a) c.span-start.result.0 (bound_of a c.args.o) c.in-Some.total c.items-items.ensures.shown c.span-start.ensures.start)
+    ∙ sym (lists-nodes a c.args.o c.args.n c.in-Some.total c.known_rows.ensures c.requires.within (c.are_full.ensures.0 c.if-not-are_full.false) c.in-Some.ensures.same.1))

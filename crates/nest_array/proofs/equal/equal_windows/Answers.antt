@@ -19,5 +19,5 @@ returns c =
     let t = ap layout_type (sym c.array-a.ensures) ∙ sym c.data_type.ensures ∙ h.0 ∙ c.data_type-2.ensures ∙ ap layout_type c.array-b.ensures in
     let s =
     same-along _ _ _ _ _ (window-run c.args.x.now _ _ _ c.array-a.ensures c.offset.ensures c.len-3.ensures c.known.ensures)
-    (window-run c.args.y.now _ _ _ c.array-b.ensures c.offset-2.ensures (c.len-3.ensures ∙ sym c.len.ensures ∙ h.1 ∙ c.len-2.ensures) c.known-2.ensures) c.same_run.ensures in
+    (window-run c.args.y.now _ _ _ c.array-b.ensures c.offset-2.ensures (c.len-3.ensures ∙ sym c.len.ensures ∙ h.1 ∙ c.len-2.ensures) c.known-2.ensures) c.same_run.ensures.same in
     (λ r. (t, s.0 r), λ h. s.1 h.1)

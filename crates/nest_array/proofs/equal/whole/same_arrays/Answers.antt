@@ -3,4 +3,4 @@ use Rattle.nest_model.specs.SameArray.{same_array-decides}
 use Rattle.nest_array.proofs.equal.whole.same_arrays.Goals as goal
 
 pub returns-clause-computes : goal.returns-clause-computes
-returns-clause-computes g c = same_from_decides _ _ c.same_type_and_slots.ensures (same_array-decides (g.A.Array.layout c.args.x.now) (g.A.Array.layout c.args.y.now))
+returns-clause-computes g c = same_from_decides _ _ c.same_arrays_counted.ensures.same (same_array-decides (g.A.Array.layout c.args.x.now) (g.A.Array.layout c.args.y.now))

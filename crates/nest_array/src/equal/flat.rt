@@ -1,0 +1,176 @@
+//! Equality of runs of slots without children, counted.
+ghost use Rattle.std.specs.Prelude.{◌≡◌, ◌↔◌, ◌+◌, ◌≤◌, IsTrue};
+ghost use Rattle.nest_flat.specs.AnyPrimitive.{primitive_layout};
+ghost use Rattle.nest_flat.specs.BareSlots.{bare};
+ghost use Rattle.nest_array.specs.Words.{Tells, layout_type, len, physical_type, run, slot};
+
+use crate::equal::is_full;
+use crate::steps::Steps;
+use nest_flat::any_primitive::{AnyPrimitive, Native};
+use nest_flat::flat_array::FlatArray;
+use nest_flat::primitive::PrimitiveArray;
+use nest_memory::types::{NativeType, days_ms, i256, months_days_ns};
+
+/// Whether the n slots of a from place o are those of b from place p, one after another.
+pub(crate) fn each_same_slot<A: FlatArray>(
+    a: A,
+    o: usize,
+    b: A,
+    p: usize,
+    n: usize,
+    steps: &mut Steps,
+) -> bool
+    requires within { o + n ≤ len (A.layout a) }
+    requires other_within { p + n ≤ len (A.layout b) }
+    ensures same { IsTrue result ↔ (run (slot (A.layout a)) o n ≡ run (slot (A.layout b)) p n) }
+    ensures told { Tells result steps.old steps.new n }
+{
+    let _ends = (a.count(), b.count());
+    for k in 0..n {
+        if !a.is_same_slot(o + k, &b, p + k) {
+            steps.tell(k as u64 + 1);
+            return false;
+        }
+    }
+    steps.tell(n as u64);
+    true
+}
+
+/// Whether the n raw values of a from place o are those of b from place p, one after another.
+fn each_same_value<A: FlatArray>(
+    a: A,
+    o: usize,
+    b: A,
+    p: usize,
+    n: usize,
+    steps: &mut Steps,
+) -> bool
+    requires within { o + n ≤ len (A.layout a) }
+    requires other_within { p + n ≤ len (A.layout b) }
+    ensures same { IsTrue result ↔ (run (slot (bare (A.layout a))) o n ≡ run (slot (bare (A.layout b))) p n) }
+    ensures told { Tells result steps.old steps.new n }
+{
+    let _ends = (a.count(), b.count());
+    for k in 0..n {
+        if !a.is_same_value(o + k, &b, p + k) {
+            steps.tell(k as u64 + 1);
+            return false;
+        }
+    }
+    steps.tell(n as u64);
+    true
+}
+
+/// Whether the n raw values of a from place o are those of b from place p: in blocks of 16, and the rest one by one.
+fn same_blocks<A: FlatArray>(a: A, o: usize, b: A, p: usize, n: usize, steps: &mut Steps) -> bool
+    requires within { o + n ≤ len (A.layout a) }
+    requires other_within { p + n ≤ len (A.layout b) }
+    ensures same { IsTrue result ↔ (run (slot (bare (A.layout a))) o n ≡ run (slot (bare (A.layout b))) p n) }
+    ensures told { Tells result steps.old steps.new n }
+{
+    let _ends = (a.count(), b.count());
+    for k in 0..n / 16 {
+        steps.tell(16);
+        if !a.same_values(o + k * 16, &b, p + k * 16, 16) {
+            return false;
+        }
+    }
+    let done = n / 16 * 16;
+    each_same_value(a, o + done, b, p + done, n - done, steps)
+}
+
+/// Whether the n slots of a from place o are those of b from place p: by blocks of raw values where none is null.
+fn same_natives<T: NativeType>(
+    a: &PrimitiveArray<T>,
+    o: usize,
+    b: &PrimitiveArray<T>,
+    p: usize,
+    n: usize,
+    steps: &mut Steps,
+) -> bool
+    requires within { o + n ≤ len a.now }
+    requires other_within { p + n ≤ len b.now }
+    ensures same { IsTrue result ↔ (run (slot a.now) o n ≡ run (slot b.now) p n) }
+    ensures told { Tells result steps.old steps.new n }
+{
+    if is_full(a, o, n) && is_full(b, p, n) {
+        return same_blocks(a, o, b, p, n, steps);
+    }
+    each_same_slot(a, o, b, p, n, steps)
+}
+
+// What is the same for two arrays of each kind.
+macro_rules! each_pair {
+    ($a:expr, $b:expr, ($x:ident, $y:ident) => $body:expr) => {
+        match $a {
+            AnyPrimitive::Int8($x) => {
+                let $y = i8::of($b);
+                $body
+            }
+            AnyPrimitive::Int16($x) => {
+                let $y = i16::of($b);
+                $body
+            }
+            AnyPrimitive::Int32($x) => {
+                let $y = i32::of($b);
+                $body
+            }
+            AnyPrimitive::Int64($x) => {
+                let $y = i64::of($b);
+                $body
+            }
+            AnyPrimitive::Int128($x) => {
+                let $y = i128::of($b);
+                $body
+            }
+            AnyPrimitive::Int256($x) => {
+                let $y = i256::of($b);
+                $body
+            }
+            AnyPrimitive::UInt8($x) => {
+                let $y = u8::of($b);
+                $body
+            }
+            AnyPrimitive::UInt16($x) => {
+                let $y = u16::of($b);
+                $body
+            }
+            AnyPrimitive::UInt32($x) => {
+                let $y = u32::of($b);
+                $body
+            }
+            AnyPrimitive::UInt64($x) => {
+                let $y = u64::of($b);
+                $body
+            }
+            AnyPrimitive::DaysMs($x) => {
+                let $y = days_ms::of($b);
+                $body
+            }
+            AnyPrimitive::MonthDayNano($x) => {
+                let $y = months_days_ns::of($b);
+                $body
+            }
+        }
+    };
+}
+
+/// Whether the n slots of a from place o are those of b from place p, for arrays of one physical type. The kind is
+/// matched once.
+pub(crate) fn same_primitives(
+    a: &AnyPrimitive,
+    o: usize,
+    b: &AnyPrimitive,
+    p: usize,
+    n: usize,
+    steps: &mut Steps,
+) -> bool
+    requires same_kind { physical_type (layout_type (primitive_layout a.now)) ≡ physical_type (layout_type (primitive_layout b.now)) }
+    requires within { o + n ≤ len (primitive_layout a.now) }
+    requires other_within { p + n ≤ len (primitive_layout b.now) }
+    ensures same { IsTrue result ↔ (run (slot (primitive_layout a.now)) o n ≡ run (slot (primitive_layout b.now)) p n) }
+    ensures told { Tells result steps.old steps.new n }
+{
+    a.known();
+    each_pair!(a, b, (x, y) => same_natives(x, o, y, p, n, steps))
+}
