@@ -1,7 +1,5 @@
 use Rattle.std.proofs.Common.{false, rules}
 use Rattle.nest_memory.specs.TypeOf.{type_of}
-use Rattle.nest_model.specs.Cut.{cut_layout}
-use Rattle.nest_model.specs.Accessors.{child_of}
 use Rattle.nest_array.specs.Seen.{layout_of}
 use Rattle.nest_array.proofs.Lists.{slot-items}
 use Rattle.nest_array.proofs.list.ListArray.value.Goals as goal
