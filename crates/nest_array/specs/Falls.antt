@@ -1,5 +1,5 @@
 -- Children are smaller than what holds them.
-use Rattle.std.specs.Prelude.{ℕ, ◌+◌, ◌≤◌, max, List as Seq, [], ◌∷◌}
+use Rattle.std.specs.Prelude.{◌+◌, ◌≤◌, List as Seq, [], ◌∷◌}
 use Rattle.std.proofs.Common.{arith}
 use denote.Param.Weighed.{most}
 use Rattle.nest_array.specs.declared.any.AnyArray.{AnyArray}

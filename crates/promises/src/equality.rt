@@ -4,13 +4,14 @@
 ghost use Rattle.std.specs.Prelude.{◌≡◌, ◌+◌, ◌≤◌, ◌↔◌, IsTrue, IfOk, IsOkUnless, alloc_error};
 ghost use Rattle.nest_memory.specs.declared.error.Error.TheVariants.{Memory};
 ghost use Rattle.nest_model.specs.Layout.{layout_type};
-ghost use Rattle.nest_model.specs.Meaning.{len, run, slot};
+ghost use Rattle.nest_model.specs.Meaning.{len, run, slot, slots_of};
 ghost use Rattle.nest_model.specs.SameArray.{IsSameArray};
+ghost use Rattle.nest_model.specs.Slot.{node_counts};
 ghost use Rattle.nest_array.specs.Seen.{layout_of};
 ghost use Rattle.nest_array.specs.WindowParts.{window_slots};
 
-use nest_array::equal::{equal, equal_windows};
-use nest_array::{AnyArray, ListArray, MapArray, StructArray, Window};
+use nest_array::equal::{equal, equal_counted, equal_windows};
+use nest_array::{AnyArray, ListArray, MapArray, Steps, StructArray, Window};
 use nest_flat::flat_array::{FlatArray, same_arrays, same_run};
 use nest_memory::error::Error;
 use std::alloc::Global;
@@ -20,6 +21,27 @@ pub fn are_equal(a: &AnyArray, b: &AnyArray) -> bool
     ensures { IsTrue result ↔ IsSameArray (layout_of a.now) (layout_of b.now) }
 {
     equal(a, b)
+}
+
+/// The same with its comparisons counted: at most as many as the left list has nodes, just as many where the answer is
+/// true, and none where data types or lengths differ.
+pub fn are_equal_counted(a: &AnyArray, b: &AnyArray, steps: &mut Steps) -> bool
+    ensures same { IsTrue result ↔ IsSameArray (layout_of a.now) (layout_of b.now) }
+    ensures most { steps.new ≤ steps.old + node_counts (slots_of (layout_of a.now)) }
+    ensures all { IsTrue result → steps.new ≡ steps.old + node_counts (slots_of (layout_of a.now)) }
+    ensures none_for_other_types { (layout_type (layout_of a.now) ≡ layout_type (layout_of b.now) → ⊥) → steps.new ≡ steps.old }
+    ensures none_for_other_lengths { (len (layout_of a.now) ≡ len (layout_of b.now) → ⊥) → steps.new ≡ steps.old }
+{
+    equal_counted(a, b, steps)
+}
+
+/// What is read of a count is the number that was told, up to 2^64 - 1.
+pub fn count_of(n: u64) -> u64
+    ensures { result ≡ n }
+{
+    let mut steps = Steps::new();
+    steps.tell(n);
+    steps.count()
 }
 
 /// `==` of arrays of any kind is the same.

@@ -17,8 +17,8 @@
 //! `lists`, `large_lists`, `records` in [`arrays`]. A new validity is taken exactly where it has no fault, and a refused one
 //! changes nothing (`under_new_validity`, `new_validity_in_place`).
 //!
-//! *`equal` answers true exactly for equal data types and equal lists*: `are_equal` in [`equality`], and the same of `==`, of
-//! windows, of runs and of each kind.
+//! *`equal` answers true exactly for equal data types and equal lists, after at most one comparison for each node of the left
+//! list*: `are_equal` and `are_equal_counted` in [`equality`], and the same answer of `==`, of windows, of runs and of each kind.
 //!
 //! *A builder freezes to what was pushed, and a refused push changes no slot at any depth*: `push_native`, `push_truth`,
 //! `push_bytes`, `push_text` and their freezes in [`builders`]; `push_row`, `tell_row`, `freeze_rows`, and both together in

@@ -6,7 +6,7 @@ use Rattle.nest_model.specs.Meaning.{run, slot, len}
 use Rattle.nest_model.specs.Slot.{node_count, node_counts}
 use Rattle.nest_flat.specs.BareSlots.{same-along}
 use Rattle.nest_flat.specs.SameRuns.{runs-differ}
-use Rattle.nest_array.specs.RowSlots.{Alike, IsWithin, row_slot, bound_of}
+use Rattle.nest_array.specs.RowSlots.{IsWithin, row_slot, bound_of}
 use Rattle.nest_array.specs.Seen.{layout_of, layouts_of}
 use Rattle.nest_array.specs.SeenLists.{lists_layout}
 use Rattle.nest_array.proofs.Counts.{same-more, told-more, told-stops, null-told, tells-after, tells-more, tells-exact, tells-stopped, nodes-least}

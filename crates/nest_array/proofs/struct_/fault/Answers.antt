@@ -1,11 +1,9 @@
-use Rattle.std.proofs.Common.{◌≡◌, ◌<◌, length, true, false, sym, ◌∙◌, ap, subst, arith, rules, IsTrue}
+use Rattle.std.proofs.Common.{◌≡◌, ◌<◌, length, true, false, sym, ◌∙◌, subst, arith, rules}
 use Rattle.std.proofs.lemmas.Bool.Decides.{nat_tests}
 use Rattle.nest_memory.specs.Physical.{physical_type}
 use Rattle.nest_memory.specs.declared.datatypes.physical_type.PhysicalType.TheVariants as physical
-use Rattle.nest_memory.specs.TypeTree.{FieldTrees, fields_of, count_fields}
+use Rattle.nest_memory.specs.TypeTree.{FieldTrees}
 use Rattle.nest_memory.specs.TypeOf.{type_of}
-use Rattle.nest_model.specs.Layout.{count_layouts}
-use Rattle.nest_model.specs.Meaning.{first_len}
 use Rattle.nest_model.specs.Fits.{EachType, EachLen, ValidityFits}
 use Rattle.nest_array.specs.Seen.{layouts_of}
 use Rattle.nest_array.proofs.Children.{layouts-count}

@@ -1,4 +1,4 @@
-use Rattle.std.proofs.Common.{◌≡◌, ◌+◌, ◌*◌, ◌/◌, ◌≤◌, sym, ap, ◌∙◌, arith}
+use Rattle.std.proofs.Common.{◌≡◌, ◌+◌, ◌*◌, ◌/◌, ◌≤◌, subst, arith}
 use Rattle.std.proofs.Math.Nat.{div-mul-le_self}
 use Rattle.nest_model.specs.Meaning.{run, slot}
 use Rattle.nest_flat.specs.BareSlots.{bare}
@@ -23,9 +23,7 @@ loop-k-preserved g c =
 
 pub returns-clause-same : goal.returns-clause-same
 returns-clause-same g c =
-    let a = bare (g.A.FlatArray.layout c.args.a) in
-    let b = bare (g.A.FlatArray.layout c.args.b) in
-    let e : c.loop-k.k ≡ c.args.n / 16 = omega (arith, c.loop-k-test.false, c.loop-k.auto.k-end) in
-    let w = ap (λ k. k * 16) e in
-    rest-decides (slot a) (slot b) c.args.o c.args.p c.args.n (c.args.n / 16 * 16) _ (sym (ap (run (slot a) c.args.o) w) ∙ c.loop-k.invariant.same ∙ ap (run (slot b) c.args.p) w) c.each_same_value.ensures.same
-    (div-mul-le_self c.args.n 16)
+    let f = slot (bare (g.A.FlatArray.layout c.args.a)) in
+    let h = slot (bare (g.A.FlatArray.layout c.args.b)) in
+    let e : c.loop-k.k * 16 ≡ c.args.n / 16 * 16 = omega (arith, c.loop-k-test.false, c.loop-k.auto.k-end) in
+    rest-decides f h c.args.o c.args.p c.args.n (c.args.n / 16 * 16) _ (subst (λ m. run f c.args.o m ≡ run h c.args.p m) e c.loop-k.invariant.same) c.each_same_value.ensures.same (div-mul-le_self c.args.n 16)

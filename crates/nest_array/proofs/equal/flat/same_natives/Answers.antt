@@ -1,4 +1,3 @@
-use Rattle.nest_model.specs.Meaning.{slot}
 use Rattle.nest_flat.specs.BareSlots.{same-along}
 use Rattle.nest_array.proofs.Counts.{bare-run}
 use Rattle.nest_array.proofs.equal.flat.same_natives.Goals as goal

@@ -1,8 +1,5 @@
-use Rattle.std.proofs.Common.{◌*◌, ap, ◌∙◌, rules}
+use Rattle.std.proofs.Common.{rules}
 use Rattle.nest_memory.specs.TypeOf.{type_of}
-use Rattle.nest_memory.specs.TypeTree.{size_of}
-use Rattle.nest_model.specs.Cut.{cut_layout}
-use Rattle.nest_model.specs.Layout.{layout_type}
 use Rattle.nest_array.specs.Seen.{layout_of}
 use Rattle.nest_array.proofs.FixedSizes.{size-items}
 use Rattle.nest_array.proofs.fixed_size_list.FixedSizeListArray.value.Goals as goal
