@@ -1,4 +1,3 @@
-pub mod AnyNative
 pub mod Falls
 pub mod Kinds
 pub mod Refusals

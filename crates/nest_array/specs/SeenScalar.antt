@@ -8,7 +8,7 @@ use Rattle.nest_model.specs.Layout.{Layout, layout_type}
 use Rattle.nest_model.specs.Meaning.{slot, slots_of}
 use Rattle.nest_model.specs.Slot as slots
 use Rattle.nest_model.specs.Slot.{Slot, seal}
-use Rattle.nest_array.specs.AnyNative.{native_kind, native_numbers}
+use Rattle.nest_flat.specs.AnyNative.{native_kind, native_numbers}
 use Rattle.nest_array.specs.ScalarParts.{slots_in, types_in, field_types}
 use Rattle.nest_array.specs.Seen.{layout_of}
 use Rattle.nest_array.specs.declared.scalar.ScalarValue.{ScalarValue}

@@ -2,7 +2,6 @@
 #![tactic(auto)]
 
 pub mod any;
-pub mod any_native;
 pub mod array;
 pub mod equal;
 pub mod fixed_size_binary;

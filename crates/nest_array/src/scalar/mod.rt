@@ -8,8 +8,8 @@ ghost use Rattle.nest_array.specs.SeenScalar.{ValueFits, slot_of_value};
 ghost use Rattle.nest_array.specs.Words.{type_of};
 
 use crate::any::AnyArray;
-use crate::any_native::AnyNative;
 pub use new::new_scalar;
+use nest_flat::any_native::AnyNative;
 use nest_memory::datatypes::DataType;
 use std::marker::Model;
 
