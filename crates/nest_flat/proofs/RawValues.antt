@@ -7,6 +7,7 @@ use Rattle.nest_memory.specs.Cut.{cut}
 use Rattle.nest_memory.specs.TypeTree.{TypeTree}
 use Rattle.nest_memory.specs.declared.datatypes.physical_type.PrimitiveType.{PrimitiveType}
 use Rattle.nest_model.specs.Part.{Validity}
+use Rattle.nest_model.specs.Accessors.{natives_of}
 use Rattle.nest_model.specs.Layout.{Layout, primitive}
 use Rattle.nest_model.specs.Slot as slots
 use Rattle.nest_model.specs.Slot.{Slot}
@@ -50,15 +51,25 @@ module _ {A : Type 0} (numbers : A → List ℤ) where
       ∙ values-run k t xs o n (omega (arith, h, ap len e, length-map xs numbers))
       ∙ (λ i. map (λ x. slots.number (numbers x)) (take (m i) (drop o (sym f i))))
 
+  -- the numbers that a slice shows of the values of such an array
+  pub raw-shown : (k : PrimitiveType) (t : TypeTree) (va : Validity) (a : Layout) (xs ys : List A) (o n : ℕ) → primitive k t (map numbers xs) va ≡ a → ys ≡ xs
+      → map numbers (take (o + n - o) (drop o ys)) ≡ cut (natives_of a) o n
+  raw-shown k t va a xs ys o n e f =
+      let m : o + n - o ≡ n = omega arith in
+      (λ i. map numbers (take (m i) (drop o (f i)))) ∙ map-cut numbers xs o n ∙ ap (λ b. cut (natives_of b) o n) e
+
   number-one : (zs ys : List ℤ) → slots.number zs ≡ slots.number ys → zs ≡ ys
   number-one zs ys e = cc
 
-  -- values that their numbers tell apart are the same where their slots are
-  pub values-same : ((a b : A) → numbers a ≡ numbers b → a ≡ b) → (ss rs : List Slot) (xs ys : List A) (r : Bool)
-      → ss ≡ map (λ x. slots.number (numbers x)) xs → rs ≡ map (λ x. slots.number (numbers x)) ys → Decides r (xs ≡ ys) → IsTrue r ↔ (ss ≡ rs)
-  values-same one ss rs xs ys r p q d =
-      (λ h. p ∙ ap (map (λ x. slots.number (numbers x))) (d.0 h) ∙ sym q, λ e. d.1 (map-one (λ x. slots.number (numbers x)) (λ a b f. one a b (number-one (numbers a) (numbers b) f)) xs ys (sym p ∙ e ∙ q)))
+  pub slot-one : ((a b : A) → numbers a ≡ numbers b → a ≡ b) → (a b : A) → slots.number (numbers a) ≡ slots.number (numbers b) → a ≡ b
+  slot-one one a b e = one a b (number-one (numbers a) (numbers b) e)
 
   -- equality by the numbers is equality
   pub numbers-decide : ((a b : A) → numbers a ≡ numbers b → a ≡ b) → (E : A → A → Bool) → ((a b : A) → Decides (E a b) (numbers a ≡ numbers b)) → (a b : A) → Decides (E a b) (a ≡ b)
   numbers-decide one E d a b = (λ h. one a b ((d a b).0 h), λ e. (d a b).1 (ap numbers e))
+
+-- what tells values apart is the same of two lists where the lists are
+pub mapped-same : {A B : Type 0} (f : A → B) → ((a b : A) → f a ≡ f b → a ≡ b) → (ss rs : List B) (xs ys : List A) (r : Bool)
+    → ss ≡ map f xs → rs ≡ map f ys → Decides r (xs ≡ ys) → IsTrue r ↔ (ss ≡ rs)
+mapped-same f one ss rs xs ys r p q d =
+    (λ h. p ∙ ap (map f) (d.0 h) ∙ sym q, λ e. d.1 (map-one f one xs ys (sym p ∙ e ∙ q)))

@@ -1,4 +1,5 @@
 pub mod Alike
+pub mod AnyNative
 pub mod AnyPrimitive
 pub mod BareSlots
 pub mod BytesGrowth

@@ -1,5 +1,7 @@
 //! Equality of flat arrays: equal data types and equal slots, and equal runs of slots.
-ghost use Rattle.std.specs.Prelude.{◌≡◌, ◌↔◌, ◌+◌, ◌≤◌, IsTrue};
+ghost use Rattle.std.specs.Prelude.{◌≡◌, ◌↔◌, ◌+◌, ◌≤◌, IsTrue, None};
+ghost use Rattle.nest_memory.specs.Cut.{cut};
+ghost use Rattle.nest_model.specs.Accessors.{natives_of, with_validity};
 ghost use Rattle.nest_model.specs.Meaning.{len, run, slot};
 ghost use Rattle.nest_model.specs.SameArray.{IsSameArray, same_array};
 
@@ -55,6 +57,17 @@ impl<T: NativeType> PrimitiveArray<T> {
         ensures { IsTrue result ↔ (run (slot self.now) o n ≡ run (slot other.now) p n) }
     {
         flat_array::same_run(self, o, other, p, n)
+    }
+
+    /// Whether the n raw values from place o are those of the other array from place p, also under nulls.
+    pub fn equal_block(&self, o: usize, other: &PrimitiveArray<T>, p: usize, n: usize) -> bool
+        requires within { o + n ≤ len self.now }
+        requires other_within { p + n ≤ len other.now }
+        ensures raw { IsTrue result ↔ (cut (natives_of self.now) o n ≡ cut (natives_of other.now) p n) }
+        ensures unmasked { IsTrue result
+            ↔ (run (slot (with_validity self.now None)) o n ≡ run (slot (with_validity other.now None)) p n) }
+    {
+        self.values_from(o, n) == other.values_from(p, n)
     }
 }
 

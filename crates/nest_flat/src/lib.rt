@@ -4,6 +4,7 @@
 //! and does nothing when it runs.
 #![tactic(auto)]
 
+pub mod any_native;
 pub mod any_primitive;
 pub mod binary;
 pub mod boolean;

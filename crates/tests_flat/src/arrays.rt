@@ -1,5 +1,6 @@
 //! Flat arrays by their worked slots. A failed `expect` ends the test, and what has a data type is let go in generic
 //! helpers and by `drop`, which keeps the proofs short.
+mod blocks;
 mod cuts;
 mod iterators;
 mod kinds;

@@ -16,9 +16,12 @@ ghost use Rattle.nest_model.specs.Layout as layouts;
 ghost use Rattle.nest_model.specs.Layout.{layout_type};
 ghost use Rattle.nest_model.specs.Meaning.{len, slot, slots_of};
 ghost use Rattle.nest_model.specs.Nullness.{is_null_at, null_count};
+ghost use Rattle.nest_model.specs.Reads.{where_valid};
 ghost use Rattle.nest_model.specs.Slot as slots;
+ghost use Rattle.nest_flat.specs.AnyNative.{native_kind, native_numbers};
 ghost use Rattle.nest_flat.specs.AnyPrimitive.{primitive_kind, primitive_layout};
 
+use crate::any_native::AnyNative;
 use crate::primitive::PrimitiveArray;
 pub use equality::same_run;
 pub use native::Native;
@@ -131,6 +134,15 @@ impl AnyPrimitive {
         ensures { result ≡ null_count (primitive_layout self.now) }
     {
         each_kind!(self, array => array.null_count())
+    }
+
+    /// The raw value of slot i, which means nothing where the slot is null.
+    pub fn value(&self, i: usize) -> AnyNative
+        requires { i < len (primitive_layout self.now) }
+        ensures kind { native_kind result ≡ primitive_kind self.now }
+        ensures slot { slot (primitive_layout self.now) i ≡ where_valid (validity_of (primitive_layout self.now)) i (slots.number (native_numbers result)) }
+    {
+        each_kind!(self, array => array.value(i).to_any())
     }
 
     /// Keeps the n slots from place o.

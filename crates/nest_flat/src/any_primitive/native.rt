@@ -1,10 +1,12 @@
 //! The native types, and arrays of each among arrays of any kind.
-ghost use Rattle.std.specs.Prelude.{◌≡◌};
+ghost use Rattle.std.specs.Prelude.{◌≡◌, ◌↔◌, IsSome, IfSome};
 ghost use Rattle.nest_memory.specs.Physical.{physical_type};
 ghost use Rattle.nest_memory.specs.declared.datatypes.physical_type.PhysicalType.TheVariants as physical;
 ghost use Rattle.nest_model.specs.Layout.{Layout, layout_type};
+ghost use Rattle.nest_flat.specs.AnyNative.{native_kind, native_numbers};
 ghost use Rattle.nest_flat.specs.AnyPrimitive.{primitive_layout};
 
+use crate::any_native::AnyNative;
 use crate::any_primitive::AnyPrimitive;
 use crate::primitive::PrimitiveArray;
 use nest_memory::types::{NativeType, days_ms, i256, months_days_ns};
@@ -24,6 +26,16 @@ pub trait Native: NativeType {
     fn of(any: &AnyPrimitive) -> &Self::Array
         requires { physical_type (layout_type (primitive_layout any.now)) ≡ physical.Primitive Self.PRIMITIVE }
         ensures { layout_of_array result.now ≡ primitive_layout any.now };
+
+    /// The same value in the variant of its kind.
+    fn to_any(self) -> AnyNative
+        ensures kind { native_kind result ≡ Self.PRIMITIVE }
+        ensures same_numbers { native_numbers result ≡ Self.numbers self };
+
+    /// The value, `None` where it is of another kind.
+    fn from_any(any: AnyNative) -> Option<Self>
+        ensures kind { IsSome result ↔ (native_kind any ≡ Self.PRIMITIVE) }
+        ensures same_numbers { IfSome result (λ x. Self.numbers x ≡ native_numbers any) };
 }
 
 impl Native for i8 {
@@ -40,6 +52,17 @@ impl Native for i8 {
         match any {
             AnyPrimitive::Int8(array) => array,
             _ => unreachable!(),
+        }
+    }
+
+    fn to_any(self) -> AnyNative {
+        AnyNative::Int8(self)
+    }
+
+    fn from_any(any: AnyNative) -> Option<i8> {
+        match any {
+            AnyNative::Int8(value) => Some(value),
+            _ => None,
         }
     }
 }
@@ -60,6 +83,17 @@ impl Native for i16 {
             _ => unreachable!(),
         }
     }
+
+    fn to_any(self) -> AnyNative {
+        AnyNative::Int16(self)
+    }
+
+    fn from_any(any: AnyNative) -> Option<i16> {
+        match any {
+            AnyNative::Int16(value) => Some(value),
+            _ => None,
+        }
+    }
 }
 
 impl Native for i32 {
@@ -76,6 +110,17 @@ impl Native for i32 {
         match any {
             AnyPrimitive::Int32(array) => array,
             _ => unreachable!(),
+        }
+    }
+
+    fn to_any(self) -> AnyNative {
+        AnyNative::Int32(self)
+    }
+
+    fn from_any(any: AnyNative) -> Option<i32> {
+        match any {
+            AnyNative::Int32(value) => Some(value),
+            _ => None,
         }
     }
 }
@@ -96,6 +141,17 @@ impl Native for i64 {
             _ => unreachable!(),
         }
     }
+
+    fn to_any(self) -> AnyNative {
+        AnyNative::Int64(self)
+    }
+
+    fn from_any(any: AnyNative) -> Option<i64> {
+        match any {
+            AnyNative::Int64(value) => Some(value),
+            _ => None,
+        }
+    }
 }
 
 impl Native for i128 {
@@ -112,6 +168,17 @@ impl Native for i128 {
         match any {
             AnyPrimitive::Int128(array) => array,
             _ => unreachable!(),
+        }
+    }
+
+    fn to_any(self) -> AnyNative {
+        AnyNative::Int128(self)
+    }
+
+    fn from_any(any: AnyNative) -> Option<i128> {
+        match any {
+            AnyNative::Int128(value) => Some(value),
+            _ => None,
         }
     }
 }
@@ -132,6 +199,17 @@ impl Native for i256 {
             _ => unreachable!(),
         }
     }
+
+    fn to_any(self) -> AnyNative {
+        AnyNative::Int256(self)
+    }
+
+    fn from_any(any: AnyNative) -> Option<i256> {
+        match any {
+            AnyNative::Int256(value) => Some(value),
+            _ => None,
+        }
+    }
 }
 
 impl Native for u8 {
@@ -148,6 +226,17 @@ impl Native for u8 {
         match any {
             AnyPrimitive::UInt8(array) => array,
             _ => unreachable!(),
+        }
+    }
+
+    fn to_any(self) -> AnyNative {
+        AnyNative::UInt8(self)
+    }
+
+    fn from_any(any: AnyNative) -> Option<u8> {
+        match any {
+            AnyNative::UInt8(value) => Some(value),
+            _ => None,
         }
     }
 }
@@ -168,6 +257,17 @@ impl Native for u16 {
             _ => unreachable!(),
         }
     }
+
+    fn to_any(self) -> AnyNative {
+        AnyNative::UInt16(self)
+    }
+
+    fn from_any(any: AnyNative) -> Option<u16> {
+        match any {
+            AnyNative::UInt16(value) => Some(value),
+            _ => None,
+        }
+    }
 }
 
 impl Native for u32 {
@@ -184,6 +284,17 @@ impl Native for u32 {
         match any {
             AnyPrimitive::UInt32(array) => array,
             _ => unreachable!(),
+        }
+    }
+
+    fn to_any(self) -> AnyNative {
+        AnyNative::UInt32(self)
+    }
+
+    fn from_any(any: AnyNative) -> Option<u32> {
+        match any {
+            AnyNative::UInt32(value) => Some(value),
+            _ => None,
         }
     }
 }
@@ -204,6 +315,17 @@ impl Native for u64 {
             _ => unreachable!(),
         }
     }
+
+    fn to_any(self) -> AnyNative {
+        AnyNative::UInt64(self)
+    }
+
+    fn from_any(any: AnyNative) -> Option<u64> {
+        match any {
+            AnyNative::UInt64(value) => Some(value),
+            _ => None,
+        }
+    }
 }
 
 impl Native for days_ms {
@@ -222,6 +344,17 @@ impl Native for days_ms {
             _ => unreachable!(),
         }
     }
+
+    fn to_any(self) -> AnyNative {
+        AnyNative::DaysMs(self)
+    }
+
+    fn from_any(any: AnyNative) -> Option<days_ms> {
+        match any {
+            AnyNative::DaysMs(value) => Some(value),
+            _ => None,
+        }
+    }
 }
 
 impl Native for months_days_ns {
@@ -238,6 +371,17 @@ impl Native for months_days_ns {
         match any {
             AnyPrimitive::MonthDayNano(array) => array,
             _ => unreachable!(),
+        }
+    }
+
+    fn to_any(self) -> AnyNative {
+        AnyNative::MonthDayNano(self)
+    }
+
+    fn from_any(any: AnyNative) -> Option<months_days_ns> {
+        match any {
+            AnyNative::MonthDayNano(value) => Some(value),
+            _ => None,
         }
     }
 }

@@ -1,5 +1,6 @@
 //! The slots and the raw values of an array of native values, from both ends.
 ghost use Rattle.std.specs.Prelude.{◌≡◌, ◌↔◌, ◌+◌, ◌≤◌, ◌<◌, IsTrue, None, map};
+ghost use Rattle.nest_memory.specs.Cut.{cut};
 ghost use Rattle.nest_model.specs.Accessors.{natives_of, with_validity};
 ghost use Rattle.nest_model.specs.Meaning.{len, run, slot, slots_of};
 ghost use Rattle.nest_model.specs.Slot as slots;
@@ -53,7 +54,7 @@ impl<'a, T: NativeType> FlatArray for &'a PrimitiveArray<T> {
     }
 
     fn same_values(&self, o: usize, other: &&'a PrimitiveArray<T>, p: usize, n: usize) -> bool {
-        self.values_from(o, n) == other.values_from(p, n)
+        self.equal_block(o, other, p, n)
     }
 
     // The values are taken once for all slots.
@@ -98,9 +99,10 @@ impl<T: NativeType> PrimitiveArray<T> {
     }
 
     // The raw values of the n slots from place o.
-    fn values_from(&self, o: usize, n: usize) -> &[T]
+    pub(crate) fn values_from(&self, o: usize, n: usize) -> &[T]
         requires { o + n ≤ len self.now }
-        ensures { run (slot (with_validity self.now None)) o n ≡ map (λ x. slots.number (T.numbers x)) result.now }
+        ensures raw { map T.numbers result.now ≡ cut (natives_of self.now) o n }
+        ensures unmasked { run (slot (with_validity self.now None)) o n ≡ map (λ x. slots.number (T.numbers x)) result.now }
     {
         let _end = self.len();
         let values = self.values.as_slice();

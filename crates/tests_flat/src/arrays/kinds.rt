@@ -1,6 +1,7 @@
 //! The slots of each kind of array, and what lies under its nulls.
 use super::{binaries, numbers, texts, truths};
-use nest_flat::any_primitive::Native;
+use nest_flat::any_native::AnyNative;
+use nest_flat::any_primitive::{AnyPrimitive, Native};
 use nest_memory::datatypes::DataType;
 
 #[test]
@@ -80,5 +81,18 @@ fn any_native_kind(rt: HostRuntime) {
     assert_eq!(rt; any.len(), 1);
     assert_eq!(rt; any.null_count(), 0);
     assert_eq!(rt; any.validity().map(|bits| bits.len()), Some(1));
+    drop(any);
+}
+
+#[test]
+fn raw_values_of_any_kind(rt: HostRuntime) {
+    let alloc = rt.alloc();
+    let bits = Some([true, false].as_slice());
+    let array = numbers(alloc, DataType::Int32, &[1, 2], bits).expect(&rt, "two numbers");
+    let any = AnyPrimitive::Int32(array);
+    if any.len() == 2 {
+        assert_eq!(rt; any.value(0), AnyNative::Int32(1));
+        assert_eq!(rt; any.value(1), AnyNative::Int32(2));
+    }
     drop(any);
 }
