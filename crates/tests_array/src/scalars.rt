@@ -8,10 +8,10 @@ use crate::arrays::sizes::pairs;
 use crate::arrays::structs::four;
 use crate::arrays::{buffer, int32s, list_array, lists_of_lists, numbers, truths};
 use crate::calls::{bytes, texts};
-use nest_array::any_native::AnyNative;
 use nest_array::{
     AnyArray, AnyScalar, Array, FixedSizeBinaryArray, NullArray, ScalarValue, new_scalar,
 };
+use nest_flat::any_native::AnyNative;
 use nest_flat::any_primitive::AnyPrimitive;
 use nest_flat::primitive::PrimitiveArray;
 use nest_memory::datatypes::DataType;
