@@ -1,11 +1,21 @@
 -- When scalars are the same.
-use Rattle.std.specs.Prelude.{List as Seq, [], ◌∷◌, Option, Some}
+use Rattle.std.specs.Prelude.{List as Seq, [], ◌∷◌, Some}
 use Rattle.std.proofs.Common.{◌≡◌, ℕ, zero, suc, ◌+◌, ◌<◌, ◌≤◌, length, get_or, drop, refl, ap, sym, ◌∙◌, arith}
 use Rattle.std.proofs.lemmas.List.{drop_more, drop_all}
 use Rattle.nest_memory.specs.TypeTree.{TypeTree}
 use Rattle.nest_model.specs.Slot as slots
-use Rattle.nest_model.specs.Slot.{Slot, Slots, no_slots, more_slots, node_count, count_within}
+use Rattle.nest_model.specs.Slot.{Slot, Slots, no_slots, more_slots, seal, node_count, count_within}
+use Rattle.nest_model.specs.SlotLaws.{seal-one}
 use Rattle.nest_array.specs.ScalarParts.{ScalarParts, slots_in, types_in}
+
+list-one : (xs ys : Slots) → slots.list xs ≡ slots.list ys → xs ≡ ys
+list-one xs ys e = cc
+
+pub lists-one : (xs ys : Seq Slot) → slots.list (seal xs) ≡ slots.list (seal ys) → xs ≡ ys
+lists-one xs ys e = seal-one xs ys (list-one (seal xs) (seal ys) e)
+
+pub types-one : (t u : TypeTree) → Some t ≡ Some u → t ≡ u
+types-one t u e = cc
 
 pub slots-count : (ps qs : Seq ScalarParts) → slots_in ps ≡ slots_in qs → length ps ≡ length qs
 slots-count [] [] e = refl

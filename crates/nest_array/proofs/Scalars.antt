@@ -1,17 +1,15 @@
 -- Scalars of arrays, made one after another and part for part.
-use Rattle.std.specs.Prelude.{List as Seq, [], ◌∷◌, Option, Some}
-use Rattle.std.proofs.Common.{◌≡◌, ℕ, zero, suc, ◌+◌, ◌<◌, ◌≤◌, ℤ, length, get_or, refl, ap, sym, ◌∙◌, subst, arith}
+use Rattle.std.specs.Prelude.{List as Seq, [], ◌∷◌, Some, if◌then◌else◌}
+use Rattle.std.proofs.Common.{◌≡◌, ℕ, zero, suc, ◌+◌, ◌<◌, ◌≤◌, Bool, true, false, length, get_or, refl, ap, sym, ◌∙◌, arith}
 use Rattle.nest_memory.specs.Cut.{cut}
 use Rattle.nest_memory.specs.Physical.{physical_type}
 use Rattle.nest_memory.specs.TypeTree.{TypeTree, item_type, fields_of}
 use Rattle.nest_memory.specs.declared.datatypes.physical_type.PhysicalType.TheVariants as physical
 use Rattle.nest_memory.specs.declared.datatypes.physical_type.PrimitiveType.{PrimitiveType}
 use Rattle.nest_model.specs.Accessors.{validity_of}
-use Rattle.nest_model.specs.Array.{TopFits}
 use Rattle.nest_model.specs.Facts.{IsStruct}
-use Rattle.nest_model.specs.Layout.{Layout, Layouts, primitive, layout_type}
+use Rattle.nest_model.specs.Layout.{Layout, Layouts, layout_type}
 use Rattle.nest_model.specs.Meaning.{run, len, slot, each, slots_of}
-use Rattle.nest_model.specs.Part.{Validity}
 use Rattle.nest_model.specs.Reads.{items-cut}
 use Rattle.nest_model.specs.Slot as slots
 use Rattle.nest_model.specs.Slot.{Slot, seal}
@@ -45,9 +43,14 @@ made-types (p ∷ ps) (x ∷ xs) i l h =
     let b = made-types ps xs i (omega arith) (λ k d e n. h (suc k) d e (omega arith)) in
     cc
 
+-- a value that is valid is the slot
+pub valid-shown : (b : Bool) (s t : Slot) → s ≡ (if b then t else slots.null) → (s ≡ slots.null → ⊥) → t ≡ s
+valid-shown true s t e h = sym e
+valid-shown false s t e h = absurd (h e)
+
 -- a native value is of the kind of its array
-pub native-typed : (a : Layout) (k l : PrimitiveType) (vs : Seq (Seq ℤ)) (va : Validity) → TopFits a → a ≡ primitive k (layout_type a) vs va → l ≡ k → physical_type (shown_type (layout_type a)) ≡ physical.Primitive l
-native-typed a k l vs va h e f = shown-native (layout_type a) k (subst TopFits e h).1.1.0 ∙ ap physical.Primitive (sym f)
+pub native-typed : (t : TypeTree) (k l : PrimitiveType) → physical_type t ≡ physical.Primitive k → l ≡ k → physical_type (shown_type t) ≡ physical.Primitive l
+native-typed t k l h e = shown-native t k h ∙ ap physical.Primitive (sym e)
 
 -- the items of a row, cut out of a copy of all items, spell the row's slot
 pub items-spell : (c d e : Layout) (o n : ℕ) (s : Slot) → d ≡ c → slots_of e ≡ cut (slots_of d) o n → o + n ≤ len c → slots.list (seal (run (slot c) o n)) ≡ s → slots.list (seal (slots_of e)) ≡ s

@@ -1,12 +1,14 @@
 -- A scalar: a data type and one slot (of this project).
-use Rattle.std.specs.Prelude.{Bool, List as Seq, [], ◌∷◌, refl}
-use Rattle.std.specs.Cmp.{IsEquivalence, decided}
+use Rattle.std.specs.Prelude.{◌≡◌, Bool, true, false, ◌&&◌, List as Seq, [], ◌∷◌, refl}
+use Rattle.std.specs.Bool.{Decides}
+use Rattle.std.specs.Cmp.{IsEquivalence, and_equiv, on_equiv, first_so, second_so}
 use Rattle.std.specs.Coded.{Coded, code_by, coded×}
 use Rattle.nest_memory.specs.TypeCode.{coded_type}
+use Rattle.nest_memory.specs.TypeEq.{same_type, same_type-decides, same_type-equiv}
 use Rattle.nest_memory.specs.TypeTree.{TypeTree, FieldTrees, no_fields, more_fields, field_type}
 use Rattle.nest_model.specs.Layout.{Layouts, no_layouts, more_layouts, layout_type}
 use Rattle.nest_model.specs.Slot.{Slot, Slots, no_slots, more_slots}
-use Rattle.nest_model.specs.SlotCode.{coded_slot, same_by, same_by-decides}
+use Rattle.nest_model.specs.SlotCode.{coded_slot, same_slot, same_slot-decides, same_slot-equiv}
 
 pub record ScalarParts : Type 0 where
   pub data_type : TypeTree
@@ -20,12 +22,27 @@ coded_scalar =
     code_by (TypeTree × Slot) (coded× coded_type coded_slot) (λ p. (p.data_type, p.slot))
     (λ p. record { data_type = p.0; slot = p.1 }) (λ _. refl)
 
--- whether two scalars have equal data types and equal slots
-abbrev pub same_parts : ScalarParts → ScalarParts → Bool
-same_parts = same_by coded_scalar
+-- when two scalars are the same, and the test of it
+abbrev pub IsSameScalar : ScalarParts → ScalarParts → Type 0
+IsSameScalar p q = (p.data_type ≡ q.data_type) × (p.slot ≡ q.slot)
 
-pub same_parts-equiv : IsEquivalence same_parts
-same_parts-equiv = decided same_parts (same_by-decides coded_scalar)
+abbrev pub same_scalar : ScalarParts → ScalarParts → Bool
+same_scalar p q = same_type p.data_type q.data_type && same_slot p.slot q.slot
+
+both-true : (a b : Bool) → a ≡ true → b ≡ true → (a && b) ≡ true
+both-true true b h k = k
+both-true false b h k = h
+
+pub same_scalar-decides : (p q : ScalarParts) → Decides (same_scalar p q) (IsSameScalar p q)
+same_scalar-decides p q =
+    let t = same_type p.data_type q.data_type in
+    let s = same_slot p.slot q.slot in
+    let ts = same_type-decides p.data_type q.data_type in
+    let ss = same_slot-decides p.slot q.slot in
+    (λ h. (ts.0 (first_so t s h), ss.0 (second_so t s h)), λ h. both-true t s (ts.1 h.0) (ss.1 h.1))
+
+pub same_scalar-equiv : IsEquivalence same_scalar
+same_scalar-equiv = and_equiv (on_equiv (λ p. p.data_type) same_type-equiv) (on_equiv (λ p. p.slot) same_slot-equiv)
 
 -- the slots of several scalars, and their data types
 abbrev pub slots_in : Seq ScalarParts → Slots

@@ -27,12 +27,14 @@ ghost use Rattle.nest_model.specs.Slot as slots;
 ghost use Rattle.nest_model.specs.Slot.{seal};
 ghost use Rattle.nest_flat.specs.FlatParts.{optional};
 ghost use Rattle.nest_array.specs.Refusals.{RefusesOrMemory};
+ghost use Rattle.nest_array.specs.ScalarParts.{scalar_parts};
 ghost use Rattle.nest_array.specs.Seen.{layout_of, layouts_of};
+ghost use Rattle.nest_array.specs.SeenScalar.{slot_of_value};
 ghost use Rattle.nest_array.specs.WindowParts.{window_parts, window_slots};
 
 use nest_array::{
-    AnyArray, Array, FixedSizeBinaryArray, FixedSizeListArray, LargeListArray, ListArray, MapArray,
-    NullArray, StructArray, Window,
+    AnyArray, AnyScalar, Array, FixedSizeBinaryArray, FixedSizeListArray, LargeListArray,
+    ListArray, MapArray, NullArray, ScalarValue, StructArray, Window, new_scalar,
 };
 use nest_flat::any_primitive::Native;
 use nest_memory::bitmap::immutable::Bitmap;
@@ -367,4 +369,27 @@ pub fn cut_of_window<'a>(window: &Window<'a>, o: usize, n: usize) -> Window<'a>
     ensures { window_slots result ≡ cut (window_slots window.now) o n }
 {
     window.cut(o, n)
+}
+
+/// A slot by itself, under the data type of its array.
+pub fn slot_by_itself(array: &AnyArray, alloc: Global, i: usize) -> Result<AnyScalar, Error>
+    requires { i < len (layout_of array.now) }
+    ensures ok { IfOk result (λ s. s ≡ scalar_parts (layout_type (layout_of array.now)) (slot (layout_of array.now) i)) }
+    ensures err { IsOkUnless result (Memory alloc_error) }
+{
+    new_scalar(alloc, array, i)
+}
+
+/// What a scalar holds spells its slot.
+pub fn held_by_scalar(scalar: &AnyScalar) -> &ScalarValue
+    ensures { slot_of_value result.now ≡ scalar.now.slot }
+{
+    scalar.value()
+}
+
+/// A scalar is valid exactly where its slot isn't null.
+pub fn is_valid_scalar(scalar: &AnyScalar) -> bool
+    ensures { IsTrue result ↔ (scalar.now.slot ≡ slots.null → ⊥) }
+{
+    scalar.is_valid()
 }

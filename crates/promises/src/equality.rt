@@ -11,7 +11,7 @@ ghost use Rattle.nest_array.specs.Seen.{layout_of};
 ghost use Rattle.nest_array.specs.WindowParts.{window_slots};
 
 use nest_array::equal::{equal, equal_counted, equal_windows};
-use nest_array::{AnyArray, ListArray, MapArray, Steps, StructArray, Window};
+use nest_array::{AnyArray, AnyScalar, ListArray, MapArray, Steps, StructArray, Window};
 use nest_flat::flat_array::{FlatArray, same_arrays, same_run};
 use nest_memory::error::Error;
 use std::alloc::Global;
@@ -92,6 +92,13 @@ pub fn are_equal_records(a: &StructArray, b: &StructArray) -> bool
 /// Of maps.
 pub fn are_equal_maps(a: &MapArray, b: &MapArray) -> bool
     ensures { IsTrue result ↔ IsSameArray a.now b.now }
+{
+    *a == *b
+}
+
+/// Of scalars: equal data types and equal slots.
+pub fn are_equal_scalars(a: &AnyScalar, b: &AnyScalar) -> bool
+    ensures { IsTrue result ↔ (a.now.data_type ≡ b.now.data_type) × (a.now.slot ≡ b.now.slot) }
 {
     *a == *b
 }

@@ -1,42 +1,42 @@
 //! Equality of scalars: equal data types and equal slots. No call takes memory.
 ghost use Rattle.std.specs.Prelude.{◌≡◌, ◌↔◌, IsTrue};
-ghost use Rattle.nest_array.specs.ScalarParts.{same_parts, slots_in, types_in};
+ghost use Rattle.nest_array.specs.ScalarParts.{IsSameScalar, same_scalar, slots_in, types_in};
 
 use crate::equal::equal;
 use crate::scalar::{AnyScalar, ScalarValue};
 
 impl PartialEq for AnyScalar {
     ghost use Rattle.std.specs.Cmp.{partial_equiv_from_equiv};
-    ghost use Rattle.nest_array.specs.ScalarParts.{same_parts, same_parts-equiv};
+    ghost use Rattle.nest_array.specs.ScalarParts.{same_scalar, same_scalar-equiv};
 
-    ghost eq = { same_parts };
+    ghost eq = { same_scalar };
 
-    ghost laws = { partial_equiv_from_equiv same_parts-equiv };
+    ghost laws = { partial_equiv_from_equiv same_scalar-equiv };
 
     fn eq(&self, other: &AnyScalar) -> bool
-        ensures computes { result ≡ same_parts self.now other.now }
-        ensures decides { IsTrue result ↔ (self.now ≡ other.now) }
+        ensures computes { result ≡ same_scalar self.now other.now }
+        ensures decides { IsTrue result ↔ IsSameScalar self.now other.now }
     {
-        same_scalar(self, other)
+        are_same(self, other)
     }
 }
 
 impl Eq for AnyScalar {
-    ghost use Rattle.nest_array.specs.ScalarParts.{same_parts-equiv};
+    ghost use Rattle.nest_array.specs.ScalarParts.{same_scalar-equiv};
 
-    ghost laws = { same_parts-equiv };
+    ghost laws = { same_scalar-equiv };
 }
 
 /// Whether two scalars have the same data type and the same slot.
-#[cycle(same_scalar)]
-fn same_scalar(a: &AnyScalar, b: &AnyScalar) -> bool
-    ensures { IsTrue result ↔ (a.now ≡ b.now) }
+#[cycle(same)]
+fn are_same(a: &AnyScalar, b: &AnyScalar) -> bool
+    ensures { IsTrue result ↔ IsSameScalar a.now b.now }
 {
     a.data_type == b.data_type && same_value(a, b)
 }
 
 /// Whether two scalars of one data type have the same slot.
-#[cycle(same_scalar)]
+#[cycle(same)]
 fn same_value(a: &AnyScalar, b: &AnyScalar) -> bool
     requires { a.now.data_type ≡ b.now.data_type }
     ensures { IsTrue result ↔ (a.now.slot ≡ b.now.slot) }
@@ -49,13 +49,13 @@ fn same_value(a: &AnyScalar, b: &AnyScalar) -> bool
         (ScalarValue::Bytes(x), ScalarValue::Bytes(y)) => x.as_slice() == y.as_slice(),
         (ScalarValue::List(x), ScalarValue::List(y)) => equal(x, y),
         (ScalarValue::Struct(xs), ScalarValue::Struct(ys)) => same_values(xs, ys),
-        (ScalarValue::Pick(f, x), ScalarValue::Pick(g, y)) => *f == *g && same_scalar(x, y),
+        (ScalarValue::Pick(f, x), ScalarValue::Pick(g, y)) => *f == *g && are_same(x, y),
         _ => false,
     }
 }
 
 /// Whether scalars of the same data types, in order, have the same slots.
-#[cycle(same_scalar)]
+#[cycle(same)]
 fn same_values(xs: &[AnyScalar], ys: &[AnyScalar]) -> bool
     requires { types_in xs.now ≡ types_in ys.now }
     ensures { IsTrue result ↔ (slots_in xs.now ≡ slots_in ys.now) }

@@ -15,9 +15,8 @@ use crate::any::AnyArray;
 use crate::equal::rows::{Lists, Rows};
 use crate::scalar::{AnyScalar, ScalarValue};
 use crate::struct_::StructArray;
-use nest_flat::any_primitive::{AnyPrimitive, Native};
+use nest_flat::any_primitive::AnyPrimitive;
 use nest_flat::boolean::BooleanArray;
-use nest_flat::primitive::PrimitiveArray;
 use nest_memory::error::Error;
 use std::alloc::Global;
 
@@ -51,7 +50,7 @@ fn value_at(alloc: Global, array: &AnyArray, i: usize) -> Result<ScalarValue, Er
             Ok(ScalarValue::Null)
         }
         AnyArray::Boolean(truths) => Ok(truth_at(truths, i)),
-        AnyArray::Primitive(natives) => Ok(any_native_at(natives, i)),
+        AnyArray::Primitive(natives) => Ok(native_at(natives, i)),
         AnyArray::Binary(strings) => bytes_value(alloc, strings.get(i)),
         AnyArray::LargeBinary(strings) => bytes_value(alloc, strings.get(i)),
         AnyArray::Utf8(texts) => text_value(alloc, texts.get(i)),
@@ -75,35 +74,15 @@ fn truth_at(truths: &BooleanArray, i: usize) -> ScalarValue
     }
 }
 
-fn native_at<T: Native>(natives: &PrimitiveArray<T>, i: usize) -> ScalarValue
-    requires { i < len natives.now }
-    ensures { IsValue natives.now i result }
-{
-    natives.known();
-    match natives.get(i) {
-        Some(native) => ScalarValue::Native(native.to_any()),
-        None => ScalarValue::Null,
-    }
-}
-
-fn any_native_at(natives: &AnyPrimitive, i: usize) -> ScalarValue
+fn native_at(natives: &AnyPrimitive, i: usize) -> ScalarValue
     requires { i < len (primitive_layout natives.now) }
     ensures { IsValue (primitive_layout natives.now) i result }
 {
-    match natives {
-        AnyPrimitive::Int8(natives) => native_at(natives, i),
-        AnyPrimitive::Int16(natives) => native_at(natives, i),
-        AnyPrimitive::Int32(natives) => native_at(natives, i),
-        AnyPrimitive::Int64(natives) => native_at(natives, i),
-        AnyPrimitive::Int128(natives) => native_at(natives, i),
-        AnyPrimitive::Int256(natives) => native_at(natives, i),
-        AnyPrimitive::UInt8(natives) => native_at(natives, i),
-        AnyPrimitive::UInt16(natives) => native_at(natives, i),
-        AnyPrimitive::UInt32(natives) => native_at(natives, i),
-        AnyPrimitive::UInt64(natives) => native_at(natives, i),
-        AnyPrimitive::DaysMs(natives) => native_at(natives, i),
-        AnyPrimitive::MonthDayNano(natives) => native_at(natives, i),
+    natives.known();
+    if natives.is_null(i) {
+        return ScalarValue::Null;
     }
+    ScalarValue::Native(natives.value(i))
 }
 
 fn bytes_value(alloc: Global, bytes: Option<&[u8]>) -> Result<ScalarValue, Error>
@@ -133,11 +112,11 @@ fn list_at(alloc: Global, lists: &Lists, i: usize) -> Result<ScalarValue, Error>
     ensures ok { IfOk result (λ v. IsValue (lists_layout lists.now) i v) }
     ensures err { IsOkUnless result (Memory alloc_error) }
 {
-    let Some((start, count)) = lists.row(i) else {
+    let Some(row) = lists.row(i) else {
         return Ok(ScalarValue::Null);
     };
     let mut items = lists.items().clone(alloc)?;
-    items.slice(start, count);
+    items.slice(row.0, row.1);
     Ok(ScalarValue::List(items))
 }
 

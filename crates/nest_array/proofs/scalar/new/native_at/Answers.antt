@@ -1,11 +1,16 @@
-use Rattle.std.proofs.Common.{ap, ◌∙◌}
-use Rattle.nest_model.specs.Slot as slots
-use Rattle.nest_array.proofs.Scalars.{native-typed}
+use Rattle.std.proofs.Common.{◌≡◌, sym, ◌∙◌}
+use Rattle.std.specs.Prelude.{true, false}
+use Rattle.nest_model.specs.Accessors.{validity_of}
+use Rattle.nest_model.specs.Layout.{layout_type}
+use Rattle.nest_model.specs.Part.{valid_at}
+use Rattle.nest_flat.specs.AnyPrimitive.{primitive_layout}
+use Rattle.nest_array.proofs.Scalars.{valid-shown, native-typed}
 use Rattle.nest_array.proofs.scalar.new.native_at.Goals as goal
 
-pub returns-in-Some : goal.returns-in-Some
-returns-in-Some g c =
+pub returns : goal.returns
+returns c =
     record {
-      spells = ap slots.number c.to_any.ensures.same_numbers ∙ c.in-Some.ensures;
-      fits = native-typed c.args.natives.now _ _ _ _ c.known.ensures.fits c.known.ensures.kind c.to_any.ensures.kind;
+      spells = valid-shown (valid_at (validity_of (primitive_layout c.args.natives.now)) c.args.i) _ _ c.value.ensures.slot
+          (λ e. let t : false ≡ true = sym c.if-is_null.false ∙ c.is_null.ensures.slot.1 e in cc);
+      fits = native-typed (layout_type (primitive_layout c.args.natives.now)) _ _ c.known.ensures.kind c.value.ensures.kind;
     }

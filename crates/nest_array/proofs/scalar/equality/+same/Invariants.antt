@@ -1,10 +1,10 @@
 use Rattle.std.proofs.Common.{◌≡◌, ℕ, ◌+◌, ◌*◌, ◌↔◌, drop}
 use Rattle.nest_model.specs.Slot.{node_count, count_within}
 use Rattle.nest_array.specs.ScalarParts.{slots_in}
-use Rattle.nest_array.proofs.scalar.equality.+same_scalar.Given as goal
+use Rattle.nest_array.proofs.scalar.equality.+same.Given as goal
 
-abbrev pub decreases-same_scalar : goal.decreases-same_scalar
-decreases-same_scalar l = 3 * node_count l.a.now.slot + 2
+abbrev pub decreases-are_same : goal.decreases-are_same
+decreases-are_same l = 3 * node_count l.a.now.slot + 2
 
 abbrev pub decreases-same_value : goal.decreases-same_value
 decreases-same_value l = 3 * node_count l.a.now.slot + 1
