@@ -5,7 +5,7 @@ ghost use Rattle.nest_model.specs.Checks.{Pass};
 ghost use Rattle.nest_model.specs.Fits.{validity_checks};
 ghost use Rattle.nest_model.specs.Slot as slots;
 ghost use Rattle.nest_flat.specs.AnyPrimitive.{primitive_layout};
-ghost use Rattle.nest_array.specs.Words.{Memory, TopFits, ValidityFault, cut, cut_layout, has_keys, is_null_at, layout_of, layout_type, len, null_count, physical_type, slot, slots_of, type_of, validity_of, with_validity};
+ghost use Rattle.nest_array.specs.Words.{IsCut, Memory, TopFits, ValidityFault, cut, cut_layout, has_keys, is_null_at, layout_of, layout_type, len, null_count, physical_type, slot, type_of, validity_of, with_validity};
 
 use crate::array::Array;
 use crate::equal::kinds::as_primitive;
@@ -142,9 +142,7 @@ impl AnyArray {
     /// Keeps the n slots from place o.
     pub fn slice(&mut self, o: usize, n: usize)
         requires { o + n ≤ len (layout_of self.old) }
-        ensures parts { layout_of self.new ≡ cut_layout (layout_of self.old) o n }
-        ensures slots { slots_of (layout_of self.new) ≡ cut (slots_of (layout_of self.old)) o n }
-        ensures same_type { layout_type (layout_of self.new) ≡ layout_type (layout_of self.old) }
+        ensures { IsCut (layout_of self.old) o n (layout_of self.new) }
     {
         self.cut(o, n);
     }
@@ -152,9 +150,7 @@ impl AnyArray {
     /// The n slots from place o.
     pub fn sliced(self, o: usize, n: usize) -> AnyArray
         requires { o + n ≤ len (layout_of self) }
-        ensures parts { layout_of result ≡ cut_layout (layout_of self) o n }
-        ensures slots { slots_of (layout_of result) ≡ cut (slots_of (layout_of self)) o n }
-        ensures same_type { layout_type (layout_of result) ≡ layout_type (layout_of self) }
+        ensures { IsCut (layout_of self) o n (layout_of result) }
     {
         let mut cut = self;
         cut.slice(o, n);

@@ -58,3 +58,4 @@ pub mod BuilderSpells
 pub mod BuilderSpellsLaws
 pub mod BuilderJoin
 pub mod BuilderJoinLaws
+pub mod CutOf

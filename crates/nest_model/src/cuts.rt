@@ -4,6 +4,7 @@ ghost use Rattle.std.specs.Prelude.{◌≡◌, ℕ, ◌+◌, ◌≤◌, length};
 ghost use Rattle.nest_model.specs.Layout.{Layout, layout_type};
 ghost use Rattle.nest_model.specs.Meaning.{len, slots_of};
 ghost use Rattle.nest_model.specs.Cut.{cut_layout};
+ghost use Rattle.nest_model.specs.CutOf.{IsCut};
 ghost use Rattle.nest_memory.specs.Cut.{cut};
 ghost use Rattle.nest_model.specs.Array.{PartsHold, TopFits, IsArray};
 ghost use Rattle.nest_model.specs.Fits.{Fits};
@@ -42,4 +43,9 @@ pub fn cut_is_array()
 /// A cut of a cut is one cut.
 pub fn cut_of_cut()
     ensures { (a : Layout) (o n p m : ℕ) → p + m ≤ n → cut_layout (cut_layout a o n) p m ≡ cut_layout a (o + p) m }
+{}
+
+/// The parts of a cut are all that makes one: its slots and its data type follow.
+pub fn cut_is_one()
+    ensures { (a b : Layout) (o n : ℕ) → o + n ≤ len a → b ≡ cut_layout a o n → IsCut a o n b }
 {}

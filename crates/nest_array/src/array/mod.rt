@@ -7,7 +7,7 @@ ghost use Rattle.std.specs.Prelude.{◌≡◌, ◌+◌, ◌≤◌, ◌<◌, ◌�
 ghost use Rattle.nest_model.specs.Checks.{Pass};
 ghost use Rattle.nest_model.specs.Fits.{validity_checks};
 ghost use Rattle.nest_model.specs.Slot as slots;
-ghost use Rattle.nest_array.specs.Words.{Layout, Memory, ValidityFault, cut, cut_layout, has_keys, is_null_at, layout_of, layout_type, len, null_count, slot, slots_of, type_of, validity_of, with_validity};
+ghost use Rattle.nest_array.specs.Words.{IsCut, Layout, Memory, ValidityFault, cut, cut_layout, has_keys, is_null_at, layout_of, layout_type, len, null_count, slot, type_of, validity_of, with_validity};
 
 use crate::any::AnyArray;
 use nest_memory::bitmap::immutable::Bitmap;
@@ -54,9 +54,7 @@ pub trait Array {
     /// Keeps the n slots from place o. No memory is taken.
     fn slice(&mut self, o: usize, n: usize)
         requires { o + n ≤ len (layout self.old) }
-        ensures parts { layout self.new ≡ cut_layout (layout self.old) o n }
-        ensures slots { slots_of (layout self.new) ≡ cut (slots_of (layout self.old)) o n }
-        ensures same_type { layout_type (layout self.new) ≡ layout_type (layout self.old) };
+        ensures { IsCut (layout self.old) o n (layout self.new) };
 
     /// The same array in its variant, on shared memory.
     fn to_boxed(&self, alloc: Global) -> Result<AnyArray, Error>
@@ -66,9 +64,7 @@ pub trait Array {
     /// The n slots from place o, on shared memory.
     fn sliced(&self, alloc: Global, o: usize, n: usize) -> Result<AnyArray, Error>
         requires { o + n ≤ len (layout self.now) }
-        ensures parts { IfOk result (λ a. layout_of a ≡ cut_layout (layout self.now) o n) }
-        ensures slots { IfOk result (λ a. slots_of (layout_of a) ≡ cut (slots_of (layout self.now)) o n) }
-        ensures same_type { IfOk result (λ a. layout_type (layout_of a) ≡ layout_type (layout self.now)) }
+        ensures cut { IfOk result (λ a. IsCut (layout self.now) o n (layout_of a)) }
         ensures err { IsOkUnless result (Memory alloc_error) };
 
     /// The array under a new validity, on shared memory. `NoValidity` for a null array, `ValidityLength` where the

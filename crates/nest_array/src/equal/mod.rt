@@ -10,7 +10,7 @@ ghost use Rattle.std.specs.Prelude.{◌≡◌, ◌↔◌, ◌+◌, ◌≤◌, �
 ghost use Rattle.nest_array.specs.Kinds.{has_leaves};
 ghost use Rattle.nest_array.specs.RowSlots.{IsWithin, row_slot};
 ghost use Rattle.nest_array.specs.SeenLists.{lists_layout};
-ghost use Rattle.nest_array.specs.Words.{Alike, EachValid, IsSameArray, Layout, Tells, layout_of, layout_type, len, node_count, node_counts, physical_type, run, slot, slots_of, type_of, validity_of, window_slots};
+ghost use Rattle.nest_array.specs.Words.{Alike, EachValid, IsSameArray, Tells, layout_of, layout_type, len, node_count, node_counts, physical_type, run, slot, slots_of, type_of, validity_of, window_slots};
 
 use crate::any::AnyArray;
 use crate::array::Slotted;

@@ -7,7 +7,7 @@ ghost use Rattle.nest_model.specs.Accessors.{bytes_of};
 ghost use Rattle.nest_model.specs.Layout as layouts;
 ghost use Rattle.nest_model.specs.Slot as slots;
 ghost use Rattle.nest_flat.specs.FlatParts.{optional};
-ghost use Rattle.nest_array.specs.Words.{FirstFault, Fits, Memory, TopFits, ValidityFault, ValidityFits, cut, cut_layout, is_null_at, layout_of, layout_type, len, null_count, size_of, slot, slots_of, type_of, validity_of, where_valid, with_validity};
+ghost use Rattle.nest_array.specs.Words.{FirstFault, Fits, HasValidity, IsCut, Memory, RefusesValidity, TopFits, cut, cut_layout, is_null_at, layout_of, layout_type, len, null_count, size_of, slot, type_of, validity_of, where_valid, with_validity};
 
 use crate::any::AnyArray;
 use nest_flat::validity;
@@ -175,9 +175,7 @@ impl FixedSizeBinaryArray {
     /// Keeps the n slots from place o.
     pub fn slice(&mut self, o: usize, n: usize)
         requires { o + n ≤ len self.old }
-        ensures parts { self.new ≡ cut_layout self.old o n }
-        ensures slots { slots_of self.new ≡ cut (slots_of self.old) o n }
-        ensures same_type { layout_type self.new ≡ layout_type self.old }
+        ensures { IsCut self.old o n self.new }
     {
         self.cut(o, n);
     }
@@ -194,9 +192,7 @@ impl FixedSizeBinaryArray {
     /// The n slots from place o.
     pub fn sliced(self, o: usize, n: usize) -> FixedSizeBinaryArray
         requires { o + n ≤ len self }
-        ensures parts { result ≡ cut_layout self o n }
-        ensures slots { slots_of result ≡ cut (slots_of self) o n }
-        ensures same_type { layout_type result ≡ layout_type self }
+        ensures { IsCut self o n result }
     {
         let mut cut = self;
         cut.slice(o, n);
@@ -207,8 +203,8 @@ impl FixedSizeBinaryArray {
     /// as it was then.
     pub fn set_validity(&mut self, validity: Option<Bitmap>) -> Result<(), Error>
         ensures { MatchResult result
-            (λ _. ValidityFits validity (len self.old) × (self.new ≡ with_validity self.old validity))
-            (λ e. ValidityFault e self.old validity × (self.new ≡ self.old)) }
+            (λ _. HasValidity self.old validity self.new)
+            (λ e. RefusesValidity e self.old validity self.new) }
     {
         if !validity::fits(&validity, self.len()) {
             return Err(Error::OutOfSpec(Spec::ValidityLength));
@@ -223,8 +219,8 @@ impl FixedSizeBinaryArray {
         validity: Option<Bitmap>,
     ) -> Result<FixedSizeBinaryArray, (FixedSizeBinaryArray, Error)>
         ensures { MatchResult result
-            (λ a. ValidityFits validity (len self) × (a ≡ with_validity self validity))
-            (λ r. ValidityFault r.1 self validity × (r.0 ≡ self)) }
+            (λ a. HasValidity self validity a)
+            (λ r. RefusesValidity r.1 self validity r.0) }
     {
         let mut array = self;
         match array.set_validity(validity) {

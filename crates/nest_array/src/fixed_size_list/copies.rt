@@ -1,7 +1,7 @@
 //! New validities and copies of arrays of lists of one size.
 ghost use Rattle.std.specs.Prelude.{◌≡◌, IfOk, IsOkUnless, MatchResult, alloc_error};
 ghost use Rattle.nest_model.specs.Layout as layouts;
-ghost use Rattle.nest_array.specs.Words.{Memory, TopFits, ValidityFault, ValidityFits, layout_of, len, type_of, with_validity};
+ghost use Rattle.nest_array.specs.Words.{HasValidity, Memory, RefusesValidity, TopFits, layout_of, type_of, with_validity};
 
 use crate::any::AnyArray;
 use crate::fixed_size_list::FixedSizeListArray;
@@ -17,8 +17,8 @@ impl FixedSizeListArray {
     /// as it was then.
     pub fn set_validity(&mut self, validity: Option<Bitmap>) -> Result<(), Error>
         ensures { MatchResult result
-            (λ _. ValidityFits validity (len self.old) × (self.new ≡ with_validity self.old validity))
-            (λ e. ValidityFault e self.old validity × (self.new ≡ self.old)) }
+            (λ _. HasValidity self.old validity self.new)
+            (λ e. RefusesValidity e self.old validity self.new) }
     {
         if !validity::fits(&validity, self.len()) {
             return Err(Error::OutOfSpec(Spec::ValidityLength));
@@ -33,8 +33,8 @@ impl FixedSizeListArray {
         validity: Option<Bitmap>,
     ) -> Result<FixedSizeListArray, (FixedSizeListArray, Error)>
         ensures { MatchResult result
-            (λ a. ValidityFits validity (len self) × (a ≡ with_validity self validity))
-            (λ r. ValidityFault r.1 self validity × (r.0 ≡ self)) }
+            (λ a. HasValidity self validity a)
+            (λ r. RefusesValidity r.1 self validity r.0) }
     {
         let mut array = self;
         match array.set_validity(validity) {

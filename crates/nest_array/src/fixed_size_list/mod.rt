@@ -6,7 +6,7 @@ ghost use Rattle.nest_model.specs.Layout as layouts;
 ghost use Rattle.nest_model.specs.Slot as slots;
 ghost use Rattle.nest_flat.specs.FlatParts.{optional};
 ghost use Rattle.nest_array.specs.Types.{default_fixed_size_list_type};
-ghost use Rattle.nest_array.specs.Words.{FirstFault, Fits, Memory, RefusesOrMemory, TopFits, child_of, cut, cut_layout, is_null_at, layout_of, layout_type, len, null_count, seal, size_of, slot, slots_of, type_of, validity_of, where_valid, window_parts, window_slots};
+ghost use Rattle.nest_array.specs.Words.{FirstFault, Fits, IsCut, Memory, RefusesOrMemory, TopFits, child_of, cut, cut_layout, is_null_at, layout_of, layout_type, len, null_count, seal, size_of, slot, slots_of, type_of, validity_of, where_valid, window_parts, window_slots};
 
 use crate::any::AnyArray;
 use crate::types::{default_child, has_items};
@@ -248,9 +248,7 @@ impl FixedSizeListArray {
     /// Keeps the n slots from place o.
     pub fn slice(&mut self, o: usize, n: usize)
         requires { o + n ≤ len self.old }
-        ensures parts { self.new ≡ cut_layout self.old o n }
-        ensures slots { slots_of self.new ≡ cut (slots_of self.old) o n }
-        ensures same_type { layout_type self.new ≡ layout_type self.old }
+        ensures { IsCut self.old o n self.new }
     {
         self.cut(o, n);
     }
@@ -269,9 +267,7 @@ impl FixedSizeListArray {
     /// The n slots from place o.
     pub fn sliced(self, o: usize, n: usize) -> FixedSizeListArray
         requires { o + n ≤ len self }
-        ensures parts { result ≡ cut_layout self o n }
-        ensures slots { slots_of result ≡ cut (slots_of self) o n }
-        ensures same_type { layout_type result ≡ layout_type self }
+        ensures { IsCut self o n result }
     {
         let mut cut = self;
         cut.slice(o, n);

@@ -1,6 +1,6 @@
 //! New validities and copies of arrays of maps.
 ghost use Rattle.std.specs.Prelude.{◌≡◌, IfOk, IsOkUnless, MatchResult, alloc_error};
-ghost use Rattle.nest_array.specs.Words.{Memory, ValidityFault, ValidityFits, layout_of, len, with_validity};
+ghost use Rattle.nest_array.specs.Words.{HasValidity, Memory, RefusesValidity, layout_of, with_validity};
 
 use crate::any::AnyArray;
 use crate::map::MapArray;
@@ -15,8 +15,8 @@ impl MapArray {
     /// as it was then.
     pub fn set_validity(&mut self, validity: Option<Bitmap>) -> Result<(), Error>
         ensures { MatchResult result
-            (λ _. ValidityFits validity (len self.old) × (self.new ≡ with_validity self.old validity))
-            (λ e. ValidityFault e self.old validity × (self.new ≡ self.old)) }
+            (λ _. HasValidity self.old validity self.new)
+            (λ e. RefusesValidity e self.old validity self.new) }
     {
         if !validity::fits(&validity, self.len()) {
             return Err(Error::OutOfSpec(Spec::ValidityLength));
@@ -28,8 +28,8 @@ impl MapArray {
     /// The array under a new validity, or as it was beside the refusal.
     pub fn with_validity(self, validity: Option<Bitmap>) -> Result<MapArray, (MapArray, Error)>
         ensures { MatchResult result
-            (λ a. ValidityFits validity (len self) × (a ≡ with_validity self validity))
-            (λ r. ValidityFault r.1 self validity × (r.0 ≡ self)) }
+            (λ a. HasValidity self validity a)
+            (λ r. RefusesValidity r.1 self validity r.0) }
     {
         let mut array = self;
         match array.set_validity(validity) {

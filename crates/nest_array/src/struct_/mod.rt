@@ -11,7 +11,7 @@ ghost use Rattle.nest_model.specs.Fits.{EachType, EachLen, EachCovers};
 ghost use Rattle.nest_model.specs.Layout as layouts;
 ghost use Rattle.nest_model.specs.Meaning.{first_len};
 ghost use Rattle.nest_model.specs.Slot as slots;
-ghost use Rattle.nest_array.specs.Words.{FirstFault, Fits, Memory, TopFits, cut, cut_layout, is_null_at, layout_type, layouts_of, len, null_count, physical_type, slot, slots_of, type_of, validity_of};
+ghost use Rattle.nest_array.specs.Words.{FirstFault, Fits, IsCut, Memory, TopFits, cut, cut_layout, is_null_at, layout_type, layouts_of, len, null_count, physical_type, slot, type_of, validity_of};
 
 use crate::any::AnyArray;
 use nest_flat::validity;
@@ -192,9 +192,7 @@ impl StructArray {
     /// Keeps the n slots from place o.
     pub fn slice(&mut self, o: usize, n: usize)
         requires { o + n ≤ len self.old }
-        ensures parts { self.new ≡ cut_layout self.old o n }
-        ensures slots { slots_of self.new ≡ cut (slots_of self.old) o n }
-        ensures same_type { layout_type self.new ≡ layout_type self.old }
+        ensures { IsCut self.old o n self.new }
     {
         self.cut(o, n);
     }
@@ -212,9 +210,7 @@ impl StructArray {
     /// The n slots from place o.
     pub fn sliced(self, o: usize, n: usize) -> StructArray
         requires { o + n ≤ len self }
-        ensures parts { result ≡ cut_layout self o n }
-        ensures slots { slots_of result ≡ cut (slots_of self) o n }
-        ensures same_type { layout_type result ≡ layout_type self }
+        ensures { IsCut self o n result }
     {
         let mut cut = self;
         cut.slice(o, n);

@@ -4,17 +4,17 @@ mod native;
 
 ghost use Rattle.std.specs.Prelude.{◌≡◌, ◌+◌, ◌≤◌, ◌<◌, ◌↔◌, IsTrue, IfOk, IsErrOf, IsOkUnless, MatchResult, option_map, alloc_error};
 ghost use Rattle.nest_memory.specs.declared.error.Error.TheVariants.{Memory};
-ghost use Rattle.nest_memory.specs.Cut.{cut};
 ghost use Rattle.nest_memory.specs.TypeOf.{type_of};
 ghost use Rattle.nest_memory.specs.Physical.{physical_type};
 ghost use Rattle.nest_memory.specs.declared.datatypes.physical_type.PhysicalType.TheVariants as physical;
 ghost use Rattle.nest_model.specs.Accessors.{natives_of, validity_of, with_validity};
 ghost use Rattle.nest_model.specs.Array.{TopFits};
 ghost use Rattle.nest_model.specs.Cut.{cut_layout};
+ghost use Rattle.nest_model.specs.CutOf.{IsCut};
 ghost use Rattle.nest_model.specs.Fits.{ValidityFits, ValidityFault};
 ghost use Rattle.nest_model.specs.Layout as layouts;
 ghost use Rattle.nest_model.specs.Layout.{layout_type};
-ghost use Rattle.nest_model.specs.Meaning.{len, slot, slots_of};
+ghost use Rattle.nest_model.specs.Meaning.{len, slot};
 ghost use Rattle.nest_model.specs.Nullness.{is_null_at, null_count};
 ghost use Rattle.nest_model.specs.Reads.{where_valid};
 ghost use Rattle.nest_model.specs.Slot as slots;
@@ -148,9 +148,7 @@ impl AnyPrimitive {
     /// Keeps the n slots from place o.
     pub fn slice(&mut self, o: usize, n: usize)
         requires { o + n ≤ len (primitive_layout self.old) }
-        ensures parts { primitive_layout self.new ≡ cut_layout (primitive_layout self.old) o n }
-        ensures slots { slots_of (primitive_layout self.new) ≡ cut (slots_of (primitive_layout self.old)) o n }
-        ensures same_type { layout_type (primitive_layout self.new) ≡ layout_type (primitive_layout self.old) }
+        ensures { IsCut (primitive_layout self.old) o n (primitive_layout self.new) }
     {
         self.cut(o, n);
     }

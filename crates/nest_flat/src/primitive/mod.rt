@@ -4,15 +4,15 @@ pub mod mutable;
 
 ghost use Rattle.std.specs.Prelude.{◌≡◌, ◌+◌, ◌≤◌, ◌<◌, ◌↔◌, IsTrue, IfOk, IsOkUnless, MatchResult, None, Some, slice_get, option_map, map, alloc_error};
 ghost use Rattle.nest_memory.specs.declared.error.Error.TheVariants.{Memory};
-ghost use Rattle.nest_memory.specs.Cut.{cut};
 ghost use Rattle.nest_memory.specs.TypeOf.{type_of};
 ghost use Rattle.nest_model.specs.Accessors.{validity_of, natives_of, with_validity};
 ghost use Rattle.nest_model.specs.Array.{TopFits};
 ghost use Rattle.nest_model.specs.Cut.{cut_layout};
-ghost use Rattle.nest_model.specs.Fits.{Fits, FirstFault, ValidityFits, ValidityFault};
+ghost use Rattle.nest_model.specs.CutOf.{HasValidity, IsCut, RefusesValidity};
+ghost use Rattle.nest_model.specs.Fits.{Fits, FirstFault};
 ghost use Rattle.nest_model.specs.Layout as layouts;
 ghost use Rattle.nest_model.specs.Layout.{layout_type};
-ghost use Rattle.nest_model.specs.Meaning.{len, slot, slots_of};
+ghost use Rattle.nest_model.specs.Meaning.{len, slot};
 ghost use Rattle.nest_model.specs.Nullness.{is_null_at, null_count};
 ghost use Rattle.nest_model.specs.Part.{valid_at};
 ghost use Rattle.nest_model.specs.Reads.{where_valid};
@@ -169,9 +169,7 @@ impl<T: NativeType> PrimitiveArray<T> {
     /// Keeps the n slots from place o.
     pub fn slice(&mut self, o: usize, n: usize)
         requires { o + n ≤ len self.old }
-        ensures parts { self.new ≡ cut_layout self.old o n }
-        ensures slots { slots_of self.new ≡ cut (slots_of self.old) o n }
-        ensures same_type { layout_type self.new ≡ layout_type self.old }
+        ensures { IsCut self.old o n self.new }
     {
         self.cut(o, n);
     }
@@ -187,9 +185,7 @@ impl<T: NativeType> PrimitiveArray<T> {
     /// The n slots from place o.
     pub fn sliced(self, o: usize, n: usize) -> PrimitiveArray<T>
         requires { o + n ≤ len self }
-        ensures parts { result ≡ cut_layout self o n }
-        ensures slots { slots_of result ≡ cut (slots_of self) o n }
-        ensures same_type { layout_type result ≡ layout_type self }
+        ensures { IsCut self o n result }
     {
         let mut cut = self;
         cut.slice(o, n);
@@ -200,8 +196,8 @@ impl<T: NativeType> PrimitiveArray<T> {
     /// as it was then.
     pub fn set_validity(&mut self, validity: Option<Bitmap>) -> Result<(), Error>
         ensures { MatchResult result
-            (λ _. ValidityFits validity (len self.old) × (self.new ≡ with_validity self.old validity))
-            (λ e. ValidityFault e self.old validity × (self.new ≡ self.old)) }
+            (λ _. HasValidity self.old validity self.new)
+            (λ e. RefusesValidity e self.old validity self.new) }
     {
         if !validity::fits(&validity, self.len()) {
             return Err(Error::OutOfSpec(Spec::ValidityLength));
@@ -216,8 +212,8 @@ impl<T: NativeType> PrimitiveArray<T> {
         validity: Option<Bitmap>,
     ) -> Result<PrimitiveArray<T>, (PrimitiveArray<T>, Error)>
         ensures { MatchResult result
-            (λ a. ValidityFits validity (len self) × (a ≡ with_validity self validity))
-            (λ r. ValidityFault r.1 self validity × (r.0 ≡ self)) }
+            (λ a. HasValidity self validity a)
+            (λ r. RefusesValidity r.1 self validity r.0) }
     {
         let mut array = self;
         match array.set_validity(validity) {

@@ -4,7 +4,7 @@ mod copies;
 ghost use Rattle.std.specs.Prelude.{◌≡◌, ◌+◌, ◌≤◌, ◌<◌, ◌↔◌, true, IsTrue, IfOk, IsOkUnless, MatchResult, option_map, alloc_error};
 ghost use Rattle.nest_model.specs.Layout as layouts;
 ghost use Rattle.nest_model.specs.Slot as slots;
-ghost use Rattle.nest_array.specs.Words.{Fits, Memory, RefusesOrMemory, TopFits, begin, child_of, cut, cut_layout, extent, is_null_at, layout_of, layout_type, len, null_count, offsets_of, seal, slot, slots_of, type_of, validity_of, where_valid, window_parts, window_slots};
+ghost use Rattle.nest_array.specs.Words.{Fits, IsCut, Memory, RefusesOrMemory, TopFits, begin, child_of, cut, cut_layout, extent, is_null_at, layout_of, layout_type, len, null_count, offsets_of, seal, slot, slots_of, type_of, validity_of, where_valid, window_parts, window_slots};
 
 use crate::any::AnyArray;
 use crate::list::ranges::{self, Ranges};
@@ -213,9 +213,7 @@ impl LargeListArray {
     /// Keeps the n slots from place o.
     pub fn slice(&mut self, o: usize, n: usize)
         requires { o + n ≤ len self.old }
-        ensures parts { self.new ≡ cut_layout self.old o n }
-        ensures slots { slots_of self.new ≡ cut (slots_of self.old) o n }
-        ensures same_type { layout_type self.new ≡ layout_type self.old }
+        ensures { IsCut self.old o n self.new }
     {
         self.cut(o, n);
     }
@@ -230,9 +228,7 @@ impl LargeListArray {
     /// The n slots from place o.
     pub fn sliced(self, o: usize, n: usize) -> LargeListArray
         requires { o + n ≤ len self }
-        ensures parts { result ≡ cut_layout self o n }
-        ensures slots { slots_of result ≡ cut (slots_of self) o n }
-        ensures same_type { layout_type result ≡ layout_type self }
+        ensures { IsCut self o n result }
     {
         let mut cut = self;
         cut.slice(o, n);

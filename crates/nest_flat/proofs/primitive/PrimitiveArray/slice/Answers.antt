@@ -1,7 +1,5 @@
-use Rattle.std.proofs.Common.{ap, ◌∙◌}
-use Rattle.nest_model.specs.Meaning.{slots_of}
-use Rattle.nest_model.specs.CutLaws.{slots-cut}
+use Rattle.nest_model.specs.CutOf.{is-cut}
 use Rattle.nest_flat.proofs.primitive.PrimitiveArray.slice.Goals as goal
 
-pub returns-clause-slots : goal.returns-clause-slots
-returns-clause-slots g c = ap slots_of c.cut.ensures ∙ slots-cut c.args.self.now c.args.o c.args.n c.requires
+pub returns : goal.returns
+returns g c = is-cut _ _ _ _ c.requires c.cut.ensures
