@@ -1,9 +1,11 @@
-//! What cutting, reading and comparing nested arrays costs, in nanoseconds a cut, a row or an item: `bench_array run`.
+//! What cutting, reading, copying, building and comparing nested arrays costs, in nanoseconds a cut, a copy, a row or an item: `bench_array run`.
 //! Without that word the same work is done on a few rows, and only what it gives is printed.
 #![tactic(auto)]
 
 mod arrays;
+mod building;
 mod comparing;
+mod copies;
 mod cuts;
 mod rows;
 
@@ -14,6 +16,8 @@ use std::rt::Clock;
 fn run<R: Clock + Print + AllocGlobal>(rt: &R, measured: bool) -> Result<()> {
     cuts::run(rt, measured)?;
     rows::run(rt, measured)?;
+    copies::run(rt, measured)?;
+    building::run(rt, measured)?;
     comparing::run(rt, measured)
 }
 

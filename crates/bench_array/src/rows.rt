@@ -4,6 +4,7 @@ use anyhow::Result;
 use bench_tools::{begin, tell};
 use nest_array::any::AnyArray;
 use nest_array::list::ListArray;
+use nest_array::window::Window;
 use nest_flat::any_primitive::AnyPrimitive;
 use nest_memory::error::Error;
 use std::alloc::Global;
@@ -42,6 +43,36 @@ fn sum_of_rows(alloc: Global, lists: &ListArray) -> Result<i64, Error> {
     Ok(total)
 }
 
+/// The values from one place up to another added up.
+fn sum_between(values: &[i64], start: usize, end: usize) -> i64 {
+    if start <= end && end <= values.len() {
+        sum(&values[start..end])
+    } else {
+        0
+    }
+}
+
+/// The raw values of a window of numbers added up.
+fn sum_of_window(row: &Window<'_>) -> i64 {
+    match row.array() {
+        AnyArray::Primitive(AnyPrimitive::Int64(numbers)) => {
+            let start = row.offset();
+            let end = start.saturating_add(row.len());
+            sum_between(numbers.values().as_slice(), start, end)
+        }
+        _ => 0,
+    }
+}
+
+/// The items of all rows added up, without an array for each.
+fn sum_of_windows(lists: &ListArray) -> i64 {
+    let mut total = 0i64;
+    for i in 0..lists.len() {
+        total = total.wrapping_add(sum_of_window(&lists.window(i)));
+    }
+    total
+}
+
 fn tell_rows<R: Clock + Print + AllocGlobal>(
     rt: &R,
     lists: &ListArray,
@@ -51,6 +82,9 @@ fn tell_rows<R: Clock + Print + AllocGlobal>(
     let begun = begin(rt, measured)?;
     let total = sum_of_rows(rt.alloc(), lists)?;
     tell(rt, "  sum of the rows as arrays", total, begun, n)?;
+    let begun = begin(rt, measured)?;
+    let total = sum_of_windows(lists);
+    tell(rt, "  sum of the rows as windows", total, begun, n)?;
     Ok(())
 }
 

@@ -1,4 +1,4 @@
-//! What growing and sharing memory costs, in nanoseconds an element: `bench_memory run`.
+//! What growing, sharing and asking memory and copying data types costs, in nanoseconds an element: `bench_memory run`.
 //! Without that word the same work is done on a few elements, and only what it gives is printed.
 #![tactic(auto)]
 
@@ -7,6 +7,8 @@ use bench_tools::{begin, is_measured, tell};
 use nest_memory::bitmap::immutable::Bitmap;
 use nest_memory::bitmap::mutable::MutableBitmap;
 use nest_memory::buffer::Buffer;
+use nest_memory::datatypes::DataType;
+use nest_memory::datatypes::field::Field;
 use nest_memory::error::Error;
 use nest_memory::offsets::{Offsets, OffsetsBuffer};
 use std::alloc::Global;
@@ -19,6 +21,10 @@ const BITS: usize = 10_000_000;
 const OFFSETS: usize = 10_000_000;
 
 const CUTS: usize = 1_000_000;
+
+const QUESTIONS: usize = 1_000_000;
+
+const COPIES: usize = 1_000_000;
 
 /// Bits pushed one by one and frozen; every third is set.
 fn bits(alloc: Global, n: usize) -> Result<Bitmap, Error> {
@@ -36,6 +42,25 @@ fn unset_after_three(bitmap: Bitmap) -> usize {
         return 0;
     }
     bitmap.sliced(3, len - 3).unset_bits()
+}
+
+/// The unset bits of these bitmaps added up, asked of one after another so many times.
+fn asked(bitmaps: &[Bitmap], n: usize) -> usize {
+    let mut total = 0usize;
+    for _ in 0..n / bitmaps.len().max(1) {
+        for bitmap in bitmaps {
+            total = total.wrapping_add(bitmap.unset_bits());
+        }
+    }
+    total
+}
+
+/// A bitmap and another owner of its bits.
+fn two_owners(alloc: Global, bitmap: &Bitmap) -> Result<Vec<Bitmap>, Error> {
+    let mut owners = Vec::with_capacity(alloc, 2)?;
+    owners.push(bitmap.clone()?)?;
+    owners.push(bitmap.clone()?)?;
+    Ok(owners)
 }
 
 /// Offsets pushed one by one and frozen, of slots of 0 to 3 items.
@@ -59,11 +84,66 @@ fn cuts(buffer: &Buffer<u64>, n: usize) -> Result<usize, Error> {
     Ok(total)
 }
 
+/// How many of the copies of these data types, taken one after another so many times, have items.
+fn copies(alloc: Global, types: &[DataType], n: usize) -> Result<usize, Error> {
+    let mut with_items = 0usize;
+    for _ in 0..n / types.len().max(1) {
+        for data_type in types {
+            let copy = data_type.clone(alloc)?;
+            with_items = with_items.wrapping_add(usize::from(copy.item_type().is_some()));
+            drop(copy);
+        }
+    }
+    Ok(with_items)
+}
+
+/// Two data types without parts.
+fn plain_types(alloc: Global) -> Result<Vec<DataType>, Error> {
+    let mut types = Vec::with_capacity(alloc, 2)?;
+    types.push(DataType::Int64)?;
+    types.push(DataType::Utf8)?;
+    Ok(types)
+}
+
+/// The type of lists of these items.
+fn list_of(alloc: Global, items: DataType) -> Result<DataType, Error> {
+    let field = Field::new(alloc, "item", items, true)?;
+    Ok(DataType::List(Box::new(alloc, field)?))
+}
+
+/// Two data types of lists.
+fn list_types(alloc: Global) -> Result<Vec<DataType>, Error> {
+    let mut types = Vec::with_capacity(alloc, 2)?;
+    types.push(list_of(alloc, DataType::Int64)?)?;
+    types.push(list_of(alloc, DataType::Utf8)?)?;
+    Ok(types)
+}
+
+fn run_questions<R: Clock + Print + AllocGlobal>(
+    rt: &R,
+    bitmap: &Bitmap,
+    measured: bool,
+) -> Result<()> {
+    let n = if measured { QUESTIONS } else { FEW };
+    let owners = two_owners(rt.alloc(), bitmap)?;
+    let begun = begin(rt, measured)?;
+    let total = asked(&owners, n);
+    tell(
+        rt,
+        "unset bits of a whole bitmap, added up",
+        total,
+        begun,
+        n,
+    )?;
+    Ok(())
+}
+
 fn run_bits<R: Clock + Print + AllocGlobal>(rt: &R, measured: bool) -> Result<()> {
     let n = if measured { BITS } else { FEW };
     let begun = begin(rt, measured)?;
     let bitmap = bits(rt.alloc(), n)?;
     tell(rt, "bits pushed and frozen", bitmap.len(), begun, n)?;
+    run_questions(rt, &bitmap, measured)?;
     let begun = begin(rt, measured)?;
     let unset = unset_after_three(bitmap);
     tell(rt, "unset bits counted from place 3", unset, begun, n)?;
@@ -93,10 +173,36 @@ fn run_cuts<R: Clock + Print + AllocGlobal>(rt: &R, measured: bool) -> Result<()
     Ok(())
 }
 
+fn tell_copies<R: Clock + Print + AllocGlobal>(
+    rt: &R,
+    work: &str,
+    types: &[DataType],
+    measured: bool,
+) -> Result<()> {
+    let n = if measured { COPIES } else { FEW };
+    let begun = begin(rt, measured)?;
+    let with_items = copies(rt.alloc(), types, n)?;
+    tell(rt, work, with_items, begun, n)?;
+    Ok(())
+}
+
+fn run_copies<R: Clock + Print + AllocGlobal>(rt: &R, measured: bool) -> Result<()> {
+    let plain = plain_types(rt.alloc())?;
+    tell_copies(
+        rt,
+        "copies of plain data types with items",
+        &plain,
+        measured,
+    )?;
+    let lists = list_types(rt.alloc())?;
+    tell_copies(rt, "copies of list types with items", &lists, measured)
+}
+
 fn run<R: Clock + Print + AllocGlobal>(rt: &R, measured: bool) -> Result<()> {
     run_bits(rt, measured)?;
     run_offsets(rt, measured)?;
-    run_cuts(rt, measured)
+    run_cuts(rt, measured)?;
+    run_copies(rt, measured)
 }
 
 fn main(rt: HostRuntime) -> Result<()> {
