@@ -8,9 +8,9 @@ ghost use Rattle.nest_array.specs.SeenScalar.{ValueFits, slot_of_value};
 ghost use Rattle.nest_array.specs.Words.{type_of};
 
 use crate::any::AnyArray;
-pub use new::new_scalar;
 use nest_flat::any_native::AnyNative;
 use nest_memory::datatypes::DataType;
+pub use new::new_scalar;
 use std::marker::Model;
 
 /// A data type and one slot of it. It stands in the place of arrow2's `Box<dyn Scalar>`.
