@@ -9,3 +9,4 @@ pub mod NullCounts
 pub mod NullSlots
 pub mod SameFlat
 pub mod SameRuns
+pub mod Words

@@ -1,6 +1,6 @@
 //! Native values of any kind.
 ghost use Rattle.std.specs.Prelude.{◌≡◌, ◌↔◌, IsTrue};
-ghost use Rattle.nest_flat.specs.AnyNative.{native_kind, native_numbers};
+ghost use Rattle.nest_flat.specs.Words.{native_kind, native_numbers};
 
 use crate::any_primitive::Native;
 use nest_memory::types::{days_ms, i256, months_days_ns};

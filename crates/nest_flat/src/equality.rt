@@ -1,9 +1,6 @@
 //! Equality of flat arrays: equal data types and equal slots, and equal runs of slots.
 ghost use Rattle.std.specs.Prelude.{◌≡◌, ◌↔◌, ◌+◌, ◌≤◌, IsTrue, None};
-ghost use Rattle.nest_memory.specs.Cut.{cut};
-ghost use Rattle.nest_model.specs.Accessors.{natives_of, with_validity};
-ghost use Rattle.nest_model.specs.Meaning.{len, run, slot};
-ghost use Rattle.nest_model.specs.SameArray.{IsSameArray, same_array};
+ghost use Rattle.nest_flat.specs.Words.{IsSameArray, cut, len, natives_of, run, same_array, slot, with_validity};
 
 use crate::binary::BinaryArray;
 use crate::boolean::BooleanArray;

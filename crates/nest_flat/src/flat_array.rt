@@ -1,14 +1,7 @@
 //! What the flat arrays have in common: a raw value and a bit of validity for each slot.
 ghost use Rattle.std.specs.Prelude.{◌≡◌, ◌↔◌, ◌+◌, ◌<◌, ◌≤◌, IsTrue, IsSome, None};
-ghost use Rattle.nest_memory.specs.TypeOf.{type_of};
-ghost use Rattle.nest_model.specs.Accessors.{validity_of, with_validity};
-ghost use Rattle.nest_model.specs.Layout.{Layout, layout_type};
-ghost use Rattle.nest_model.specs.Meaning.{len, run, slot, slots_of};
-ghost use Rattle.nest_model.specs.Nullness.{is_null_at, null_count};
-ghost use Rattle.nest_model.specs.SameArray.{IsSameArray};
 ghost use Rattle.nest_model.specs.Slot as slots;
-ghost use Rattle.nest_model.specs.Slot.{Slot};
-ghost use Rattle.nest_flat.specs.FlatParts.{optional};
+ghost use Rattle.nest_flat.specs.Words.{IsSameArray, Layout, Slot, is_null_at, layout_type, len, null_count, optional, run, slot, slots_of, type_of, validity_of, with_validity};
 
 use crate::iterator::SlotItems;
 use nest_memory::datatypes::DataType;

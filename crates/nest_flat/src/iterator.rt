@@ -2,9 +2,7 @@
 ghost use Rattle.std.specs.Prelude.{◌≡◌, ◌<◌, length, Some, IfSome};
 ghost use Rattle.std.specs.Iterator.{at_most, UpTo};
 ghost use Rattle.std.specs.Iterator.SizeHint.{IsWithinCount};
-ghost use Rattle.nest_model.specs.Layout.{Layout};
-ghost use Rattle.nest_model.specs.Slot.{Slot};
-ghost use Rattle.nest_model.specs.Meaning.{len, slot, slots_of};
+ghost use Rattle.nest_flat.specs.Words.{Layout, Slot, len, slot, slots_of};
 
 use std::marker::Model;
 

@@ -1,10 +1,6 @@
 //! Offsets over bytes: what arrays of bytes and of texts share.
 ghost use Rattle.std.specs.Prelude.{◌≡◌, ◌↔◌, ◌≤◌, ◌<◌, IsTrue, IsUtf8, length};
-ghost use Rattle.nest_memory.specs.Cut.{cut};
-ghost use Rattle.nest_memory.specs.Rising.{last_of};
-ghost use Rattle.nest_model.specs.Part.{begin, extent, rows};
-ghost use Rattle.nest_model.specs.Array.{AreOffsets};
-ghost use Rattle.nest_model.specs.Fits.{EachText};
+ghost use Rattle.nest_flat.specs.Words.{AreOffsets, EachText, begin, cut, extent, last_of, rows};
 
 use nest_memory::buffer::Buffer;
 use nest_memory::offset::Offset;

@@ -1,11 +1,6 @@
 //! Validities, which may be absent: a bit a slot, 1 where the slot is valid.
 ghost use Rattle.std.specs.Prelude.{◌≡◌, ◌+◌, ◌≤◌, ◌<◌, ◌↔◌, IsTrue, IfOk, IsOkUnless, MatchOption, alloc_error};
-ghost use Rattle.nest_memory.specs.declared.error.Error.TheVariants.{Memory};
-ghost use Rattle.nest_memory.specs.TypeOf.{type_of};
-ghost use Rattle.nest_model.specs.Checks.{Pass, FailFirst};
-ghost use Rattle.nest_model.specs.Fits.{ValidityFits};
-ghost use Rattle.nest_model.specs.Part.{cut_validity, valid_at};
-ghost use Rattle.nest_flat.specs.FlatParts.{ValidityCovers, unset_count, flat_checks};
+ghost use Rattle.nest_flat.specs.Words.{FailFirst, Memory, Pass, ValidityCovers, ValidityFits, cut_validity, flat_checks, type_of, unset_count, valid_at};
 
 use nest_memory::bitmap::immutable::Bitmap;
 use nest_memory::datatypes::DataType;

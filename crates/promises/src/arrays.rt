@@ -6,31 +6,10 @@
 //! alone, its constructor and its values, follows kind by kind.
 
 ghost use Rattle.std.specs.Prelude.{◌≡◌, ◌+◌, ◌*◌, ◌≤◌, ◌<◌, ◌^◌, ◌↔◌, ◌⊎◌, false, true, IsTrue, IfOk, IfErr, IsErrOf, IsOkUnless, MatchOption, MatchResult, length, map, not, alloc_error};
-ghost use Rattle.nest_memory.specs.declared.error.Error.TheVariants.{Memory, Overflow};
-ghost use Rattle.nest_memory.specs.Cut.{cut};
 ghost use Rattle.nest_memory.specs.declared.datatypes.physical_type.PhysicalType.TheVariants as physical;
-ghost use Rattle.nest_memory.specs.Physical.{physical_type};
-ghost use Rattle.nest_memory.specs.TypeOf.{type_of, field_list_of};
-ghost use Rattle.nest_memory.specs.TypeTree.{fields_of};
-ghost use Rattle.nest_model.specs.Accessors.{validity_of, offsets_of, child_of, children_of, with_validity};
-ghost use Rattle.nest_model.specs.Array.{TopFits};
-ghost use Rattle.nest_model.specs.Checks.{Pass};
-ghost use Rattle.nest_model.specs.Cut.{cut_layout};
-ghost use Rattle.nest_model.specs.Fits.{Fits, FirstFault, validity_checks, ValidityFault};
 ghost use Rattle.nest_model.specs.Layout as layouts;
-ghost use Rattle.nest_model.specs.Layout.{layout_type};
-ghost use Rattle.nest_model.specs.Meaning.{len, slot, slots_of};
-ghost use Rattle.nest_model.specs.Nullness.{has_keys, is_null_at, null_count};
-ghost use Rattle.nest_model.specs.Part.{begin, extent};
-ghost use Rattle.nest_model.specs.Reads.{where_valid};
 ghost use Rattle.nest_model.specs.Slot as slots;
-ghost use Rattle.nest_model.specs.Slot.{seal};
-ghost use Rattle.nest_flat.specs.FlatParts.{optional};
-ghost use Rattle.nest_array.specs.Refusals.{RefusesOrMemory};
-ghost use Rattle.nest_array.specs.ScalarParts.{scalar_parts};
-ghost use Rattle.nest_array.specs.Seen.{layout_of, layouts_of};
-ghost use Rattle.nest_array.specs.SeenScalar.{slot_of_value};
-ghost use Rattle.nest_array.specs.WindowParts.{window_parts, window_slots};
+ghost use Rattle.promises.specs.Words.{FirstFault, Fits, Memory, Overflow, Pass, RefusesOrMemory, TopFits, ValidityFault, begin, child_of, children_of, cut, cut_layout, extent, field_list_of, fields_of, has_keys, is_null_at, layout_of, layout_type, layouts_of, len, null_count, offsets_of, optional, physical_type, scalar_parts, seal, slot, slot_of_value, slots_of, type_of, validity_checks, validity_of, where_valid, window_parts, window_slots, with_validity};
 
 use nest_array::{
     AnyArray, AnyScalar, Array, FixedSizeBinaryArray, FixedSizeListArray, LargeListArray,

@@ -5,20 +5,10 @@
 ghost use Rattle.std.specs.Prelude.{◌≡◌, ◌≢◌, ◌+◌, ◌≤◌, ◌<◌, ◌⊎◌, ◌↔◌, ◌++◌, ◌∷◌, [], ℕ, List, Option, None, OnOk, OnErr, IfOk, IfErr, IsErrOf, IsOkUnless, length, option_map, alloc_error};
 ghost use Rattle.std.specs.Borrow.{Bor};
 ghost use Rattle.std.specs.Option.{option_copied};
-ghost use Rattle.nest_memory.specs.Cut.{cut};
-ghost use Rattle.nest_memory.specs.Rising.{last_of};
-ghost use Rattle.nest_memory.specs.declared.error.Argument.TheVariants.{ItemType};
-ghost use Rattle.nest_memory.specs.declared.error.Error.TheVariants.{InvalidArgumentError, Memory, Overflow};
-ghost use Rattle.nest_model.specs.Accessors.{offsets_of};
-ghost use Rattle.nest_model.specs.BuilderSpells.{Gives};
-ghost use Rattle.nest_model.specs.BuilderTree.{IsPast};
 ghost use Rattle.nest_model.specs.Layout as layouts;
-ghost use Rattle.nest_model.specs.Layout.{layout_type};
-ghost use Rattle.nest_model.specs.Meaning.{len, slots_of};
 ghost use Rattle.nest_model.specs.Slot as slots;
-ghost use Rattle.nest_flat.specs.BytesGrowth.{item_bytes, item_refusal, pushed_item};
-ghost use Rattle.nest_flat.specs.FlatParts.{optional};
-ghost use Rattle.nest_flat.specs.Growth.{CanDrain, Extended, RefusesBeginning, first_slots, native_refusal, pushed_native, pushed_truth};
+ghost use Rattle.nest_flat.specs.BytesGrowth.{item_refusal};
+ghost use Rattle.promises.specs.Words.{CanDrain, Extended, Gives, InvalidArgumentError, IsPast, ItemType, Memory, Overflow, RefusesBeginning, cut, first_slots, item_bytes, last_of, layout_type, len, native_refusal, offsets_of, optional, pushed_item, pushed_native, pushed_truth, slots_of};
 
 use nest_flat::binary::mutable::MutableBinaryArray;
 use nest_flat::boolean::BooleanArray;

@@ -2,13 +2,7 @@
 //! how offsets begin does not count. No call is handed memory, and each answers a `bool`.
 
 ghost use Rattle.std.specs.Prelude.{◌≡◌, ◌+◌, ◌≤◌, ◌↔◌, IsTrue, IfOk, IsOkUnless, alloc_error};
-ghost use Rattle.nest_memory.specs.declared.error.Error.TheVariants.{Memory};
-ghost use Rattle.nest_model.specs.Layout.{layout_type};
-ghost use Rattle.nest_model.specs.Meaning.{len, run, slot, slots_of};
-ghost use Rattle.nest_model.specs.SameArray.{IsSameArray};
-ghost use Rattle.nest_model.specs.Slot.{node_counts};
-ghost use Rattle.nest_array.specs.Seen.{layout_of};
-ghost use Rattle.nest_array.specs.WindowParts.{window_slots};
+ghost use Rattle.promises.specs.Words.{IsSameArray, Memory, layout_of, layout_type, len, node_counts, run, slot, slots_of, window_slots};
 
 use nest_array::equal::{equal, equal_counted, equal_windows};
 use nest_array::{AnyArray, AnyScalar, ListArray, MapArray, Steps, StructArray, Window};

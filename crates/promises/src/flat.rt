@@ -4,15 +4,9 @@
 
 ghost use Rattle.std.specs.Prelude.{◌≡◌, ◌<◌, MatchResult, Some, length, slice_get, map};
 ghost use Rattle.std.specs.Iterator.{YieldsFirstBy, YieldsLastBy};
-ghost use Rattle.nest_memory.specs.TypeOf.{type_of};
-ghost use Rattle.nest_model.specs.Accessors.{validity_of, natives_of};
-ghost use Rattle.nest_model.specs.Fits.{Fits, FirstFault};
 ghost use Rattle.nest_model.specs.Layout as layouts;
-ghost use Rattle.nest_model.specs.Meaning.{len, slot, slots_of};
-ghost use Rattle.nest_model.specs.Reads.{where_valid};
 ghost use Rattle.nest_model.specs.Slot as slots;
-ghost use Rattle.nest_flat.specs.AnyPrimitive.{primitive_layout};
-ghost use Rattle.nest_flat.specs.FlatParts.{optional};
+ghost use Rattle.promises.specs.Words.{FirstFault, Fits, len, natives_of, optional, primitive_layout, slot, slots_of, type_of, validity_of, where_valid};
 
 use nest_flat::any_primitive::{AnyPrimitive, Native};
 use nest_flat::binary::BinaryArray;

@@ -3,12 +3,8 @@
 //! freeze hands over what was grown.
 
 ghost use Rattle.std.specs.Prelude.{◌≡◌, ℕ, ◌+◌, ◌*◌, ◌<◌, ◌≤◌, ◌^◌, ◌↔◌, ◌⊎◌, List, [], ◌∷◌, ◌++◌, false, IfOk, IfErr, OnOk, OnErr, IsErrOf, IsOkUnless, IsTrue, length, slice_get, Some, count_by, not, vec_len, take, map, sum, alloc_error};
-ghost use Rattle.nest_memory.specs.Bits.{bits_from};
-ghost use Rattle.nest_memory.specs.Cut.{cut};
-ghost use Rattle.nest_memory.specs.Rising.{numbers, are_offsets, last_of, ends_from};
-ghost use Rattle.nest_memory.specs.TypeOf.{type_of, field_of};
-ghost use Rattle.nest_memory.specs.declared.error.Error.TheVariants.{OutOfSpec, Overflow, Memory};
-ghost use Rattle.nest_memory.specs.declared.error.Spec.TheVariants.{ValidityLength, Offsets as WrongOffsets};
+ghost use Rattle.nest_memory.specs.declared.error.Spec.TheVariants.{Offsets as WrongOffsets};
+ghost use Rattle.promises.specs.Words.{Memory, OutOfSpec, Overflow, ValidityLength, are_offsets, bits_from, cut, ends_from, field_of, last_of, numbers, type_of};
 
 use nest_memory::bitmap::immutable::Bitmap;
 use nest_memory::bitmap::mutable::MutableBitmap;

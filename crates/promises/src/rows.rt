@@ -4,23 +4,10 @@
 
 ghost use Rattle.std.specs.Prelude.{◌≡◌, ◌+◌, ◌<◌, ◌⊎◌, ◌↔◌, ◌++◌, ◌∷◌, [], false, true, IsTrue, OnOk, OnErr, IfOk, IfErr, IsErrOf, IsOkUnless, None, Some, alloc_error};
 ghost use Rattle.std.specs.Option.{option_copied};
-ghost use Rattle.nest_memory.specs.Rising.{largest_offset};
 ghost use Rattle.nest_memory.specs.TypeTree as types;
-ghost use Rattle.nest_memory.specs.declared.error.Argument.TheVariants.{Unfinished};
-ghost use Rattle.nest_memory.specs.declared.error.Error.TheVariants.{InvalidArgumentError, Memory, Overflow};
-ghost use Rattle.nest_model.specs.BuilderAppend.{told, pending_slot, Accepted, IsReady};
-ghost use Rattle.nest_model.specs.BuilderLevels.{own_slots};
 ghost use Rattle.nest_model.specs.BuilderRefusals.{item_refusal};
-ghost use Rattle.nest_model.specs.BuilderRowChecks.{row_checks};
 ghost use Rattle.nest_model.specs.BuilderTree as builders;
-ghost use Rattle.nest_model.specs.BuilderTree.{builder_type};
-ghost use Rattle.nest_model.specs.BuilderWhole.{IsWhole, emptied};
-ghost use Rattle.nest_model.specs.Checks.{FailFirst, Pass};
-ghost use Rattle.nest_model.specs.Layout.{layout_type};
-ghost use Rattle.nest_model.specs.Meaning.{slots_of};
-ghost use Rattle.nest_array.specs.Types.{default_list_type};
-ghost use Rattle.nest_build.specs.Items.{row_item, row_len, row_slot};
-ghost use Rattle.nest_build.specs.Seen.{item_count, tree_of};
+ghost use Rattle.promises.specs.Words.{Accepted, FailFirst, InvalidArgumentError, IsReady, IsWhole, Memory, Overflow, Pass, Unfinished, builder_type, default_list_type, emptied, item_count, largest_offset, layout_type, own_slots, pending_slot, row_checks, row_item, row_len, row_slot, slots_of, told, tree_of};
 
 use nest_array::ListArray;
 use nest_build::list::MutableListArray;

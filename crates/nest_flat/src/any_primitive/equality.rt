@@ -1,10 +1,6 @@
 //! Equality of arrays of native values of any kind.
 ghost use Rattle.std.specs.Prelude.{◌≡◌, ◌↔◌, ◌+◌, ◌≤◌, IsTrue};
-ghost use Rattle.nest_memory.specs.Physical.{physical_type};
-ghost use Rattle.nest_model.specs.Layout.{layout_type};
-ghost use Rattle.nest_model.specs.Meaning.{len, run, slot, slots_of};
-ghost use Rattle.nest_model.specs.SameArray.{IsSameArray, same_array};
-ghost use Rattle.nest_flat.specs.AnyPrimitive.{primitive_layout};
+ghost use Rattle.nest_flat.specs.Words.{IsSameArray, layout_type, len, physical_type, primitive_layout, run, same_array, slot, slots_of};
 
 use crate::any_primitive::{AnyPrimitive, Native};
 use crate::flat_array;

@@ -3,23 +3,10 @@ mod equality;
 mod native;
 
 ghost use Rattle.std.specs.Prelude.{◌≡◌, ◌+◌, ◌≤◌, ◌<◌, ◌↔◌, IsTrue, IfOk, IsErrOf, IsOkUnless, MatchResult, option_map, alloc_error};
-ghost use Rattle.nest_memory.specs.declared.error.Error.TheVariants.{Memory};
-ghost use Rattle.nest_memory.specs.TypeOf.{type_of};
-ghost use Rattle.nest_memory.specs.Physical.{physical_type};
 ghost use Rattle.nest_memory.specs.declared.datatypes.physical_type.PhysicalType.TheVariants as physical;
-ghost use Rattle.nest_model.specs.Accessors.{natives_of, validity_of, with_validity};
-ghost use Rattle.nest_model.specs.Array.{TopFits};
-ghost use Rattle.nest_model.specs.Cut.{cut_layout};
-ghost use Rattle.nest_model.specs.CutOf.{IsCut};
-ghost use Rattle.nest_model.specs.Fits.{ValidityFits, ValidityFault};
 ghost use Rattle.nest_model.specs.Layout as layouts;
-ghost use Rattle.nest_model.specs.Layout.{layout_type};
-ghost use Rattle.nest_model.specs.Meaning.{len, slot};
-ghost use Rattle.nest_model.specs.Nullness.{is_null_at, null_count};
-ghost use Rattle.nest_model.specs.Reads.{where_valid};
 ghost use Rattle.nest_model.specs.Slot as slots;
-ghost use Rattle.nest_flat.specs.AnyNative.{native_kind, native_numbers};
-ghost use Rattle.nest_flat.specs.AnyPrimitive.{primitive_kind, primitive_layout};
+ghost use Rattle.nest_flat.specs.Words.{IsCut, Memory, TopFits, ValidityFault, ValidityFits, cut_layout, is_null_at, layout_type, len, native_kind, native_numbers, natives_of, null_count, physical_type, primitive_kind, primitive_layout, slot, type_of, validity_of, where_valid, with_validity};
 
 use crate::any_native::AnyNative;
 use crate::primitive::PrimitiveArray;

@@ -1,10 +1,7 @@
 //! The native types, and arrays of each among arrays of any kind.
 ghost use Rattle.std.specs.Prelude.{◌≡◌, ◌↔◌, IsSome, IfSome};
-ghost use Rattle.nest_memory.specs.Physical.{physical_type};
 ghost use Rattle.nest_memory.specs.declared.datatypes.physical_type.PhysicalType.TheVariants as physical;
-ghost use Rattle.nest_model.specs.Layout.{Layout, layout_type};
-ghost use Rattle.nest_flat.specs.AnyNative.{native_kind, native_numbers};
-ghost use Rattle.nest_flat.specs.AnyPrimitive.{primitive_layout};
+ghost use Rattle.nest_flat.specs.Words.{Layout, layout_type, native_kind, native_numbers, physical_type, primitive_layout};
 
 use crate::any_native::AnyNative;
 use crate::any_primitive::AnyPrimitive;

@@ -1,9 +1,7 @@
 //! The slots and the raw values of an array of bytes, from both ends.
 ghost use Rattle.std.specs.Prelude.{◌≡◌, None};
-ghost use Rattle.nest_model.specs.Accessors.{with_validity};
-ghost use Rattle.nest_model.specs.Meaning.{slots_of};
 ghost use Rattle.nest_model.specs.Slot as slots;
-ghost use Rattle.nest_flat.specs.FlatParts.{optional};
+ghost use Rattle.nest_flat.specs.Words.{optional, slots_of, with_validity};
 
 use crate::binary::BinaryArray;
 use crate::flat_array::{FlatArray, Slots, Values};

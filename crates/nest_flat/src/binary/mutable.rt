@@ -2,24 +2,9 @@
 ghost use Rattle.std.specs.Prelude.{◌≡◌, ◌≢◌, ◌↔◌, ◌⊎◌, ◌+◌, ◌≤◌, ◌<◌, ◌++◌, ◌∷◌, [], ℕ, List, Option, IsTrue, IfOk, IfErr, OnOk, OnErr, IsErrOf, IsOkUnless, None, length, option_map, alloc_error};
 ghost use Rattle.std.specs.Borrow.{Bor};
 ghost use Rattle.std.specs.Option.{option_copied};
-ghost use Rattle.nest_memory.specs.Cut.{cut};
-ghost use Rattle.nest_memory.specs.TypeOf.{type_of};
-ghost use Rattle.nest_memory.specs.Physical.{physical_type, binary_of_width};
-ghost use Rattle.nest_memory.specs.declared.error.Argument.TheVariants.{ItemType};
-ghost use Rattle.nest_memory.specs.declared.error.Error.TheVariants.{InvalidArgumentError, Memory, Overflow};
-ghost use Rattle.nest_memory.specs.Rising.{last_of};
-ghost use Rattle.nest_model.specs.Accessors.{validity_of, offsets_of, bytes_of};
-ghost use Rattle.nest_model.specs.Array.{TopFits};
-ghost use Rattle.nest_model.specs.BuilderSpells.{Gives};
 ghost use Rattle.nest_model.specs.Layout as layouts;
-ghost use Rattle.nest_model.specs.Layout.{layout_type};
-ghost use Rattle.nest_model.specs.Meaning.{len, slot, slots_of};
-ghost use Rattle.nest_model.specs.Part.{valid_at, begin, extent};
-ghost use Rattle.nest_model.specs.Reads.{where_valid};
 ghost use Rattle.nest_model.specs.Slot as slots;
-ghost use Rattle.nest_flat.specs.FlatParts.{optional};
-ghost use Rattle.nest_flat.specs.Growth.{CanDrain, Extended, Grew, RefusesBeginning, first_slots, is_masked, taken_back};
-ghost use Rattle.nest_flat.specs.BytesGrowth.{AreSpans, binary_tree, item_bytes, item_refusal, joined_spans, pushed_item, spans_of, with_spans};
+ghost use Rattle.nest_flat.specs.Words.{AreSpans, CanDrain, Extended, Gives, InvalidArgumentError, ItemType, Memory, Overflow, RefusesBeginning, TopFits, begin, binary_of_width, binary_tree, bytes_of, cut, extent, first_slots, is_masked, item_bytes, item_refusal, joined_spans, last_of, layout_type, len, offsets_of, optional, physical_type, pushed_item, slot, slots_of, spans_of, taken_back, type_of, valid_at, validity_of, where_valid, with_spans};
 
 use crate::binary::BinaryArray;
 use crate::growth::bytes::BytesBuilder;

@@ -1,24 +1,10 @@
 //! The builder of arrays of booleans.
 ghost use Rattle.std.specs.Prelude.{◌≡◌, ◌≢◌, ◌+◌, ◌^◌, ◌≤◌, ◌<◌, ◌↔◌, ◌⊎◌, ◌++◌, ◌∷◌, [], List, Option, Bool, IsTrue, IfOk, IfErr, OnOk, OnErr, IsOkUnless, IsErrOf, None, Some, option_map, alloc_error};
-ghost use Rattle.nest_memory.specs.Cut.{cut};
-ghost use Rattle.nest_memory.specs.Physical.{physical_type};
-ghost use Rattle.nest_memory.specs.TypeOf.{type_of};
 ghost use Rattle.nest_memory.specs.TypeTree as types;
 ghost use Rattle.nest_memory.specs.declared.datatypes.physical_type.PhysicalType.TheVariants as physical;
-ghost use Rattle.nest_memory.specs.declared.error.Argument.TheVariants.{ItemType};
-ghost use Rattle.nest_memory.specs.declared.error.Error.TheVariants.{InvalidArgumentError, Memory, Overflow};
-ghost use Rattle.nest_model.specs.Accessors.{validity_of, bits_of, with_type};
-ghost use Rattle.nest_model.specs.Array.{TopFits};
-ghost use Rattle.nest_model.specs.BuilderSpells.{Gives};
-ghost use Rattle.nest_model.specs.BuilderTree.{IsPast};
-ghost use Rattle.nest_model.specs.Cut.{cut_layout};
 ghost use Rattle.nest_model.specs.Layout as layouts;
-ghost use Rattle.nest_model.specs.Layout.{layout_type};
-ghost use Rattle.nest_model.specs.Meaning.{len, slots_of};
-ghost use Rattle.nest_model.specs.Part.{valid_at};
 ghost use Rattle.nest_model.specs.Slot as slots;
-ghost use Rattle.nest_flat.specs.FlatParts.{optional};
-ghost use Rattle.nest_flat.specs.Growth.{CanDrain, Extended, Grew, RefusesBeginning, joined_parts, pushed_truth, truth_refusal};
+ghost use Rattle.nest_flat.specs.Words.{CanDrain, Extended, Gives, Grew, InvalidArgumentError, IsPast, ItemType, Memory, Overflow, RefusesBeginning, TopFits, bits_of, cut, cut_layout, joined_parts, layout_type, len, optional, physical_type, pushed_truth, slots_of, truth_refusal, type_of, valid_at, validity_of, with_type};
 
 use crate::boolean::BooleanArray;
 use crate::growth::extend::{Grow, extend_by_push};

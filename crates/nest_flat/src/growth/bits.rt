@@ -1,6 +1,6 @@
 //! Bits after others.
 ghost use Rattle.std.specs.Prelude.{◌≡◌, ◌+◌, ◌^◌, ◌<◌, ◌++◌, length, OnOk, OnErr, IsOkUnless, alloc_error};
-ghost use Rattle.nest_memory.specs.declared.error.Error.TheVariants.{Memory};
+ghost use Rattle.nest_flat.specs.Words.{Memory};
 
 use nest_memory::bitmap::mutable::MutableBitmap;
 use nest_memory::error::Error;

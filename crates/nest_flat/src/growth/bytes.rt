@@ -1,13 +1,7 @@
 //! Slots of bytes that grow: what the builders of bytes and of texts share.
 ghost use Rattle.std.specs.Prelude.{◌≡◌, ◌↔◌, ◌⊎◌, ◌+◌, ◌^◌, ◌++◌, ◌∷◌, [], ◌<◌, ◌≤◌, OnOk, OnErr, IfOk, IfErr, IsErrOf, IsOkUnless, alloc_error, length, is_some, option_map, map, drop, if◌then◌else◌};
 ghost use Rattle.std.specs.Option.{option_copied};
-ghost use Rattle.nest_memory.specs.Cut.{cut};
-ghost use Rattle.nest_memory.specs.declared.error.Error.TheVariants.{Memory, Overflow};
-ghost use Rattle.nest_memory.specs.Rising.{last_of};
-ghost use Rattle.nest_model.specs.Fits.{ValidityFits};
-ghost use Rattle.nest_model.specs.Part.{rows, begin, extent, valid_at};
-ghost use Rattle.nest_flat.specs.Growth.{pushed_validity, joined_validity};
-ghost use Rattle.nest_flat.specs.BytesGrowth.{AreSpans, spans, no_spans, item_bytes, pushed_span, joined_spans, first_spans, bare_spans};
+ghost use Rattle.nest_flat.specs.Words.{AreSpans, Memory, Overflow, ValidityFits, bare_spans, begin, cut, extent, first_spans, item_bytes, joined_spans, joined_validity, last_of, no_spans, pushed_span, pushed_validity, rows, spans, valid_at};
 
 use crate::growth::validity;
 use nest_memory::bitmap::immutable::Bitmap;

@@ -1,11 +1,6 @@
 //! Items pushed one after another, all or none.
 ghost use Rattle.std.specs.Prelude.{◌≡◌, ◌≤◌, ◌∷◌, [], List, Option, None, OnOk, OnErr, IfErr};
-ghost use Rattle.nest_memory.specs.declared.error.Error.{Error};
-ghost use Rattle.nest_model.specs.BuilderSpells.{Gives};
-ghost use Rattle.nest_model.specs.Layout.{Layout, layout_type};
-ghost use Rattle.nest_model.specs.Meaning.{len};
-ghost use Rattle.nest_model.specs.Slot.{Slot};
-ghost use Rattle.nest_flat.specs.Growth.{CanDrain, Extended, Grew, IsDue, RefusesBeginning, is_masked, taken_back};
+ghost use Rattle.nest_flat.specs.Words.{CanDrain, Error, Extended, Gives, Grew, IsDue, Layout, RefusesBeginning, Slot, is_masked, layout_type, len, taken_back};
 
 use nest_memory::error::Error;
 

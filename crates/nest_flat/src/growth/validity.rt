@@ -1,10 +1,6 @@
 //! The bits of a builder's places, which are there from the first null on.
 ghost use Rattle.std.specs.Prelude.{◌≡◌, ◌+◌, ◌^◌, ◌<◌, ◌++◌, ◌∷◌, [], length, true, false, None, Some, OnOk, OnErr, IfOk, replicate, IsOkUnless, alloc_error, ◌≤◌, if◌then◌else◌};
-ghost use Rattle.nest_memory.specs.declared.error.Error.TheVariants.{Memory};
-ghost use Rattle.nest_model.specs.Fits.{ValidityFits};
-ghost use Rattle.nest_model.specs.Part.{cut_validity, valid_at};
-ghost use Rattle.nest_flat.specs.FlatParts.{ValidityCovers};
-ghost use Rattle.nest_flat.specs.Growth.{joined_validity, pushed_validity};
+ghost use Rattle.nest_flat.specs.Words.{Memory, ValidityCovers, ValidityFits, cut_validity, joined_validity, pushed_validity, valid_at};
 
 use crate::growth::bits;
 use nest_memory::bitmap::immutable::Bitmap;

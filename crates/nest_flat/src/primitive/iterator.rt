@@ -1,10 +1,7 @@
 //! The slots and the raw values of an array of native values, from both ends.
 ghost use Rattle.std.specs.Prelude.{◌≡◌, ◌↔◌, ◌+◌, ◌≤◌, ◌<◌, IsTrue, None, map};
-ghost use Rattle.nest_memory.specs.Cut.{cut};
-ghost use Rattle.nest_model.specs.Accessors.{natives_of, with_validity};
-ghost use Rattle.nest_model.specs.Meaning.{len, run, slot, slots_of};
 ghost use Rattle.nest_model.specs.Slot as slots;
-ghost use Rattle.nest_flat.specs.FlatParts.{optional};
+ghost use Rattle.nest_flat.specs.Words.{cut, len, natives_of, optional, run, slot, slots_of, with_validity};
 
 use crate::flat_array::{FlatArray, Slots, Values};
 use crate::iterator::SlotsIter;

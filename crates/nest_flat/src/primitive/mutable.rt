@@ -1,23 +1,10 @@
 //! The builder of arrays of native values.
 ghost use Rattle.std.specs.Prelude.{◌≡◌, ◌≢◌, ◌+◌, ◌≤◌, ◌<◌, ◌↔◌, ◌++◌, ◌∷◌, [], List, Option, IsTrue, IfOk, IfErr, ◌⊎◌, OnOk, OnErr, IsOkUnless, IsErrOf, None, Some, option_map, map, alloc_error};
 ghost use Rattle.std.specs.Option.{unwrap_or};
-ghost use Rattle.nest_memory.specs.Cut.{cut};
-ghost use Rattle.nest_memory.specs.Physical.{physical_type, primitive_tree};
-ghost use Rattle.nest_memory.specs.TypeOf.{type_of};
 ghost use Rattle.nest_memory.specs.declared.datatypes.physical_type.PhysicalType.TheVariants as physical;
-ghost use Rattle.nest_memory.specs.declared.error.Argument.TheVariants.{ItemType};
-ghost use Rattle.nest_memory.specs.declared.error.Error.TheVariants.{InvalidArgumentError, Memory};
-ghost use Rattle.nest_model.specs.Accessors.{validity_of, natives_of, with_type};
-ghost use Rattle.nest_model.specs.Array.{TopFits};
-ghost use Rattle.nest_model.specs.BuilderSpells.{Gives};
-ghost use Rattle.nest_model.specs.Cut.{cut_layout};
 ghost use Rattle.nest_model.specs.Layout as layouts;
-ghost use Rattle.nest_model.specs.Layout.{layout_type};
-ghost use Rattle.nest_model.specs.Meaning.{len, slots_of};
-ghost use Rattle.nest_model.specs.Part.{valid_at};
 ghost use Rattle.nest_model.specs.Slot as slots;
-ghost use Rattle.nest_flat.specs.FlatParts.{optional};
-ghost use Rattle.nest_flat.specs.Growth.{CanDrain, Extended, Grew, joined_parts, native_refusal, pushed_native, zeros};
+ghost use Rattle.nest_flat.specs.Words.{CanDrain, Extended, Gives, Grew, InvalidArgumentError, ItemType, Memory, TopFits, cut, cut_layout, joined_parts, layout_type, len, native_refusal, natives_of, optional, physical_type, primitive_tree, pushed_native, slots_of, type_of, valid_at, validity_of, with_type, zeros};
 
 use crate::growth::extend::{Grow, extend_by_push};
 use crate::growth::validity;
