@@ -1,4 +1,4 @@
-use Rattle.std.proofs.Common.{◌≡◌, ◌+◌, ◌≤◌, ◌<◌, length, ap, sym, ◌∙◌, arith}
+use Rattle.std.proofs.Common.{◌≡◌, ◌+◌, ◌<◌, length, ap, sym, ◌∙◌, arith}
 use Rattle.nest_model.specs.LayoutCode.{weight, weight_all}
 use Rattle.nest_model.specs.Meaning.{len}
 use Rattle.nest_model.specs.Slot as slots
