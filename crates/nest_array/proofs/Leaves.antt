@@ -47,6 +47,7 @@ leaf-kind (any.List a) h = cc
 leaf-kind (any.LargeList a) h = cc
 leaf-kind (any.Struct a) h = cc
 leaf-kind (any.Map a) h = cc
+leaf-kind (any.Union a) h = cc
 leaf-kind a h = refl
 
 pub leaves-one : (a : AnyArray) (i : ℕ) → TopFits (layout_of a) → has_leaves a ≡ true → physical_type (layout_type (layout_of a)) ≡ physical_kind a → node_count (slot (layout_of a) i) ≡ 1
