@@ -1,11 +1,14 @@
 pub mod Falls
+pub mod Keys
 pub mod Kinds
 pub mod Refusals
 pub mod RowSlots
 pub mod ScalarFalls
 pub mod ScalarParts
 pub mod Seen
+pub mod SeenDictionary
 pub mod SeenFixedSizeList
+pub mod SeenKeys
 pub mod SeenLargeList
 pub mod SeenList
 pub mod SeenLists

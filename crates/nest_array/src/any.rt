@@ -8,6 +8,7 @@ ghost use Rattle.nest_flat.specs.AnyPrimitive.{primitive_layout};
 ghost use Rattle.nest_array.specs.Words.{IsCut, Memory, TopFits, ValidityFault, cut, cut_layout, has_keys, is_null_at, layout_of, layout_type, len, null_count, physical_type, slot, type_of, validity_of, with_validity};
 
 use crate::array::Array;
+use crate::dictionary::DictionaryArray;
 use crate::equal::kinds::as_primitive;
 use crate::fixed_size_binary::FixedSizeBinaryArray;
 use crate::fixed_size_list::FixedSizeListArray;
@@ -43,6 +44,7 @@ pub enum AnyArray {
     LargeList(LargeListArray),
     Struct(StructArray),
     Map(MapArray),
+    Dictionary(DictionaryArray),
 }
 
 // The same expression over the array of each variant.
@@ -62,6 +64,7 @@ macro_rules! each_array {
             AnyArray::LargeList($array) => $body,
             AnyArray::Struct($array) => $body,
             AnyArray::Map($array) => $body,
+            AnyArray::Dictionary($array) => $body,
         }
     };
 }
@@ -157,8 +160,8 @@ impl AnyArray {
         cut
     }
 
-    /// Takes a new validity. `NoValidity` for a null array, `ValidityLength` where it has not a bit for each slot;
-    /// the array stays as it was then.
+    /// Takes a new validity. `NoValidity` for a null array, `ValidityLength` where it has not a bit for each slot,
+    /// `KeyRange` where a key that is valid under it names no value; the array stays as it was then.
     pub fn set_validity(&mut self, validity: Option<Bitmap>) -> Result<(), Error>
         ensures { MatchResult result
             (λ _. Pass (validity_checks (layout_of self.old) validity) × (layout_of self.new ≡ with_validity (layout_of self.old) validity))
@@ -182,6 +185,7 @@ impl AnyArray {
             AnyArray::LargeList(array) => with_known!(array, validity),
             AnyArray::Struct(array) => with_known!(array, validity),
             AnyArray::Map(array) => with_known!(array, validity),
+            AnyArray::Dictionary(array) => with_known!(array, validity),
         }
     }
 
@@ -204,6 +208,7 @@ impl AnyArray {
             AnyArray::LargeList(array) => array.slice(o, n),
             AnyArray::Struct(array) => array.cut(o, n),
             AnyArray::Map(array) => array.slice(o, n),
+            AnyArray::Dictionary(array) => array.slice(o, n),
         }
     }
 
@@ -227,6 +232,7 @@ impl AnyArray {
             AnyArray::LargeList(array) => boxed_large_list(alloc, array),
             AnyArray::Struct(array) => boxed_struct(alloc, array),
             AnyArray::Map(array) => boxed_map(alloc, array),
+            AnyArray::Dictionary(array) => boxed_dictionary(alloc, array),
         }
     }
 }
@@ -294,6 +300,18 @@ fn boxed_struct(alloc: Global, array: &StructArray) -> Result<AnyArray, Error>
 #[cycle(clone)]
 #[inline(never)]
 fn boxed_map(alloc: Global, array: &MapArray) -> Result<AnyArray, Error>
+    ensures ok { IfOk result (λ a. layout_of a ≡ array.now) }
+    ensures err { IsOkUnless result (Memory alloc_error) }
+{
+    match array.clone(alloc) {
+        Ok(array) => Ok(array.boxed()),
+        Err(error) => Err(error),
+    }
+}
+
+#[cycle(clone)]
+#[inline(never)]
+fn boxed_dictionary(alloc: Global, array: &DictionaryArray) -> Result<AnyArray, Error>
     ensures ok { IfOk result (λ a. layout_of a ≡ array.now) }
     ensures err { IsOkUnless result (Memory alloc_error) }
 {

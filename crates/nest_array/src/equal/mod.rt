@@ -1,6 +1,7 @@
 //! Equality of arrays of any kind: equal data types and equal slots, by comparisons that are told to a count. No call
 //! takes memory.
 mod flat;
+mod keyed;
 pub(crate) mod kinds;
 mod records;
 pub(crate) mod rows;
@@ -18,6 +19,7 @@ use crate::null::NullArray;
 use crate::steps::Steps;
 use crate::window::Window;
 use flat::{each_same_slot, same_primitives};
+use keyed::same_keyed;
 use kinds::kind;
 use nest_memory::datatypes::DataType;
 use records::same_records;
@@ -128,6 +130,7 @@ pub(crate) fn same_run(
             let y = kinds::as_map(b);
             same_rows(&Lists::Map(x), o, &Lists::Map(y), p, n, steps)
         }
+        AnyArray::Dictionary(x) => same_keyed(x, o, kinds::as_dictionary(b), p, n, steps),
         _ => same_leaves(a, o, b, p, n, steps),
     }
 }

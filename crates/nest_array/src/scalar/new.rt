@@ -12,6 +12,7 @@ ghost use Rattle.nest_array.specs.SeenScalar.{IsValue, ValueFits, slot_of_value}
 ghost use Rattle.nest_array.specs.Words.{Memory, layout_of, layout_type, layouts_of, len, slot};
 
 use crate::any::AnyArray;
+use crate::dictionary::DictionaryArray;
 use crate::equal::rows::{Lists, Rows};
 use crate::scalar::{AnyScalar, ScalarValue};
 use crate::struct_::StructArray;
@@ -61,6 +62,7 @@ fn value_at(alloc: Global, array: &AnyArray, i: usize) -> Result<ScalarValue, Er
         AnyArray::LargeList(lists) => list_at(alloc, &Lists::LargeList(lists), i),
         AnyArray::Struct(records) => record_at(alloc, records, i),
         AnyArray::Map(maps) => list_at(alloc, &Lists::Map(maps), i),
+        AnyArray::Dictionary(keyed) => keyed_at(alloc, keyed, i),
     }
 }
 
@@ -149,4 +151,18 @@ fn scalars_at(alloc: Global, arrays: &[AnyArray], i: usize) -> Result<Vec<AnySca
         scalars.push(new_scalar(alloc, &arrays[k], i)?)?;
     }
     Ok(scalars)
+}
+
+/// The value that the key names, null where the key is.
+#[cycle(new_scalar)]
+fn keyed_at(alloc: Global, keyed: &DictionaryArray, i: usize) -> Result<ScalarValue, Error>
+    requires { i < len keyed.now }
+    ensures ok { IfOk result (λ v. IsValue keyed.now i v) }
+    ensures err { IsOkUnless result (Memory alloc_error) }
+{
+    keyed.known();
+    if keyed.is_null(i) {
+        return Ok(ScalarValue::Null);
+    }
+    value_at(alloc, keyed.values(), keyed.place(i))
 }

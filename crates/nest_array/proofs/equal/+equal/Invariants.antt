@@ -53,3 +53,16 @@ invariant-records::same_children-loop-x l =
       left : Left l.xs l.ys l.x-iterator.a.rest.now l.x-iterator.b.rest.now l.o l.p l.n;
       told : l.steps + children_nodes (layouts_of l.x-iterator.a.rest.now) l.o l.n ≡ l.initial.steps + children_nodes (layouts_of l.xs) l.o l.n;
     }
+
+abbrev pub decreases-keyed::same_keyed : goal.decreases-keyed::same_keyed
+decreases-keyed::same_keyed l = 6 * weight l.x.now + 4
+
+abbrev pub decreases-keyed::is_same_keyed : goal.decreases-keyed::is_same_keyed
+decreases-keyed::is_same_keyed l = 6 * weight l.x.now + 3
+
+abbrev pub invariant-keyed::same_keyed-loop-k : goal.invariant-keyed::same_keyed-loop-k
+invariant-keyed::same_keyed-loop-k l =
+    record {
+      same : run (slot l.x) l.o l.k ≡ run (slot l.y) l.p l.k;
+      told : l.steps ≡ l.initial.steps + node_counts (run (slot l.x) l.o l.k);
+    }
