@@ -6,7 +6,7 @@ mod memory;
 use crate::arrays::lists::by_large_offsets;
 use crate::arrays::sizes::pairs;
 use crate::arrays::structs::four;
-use crate::arrays::{buffer, int32s, list_array, lists_of_lists, numbers, truths};
+use crate::arrays::{int32s, list_array, lists_of_lists, numbers, truths};
 use crate::calls::{bytes, texts};
 use nest_array::{
     AnyArray, AnyScalar, Array, FixedSizeBinaryArray, NullArray, ScalarValue, new_scalar,
@@ -14,6 +14,7 @@ use nest_array::{
 use nest_flat::any_native::AnyNative;
 use nest_flat::any_primitive::AnyPrimitive;
 use nest_flat::primitive::PrimitiveArray;
+use nest_memory::buffer::Buffer;
 use nest_memory::datatypes::DataType;
 use nest_memory::error::Error;
 use nest_memory::types::{NativeType, days_ms, i256, months_days_ns};
@@ -103,10 +104,10 @@ fn slot<A: Array + Drop>(alloc: Global, array: Result<A, Error>, i: usize) -> St
 
 /// One native value, of the type that stands for its kind.
 fn single<T: NativeType>(alloc: Global, value: T) -> Result<PrimitiveArray<T>, Error> {
-    match buffer(alloc, &[value]) {
-        Ok(values) => PrimitiveArray::try_new(DataType::from(T::PRIMITIVE), values, None),
-        Err(error) => Err(error),
-    }
+    let mut values = Vec::new(alloc);
+    values.push(value)?;
+    let values = Buffer::from_vec(alloc, values)?;
+    PrimitiveArray::try_new(DataType::from(T::PRIMITIVE), values, None)
 }
 
 #[test]
