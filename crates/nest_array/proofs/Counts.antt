@@ -52,7 +52,7 @@ nodes-split f o (suc m) k (suc q) e =
     let b = ap (λ z. node_counts (run f z k)) a in
     omega arith
 
-nodes-one : (f : ℕ → Slot) (o : ℕ) → node_counts (run f o 1) ≡ node_count (f o)
+pub nodes-one : (f : ℕ → Slot) (o : ℕ) → node_counts (run f o 1) ≡ node_count (f o)
 nodes-one f o = omega arith
 
 pub nodes-more : (f : ℕ → Slot) (o k : ℕ) → node_counts (run f o (k + 1)) ≡ node_counts (run f o k) + node_count (f (o + k))

@@ -7,8 +7,11 @@ pub mod Joined
 pub mod Leaves
 pub mod Lists
 pub mod LogicalTypes
+pub mod Picks
 pub mod SameRows
 pub mod SameScalars
 pub mod Scalars
 pub mod ShownTypes
+pub mod Tables
+pub mod UnionChecks
 pub mod Windows

@@ -1,6 +1,6 @@
 -- Scalars of arrays, made one after another and part for part.
 use Rattle.std.specs.Prelude.{List as Seq, [], ◌∷◌, Some, if◌then◌else◌}
-use Rattle.std.proofs.Common.{◌≡◌, ℕ, suc, ◌+◌, ◌<◌, ◌≤◌, Bool, true, false, length, get_or, refl, ap, sym, ◌∙◌, arith}
+use Rattle.std.proofs.Common.{◌≡◌, ℕ, zero, suc, ◌+◌, ◌<◌, ◌≤◌, Bool, true, false, length, get_or, refl, ap, sym, ◌∙◌, subst, arith}
 use Rattle.nest_memory.specs.Cut.{cut}
 use Rattle.nest_memory.specs.Physical.{physical_type}
 use Rattle.nest_memory.specs.TypeTree.{TypeTree, item_type, fields_of}
@@ -14,7 +14,7 @@ use Rattle.nest_model.specs.Reads.{items-cut}
 use Rattle.nest_model.specs.Slot as slots
 use Rattle.nest_model.specs.Slot.{Slot, seal}
 use Rattle.nest_array.specs.declared.any.AnyArray.{AnyArray}
-use Rattle.nest_array.specs.ScalarParts.{ScalarParts, scalar_parts, slots_in, types_in, child_types, field_types}
+use Rattle.nest_array.specs.ScalarParts.{IsPickOf, ScalarParts, scalar_parts, slots_in, types_in, child_types, field_types}
 use Rattle.nest_array.specs.Seen.{layout_of, layouts_of}
 use Rattle.nest_array.specs.SeenScalar.{shown_type}
 use Rattle.nest_array.proofs.ShownTypes.{shown-native, shown-items, shown-fields, each-typed}
@@ -63,3 +63,10 @@ items-typed t c d e h f g = shown-items t (layout_type e) (h ∙ ap (λ x. Some 
 -- a record's scalars have the types of its fields
 pub fields-typed : (a : Layout) (cs : Layouts) (ts : Seq TypeTree) → IsStruct (layout_type a) cs (validity_of a) → ts ≡ child_types cs → field_types (fields_of (shown_type (layout_type a))) ≡ ts
 fields-typed a cs ts f e = ap field_types (shown-fields (layout_type a) f.typed) ∙ each-typed (fields_of (layout_type a)) cs f.each_type ∙ sym e
+
+-- what a pick holds, and the pick again
+pub pick-held : (f i : ℕ) (s : Slot) (c d : Layout) (p : ScalarParts) → s ≡ slots.pick f (layout_type c) (slot c i) → d ≡ c → p ≡ scalar_parts (layout_type d) (slot d i) → IsPickOf s p
+pick-held f i s c d p e g h = subst (λ z. IsPickOf z p) (sym e) (h ∙ ap (λ x. scalar_parts (layout_type x) (slot x i)) g)
+
+pub pick-spells : (f i : ℕ) (s : Slot) (c d : Layout) (p : ScalarParts) → s ≡ slots.pick f (layout_type c) (slot c i) → d ≡ c → p ≡ scalar_parts (layout_type d) (slot d i) → slots.pick f p.data_type p.slot ≡ s
+pick-spells f i s c d p e g h = ap (λ q. slots.pick f q.data_type q.slot) h ∙ ap (λ x. slots.pick f (layout_type x) (slot x i)) g ∙ sym e

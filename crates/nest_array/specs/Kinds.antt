@@ -23,6 +23,7 @@ physical_kind (any.List a) = physical.List
 physical_kind (any.LargeList a) = physical.LargeList
 physical_kind (any.Struct a) = physical.Struct
 physical_kind (any.Map a) = physical.Map
+physical_kind (any.Union a) = physical.Union
 
 -- it is the physical type of native values
 abbrev pub IsPrimitive : PhysicalType → Type 0
@@ -65,6 +66,7 @@ has_leaves (any.List a) = false
 has_leaves (any.LargeList a) = false
 has_leaves (any.Struct a) = false
 has_leaves (any.Map a) = false
+has_leaves (any.Union a) = false
 has_leaves a = true
 
 -- the values of this physical type have no children

@@ -1,5 +1,6 @@
 pub mod Falls
 pub mod Kinds
+pub mod Positions
 pub mod Refusals
 pub mod RowSlots
 pub mod ScalarFalls
@@ -12,6 +13,7 @@ pub mod SeenLists
 pub mod SeenMap
 pub mod SeenScalar
 pub mod SeenStruct
+pub mod SeenUnion
 pub mod Tells
 pub mod Total
 pub mod Types

@@ -7,7 +7,7 @@ use Rattle.nest_memory.specs.TypeCode.{coded_type}
 use Rattle.nest_memory.specs.TypeEq.{same_type, same_type-decides, same_type-equiv}
 use Rattle.nest_memory.specs.TypeTree.{TypeTree, FieldTrees, no_fields, more_fields, field_type}
 use Rattle.nest_model.specs.Layout.{Layouts, no_layouts, more_layouts, layout_type}
-use Rattle.nest_model.specs.Slot.{Slot, Slots, no_slots, more_slots}
+use Rattle.nest_model.specs.Slot.{Slot, Slots, pick, no_slots, more_slots}
 use Rattle.nest_model.specs.SlotCode.{coded_slot, same_slot, same_slot-decides, same_slot-equiv}
 
 pub record ScalarParts : Type 0 where
@@ -21,6 +21,11 @@ abbrev pub coded_scalar : Coded ScalarParts
 coded_scalar =
     code_by (TypeTree × Slot) (coded× coded_type coded_slot) (λ p. (p.data_type, p.slot))
     (λ p. record { data_type = p.0; slot = p.1 }) (λ _. refl)
+
+-- the slot is a pick of the scalar's data type and slot
+abbrev pub IsPickOf : Slot → ScalarParts → Type 0
+IsPickOf (pick f t s) p = p ≡ scalar_parts t s
+IsPickOf s p = ⊥
 
 -- when two scalars are the same, and the test of it
 abbrev pub IsSameScalar : ScalarParts → ScalarParts → Type 0

@@ -15,7 +15,8 @@ use crate::list::ListArray;
 use crate::list::large::LargeListArray;
 use crate::map::MapArray;
 use crate::null::NullArray;
-use crate::struct_::StructArray;
+use crate::struct_::{StructArray, clone_all};
+use crate::union::UnionArray;
 use nest_flat::any_primitive::{AnyPrimitive, Native};
 use nest_flat::binary::BinaryArray;
 use nest_flat::boolean::BooleanArray;
@@ -43,6 +44,7 @@ pub enum AnyArray {
     LargeList(LargeListArray),
     Struct(StructArray),
     Map(MapArray),
+    Union(UnionArray),
 }
 
 // The same expression over the array of each variant.
@@ -62,6 +64,7 @@ macro_rules! each_array {
             AnyArray::LargeList($array) => $body,
             AnyArray::Struct($array) => $body,
             AnyArray::Map($array) => $body,
+            AnyArray::Union($array) => $body,
         }
     };
 }
@@ -157,7 +160,7 @@ impl AnyArray {
         cut
     }
 
-    /// Takes a new validity. `NoValidity` for a null array, `ValidityLength` where it has not a bit for each slot;
+    /// Takes a new validity. `NoValidity` for a null array and a union, `ValidityLength` where it has not a bit for each slot;
     /// the array stays as it was then.
     pub fn set_validity(&mut self, validity: Option<Bitmap>) -> Result<(), Error>
         ensures { MatchResult result
@@ -182,6 +185,11 @@ impl AnyArray {
             AnyArray::LargeList(array) => with_known!(array, validity),
             AnyArray::Struct(array) => with_known!(array, validity),
             AnyArray::Map(array) => with_known!(array, validity),
+            AnyArray::Union(array) => {
+                array.known();
+                drop(validity);
+                Err(Error::InvalidArgumentError(Argument::NoValidity))
+            }
         }
     }
 
@@ -204,6 +212,7 @@ impl AnyArray {
             AnyArray::LargeList(array) => array.slice(o, n),
             AnyArray::Struct(array) => array.cut(o, n),
             AnyArray::Map(array) => array.slice(o, n),
+            AnyArray::Union(array) => array.slice(o, n),
         }
     }
 
@@ -227,6 +236,7 @@ impl AnyArray {
             AnyArray::LargeList(array) => boxed_large_list(alloc, array),
             AnyArray::Struct(array) => boxed_struct(alloc, array),
             AnyArray::Map(array) => boxed_map(alloc, array),
+            AnyArray::Union(array) => boxed_union(alloc, array),
         }
     }
 }
@@ -299,6 +309,20 @@ fn boxed_map(alloc: Global, array: &MapArray) -> Result<AnyArray, Error>
 {
     match array.clone(alloc) {
         Ok(array) => Ok(array.boxed()),
+        Err(error) => Err(error),
+    }
+}
+
+// It copies the fields itself, so that `clone` of a union stands outside the cycle.
+#[cycle(clone)]
+#[inline(never)]
+fn boxed_union(alloc: Global, array: &UnionArray) -> Result<AnyArray, Error>
+    ensures ok { IfOk result (λ a. layout_of a ≡ array.now) }
+    ensures err { IsOkUnless result (Memory alloc_error) }
+{
+    array.known();
+    match clone_all(alloc, array.fields()) {
+        Ok(fields) => array.boxed_over(alloc, fields),
         Err(error) => Err(error),
     }
 }

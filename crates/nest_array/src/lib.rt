@@ -14,6 +14,7 @@ pub mod scalar;
 pub mod steps;
 pub mod struct_;
 mod types;
+pub mod union;
 pub mod window;
 
 pub use any::{AnyArray, clone};
@@ -29,4 +30,5 @@ pub use null::NullArray;
 pub use scalar::{AnyScalar, ScalarValue, new_scalar};
 pub use steps::Steps;
 pub use struct_::StructArray;
+pub use union::UnionArray;
 pub use window::Window;

@@ -2,18 +2,18 @@
 //! layout, and `slots_of` the layout is that list.
 //!
 //! What every kind does is promised once, of any `A: Array`: so of the twelve native kinds, of truths, bytes and texts, of
-//! nulls, byte strings of one size, lists of three kinds, structs, maps, and of `AnyArray`, which is any of them. What a kind does
+//! nulls, byte strings of one size, lists of three kinds, structs, maps, unions, and of `AnyArray`, which is any of them. What a kind does
 //! alone, its constructor and its values, follows kind by kind.
 
-ghost use Rattle.std.specs.Prelude.{◌≡◌, ◌+◌, ◌*◌, ◌≤◌, ◌<◌, ◌^◌, ◌↔◌, ◌⊎◌, false, true, IsTrue, IfOk, IfErr, IsErrOf, IsOkUnless, MatchOption, MatchResult, length, map, not, alloc_error};
+ghost use Rattle.std.specs.Prelude.{◌≡◌, ◌+◌, ◌*◌, ◌≤◌, ◌<◌, ◌^◌, ◌↔◌, ◌⊎◌, false, true, Some, IsTrue, IfOk, IfErr, IsErrOf, IsOkUnless, MatchOption, MatchResult, get_or, length, map, not, pos, alloc_error};
 ghost use Rattle.nest_memory.specs.declared.datatypes.physical_type.PhysicalType.TheVariants as physical;
 ghost use Rattle.nest_model.specs.Layout as layouts;
 ghost use Rattle.nest_model.specs.Slot as slots;
-ghost use Rattle.promises.specs.Words.{FirstFault, Fits, Memory, Overflow, Pass, RefusesOrMemory, TopFits, ValidityFault, begin, child_of, children_of, cut, cut_layout, extent, field_list_of, fields_of, has_keys, is_null_at, layout_of, layout_type, layouts_of, len, null_count, offsets_of, optional, physical_type, scalar_parts, seal, slot, slot_of_value, slots_of, type_of, validity_checks, validity_of, where_valid, window_parts, window_slots, with_validity};
+ghost use Rattle.promises.specs.Words.{FirstFault, Fits, IsPickOf, Memory, Overflow, Pass, RefusesOrMemory, TopFits, ValidityFault, begin, child_at, child_of, children_of, cut, cut_layout, extent, field_list_of, field_named, fields_of, has_keys, ids_of, is_null_at, layout_of, layout_type, layouts_of, len, null_count, offsets_of, optional, physical_type, scalar_parts, seal, slot, slot_of_value, slots_of, start_of, type_of, types_of, union_offsets_of, union_place, validity_checks, validity_of, where_valid, window_parts, window_slots, with_validity};
 
 use nest_array::{
     AnyArray, AnyScalar, Array, FixedSizeBinaryArray, FixedSizeListArray, LargeListArray,
-    ListArray, MapArray, NullArray, ScalarValue, StructArray, Window, new_scalar,
+    ListArray, MapArray, NullArray, ScalarValue, StructArray, UnionArray, Window, new_scalar,
 };
 use nest_flat::any_primitive::Native;
 use nest_memory::bitmap::immutable::Bitmap;
@@ -233,6 +233,19 @@ pub fn maps(
     MapArray::try_new(alloc, data_type, offsets, entries, validity)
 }
 
+/// Slots that each pick a slot of one field, of fields of any kind. No memory is taken.
+pub fn unions(
+    data_type: DataType,
+    types: Buffer<i8>,
+    fields: Vec<AnyArray>,
+    offsets: Option<Buffer<i32>>,
+) -> Result<UnionArray, Error>
+    ensures { let parts = layouts.union (type_of data_type) types (layouts_of fields.items) offsets 0 in
+        MatchResult result (λ a. Fits parts × (a ≡ parts)) (λ e. FirstFault e parts) }
+{
+    UnionArray::try_new(data_type, types, fields, offsets)
+}
+
 /// The bytes of a row, `None` where it is null.
 pub fn row_at(rows: &FixedSizeBinaryArray, i: usize) -> Option<&[u8]>
     requires { i < len rows.now }
@@ -322,6 +335,32 @@ pub fn children_of_records(records: &StructArray) -> &[AnyArray]
     ensures { layouts_of result.now ≡ children_of records.now }
 {
     records.values()
+}
+
+/// Which field a slot of a union picks, and which slot of it: the slot is that pick. After a cut as before.
+pub fn pick_at(picks: &UnionArray, i: usize) -> (usize, usize)
+    requires { i < len picks.now }
+    ensures field { field_named (ids_of (layout_type picks.now)) (get_or (types_of picks.now) i (pos 0)) ≡ Some result.0 }
+    ensures place { result.1 ≡ union_place (union_offsets_of picks.now) (start_of picks.now) i }
+    ensures slot { slot picks.now i ≡ slots.pick result.0 (layout_type (child_at (children_of picks.now) result.0)) (slot (child_at (children_of picks.now) result.0) result.1) }
+{
+    picks.index(i)
+}
+
+/// The scalar of what a slot of a union picks.
+pub fn picked_by_itself(picks: &UnionArray, alloc: Global, i: usize) -> Result<AnyScalar, Error>
+    requires { i < len picks.now }
+    ensures ok { IfOk result (λ s. IsPickOf (slot picks.now i) s) }
+    ensures err { IsOkUnless result (Memory alloc_error) }
+{
+    picks.value(alloc, i)
+}
+
+/// The fields of a union, which no cut changes.
+pub fn fields_of_picks(picks: &UnionArray) -> &[AnyArray]
+    ensures { layouts_of result.now ≡ children_of picks.now }
+{
+    picks.fields()
 }
 
 /// Records come apart into their fields, their children and their validity.

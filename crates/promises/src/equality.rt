@@ -5,7 +5,9 @@ ghost use Rattle.std.specs.Prelude.{◌≡◌, ◌+◌, ◌≤◌, ◌↔◌, Is
 ghost use Rattle.promises.specs.Words.{IsSameArray, Memory, layout_of, layout_type, len, node_counts, run, slot, slots_of, window_slots};
 
 use nest_array::equal::{equal, equal_counted, equal_windows};
-use nest_array::{AnyArray, AnyScalar, ListArray, MapArray, Steps, StructArray, Window};
+use nest_array::{
+    AnyArray, AnyScalar, ListArray, MapArray, Steps, StructArray, UnionArray, Window,
+};
 use nest_flat::flat_array::{FlatArray, same_arrays, same_run};
 use nest_memory::error::Error;
 use std::alloc::Global;
@@ -85,6 +87,13 @@ pub fn are_equal_records(a: &StructArray, b: &StructArray) -> bool
 
 /// Of maps.
 pub fn are_equal_maps(a: &MapArray, b: &MapArray) -> bool
+    ensures { IsTrue result ↔ IsSameArray a.now b.now }
+{
+    *a == *b
+}
+
+/// Of unions: picks of different fields differ.
+pub fn are_equal_unions(a: &UnionArray, b: &UnionArray) -> bool
     ensures { IsTrue result ↔ IsSameArray a.now b.now }
 {
     *a == *b

@@ -7,15 +7,15 @@
 //!
 //! *Every array, however nested and cut, stands for the one list of slots that its parts spell.* The parts of an array are its
 //! layout, a tree of the model: `layout_of` an array of any kind, `A.layout` of an `A: Array`; an array of one kind is seen as
-//! its layout itself. `slots_of` a layout is the list: a slot is null, a truth, a number, a text, bytes, a list of slots or a
-//! record of slots. [`arrays`] promises that a cut is the cut of that list (`cut_in_place`, `cut_shared`, `cut_of_any`), that a
-//! length, a null and a value are those of the list (`count`, `is_null_place`, `items_at`, `row_at`; of flat arrays `native_at`
-//! and its neighbours in [`flat`]), that a copy has the same parts, so the same list (`copy_of_any`), and that a scalar is one slot of
-//! the list under the array's data type (`slot_by_itself`).
+//! its layout itself. `slots_of` a layout is the list: a slot is null, a truth, a number, a text, bytes, a list of slots, a
+//! record of slots or a pick of a field and of its slot. [`arrays`] promises that a cut is the cut of that list (`cut_in_place`,
+//! `cut_shared`, `cut_of_any`), that a length, a null and a value are those of the list (`count`, `is_null_place`, `items_at`,
+//! `row_at`, `pick_at`; of flat arrays `native_at` and its neighbours in [`flat`]), that a copy has the same parts, so the same list
+//! (`copy_of_any`), and that a scalar is one slot of the list under the array's data type (`slot_by_itself`), or what a slot of a union picks (`picked_by_itself`).
 //!
 //! *A constructor answers Ok exactly where the parts fit, with just those parts, and else the first check that fails*, want of
 //! memory aside: `natives`, `truths`, `byte_strings`, `texts` in [`flat`]; `nulls`, `rows_of_bytes`, `lists_of_one_size`,
-//! `lists`, `large_lists`, `records`, `maps` in [`arrays`]. A new validity is taken exactly where it has no fault, and a refused one
+//! `lists`, `large_lists`, `records`, `maps`, `unions` in [`arrays`]. A new validity is taken exactly where it has no fault, and a refused one
 //! changes nothing (`under_new_validity`, `new_validity_in_place`).
 //!
 //! *`equal` answers true exactly for equal data types and equal lists, after at most one comparison for each node of the left

@@ -220,6 +220,7 @@ fn in_variant(array: &AnyArray) -> &str {
         AnyArray::LargeList(_) => "large lists",
         AnyArray::Struct(_) => "records",
         AnyArray::Map(_) => "maps",
+        AnyArray::Union(_) => "unions",
     }
 }
 

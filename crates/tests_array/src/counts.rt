@@ -17,7 +17,10 @@ use nest_memory::error::Error;
 use std::alloc::Global;
 
 /// Whether both arrays were made and are equal, and how many comparisons were told; both are let go.
-fn counted(a: Result<AnyArray, Error>, b: Result<AnyArray, Error>) -> Result<(bool, u64), Error> {
+pub(crate) fn counted(
+    a: Result<AnyArray, Error>,
+    b: Result<AnyArray, Error>,
+) -> Result<(bool, u64), Error> {
     let (a, b) = both(a, b)?;
     let mut steps = Steps::new();
     let same = equal_counted(&a, &b, &mut steps);

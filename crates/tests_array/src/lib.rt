@@ -20,6 +20,13 @@
 //! | Each call of the trait `Array` on each kind, the twelve natives one by one | `calls::native_arrays`, `calls::native_arrays_of_other_kinds`, `calls::flat_arrays`, `calls::nested_arrays`, `calls::null_arrays`, `calls::copies_are_in_their_variant` |
 //! | Clones, shared arrays and new validities are there where memory is | `copies::clones_are_equal`, `copies::arrays_are_shared`, `copies::lists_take_new_validities`, `copies::pairs_and_records_take_new_validities` |
 //! | What list types tell of their fields | `refusals::fields_of_list_types`, `refusals::fields_of_large_list_types` |
+//! | Unions: of two fields of numbers by the ids 5 and 7; numbers and texts in turn, cut and cut again; one number at an offset | `unions::fields_by_ids`, `unions::a_cut_begins_at_its_place`, `unions::dense_slots_are_there` |
+//! | Of two fields with one id the later is meant; ids 0, 127 and beside them; types and fields at their limits | `unions::the_later_of_two_fields_with_one_id`, `unions::ids_out_of_range`, `unions::types_at_the_ends`, `unions::as_many_fields_as_types` |
+//! | Each refusal of a union's constructor, and of a new validity | `unions::other_refusals`, `unions::offsets_by_the_mode`, `unions::each_field_covers_a_sparse_union`, `unions::a_union_takes_no_validity` |
+//! | Picks of two fields differ, also in lists, but not under nulls; what is not picked does not count; unions of unions | `unions::picks_of_two_fields_differ`, `unions::lists_of_unions`, `unions::what_is_not_picked_does_not_count`, `unions::unions_of_unions` |
+//! | Picks of two fields of one type are told apart by at most 2 comparisons, in lists by 3; equal ones take 2 each, under a null 1 | `unions::counts::picks_of_two_fields_of_one_type`, `unions::counts::picks_in_lists`, `unions::counts::dense_picks_of_one_slot`, `unions::counts::picks_of_a_cut` |
+//! | The scalar of what a slot picks, also after a cut, and of the pick itself, which tells its field | `unions::scalars::what_is_picked`, `unions::scalars::picks_by_themselves`, `unions::scalars::picks_are_told_apart_by_their_fields` |
+//! | Copies and cuts of unions with memory; what their types tell | `unions::copies_with_memory`, `unions::what_a_type_tells` |
 //! | Windows over arrays and in windows | `arrays::windows::windows_in_windows`, `arrays::reads::lists_of_other_kinds_lend_their_items` |
 //! | What a slot of each kind holds as a scalar, a null among them | `scalars::whole_numbers`, `scalars::wide_numbers_and_spans`, `scalars::nulls`, `scalars::truths_texts_and_bytes`, `scalars::lists_of_each_kind`, `scalars::records` |
 //! | Scalars are equal by data type and slot, whatever the offsets, and whatever lies under a null | `scalars::equality` |
@@ -53,3 +60,5 @@ mod refusals;
 mod rows;
 #[cfg(test)]
 mod scalars;
+#[cfg(test)]
+mod unions;

@@ -29,7 +29,7 @@ fn scalar_at(alloc: Global, array: &AnyArray, i: usize) -> Result<AnyScalar, Err
 }
 
 /// The same of an array of any kind that a call gave; the array is let go.
-fn scalar_of<A: Array + Drop>(
+pub(crate) fn scalar_of<A: Array + Drop>(
     alloc: Global,
     array: Result<A, Error>,
     i: usize,
@@ -85,7 +85,7 @@ fn spell(scalar: &AnyScalar, text: &mut String) -> Result<(), Error> {
 
 /// The spelling of a scalar that a call gave; the scalar is let go. A refused one has none, nor has one that is valid where
 /// it is spelled null, or the other way round.
-fn spelled(alloc: Global, scalar: Result<AnyScalar, Error>) -> String {
+pub(crate) fn spelled(alloc: Global, scalar: Result<AnyScalar, Error>) -> String {
     let mut text = String::new(alloc);
     if let Ok(scalar) = scalar {
         let done = spell(&scalar, &mut text);
@@ -98,7 +98,7 @@ fn spelled(alloc: Global, scalar: Result<AnyScalar, Error>) -> String {
 }
 
 /// Slot i of an array that a call gave, as text.
-fn slot<A: Array + Drop>(alloc: Global, array: Result<A, Error>, i: usize) -> String {
+pub(crate) fn slot<A: Array + Drop>(alloc: Global, array: Result<A, Error>, i: usize) -> String {
     spelled(alloc, scalar_of(alloc, array, i))
 }
 

@@ -1,8 +1,14 @@
-use Rattle.std.proofs.Common.{◌≡◌, length, ap, arith}
-use Rattle.nest_model.specs.LayoutCode.{weight}
+use Rattle.std.proofs.Common.{◌≡◌, ◌+◌, ◌≤◌, ◌<◌, length, get_or, ap, sym, ◌∙◌, arith}
+use Rattle.nest_model.specs.LayoutCode.{weight, weight_all}
 use Rattle.nest_array.specs.Seen.{layout_of}
 use Rattle.nest_array.proofs.Children.{weight-at, same-all}
 use Rattle.nest_array.proofs.+clone.Goals as goal
+
+pub any::boxed_union-clone_all-requires : goal.any::boxed_union-clone_all-requires
+any::boxed_union-clone_all-requires t c =
+    let w = ap weight c.known.ensures.kind in
+    let v = ap weight_all c.fields.ensures in
+    (omega (arith, w, v), tt)
 
 pub struct_::clone_all-clone-requires : goal.struct_::clone_all-clone-requires
 struct_::clone_all-clone-requires t c =

@@ -22,6 +22,9 @@ decreases-any::boxed_struct l = 4 * weight l.array.now + 2
 abbrev pub decreases-any::boxed_map : goal.decreases-any::boxed_map
 decreases-any::boxed_map l = 4 * weight l.array.now + 2
 
+abbrev pub decreases-any::boxed_union : goal.decreases-any::boxed_union
+decreases-any::boxed_union l = 4 * weight l.array.now + 2
+
 abbrev pub decreases-fixed_size_list::FixedSizeListArray::clone : goal.decreases-fixed_size_list::FixedSizeListArray::clone
 decreases-fixed_size_list::FixedSizeListArray::clone l = 4 * weight l.self.now + 1
 

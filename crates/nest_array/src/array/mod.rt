@@ -67,8 +67,8 @@ pub trait Array {
         ensures cut { IfOk result (λ a. IsCut (layout self.now) o n (layout_of a)) }
         ensures err { IsOkUnless result (Memory alloc_error) };
 
-    /// The array under a new validity, on shared memory. `NoValidity` for a null array, `ValidityLength` where the
-    /// validity has not a bit for each slot, `Memory`.
+    /// The array under a new validity, on shared memory. `NoValidity` for a null array and a union, `ValidityLength` where
+    /// the validity has not a bit for each slot, `Memory`.
     fn with_validity(&self, alloc: Global, validity: Option<Bitmap>) -> Result<AnyArray, Error>
         ensures { MatchResult result
             (λ a. Pass (validity_checks (layout self.now) validity) × (layout_of a ≡ with_validity (layout self.now) validity))

@@ -8,6 +8,7 @@ use crate::list::large::LargeListArray;
 use crate::map::MapArray;
 use crate::null::NullArray;
 use crate::struct_::StructArray;
+use crate::union::UnionArray;
 use nest_memory::bitmap::immutable::Bitmap;
 use nest_memory::datatypes::DataType;
 use nest_memory::error::Error;
@@ -276,5 +277,43 @@ impl Slotted for MapArray {
 impl Variant for MapArray {
     fn into_any(self) -> AnyArray {
         AnyArray::Map(self)
+    }
+}
+
+impl Slotted for UnionArray {
+    ghost parts = { λ a. a };
+
+    fn len(&self) -> usize {
+        UnionArray::len(self)
+    }
+
+    fn data_type(&self) -> &DataType {
+        UnionArray::data_type(self)
+    }
+
+    fn validity(&self) -> Option<&Bitmap> {
+        UnionArray::validity(self)
+    }
+
+    fn is_null(&self, i: usize) -> bool {
+        UnionArray::is_null(self, i)
+    }
+
+    fn null_count(&self) -> usize {
+        UnionArray::null_count(self)
+    }
+
+    fn slice(&mut self, o: usize, n: usize) {
+        UnionArray::slice(self, o, n)
+    }
+
+    fn again(&self, alloc: Global) -> Result<UnionArray, Error> {
+        self.clone(alloc)
+    }
+}
+
+impl Variant for UnionArray {
+    fn into_any(self) -> AnyArray {
+        AnyArray::Union(self)
     }
 }

@@ -13,6 +13,7 @@ use crate::list::large::LargeListArray;
 use crate::map::MapArray;
 use crate::null::NullArray;
 use crate::struct_::StructArray;
+use crate::union::UnionArray;
 use nest_flat::any_primitive::AnyPrimitive;
 use nest_flat::binary::BinaryArray;
 use nest_flat::boolean::BooleanArray;
@@ -36,6 +37,7 @@ pub(crate) fn kind(a: &AnyArray)
         AnyArray::LargeList(x) => x.known(),
         AnyArray::Struct(x) => x.known(),
         AnyArray::Map(x) => x.known(),
+        AnyArray::Union(x) => x.known(),
     }
 }
 
@@ -200,6 +202,18 @@ pub(crate) fn as_map(b: &AnyArray) -> &MapArray
     kind(b);
     match b {
         AnyArray::Map(y) => y,
+        _ => unreachable!(),
+    }
+}
+
+/// The array whose data type is that of unions.
+pub(crate) fn as_union(b: &AnyArray) -> &UnionArray
+    requires { physical_type (layout_type (layout_of b.now)) ≡ physical.Union }
+    ensures { result.now ≡ layout_of b.now }
+{
+    kind(b);
+    match b {
+        AnyArray::Union(y) => y,
         _ => unreachable!(),
     }
 }

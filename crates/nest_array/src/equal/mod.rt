@@ -2,6 +2,7 @@
 //! takes memory.
 mod flat;
 pub(crate) mod kinds;
+mod picks;
 mod records;
 pub(crate) mod rows;
 pub(crate) mod whole;
@@ -20,6 +21,7 @@ use crate::window::Window;
 use flat::{each_same_slot, same_primitives};
 use kinds::kind;
 use nest_memory::datatypes::DataType;
+use picks::same_picks;
 use records::same_records;
 use rows::{Lists, Rows, same_counts};
 
@@ -128,6 +130,7 @@ pub(crate) fn same_run(
             let y = kinds::as_map(b);
             same_rows(&Lists::Map(x), o, &Lists::Map(y), p, n, steps)
         }
+        AnyArray::Union(x) => same_picks(x, o, kinds::as_union(b), p, n, steps),
         _ => same_leaves(a, o, b, p, n, steps),
     }
 }

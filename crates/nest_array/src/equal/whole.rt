@@ -5,6 +5,7 @@ ghost use Rattle.nest_array.specs.Words.{Alike, IsSameArray, Tells, layout_of, l
 use crate::any::AnyArray;
 use crate::array::Array;
 use crate::equal::flat::each_same_slot;
+use crate::equal::picks::same_picks;
 use crate::equal::records::same_records;
 use crate::equal::rows::Lists;
 use crate::equal::{same_nulls, same_rows, same_run, same_shape};
@@ -16,6 +17,7 @@ use crate::map::MapArray;
 use crate::null::NullArray;
 use crate::steps::Steps;
 use crate::struct_::StructArray;
+use crate::union::UnionArray;
 
 /// An array whose slots are compared in runs.
 pub(crate) trait SlotRuns: Array {
@@ -352,6 +354,42 @@ impl PartialEq for MapArray {
 }
 
 impl Eq for MapArray {
+    ghost use Rattle.nest_flat.specs.SameFlat.{same_array-equiv};
+
+    ghost laws = { same_array-equiv };
+}
+
+impl SlotRuns for UnionArray {
+    fn is_same_run(
+        &self,
+        o: usize,
+        other: &UnionArray,
+        p: usize,
+        n: usize,
+        steps: &mut Steps,
+    ) -> bool {
+        same_picks(self, o, other, p, n, steps)
+    }
+}
+
+impl PartialEq for UnionArray {
+    ghost use Rattle.std.specs.Cmp.{partial_equiv_from_equiv};
+    ghost use Rattle.nest_model.specs.SameArray.{same_array};
+    ghost use Rattle.nest_flat.specs.SameFlat.{same_array-equiv};
+
+    ghost eq = { same_array };
+
+    ghost laws = { partial_equiv_from_equiv same_array-equiv };
+
+    fn eq(&self, other: &UnionArray) -> bool
+        ensures computes { result ≡ same_array self.now other.now }
+        ensures decides { IsTrue result ↔ IsSameArray self.now other.now }
+    {
+        same_arrays(self, other)
+    }
+}
+
+impl Eq for UnionArray {
     ghost use Rattle.nest_flat.specs.SameFlat.{same_array-equiv};
 
     ghost laws = { same_array-equiv };

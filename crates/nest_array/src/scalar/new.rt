@@ -15,6 +15,7 @@ use crate::any::AnyArray;
 use crate::equal::rows::{Lists, Rows};
 use crate::scalar::{AnyScalar, ScalarValue};
 use crate::struct_::StructArray;
+use crate::union::UnionArray;
 use nest_flat::any_primitive::AnyPrimitive;
 use nest_flat::boolean::BooleanArray;
 use nest_memory::error::Error;
@@ -61,6 +62,7 @@ fn value_at(alloc: Global, array: &AnyArray, i: usize) -> Result<ScalarValue, Er
         AnyArray::LargeList(lists) => list_at(alloc, &Lists::LargeList(lists), i),
         AnyArray::Struct(records) => record_at(alloc, records, i),
         AnyArray::Map(maps) => list_at(alloc, &Lists::Map(maps), i),
+        AnyArray::Union(picks) => pick_at(alloc, picks, i),
     }
 }
 
@@ -149,4 +151,18 @@ fn scalars_at(alloc: Global, arrays: &[AnyArray], i: usize) -> Result<Vec<AnySca
         scalars.push(new_scalar(alloc, &arrays[k], i)?)?;
     }
     Ok(scalars)
+}
+
+/// What slot i of a union picks.
+#[cycle(new_scalar)]
+fn pick_at(alloc: Global, picks: &UnionArray, i: usize) -> Result<ScalarValue, Error>
+    requires { i < len picks.now }
+    ensures ok { IfOk result (λ v. IsValue picks.now i v) }
+    ensures err { IsOkUnless result (Memory alloc_error) }
+{
+    let (field, place) = picks.index(i);
+    match new_scalar(alloc, picks.field_at(field), place) {
+        Ok(scalar) => Ok(ScalarValue::Pick(field, Box::new(alloc, scalar)?)),
+        Err(error) => Err(error),
+    }
 }

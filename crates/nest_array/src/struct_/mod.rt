@@ -247,7 +247,7 @@ fn fault(data_type: &DataType, values: &[AnyArray], validity: &Option<Bitmap>) -
 }
 
 /// Whether the children have the types of the fields, in order.
-fn have_types(fields: &[Field], children: &[AnyArray]) -> bool
+pub(crate) fn have_types(fields: &[Field], children: &[AnyArray]) -> bool
     requires { length fields.now ≡ length children.now }
     ensures { IsTrue result ↔ EachType (field_list_of fields.now) (layouts_of children.now) }
 {
@@ -296,7 +296,7 @@ fn cut_all(children: &mut [AnyArray], o: usize, n: usize)
 
 /// The same children, on shared memory.
 #[cycle(clone)]
-fn clone_all(alloc: Global, children: &[AnyArray]) -> Result<Vec<AnyArray>, Error>
+pub(crate) fn clone_all(alloc: Global, children: &[AnyArray]) -> Result<Vec<AnyArray>, Error>
     ensures ok { IfOk result (λ v. layouts_of v.items ≡ layouts_of children.now) }
     ensures err { IsOkUnless result (Memory alloc_error) }
 {

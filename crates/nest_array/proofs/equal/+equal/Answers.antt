@@ -1,5 +1,7 @@
-use Rattle.std.proofs.Common.{◌+◌, refl, sym, ap, ◌∙◌, subst, arith}
-use Rattle.nest_model.specs.Accessors.{child_of}
+use Rattle.std.specs.Prelude.{◌⊎◌}
+use Rattle.std.proofs.Common.{◌≡◌, ◌+◌, inl, inr, length, refl, sym, ap, ◌∙◌, subst, arith}
+use Rattle.nest_memory.specs.TypeTree.{logical_type}
+use Rattle.nest_model.specs.Accessors.{child_of, child_at, children_of}
 use Rattle.nest_model.specs.Layout.{layout_type}
 use Rattle.nest_model.specs.LayoutCode.{weight, weight_all}
 use Rattle.nest_model.specs.Meaning.{run, slot, len}
@@ -12,8 +14,60 @@ use Rattle.nest_array.specs.SeenLists.{lists_layout}
 use Rattle.nest_array.proofs.Counts.{same-more, told-more, told-stops, null-told, tells-after, tells-more, tells-exact, tells-stopped, nodes-least}
 use Rattle.nest_array.proofs.Joined.{lists-bounds, lists-joined, lists-nodes, rows-within, items-along}
 use Rattle.nest_array.proofs.LogicalTypes.{same-items}
+use Rattle.nest_array.proofs.Picks.{field-types, picks-field, picks-same, pick-nodes}
 use Rattle.nest_array.proofs.SameRows.{row-nodes, lists-same, lists-differ, struct-known, children-typed, children-cover, record-shown, records-shown, records-same, record-same, record-nodes, records-nodes}
 use Rattle.nest_array.proofs.equal.+equal.Goals as goal
+
+pub picks::same_picks-returns-then-not-is_same_pick-clause-same : goal.picks::same_picks-returns-then-not-is_same_pick-clause-same
+picks::same_picks-returns-then-not-is_same_pick-clause-same t c =
+    runs-differ (slot c.args.x.now) (slot c.args.y.now) c.args.o c.args.p c.args.n c.loop-k.k _ c.is_same_pick.ensures.same c.if-not-is_same_pick.true c.loop-k-test.true
+
+pub picks::same_picks-returns-then-not-is_same_pick-clause-told : goal.picks::same_picks-returns-then-not-is_same_pick-clause-told
+picks::same_picks-returns-then-not-is_same_pick-clause-told t c =
+    told-stops (slot c.args.x.now) c.args.o c.loop-k.k c.args.n _ _ _ _ _ c.if-not-is_same_pick.true c.loop-k-test.true c.loop-k.invariant.told c.is_same_pick.ensures.told refl
+
+pub picks::same_picks-loop-k-preserved : goal.picks::same_picks-loop-k-preserved
+picks::same_picks-loop-k-preserved t c =
+    record {
+      same = same-more (slot c.args.x.now) (slot c.args.y.now) c.args.o c.args.p c.loop-k.k c.loop-k.invariant.same (c.is_same_pick.ensures.same.0 c.if-not-is_same_pick.false);
+      told = told-more (slot c.args.x.now) c.args.o c.loop-k.k _ _ _ _ _ c.if-not-is_same_pick.false c.loop-k.invariant.told c.is_same_pick.ensures.told refl;
+    }
+
+pub picks::is_same_pick-same_run-requires : goal.picks::is_same_pick-same_run-requires
+picks::is_same_pick-same_run-requires t c =
+    let a = c.args.x.now in
+    let b = c.args.y.now in
+    let x = c.field_at.ensures.shown in
+    let y = c.field_at-2.ensures.shown in
+    let w = c.field_at.ensures.lighter in
+    let u = ap len x in
+    let v = ap len y in
+    let same = field-types a b _ c.known.ensures.fits c.known.ensures.kind c.known-2.ensures.fits c.known-2.ensures.kind c.requires.alike c.index-field.ensures.field_there in (
+      omega (arith, w),
+      (
+        ap logical_type (ap layout_type x ∙ same ∙ ap (λ f. layout_type (child_at (children_of b) f)) c.if-field-other_field.false ∙ sym (ap layout_type y)),
+        (
+          omega (arith, u, c.index-field.ensures.slot_there),
+          omega (arith, v, c.index-other_field.ensures.slot_there),
+        ),
+      ),
+    )
+
+pub picks::is_same_pick-returns-clause-same : goal.picks::is_same_pick-returns-clause-same
+picks::is_same_pick-returns-clause-same t c =
+    let a = c.args.x.now in
+    let b = c.args.y.now in
+    let p = picks-field a c.args.i _ c.known.ensures.fits c.known.ensures.kind c.requires.within c.index-field.ensures.field in
+    let q = picks-field b c.args.j _ c.known-2.ensures.fits c.known-2.ensures.kind c.requires.other_within c.index-other_field.ensures.field in
+    let same = field-types a b _ c.known.ensures.fits c.known.ensures.kind c.known-2.ensures.fits c.known-2.ensures.kind c.requires.alike c.index-field.ensures.field_there in
+    picks-same a b c.args.i c.args.j _ _ _ _ _ _ _ p q c.if-field-other_field.false (same ∙ ap (λ f. layout_type (child_at (children_of b) f)) c.if-field-other_field.false)
+    (sym c.field_at.ensures.shown) (sym c.field_at-2.ensures.shown) c.index-field.ensures.place c.index-other_field.ensures.place c.same_run.ensures.same
+
+pub picks::is_same_pick-returns-clause-told : goal.picks::is_same_pick-returns-clause-told
+picks::is_same_pick-returns-clause-told t c =
+    let a = c.args.x.now in
+    let p = picks-field a c.args.i _ c.known.ensures.fits c.known.ensures.kind c.requires.within c.index-field.ensures.field in
+    tells-after _ _ _ _ _ _ c.tell.ensures c.same_run.ensures.told (pick-nodes a c.args.i _ _ _ p (sym c.field_at.ensures.shown) c.index-field.ensures.place)
 
 pub each_same_row-same_row-requires : goal.each_same_row-same_row-requires
 each_same_row-same_row-requires t c =

@@ -33,6 +33,12 @@ decreases-records::is_same_record l = 6 * weight l.x.now + 2
 abbrev pub decreases-records::same_children : goal.decreases-records::same_children
 decreases-records::same_children l = 6 * weight_all (layouts_of l.xs.now) + 6
 
+abbrev pub decreases-picks::same_picks : goal.decreases-picks::same_picks
+decreases-picks::same_picks l = 6 * weight l.x.now + 4
+
+abbrev pub decreases-picks::is_same_pick : goal.decreases-picks::is_same_pick
+decreases-picks::is_same_pick l = 6 * weight l.x.now + 3
+
 abbrev pub invariant-each_same_row-loop-k : goal.invariant-each_same_row-loop-k
 invariant-each_same_row-loop-k l =
     record {
@@ -52,4 +58,11 @@ invariant-records::same_children-loop-x l =
     record {
       left : Left l.xs l.ys l.x-iterator.a.rest.now l.x-iterator.b.rest.now l.o l.p l.n;
       told : l.steps + children_nodes (layouts_of l.x-iterator.a.rest.now) l.o l.n ≡ l.initial.steps + children_nodes (layouts_of l.xs) l.o l.n;
+    }
+
+abbrev pub invariant-picks::same_picks-loop-k : goal.invariant-picks::same_picks-loop-k
+invariant-picks::same_picks-loop-k l =
+    record {
+      same : run (slot l.x) l.o l.k ≡ run (slot l.y) l.p l.k;
+      told : l.steps ≡ l.initial.steps + node_counts (run (slot l.x) l.o l.k);
     }

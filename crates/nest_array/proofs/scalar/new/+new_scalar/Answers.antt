@@ -5,7 +5,7 @@ use Rattle.nest_model.specs.Slot as slots
 use Rattle.nest_array.specs.Seen.{layout_of, layouts_of}
 use Rattle.nest_array.proofs.Children.{covers-at, weight-at}
 use Rattle.nest_array.proofs.SameRows.{struct-known, children-cover, record-shown}
-use Rattle.nest_array.proofs.Scalars.{made-slots, made-types, fields-typed}
+use Rattle.nest_array.proofs.Scalars.{made-slots, made-types, fields-typed, pick-spells}
 use Rattle.nest_array.proofs.scalar.new.+new_scalar.Goals as goal
 
 pub record_at-scalars_at-requires : goal.record_at-scalars_at-requires
@@ -23,6 +23,11 @@ record_at-returns-in-Ok-clause-ok t c =
           ∙ sym (record-shown c.args.records.now _ c.args.i _ c.known.ensures.kind c.values.ensures c.is_null.ensures.place c.if-is_null.false);
       fits = fields-typed c.args.records.now _ _ x c.in-Ok.ensures.types;
     }
+
+pub pick_at-new_scalar-requires : goal.pick_at-new_scalar-requires
+pick_at-new_scalar-requires t c =
+    let l = ap len c.field_at.ensures.shown in
+    (omega (arith, c.field_at.ensures.lighter), omega (arith, l, c.index-field.ensures.slot_there))
 
 pub scalars_at-new_scalar-requires : goal.scalars_at-new_scalar-requires
 scalars_at-new_scalar-requires t c =

@@ -15,6 +15,9 @@ decreases-value_at l = 4 * weight (layout_of l.array.now) + 2
 abbrev pub decreases-record_at : goal.decreases-record_at
 decreases-record_at l = 4 * weight l.records.now + 1
 
+abbrev pub decreases-pick_at : goal.decreases-pick_at
+decreases-pick_at l = 4 * weight l.picks.now + 1
+
 abbrev pub decreases-scalars_at : goal.decreases-scalars_at
 decreases-scalars_at l = 4 * weight_all (layouts_of l.arrays.now)
 

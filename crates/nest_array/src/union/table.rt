@@ -1,0 +1,70 @@
+//! The table of a union: which field each type means. A type of 8 bits that isn't negative has a place of its own.
+ghost use Rattle.std.specs.Prelude.{◌≡◌, ◌≤◌, ◌↔◌, IsTrue, Some, None, length};
+ghost use Rattle.nest_memory.specs.TypeTree.{ids_of};
+ghost use Rattle.nest_model.specs.Fits.{EachNames, IdsCount, IdsInRange, MeansField};
+ghost use Rattle.nest_array.specs.Positions.{IsTable, meant};
+ghost use Rattle.nest_array.specs.Words.{type_of};
+
+use nest_memory::datatypes::DataType;
+
+/// What stands in place of a position where a type means no field: a union has at most 127.
+const NO_FIELD: u8 = 127;
+
+/// The table of a union of n fields.
+pub(crate) fn positions(data_type: &DataType, n: usize) -> [u8; 128]
+    requires few { n ≤ 127 }
+    requires count { IdsCount (ids_of (type_of data_type.now)) n }
+    requires range { IdsInRange (ids_of (type_of data_type.now)) }
+    ensures { IsTable result (ids_of (type_of data_type.now)) }
+{
+    match data_type.union_ids() {
+        Some(ids) => by_ids(ids),
+        None => by_places(),
+    }
+}
+
+/// Each type means the field at its own position.
+fn by_places() -> [u8; 128]
+    ensures { IsTable result None }
+{
+    let mut table = [NO_FIELD; 128];
+    for k in 0..128 {
+        table[k] = k as u8;
+    }
+    table
+}
+
+/// Each type means the last field whose id it is.
+fn by_ids(ids: &[i32]) -> [u8; 128]
+    requires few { length ids.now ≤ 127 }
+    requires range { EachNames ids.now 128 }
+    ensures { IsTable result (Some ids.now) }
+{
+    let mut table = [NO_FIELD; 128];
+    for i in 0..ids.len() {
+        table[ids[i] as usize] = i as u8;
+    }
+    table
+}
+
+/// The position that the table has for a type.
+pub(crate) fn position(table: &[u8; 128], kind: i8) -> Option<usize>
+    requires { length table.now ≡ 128 }
+    ensures { result ≡ meant table.now kind }
+{
+    if kind < 0 {
+        return None;
+    }
+    Some(table[kind as usize] as usize)
+}
+
+/// Whether the table has one of n fields for a type.
+pub(crate) fn means_field(table: &[u8; 128], kind: i8, n: usize) -> bool
+    requires { length table.now ≡ 128 }
+    ensures { IsTrue result ↔ MeansField (meant table.now kind) n }
+{
+    match position(table, kind) {
+        Some(field) => field < n,
+        None => false,
+    }
+}
