@@ -12,7 +12,9 @@ ghost use Rattle.nest_model.specs.Slot as slots;
 ghost use Rattle.promises.specs.Words.{FirstFault, Fits, IsPickOf, Memory, Names, Overflow, Pass, RefusesOrMemory, TopFits, ValidityFault, begin, below_zero, child_at, child_of, children_of, cut, cut_layout, default_dictionary_type, extent, field_list_of, field_named, fields_of, has_keys, ids_of, is_null_at, key_at, key_type_of, keyed_by, keys_layout, keys_of, layout_of, layout_type, layouts_of, len, null_count, offsets_of, optional, physical_type, place, scalar_parts, seal, slot, slot_of_value, slots_of, start_of, type_of, types_of, union_offsets_of, union_place, validity_checks, validity_of, where_valid, window_parts, window_slots, with_validity};
 
 use nest_array::{
-    AnyArray, AnyKeys, AnyScalar, Array, DictionaryArray, FixedSizeBinaryArray, FixedSizeListArray, LargeListArray, ListArray, MapArray, NullArray, ScalarValue, StructArray, UnionArray, Window, new_scalar,
+    AnyArray, AnyKeys, AnyScalar, Array, DictionaryArray, FixedSizeBinaryArray, FixedSizeListArray,
+    LargeListArray, ListArray, MapArray, NullArray, ScalarValue, StructArray, UnionArray, Window,
+    new_scalar,
 };
 use nest_flat::any_primitive::Native;
 use nest_memory::bitmap::immutable::Bitmap;

@@ -91,6 +91,7 @@ fn is_null_slot(a: &AnyArray, i: usize) -> bool
         AnyArray::LargeList(x) => x.is_null(i),
         AnyArray::Struct(x) => x.is_null(i),
         AnyArray::Map(x) => x.is_null(i),
+        AnyArray::Union(x) => x.is_null(i),
         AnyArray::Dictionary(x) => is_null_value(x, i),
     }
 }
