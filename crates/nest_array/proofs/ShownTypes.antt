@@ -1,5 +1,5 @@
 -- The types of the parts of a scalar's value.
-use Rattle.std.specs.Prelude.{List as Seq, Option, Some, None}
+use Rattle.std.specs.Prelude.{Option, Some, None}
 use Rattle.std.proofs.Common.{◌≡◌, refl, ap, sym, ◌∙◌, subst}
 use Rattle.nest_memory.specs.Physical.{physical_type}
 use Rattle.nest_memory.specs.TypeTree as types

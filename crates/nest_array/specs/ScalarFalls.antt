@@ -1,5 +1,5 @@
 -- The parts of a scalar are smaller than it.
-use Rattle.std.specs.Prelude.{ℕ, ◌+◌, ◌≤◌, List as Seq, [], ◌∷◌}
+use Rattle.std.specs.Prelude.{◌+◌, ◌≤◌, List as Seq, [], ◌∷◌}
 use Rattle.std.proofs.Common.{arith}
 use denote.Param.Weighed.{most}
 use Rattle.nest_array.specs.declared.scalar.AnyScalar.TheDeep.{deep-ScalarValue}

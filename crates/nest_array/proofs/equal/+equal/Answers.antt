@@ -1,5 +1,4 @@
-use Rattle.std.specs.Prelude.{◌⊎◌}
-use Rattle.std.proofs.Common.{◌≡◌, ◌+◌, inl, inr, length, refl, sym, ap, ◌∙◌, subst, arith}
+use Rattle.std.proofs.Common.{◌+◌, refl, sym, ap, ◌∙◌, subst, arith}
 use Rattle.nest_memory.specs.TypeTree.{logical_type}
 use Rattle.nest_model.specs.Accessors.{child_of, child_at, children_of}
 use Rattle.nest_model.specs.Layout.{layout_type}
@@ -276,5 +275,6 @@ keyed::is_same_keyed-same_run-requires t c =
       ),
     )
 
-pub keyed::is_same_keyed-returns-then-is_null-clause-told : goal.keyed::is_same_keyed-returns-then-is_null-clause-told
-keyed::is_same_keyed-returns-then-is_null-clause-told t c = null-told _ _ _ _ c.tell.ensures c.is_null_value.ensures
+pub keyed::is_same_keyed-returns-else-is_null_value-clause-told : goal.keyed::is_same_keyed-returns-else-is_null_value-clause-told
+keyed::is_same_keyed-returns-else-is_null_value-clause-told t c =
+    null-told _ _ _ _ c.tell.ensures c.is_null_value.ensures

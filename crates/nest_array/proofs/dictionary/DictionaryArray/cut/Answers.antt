@@ -1,4 +1,4 @@
-use Rattle.std.proofs.Common.{◌≡◌, ◌+◌, ◌≤◌, ap, sym, subst, arith}
+use Rattle.std.proofs.Common.{ap, sym, subst, arith}
 use Rattle.nest_memory.specs.TypeOf.{type_of}
 use Rattle.nest_model.specs.Array.{TopFits}
 use Rattle.nest_model.specs.FitsLaws.{top-fits-cut}

@@ -1,5 +1,4 @@
-use Rattle.std.specs.Prelude.{Some}
-use Rattle.std.proofs.Common.{◌≡◌, ◌+◌, ◌≤◌, ◌<◌, true, false, length, ap, sym, subst, ◌∙◌, arith}
+use Rattle.std.proofs.Common.{◌≡◌, ◌<◌, true, false, length, ap, sym, subst, ◌∙◌, arith}
 use Rattle.nest_memory.specs.TypeOf.{type_of}
 use Rattle.nest_memory.specs.TypeTree.{item_type}
 use Rattle.nest_model.specs.Slot as slots

@@ -1,4 +1,4 @@
-use Rattle.std.proofs.Common.{◌≡◌, ℕ, ◌+◌, ◌*◌, ◌↔◌, drop}
+use Rattle.std.proofs.Common.{◌≡◌, ◌+◌, ◌*◌, ◌↔◌, drop}
 use Rattle.nest_model.specs.Slot.{node_count, count_within}
 use Rattle.nest_array.specs.ScalarParts.{slots_in}
 use Rattle.nest_array.proofs.scalar.equality.+same.Given as goal

@@ -1,4 +1,4 @@
-use Rattle.std.proofs.Common.{◌≡◌, ◌+◌, ◌≤◌, ◌<◌, length, ap, sym, ◌∙◌, arith}
+use Rattle.std.proofs.Common.{◌≡◌, ◌+◌, ◌<◌, length, ap, sym, ◌∙◌, arith}
 use Rattle.nest_model.specs.LayoutCode.{weight, weight_all}
 use Rattle.nest_model.specs.Meaning.{len}
 use Rattle.nest_model.specs.Slot as slots
@@ -7,7 +7,7 @@ use Rattle.nest_array.proofs.Children.{covers-at, weight-at}
 use Rattle.nest_array.proofs.Keyed.{keyed-place}
 use Rattle.nest_array.proofs.KeyedScalars.{keyed-value}
 use Rattle.nest_array.proofs.SameRows.{struct-known, children-cover, record-shown}
-use Rattle.nest_array.proofs.Scalars.{made-slots, made-types, fields-typed, pick-spells}
+use Rattle.nest_array.proofs.Scalars.{made-slots, made-types, fields-typed}
 use Rattle.nest_array.proofs.scalar.new.+new_scalar.Goals as goal
 
 pub record_at-scalars_at-requires : goal.record_at-scalars_at-requires
