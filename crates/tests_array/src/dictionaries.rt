@@ -6,6 +6,7 @@ mod refusals;
 mod scalars;
 mod widths;
 
+use crate::arrays::memory::unless_refused;
 use crate::arrays::{both, buffer, validity};
 use nest_array::any::clone;
 use nest_array::{AnyArray, AnyKeys, DictionaryArray, DictionaryKey};
@@ -13,7 +14,7 @@ use nest_flat::primitive::PrimitiveArray;
 use nest_flat::utf8::mutable::MutableUtf8Array;
 use nest_memory::datatypes::DataType;
 use nest_memory::error::{Error, Spec};
-use std::alloc::{AllocError, Global};
+use std::alloc::Global;
 use std::process::Abort;
 
 /// Texts, `None` a null.
@@ -254,17 +255,6 @@ fn copies_and_shared_arrays(rt: HostRuntime) {
     drop(shared);
 }
 
-/// What a call gave, or `None` where memory was refused; nothing else may be.
-fn unless_refused<T>(rt: &impl Abort, outcome: Result<T, Error>) -> Option<T> {
-    match outcome {
-        Ok(value) => Some(value),
-        Err(error) => {
-            assert_eq!(rt; error, Error::Memory(AllocError));
-            None
-        }
-    }
-}
-
 // The test passes whichever request for memory is refused.
 #[test]
 fn refused_memory(rt: HostRuntime) {
@@ -277,6 +267,12 @@ fn refused_memory(rt: HostRuntime) {
     }
     assert_eq!(rt; array.len(), 4);
     assert_eq!(rt; array.null_count(), 1);
+    if array.in_range(0) {
+        if let Some(scalar) = unless_refused(&rt, array.value(rt.alloc(), 0)) {
+            assert!(rt; scalar.is_valid());
+            drop(scalar);
+        }
+    }
     if let Some(shared) = unless_refused(&rt, array.arced(rt.alloc())) {
         assert_eq!(rt; shared.len(), 4);
         drop(shared);

@@ -30,7 +30,7 @@
 //! | Windows over arrays and in windows | `arrays::windows::windows_in_windows`, `arrays::reads::lists_of_other_kinds_lend_their_items` |
 //! | What a slot of each kind holds as a scalar, a null among them | `scalars::whole_numbers`, `scalars::wide_numbers_and_spans`, `scalars::nulls`, `scalars::truths_texts_and_bytes`, `scalars::lists_of_each_kind`, `scalars::records` |
 //! | Scalars are equal by data type and slot, whatever the offsets, and whatever lies under a null | `scalars::equality` |
-//! | A scalar for which memory is refused leaves its array | `scalars::memory::refused_memory` |
+//! | Copies, values and scalars for which memory is refused leave their array, of lists, records, maps, unions and dictionaries | `scalars::memory::refused_memory`, `arrays::memory::refused_memory`, `maps::memory`, `unions::refused_memory`, `dictionaries::refused_memory` |
 //! | Comparisons that are told: of natives by blocks of 16 and a rest (0, 1, 15, 16, 17, 33 values; the last or the first differs) | `counts::native_values_by_blocks_and_a_rest`, `counts::last_value_of_blocks_and_of_a_rest`, `counts::first_value_of_a_block` |
 //! | Of lists at other offsets 9, of lists of lists 19, of records with a null 10, of pairs 9, of nulls one each | `counts::lists_at_other_offsets`, `counts::each_node_of_lists_of_lists`, `counts::records_but_not_under_a_null`, `counts::pairs_and_their_items`, `counts::each_null` |
 //! | Other lengths over the same items are told apart, items under a null are not | `counts::lists_of_other_lengths_over_the_same_items`, `counts::items_under_a_null_of_the_child` |
