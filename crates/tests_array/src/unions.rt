@@ -250,6 +250,7 @@ fn dense_slots_are_there(rt: HostRuntime) {
         NO_SLOT
     );
     let array = single(alloc, None, &[0, 0], &[8, 7], Some(&[1, 0])).expect(&rt, "two picks");
+    assert_eq!(rt; array.len(), 2);
     assert_eq!(rt; number_at(&array, 0), Some(7));
     let cut = array.sliced(1, 1);
     assert_eq!(rt; number_at(&cut, 0), Some(8));
