@@ -121,8 +121,8 @@ fn expect_texts(
     let mut text = String::new(alloc);
     let done = spell(&array, &mut text);
     drop(array);
-    assert_eq!(rt; done, Ok(()));
-    assert_eq!(rt; text.as_str(), expected);
+    assert!(rt; done == Ok(()));
+    assert!(rt; text.as_str() == expected);
 }
 
 #[test]
@@ -137,15 +137,15 @@ fn keys_are_followed(rt: HostRuntime) {
 #[test]
 fn parts_are_shown(rt: HostRuntime) {
     let array = four_texts(rt.alloc()).expect(&rt, "four texts");
-    assert_eq!(rt; array.len(), 4);
-    assert_eq!(rt; array.null_count(), 1);
-    assert_eq!(rt; array.keys().len(), 4);
+    assert!(rt; array.len() == 4);
+    assert!(rt; array.null_count() == 1);
+    assert!(rt; array.keys().len() == 4);
     assert!(rt; !array.keys().is_empty());
-    assert_eq!(rt; array.keys().key_type(), i32::KEY_TYPE);
+    assert!(rt; array.keys().key_type() == i32::KEY_TYPE);
     assert!(rt; *array.keys().data_type() == DataType::Int32);
-    assert_eq!(rt; array.keys().null_count(), 1);
+    assert!(rt; array.keys().null_count() == 1);
     assert!(rt; array.keys().validity().is_some());
-    assert_eq!(rt; array.values().len(), 3);
+    assert!(rt; array.values().len() == 3);
     assert!(rt; array.validity().is_some());
     assert!(rt; !array.is_ordered());
     assert!(rt; array.all_in_range());
@@ -155,11 +155,11 @@ fn parts_are_shown(rt: HostRuntime) {
 #[test]
 fn raw_keys_are_shown(rt: HostRuntime) {
     let array = four_texts(rt.alloc()).expect(&rt, "four texts");
-    assert_eq!(rt; array.len(), 4);
+    assert!(rt; array.len() == 4);
     assert!(rt; array.in_range(3));
-    assert_eq!(rt; array.key_value(3), 2);
+    assert!(rt; array.key_value(3) == 2);
     assert!(rt; array.in_range(2));
-    assert_eq!(rt; array.key_value(2), 0);
+    assert!(rt; array.key_value(2) == 0);
     assert!(rt; array.is_null(2));
     assert!(rt; !array.is_null(3));
     drop(array);
@@ -168,13 +168,13 @@ fn raw_keys_are_shown(rt: HostRuntime) {
 #[test]
 fn cuts_keep_the_values(rt: HostRuntime) {
     let array = four_texts(rt.alloc()).expect(&rt, "four texts");
-    assert_eq!(rt; array.len(), 4);
+    assert!(rt; array.len() == 4);
     let mut cut = array.sliced(1, 3);
-    assert_eq!(rt; cut.len(), 3);
+    assert!(rt; cut.len() == 3);
     cut.slice(1, 2);
-    assert_eq!(rt; cut.len(), 2);
-    assert_eq!(rt; cut.null_count(), 1);
-    assert_eq!(rt; cut.values().len(), 3);
+    assert!(rt; cut.len() == 2);
+    assert!(rt; cut.null_count() == 1);
+    assert!(rt; cut.values().len() == 3);
     expect_texts(&rt, rt.alloc(), Ok(cut), " null C");
 }
 
@@ -183,14 +183,14 @@ fn null_keys_may_be_any_raw_keys(rt: HostRuntime) {
     let alloc = rt.alloc();
     let nulls = Some([false, false].as_slice());
     let mut array = texts_by(alloc, &[9, 9], nulls, &[Some("x")]).expect(&rt, "two nulls");
-    assert_eq!(rt; array.len(), 2);
+    assert!(rt; array.len() == 2);
     assert!(rt; !array.in_range(0));
     assert!(rt; !array.all_in_range());
     let refused = Err(Error::OutOfSpec(Spec::KeyRange));
-    assert_eq!(rt; array.set_validity(None), refused);
-    assert_eq!(rt; array.null_count(), 2);
+    assert!(rt; array.set_validity(None) == refused);
+    assert!(rt; array.null_count() == 2);
     let cut = array.sliced(1, 1);
-    assert_eq!(rt; cut.len(), 1);
+    assert!(rt; cut.len() == 1);
     assert!(rt; cut.is_null(0));
     assert!(rt; !cut.in_range(0));
     drop(cut);
@@ -213,15 +213,15 @@ fn validities_under_which_keys_name_values(rt: HostRuntime) {
     let array = texts_by(alloc, &[0, 9], nulls, &[Some("x")]).expect(&rt, "two nulls");
     let bits = validity(alloc, Some(&[false, true])).expect(&rt, "two bits");
     let (array, refused) = kept(array.with_validity(bits));
-    assert_eq!(rt; refused, Some(Error::OutOfSpec(Spec::KeyRange)));
-    assert_eq!(rt; array.null_count(), 2);
+    assert!(rt; refused == Some(Error::OutOfSpec(Spec::KeyRange)));
+    assert!(rt; array.null_count() == 2);
     let bits = validity(alloc, Some(&[true])).expect(&rt, "a bit");
     let (array, refused) = kept(array.with_validity(bits));
-    assert_eq!(rt; refused, Some(Error::OutOfSpec(Spec::ValidityLength)));
-    assert_eq!(rt; array.null_count(), 2);
+    assert!(rt; refused == Some(Error::OutOfSpec(Spec::ValidityLength)));
+    assert!(rt; array.null_count() == 2);
     let bits = validity(alloc, Some(&[true, false])).expect(&rt, "two bits");
     let (array, refused) = kept(array.with_validity(bits));
-    assert_eq!(rt; refused, None);
+    assert!(rt; refused == None);
     expect_texts(&rt, alloc, Ok(array), " x null");
 }
 
@@ -232,10 +232,10 @@ fn new_validities_in_place(rt: HostRuntime) {
     let mut any = array.boxed();
     let bits = validity(alloc, Some(&[false, true])).expect(&rt, "two bits");
     let refused = Err(Error::OutOfSpec(Spec::ValidityLength));
-    assert_eq!(rt; any.set_validity(bits), refused);
-    assert_eq!(rt; any.null_count(), 1);
-    assert_eq!(rt; any.set_validity(None), Ok(()));
-    assert_eq!(rt; any.null_count(), 0);
+    assert!(rt; any.set_validity(bits) == refused);
+    assert!(rt; any.null_count() == 1);
+    assert!(rt; any.set_validity(None) == Ok(()));
+    assert!(rt; any.null_count() == 0);
     drop(any);
 }
 
@@ -251,7 +251,7 @@ fn copies_and_shared_arrays(rt: HostRuntime) {
     drop(other);
     drop(any);
     let shared = copy.arced(alloc).expect(&rt, "a shared array");
-    assert_eq!(rt; shared.len(), 4);
+    assert!(rt; shared.len() == 4);
     drop(shared);
 }
 
@@ -265,8 +265,8 @@ fn refused_memory(rt: HostRuntime) {
         assert!(rt; copy == array);
         drop(copy);
     }
-    assert_eq!(rt; array.len(), 4);
-    assert_eq!(rt; array.null_count(), 1);
+    assert!(rt; array.len() == 4);
+    assert!(rt; array.null_count() == 1);
     if array.in_range(0) {
         if let Some(scalar) = unless_refused(&rt, array.value(rt.alloc(), 0)) {
             assert!(rt; scalar.is_valid());
@@ -274,7 +274,7 @@ fn refused_memory(rt: HostRuntime) {
         }
     }
     if let Some(shared) = unless_refused(&rt, array.arced(rt.alloc())) {
-        assert_eq!(rt; shared.len(), 4);
+        assert!(rt; shared.len() == 4);
         drop(shared);
     }
 }

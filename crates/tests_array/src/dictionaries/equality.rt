@@ -31,10 +31,10 @@ fn other_keys_of_the_same_values(rt: HostRuntime) {
     let alloc = rt.alloc();
     let x = texts_by(alloc, &[0, 1, 0], None, &[Some("a"), Some("b")]);
     let y = texts_by(alloc, &[1, 0], None, &[Some("a"), Some("b"), Some("a")]);
-    assert_eq!(rt; are_same(cut(x, 1, 2), y), Ok(true));
+    assert!(rt; are_same(cut(x, 1, 2), y) == Ok(true));
     let x = texts_by(alloc, &[0, 1], None, &[Some("a"), Some("b")]);
     let y = texts_by(alloc, &[1, 0], None, &[Some("a"), Some("b")]);
-    assert_eq!(rt; are_same(x, y), Ok(false));
+    assert!(rt; are_same(x, y) == Ok(false));
 }
 
 #[test]
@@ -42,8 +42,8 @@ fn a_null_key_and_a_null_value(rt: HostRuntime) {
     let alloc = rt.alloc();
     let by_key = texts_by(alloc, &[0], Some(&[false]), &[Some("x")]).expect(&rt, "a null key");
     let by_value = texts_by(alloc, &[0], None, &[None]).expect(&rt, "a null value");
-    assert_eq!(rt; by_key.len(), 1);
-    assert_eq!(rt; by_value.len(), 1);
+    assert!(rt; by_key.len() == 1);
+    assert!(rt; by_value.len() == 1);
     assert!(rt; by_key.is_null(0));
     assert!(rt; !by_value.is_null(0));
     assert!(rt; by_key == by_value);
@@ -83,12 +83,12 @@ fn keys_into_keys_are_followed(rt: HostRuntime) {
     let x = by_two_keys(alloc, &[0, 0, 1], None, values);
     let values = inner(alloc, &[0, 1], None, &[Some("y"), Some("x")]);
     let y = by_two_keys(alloc, &[1, 1, 0], None, values);
-    assert_eq!(rt; are_same(x, y), Ok(true));
+    assert!(rt; are_same(x, y) == Ok(true));
     let values = inner(alloc, &[0, 1], None, &[Some("x"), Some("y")]);
     let x = by_two_keys(alloc, &[0, 1], None, values);
     let values = inner(alloc, &[0, 0], None, &[Some("x"), Some("y")]);
     let y = by_two_keys(alloc, &[0, 1], None, values);
-    assert_eq!(rt; are_same(x, y), Ok(false));
+    assert!(rt; are_same(x, y) == Ok(false));
 }
 
 /// A null by the outer key.
@@ -111,19 +111,13 @@ fn text_inside(alloc: Global, text: Option<&str>) -> Result<DictionaryArray, Err
 #[test]
 fn nulls_by_each_key_and_by_the_value(rt: HostRuntime) {
     let alloc = rt.alloc();
-    assert_eq!(rt; are_same(null_outside(alloc), null_inside(alloc)), Ok(true));
-    assert_eq!(rt;
-        are_same(null_inside(alloc), text_inside(alloc, None)),
-        Ok(true)
-    );
-    assert_eq!(rt;
-        are_same(text_inside(alloc, None), null_outside(alloc)),
-        Ok(true)
-    );
+    assert!(rt; are_same(null_outside(alloc), null_inside(alloc)) == Ok(true));
+    assert!(rt; are_same(null_inside(alloc), text_inside(alloc, None)) == Ok(true));
+    assert!(rt; are_same(text_inside(alloc, None), null_outside(alloc)) == Ok(true));
     let text = text_inside(alloc, Some("x"));
-    assert_eq!(rt; are_same(null_outside(alloc), text), Ok(false));
+    assert!(rt; are_same(null_outside(alloc), text) == Ok(false));
     let text = text_inside(alloc, Some("x"));
-    assert_eq!(rt; are_same(text, null_inside(alloc)), Ok(false));
+    assert!(rt; are_same(text, null_inside(alloc)) == Ok(false));
 }
 
 /// A type of the user's over texts.
@@ -166,5 +160,5 @@ fn values_are_told_by_their_logical_type(rt: HostRuntime) {
     let alloc = rt.alloc();
     let x = as_texts(alloc, texts(alloc, &[Some("x")]));
     let y = as_texts(alloc, x_under(alloc, named_texts(alloc)));
-    assert_eq!(rt; are_same(x, y), Ok(true));
+    assert!(rt; are_same(x, y) == Ok(true));
 }

@@ -26,41 +26,29 @@ fn named(
 #[test]
 fn slots_are_values_or_null(rt: HostRuntime) {
     let alloc = rt.alloc();
-    assert_eq!(rt; slot(alloc, four_texts(alloc), 0).as_str(), "'A'");
-    assert_eq!(rt; slot(alloc, four_texts(alloc), 2).as_str(), "null");
-    assert_eq!(rt; slot(alloc, four_texts(alloc), 3).as_str(), "'C'");
+    assert!(rt; slot(alloc, four_texts(alloc), 0).as_str() == "'A'");
+    assert!(rt; slot(alloc, four_texts(alloc), 2).as_str() == "null");
+    assert!(rt; slot(alloc, four_texts(alloc), 3).as_str() == "'C'");
     let by_value = texts_by(alloc, &[1, 0], None, &[Some("x"), None]);
-    assert_eq!(rt; slot(alloc, by_value, 0).as_str(), "null");
+    assert!(rt; slot(alloc, by_value, 0).as_str() == "null");
 }
 
 #[test]
 fn slots_behind_two_keys(rt: HostRuntime) {
     let alloc = rt.alloc();
     let values = inner(alloc, &[1, 0], None, &[Some("x"), Some("y")]);
-    assert_eq!(rt;
-        slot(alloc, by_two_keys(alloc, &[0, 1], None, values), 1).as_str(),
-        "'x'"
-    );
+    assert!(rt; slot(alloc, by_two_keys(alloc, &[0, 1], None, values), 1).as_str() == "'x'");
     let values = inner(alloc, &[0], Some(&[false]), &[Some("x")]);
-    assert_eq!(rt;
-        slot(alloc, by_two_keys(alloc, &[0], None, values), 0).as_str(),
-        "null"
-    );
+    assert!(rt; slot(alloc, by_two_keys(alloc, &[0], None, values), 0).as_str() == "null");
 }
 
 #[test]
 fn values_at_raw_keys_also_under_nulls(rt: HostRuntime) {
     let alloc = rt.alloc();
-    assert_eq!(rt;
-        spelled(alloc, named(alloc, four_texts(alloc), 1)).as_str(),
-        "'B'"
-    );
-    assert_eq!(rt;
-        spelled(alloc, named(alloc, four_texts(alloc), 2)).as_str(),
-        "'A'"
-    );
+    assert!(rt; spelled(alloc, named(alloc, four_texts(alloc), 1)).as_str() == "'B'");
+    assert!(rt; spelled(alloc, named(alloc, four_texts(alloc), 2)).as_str() == "'A'");
     let by_value = texts_by(alloc, &[1], None, &[Some("x"), None]);
-    assert_eq!(rt; spelled(alloc, named(alloc, by_value, 0)).as_str(), "null");
+    assert!(rt; spelled(alloc, named(alloc, by_value, 0)).as_str() == "null");
 }
 
 /// Whether the scalar of the first slot has the array's type, and the value that its key names that of texts.
@@ -94,5 +82,5 @@ fn slots_and_values_have_their_own_types(rt: HostRuntime) {
     let array = four_texts(rt.alloc()).expect(&rt, "four texts");
     let answer = have_their_types(rt.alloc(), &array);
     drop(array);
-    assert_eq!(rt; answer, Ok(true));
+    assert!(rt; answer == Ok(true));
 }

@@ -63,9 +63,9 @@ fn unsigned_keys_name_values(rt: HostRuntime) {
 
 /// The largest place that a key of this type names, and whether the next one has no key.
 fn expect_largest<K: DictionaryKey>(rt: &impl Abort, largest: usize, signed: bool) {
-    assert_eq!(rt; K::always_fits_usize(), !signed);
+    assert!(rt; K::always_fits_usize() == !signed);
     let index = K::from_index(largest).and_then(|key| key.to_index());
-    assert_eq!(rt; index, Some(largest));
+    assert!(rt; index == Some(largest));
     if largest < usize::MAX {
         assert!(rt; K::from_index(largest + 1).is_none());
     }
@@ -85,10 +85,10 @@ fn the_largest_key_of_each_width(rt: HostRuntime) {
 
 #[test]
 fn negative_keys_name_nothing(rt: HostRuntime) {
-    assert_eq!(rt; (-1i8).to_index(), None);
-    assert_eq!(rt; (-1i16).to_index(), None);
-    assert_eq!(rt; (-1i32).to_index(), None);
-    assert_eq!(rt; (-1i64).to_index(), None);
-    assert_eq!(rt; 5i32.as_usize(), 5);
-    assert_eq!(rt; 5u64.as_usize(), 5);
+    assert!(rt; (-1i8).to_index() == None);
+    assert!(rt; (-1i16).to_index() == None);
+    assert!(rt; (-1i32).to_index() == None);
+    assert!(rt; (-1i64).to_index() == None);
+    assert!(rt; 5i32.as_usize() == 5);
+    assert!(rt; 5u64.as_usize() == 5);
 }
