@@ -11,6 +11,7 @@ use nest_flat::any_primitive::AnyPrimitive;
 use nest_flat::utf8::Utf8Array;
 use nest_memory::buffer::Buffer;
 use nest_memory::datatypes::field::Field;
+use nest_memory::datatypes::physical_type::PhysicalType;
 use nest_memory::datatypes::{DataType, UnionMode};
 use nest_memory::error::{Argument, Error, Spec};
 use std::alloc::Global;
@@ -149,6 +150,26 @@ pub(crate) fn in_turn(alloc: Global) -> Result<UnionArray, Error> {
     mixed(alloc, None, &[0, 1, 0, 1], &[10, 11, 12, 13], texts)
 }
 
+/// The n slots of an array from place o; a refusal where it hasn't them.
+fn cut(array: Result<UnionArray, Error>, o: usize, n: usize) -> Result<UnionArray, Error> {
+    match array {
+        Ok(array) => {
+            let len = array.len();
+            if o > len || n > len - o {
+                drop(array);
+                return Err(Error::Overflow);
+            }
+            Ok(array.sliced(o, n))
+        }
+        Err(error) => Err(error),
+    }
+}
+
+/// The second and the third of four picks.
+fn middle(alloc: Global) -> Result<UnionArray, Error> {
+    cut(in_turn(alloc), 1, 2)
+}
+
 /// What slot i picks: a field, and a slot of it.
 fn pick(array: &UnionArray, i: usize) -> Option<(usize, usize)> {
     if i < array.len() {
@@ -227,8 +248,7 @@ fn ids_out_of_range(rt: HostRuntime) {
 
 #[test]
 fn a_cut_begins_at_its_place(rt: HostRuntime) {
-    let array = in_turn(rt.alloc()).expect(&rt, "four picks");
-    let cut = array.sliced(1, 2);
+    let cut = middle(rt.alloc()).expect(&rt, "two picks");
     assert!(rt; cut.len() == 2);
     assert!(rt; pick(&cut, 0) == Some((1, 1)));
     assert!(rt; is_text_at(&cut, 0, "b"));
@@ -392,8 +412,8 @@ fn unions_of_unions(rt: HostRuntime) {
     let alloc = rt.alloc();
     assert!(rt; are_same(nested(alloc, &[0, 1]), nested(alloc, &[0, 1])) == Ok(true));
     assert!(rt; are_same(nested(alloc, &[0, 1]), nested(alloc, &[0, 0])) == Ok(false));
-    let cut = nested(alloc, &[0, 1]).map(|array| array.sliced(1, 1));
-    assert!(rt; are_same(cut, nested(alloc, &[1, 1]).map(|array| array.sliced(1, 1))) == Ok(true));
+    let last = cut(nested(alloc, &[0, 1]), 1, 1);
+    assert!(rt; are_same(last, cut(nested(alloc, &[1, 1]), 1, 1)) == Ok(true));
 }
 
 /// Whether a call gave an array that is equal; it is let go.
@@ -418,6 +438,7 @@ fn copies_with_memory(rt: HostRuntime) {
     assert!(rt; any.null_count() == 0);
     assert!(rt; any.validity().is_none());
     drop(any);
+    assert!(rt; array.len() == 4);
     let cut = Array::sliced(&array, alloc, 1, 2).expect(&rt, "a cut");
     assert!(rt; cut.len() == 2);
     assert!(rt; !cut.is_null(0));
@@ -465,12 +486,16 @@ fn a_union_takes_no_validity(rt: HostRuntime) {
 fn what_a_type_tells(rt: HostRuntime) {
     let alloc = rt.alloc();
     let array = in_turn(alloc).expect(&rt, "four picks");
-    assert!(rt; UnionArray::is_sparse(array.data_type()));
-    assert!(rt; UnionArray::get_fields(array.data_type()).len() == 2);
+    let data_type = array.data_type();
+    assert!(rt; data_type.to_physical_type() == PhysicalType::Union);
+    assert!(rt; UnionArray::is_sparse(data_type));
+    assert!(rt; UnionArray::get_fields(data_type).len() == 2);
     assert!(rt; array.types().len() == 4);
     assert!(rt; array.fields().len() == 2);
     drop(array);
     let array = single(alloc, None, &[0], &[7], Some(&[0])).expect(&rt, "a pick");
-    assert!(rt; !UnionArray::is_sparse(array.data_type()));
+    let data_type = array.data_type();
+    assert!(rt; data_type.to_physical_type() == PhysicalType::Union);
+    assert!(rt; !UnionArray::is_sparse(data_type));
     drop(array);
 }

@@ -1,5 +1,5 @@
 //! How many comparisons equality tells of picks: one for the two fields, and those of the slots that are picked.
-use super::{first_twice, in_turn, listed, sparse};
+use super::{first_twice, listed, middle, sparse};
 use crate::counts::counted;
 use nest_array::{AnyArray, UnionArray};
 use nest_memory::error::Error;
@@ -48,13 +48,8 @@ fn dense_picks_of_one_slot(rt: HostRuntime) {
     assert!(rt; counted(first, any_union(first_twice(alloc, &[7, 9], &[5]))) == Ok((true, 4)));
 }
 
-/// The second and the third of four picks.
-fn middle(alloc: Global) -> Result<AnyArray, Error> {
-    any_union(in_turn(alloc)).map(|array| array.sliced(1, 2))
-}
-
 #[test]
 fn picks_of_a_cut(rt: HostRuntime) {
     let alloc = rt.alloc();
-    assert!(rt; counted(middle(alloc), middle(alloc)) == Ok((true, 4)));
+    assert!(rt; counted(any_union(middle(alloc)), any_union(middle(alloc))) == Ok((true, 4)));
 }

@@ -1,5 +1,5 @@
 //! Scalars of unions: a pick by itself, and the scalar of what is picked.
-use super::{in_turn, sparse};
+use super::{in_turn, middle, sparse};
 use crate::arrays::are_same;
 use crate::scalars::{scalar_of, slot, spelled};
 use nest_array::{AnyScalar, UnionArray};
@@ -15,11 +15,6 @@ fn picked(alloc: Global, array: Result<UnionArray, Error>, i: usize) -> Result<A
     };
     drop(array);
     scalar
-}
-
-/// The second and the third of four picks.
-fn middle(alloc: Global) -> Result<UnionArray, Error> {
-    in_turn(alloc).map(|array| array.sliced(1, 2))
 }
 
 #[test]
