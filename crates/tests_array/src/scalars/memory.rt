@@ -22,7 +22,7 @@ fn expect_same_twice(rt: &impl Abort, alloc: Global, array: Result<AnyArray, Err
         assert!(rt; scalar.is_valid());
         drop(scalar);
     }
-    assert_eq!(rt; array.len(), n);
+    assert!(rt; array.len() == n);
     drop(array);
 }
 
