@@ -97,7 +97,7 @@ fn cuts_rows(rt: HostRuntime) -> Result<(), Fail> {
         ),
     ] {
         let out = cut(rt.alloc(), &[offset, len], input)?;
-        assert_eq!(rt; out.as_slice(), want.as_bytes(), "{offset} {len}");
+        assert!(rt; out.as_slice() == want.as_bytes(), "{offset} {len}");
     }
     Ok(())
 }
@@ -131,11 +131,8 @@ fn refuses_lines_and_ranges(rt: HostRuntime) {
         ("5", ROWS, Fault::Range),
         ("18446744073709551615", ROWS, Fault::Range),
     ] {
-        assert_eq!(rt;
-            cut(rt.alloc(), &["0", len], input).err(),
-            Some(want),
-            "{input}"
-        );
+        let fault = cut(rt.alloc(), &["0", len], input).err();
+        assert!(rt; fault == Some(want), "{input}");
     }
     assert!(rt; cut(rt.alloc(), &["3", "2"], ROWS).err() == Some(Fault::Range));
 }
