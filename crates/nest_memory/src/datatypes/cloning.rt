@@ -173,7 +173,8 @@ fn copy_fields(alloc: Global, fields: &Vec<Field>) -> Result<Vec<Field>, AllocEr
 {
     let mut copied = Vec::with_capacity(alloc, fields.len())?;
     for field in fields {
-        copied.push(copy_field(alloc, field)?)?;
+        let field = copy_field(alloc, field)?;
+        copied.push_reserved(field);
     }
     Ok(copied)
 }
