@@ -4,7 +4,6 @@ ghost use Rattle.std.specs.Iterator.{at_most, UpTo};
 ghost use Rattle.std.specs.Iterator.SizeHint.{IsWithinCount};
 ghost use Rattle.nest_flat.specs.Words.{Layout, Slot, len, slot, slots_of};
 
-use std::alloc::AllocError;
 use std::marker::Model;
 
 /// What has an item for each slot of an array.
@@ -63,23 +62,6 @@ impl<S: SlotItems> SlotsIter<S> {
             front: 0,
             back,
         }
-    }
-}
-
-/// The same slots once more. No memory is taken.
-impl<S: SlotItems> Clone for SlotsIter<S> {
-    ghost use Rattle.std.specs.Prelude.{◌≡◌, ⊤};
-
-    ghost is_clone = { λ s t. t ≡ s };
-
-    ghost is_infallible = { λ _. ⊤ };
-
-    fn clone(&self) -> Result<SlotsIter<S>, AllocError> {
-        Ok(SlotsIter {
-            source: self.source,
-            front: self.front,
-            back: self.back,
-        })
     }
 }
 

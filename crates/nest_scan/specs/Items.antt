@@ -1,7 +1,8 @@
 -- The item of a place, of each kind of array.
 use Rattle.std.specs.Prelude.{◌≡◌, ℕ, ◌*◌, List as Seq}
+use Rattle.nest_memory.specs.Cut.{cut}
 use Rattle.nest_memory.specs.TypeTree.{size_of}
-use Rattle.nest_model.specs.Accessors.{child_of, children_of, offsets_of, validity_of}
+use Rattle.nest_model.specs.Accessors.{bytes_of, child_of, children_of, offsets_of, validity_of}
 use Rattle.nest_model.specs.Cut.{cut_layout}
 use Rattle.nest_model.specs.Layout.{Layout, layout_type}
 use Rattle.nest_model.specs.Meaning.{each, slot, slots_of}
@@ -12,6 +13,11 @@ use Rattle.nest_model.specs.Slot.{seal}
 use Rattle.nest_array.specs.declared.any.AnyArray.{AnyArray}
 use Rattle.nest_array.specs.ScalarParts.{ScalarParts, IsPickOf, child_types, slots_in, types_in}
 use Rattle.nest_array.specs.Seen.{layout_of}
+
+-- Fixed-Size Primitive Layout: the bytes from i times the size on, as many as the size; they are slot i unless it is null
+pub record IsBytes (a : Layout) (i : ℕ) (x : Seq ℕ) : Type 0 where
+  pub raw : x ≡ cut (bytes_of a) (i * size_of (layout_type a)) (size_of (layout_type a))
+  pub slot_is : slot a i ≡ where_valid (validity_of a) i (slots.bytes x)
 
 -- n items of the child from o on, which are slot i unless it is null
 pub record AreItems (a : Layout) (i o n : ℕ) (x : AnyArray) : Type 0 where

@@ -9,38 +9,38 @@ use Rattle.nest_model.specs.Meaning.{len}
 use Rattle.nest_model.specs.Nullness.{is_null_at}
 
 -- so many places of an array, from one of them on
-pub record Places : Type 0 where
+pub record PlacesLeft : Type 0 where
   pub array : Layout
   pub front : ℕ
   pub count : ℕ
 
-abbrev pub coded_places : Coded Places
+abbrev pub coded_places : Coded PlacesLeft
 coded_places =
     code_by (Layout × (ℕ × ℕ)) (coded× coded_layout (coded× coded_ℕ coded_ℕ)) (λ w. (w.array, (w.front, w.count)))
     (λ p. record { array = p.0; front = p.1.0; count = p.1.1 }) (λ _. refl)
 
-abbrev pub places : Layout → ℕ → ℕ → Places
+abbrev pub places : Layout → ℕ → ℕ → PlacesLeft
 places a o n = record { array = a; front = o; count = n }
 
 -- all places of an array
-abbrev pub all_places : Layout → Places
+abbrev pub all_places : Layout → PlacesLeft
 all_places a = places a 0 (len a)
 
--- what was asked for, or want of memory
-abbrev pub OrMemory : {X : Type 0} → (X → Type 0) → Result X Error → Type 0
-OrMemory P r = MatchResult r P (λ e. e ≡ Memory alloc_error)
-
 module _ {X : Type 0} (IsItem : Layout → ℕ → X → Type 0) where
-  -- the item of the first place came, or want of memory, and the places after it are left; or none was left, and none is
-  abbrev pub GivesFirst : Places → Option (Result X Error) → Places → Type 0
+  -- the item of the first place came, and the places after it are left; or none was left, and none is
+  abbrev pub GivesFirst : PlacesLeft → Option X → PlacesLeft → Type 0
   GivesFirst s r t = MatchOption r ((s.count ≡ 0) × (t ≡ s))
-      (λ x. (0 < s.count) × OrMemory (IsItem s.array s.front) x × (t ≡ places s.array (s.front + 1) (s.count - 1)))
+      (λ x. (0 < s.count) × IsItem s.array s.front x × (t ≡ places s.array (s.front + 1) (s.count - 1)))
 
-  -- the same of the last place and those before it
-  abbrev pub GivesLast : Places → Option (Result X Error) → Places → Type 0
+  -- the item of the last place came, and the places before it are left; or none was left, and none is
+  abbrev pub GivesLast : PlacesLeft → Option X → PlacesLeft → Type 0
   GivesLast s r t = MatchOption r ((s.count ≡ 0) × (t ≡ s))
-      (λ x. (0 < s.count) × OrMemory (IsItem s.array (s.front + (s.count - 1))) x × (t ≡ places s.array s.front (s.count - 1)))
+      (λ x. (0 < s.count) × IsItem s.array (s.front + (s.count - 1)) x × (t ≡ places s.array s.front (s.count - 1)))
 
-  -- None exactly where the place is null, else its item
+  -- the item, or want of memory
+  abbrev pub IsItemOrMemory : Layout → ℕ → Result X Error → Type 0
+  IsItemOrMemory a i r = MatchResult r (IsItem a i) (λ e. e ≡ Memory alloc_error)
+
+  -- None exactly where the place is null, else the item
   abbrev pub IsItemOrNull : Layout → ℕ → Option X → Type 0
   IsItemOrNull a i r = MatchOption r (is_null_at a i ≡ true) (λ x. (is_null_at a i ≡ false) × IsItem a i x)

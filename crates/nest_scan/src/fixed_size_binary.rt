@@ -1,87 +1,84 @@
 //! The byte strings of one size of an array, from both ends. They take no memory.
-ghost use Rattle.std.specs.Prelude.{◌≡◌, None};
-ghost use Rattle.nest_flat.specs.Words.{slots_of, with_validity};
-ghost use Rattle.nest_model.specs.Slot as slots;
+ghost use Rattle.std.specs.Prelude.{◌≡◌};
+ghost use Rattle.nest_scan.specs.Places.{all_places};
 
+use crate::places::{BothEnds, Places, PlacesIter};
 use crate::scan::{Scan, ScanValues};
 use nest_array::FixedSizeBinaryArray;
-use nest_flat::flat_array::{Slots, Values};
-use nest_flat::iterator::{SlotItems, SlotsIter};
 use std::alloc::Global;
 
-/// The bytes of each slot, `None` where it is null.
-pub type FixedSizeBinaryIter<'a> = SlotsIter<FixedSizeBinarySlots<'a>>;
-
 /// The bytes of each slot, which mean nothing where it is null.
-pub type FixedSizeBinaryValuesIter<'a> = SlotsIter<FixedSizeBinaryBytes<'a>>;
+pub type FixedSizeBinaryValuesIter<'a> = PlacesIter<&'a FixedSizeBinaryArray>;
 
-// Types of their own, since no proof covers an iterator over `Slots` whose values are references.
+/// The bytes of each slot, `None` where it is null.
+pub type FixedSizeBinaryIter<'a> = PlacesIter<BytesOrNull<'a>>;
 
-/// The slots of an array of byte strings of one size, `None` where one is null.
-#[derive(Clone, Copy)]
-pub struct FixedSizeBinarySlots<'a>(pub &'a FixedSizeBinaryArray);
-
-impl<'a> SlotItems for FixedSizeBinarySlots<'a> {
-    type Item = Option<&'a [u8]>;
-
-    ghost use Rattle.nest_flat.specs.FlatParts.{optional};
-    ghost use Rattle.nest_model.specs.Slot as slots;
-
-    ghost array = { λ s. s.0.now };
-
-    ghost slot_of_item = { optional (λ x. slots.bytes x.now) };
-
-    fn count(&self) -> usize {
-        Slots(self.0).count()
-    }
-
-    fn item(&self, i: usize) -> Option<&'a [u8]> {
-        Slots(self.0).item(i)
-    }
-}
-
-/// The bytes of all slots of such an array, also under nulls.
-#[derive(Clone, Copy)]
-pub struct FixedSizeBinaryBytes<'a>(pub &'a FixedSizeBinaryArray);
-
-impl<'a> SlotItems for FixedSizeBinaryBytes<'a> {
+impl<'a> Places for &'a FixedSizeBinaryArray {
     type Item = &'a [u8];
 
-    ghost use Rattle.std.specs.Prelude.{None};
-    ghost use Rattle.nest_model.specs.Accessors.{with_validity};
-    ghost use Rattle.nest_model.specs.Slot as slots;
+    ghost array = { λ s. s.now };
 
-    ghost array = { λ s. with_validity s.0.now None };
+    ghost use Rattle.nest_scan.specs.Items.{IsBytes};
 
-    ghost slot_of_item = { λ x. slots.bytes x.now };
+    ghost IsItem = { λ a i x. IsBytes a i x.now };
 
     fn count(&self) -> usize {
-        Values(self.0).count()
+        self.len()
     }
 
     fn item(&self, i: usize) -> &'a [u8] {
-        Values(self.0).item(i)
+        self.value(i)
     }
 }
+
+impl<'a> BothEnds for &'a FixedSizeBinaryArray {}
+
+/// The bytes of an array's slots, `None` where one is null.
+#[derive(Clone, Copy)]
+pub struct BytesOrNull<'a>(pub &'a FixedSizeBinaryArray);
+
+impl<'a> Places for BytesOrNull<'a> {
+    type Item = Option<&'a [u8]>;
+
+    ghost array = { λ s. s.0.now };
+
+    ghost use Rattle.nest_scan.specs.Items.{IsBytes};
+    ghost use Rattle.nest_scan.specs.Places.{IsItemOrNull};
+
+    ghost IsItem = { IsItemOrNull (λ a i x. IsBytes a i x.now) };
+
+    fn count(&self) -> usize {
+        self.0.len()
+    }
+
+    fn item(&self, i: usize) -> Option<&'a [u8]> {
+        if self.0.is_null(i) {
+            return None;
+        }
+        Some(self.0.value(i))
+    }
+}
+
+impl<'a> BothEnds for BytesOrNull<'a> {}
 
 impl<'a> Scan for &'a FixedSizeBinaryArray {
     type Iter = FixedSizeBinaryIter<'a>;
 
-    ghost Scans = { λ a it. it ≡ slots_of a.now };
+    ghost Scans = { λ a it. it ≡ all_places a.now };
 
     fn iter(self, alloc: Global) -> FixedSizeBinaryIter<'a> {
         let _ = alloc;
-        SlotsIter::new(FixedSizeBinarySlots(self))
+        PlacesIter::of(BytesOrNull(self))
     }
 }
 
 impl<'a> ScanValues for &'a FixedSizeBinaryArray {
     type ValuesIter = FixedSizeBinaryValuesIter<'a>;
 
-    ghost ScansValues = { λ a it. it ≡ slots_of (with_validity a.now None) };
+    ghost ScansValues = { λ a it. it ≡ all_places a.now };
 
     fn values_iter(self, alloc: Global) -> FixedSizeBinaryValuesIter<'a> {
         let _ = alloc;
-        SlotsIter::new(FixedSizeBinaryBytes(self))
+        PlacesIter::of(self)
     }
 }

@@ -1,16 +1,17 @@
 //! The lists of one size of an array, from both ends.
-use crate::places::{BothEnds, NullPlaces, OrNull, PlaceItems, PlacesIter};
+use crate::places::{BothEnds, PlacesIter};
+use crate::tried::{NullPlaces, OrNull, Tried, TryPlaces};
 use nest_array::{AnyArray, FixedSizeListArray};
 use nest_memory::error::Error;
 use std::alloc::Global;
 
 /// The items of each list, also under a null: arrow2's `FixedSizeListValuesIter`.
-pub type FixedSizeListValuesIter<'a> = PlacesIter<&'a FixedSizeListArray>;
+pub type FixedSizeListValuesIter<'a> = PlacesIter<Tried<&'a FixedSizeListArray>>;
 
 /// The items of each list, `None` where it is null.
-pub type FixedSizeListIter<'a> = PlacesIter<OrNull<&'a FixedSizeListArray>>;
+pub type FixedSizeListIter<'a> = PlacesIter<Tried<OrNull<&'a FixedSizeListArray>>>;
 
-impl<'a> PlaceItems for &'a FixedSizeListArray {
+impl<'a> TryPlaces for &'a FixedSizeListArray {
     type Item = AnyArray;
 
     ghost array = { λ s. s.now };

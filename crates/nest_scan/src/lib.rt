@@ -8,13 +8,15 @@ pub mod map;
 pub mod places;
 pub mod scan;
 pub mod struct_;
+pub mod tried;
 pub mod union;
 
 pub use fixed_size_binary::{FixedSizeBinaryIter, FixedSizeBinaryValuesIter};
 pub use fixed_size_list::{FixedSizeListIter, FixedSizeListValuesIter};
 pub use list::{ListIter, ListValuesIter};
 pub use map::{MapIter, MapValuesIter};
-pub use places::{BothEnds, NullPlaces, OrNull, PlaceItems, PlacesIter};
+pub use places::{BothEnds, Places, PlacesIter};
 pub use scan::{Scan, ScanValues};
 pub use struct_::{StructIter, StructValueIter};
+pub use tried::{NullPlaces, OrNull, Tried, TryPlaces};
 pub use union::UnionIter;

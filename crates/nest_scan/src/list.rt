@@ -1,16 +1,17 @@
 //! The lists of an array, from both ends.
-use crate::places::{BothEnds, NullPlaces, OrNull, PlaceItems, PlacesIter};
+use crate::places::{BothEnds, PlacesIter};
+use crate::tried::{NullPlaces, OrNull, Tried, TryPlaces};
 use nest_array::{AnyArray, LargeListArray, ListArray, ListOffset};
 use nest_memory::error::Error;
 use std::alloc::Global;
 
 /// The items of each list, also under a null: arrow2's `ListValuesIter`.
-pub type ListValuesIter<'a, O> = PlacesIter<&'a <O as ListOffset>::List>;
+pub type ListValuesIter<'a, O> = PlacesIter<Tried<&'a <O as ListOffset>::List>>;
 
 /// The items of each list, `None` where it is null.
-pub type ListIter<'a, O> = PlacesIter<OrNull<&'a <O as ListOffset>::List>>;
+pub type ListIter<'a, O> = PlacesIter<Tried<OrNull<&'a <O as ListOffset>::List>>>;
 
-impl<'a> PlaceItems for &'a ListArray {
+impl<'a> TryPlaces for &'a ListArray {
     type Item = AnyArray;
 
     ghost array = { λ s. s.now };
@@ -38,7 +39,7 @@ impl<'a> NullPlaces for &'a ListArray {
     ghost asks_nothing = { λ _. tt };
 }
 
-impl<'a> PlaceItems for &'a LargeListArray {
+impl<'a> TryPlaces for &'a LargeListArray {
     type Item = AnyArray;
 
     ghost array = { λ s. s.now };

@@ -1,16 +1,17 @@
 //! The maps of an array, from both ends.
-use crate::places::{BothEnds, NullPlaces, OrNull, PlaceItems, PlacesIter};
+use crate::places::{BothEnds, PlacesIter};
+use crate::tried::{NullPlaces, OrNull, Tried, TryPlaces};
 use nest_array::{AnyArray, MapArray};
 use nest_memory::error::Error;
 use std::alloc::Global;
 
 /// The entries of each map, also under a null: arrow2's `MapValuesIter`.
-pub type MapValuesIter<'a> = PlacesIter<&'a MapArray>;
+pub type MapValuesIter<'a> = PlacesIter<Tried<&'a MapArray>>;
 
 /// The entries of each map, `None` where it is null.
-pub type MapIter<'a> = PlacesIter<OrNull<&'a MapArray>>;
+pub type MapIter<'a> = PlacesIter<Tried<OrNull<&'a MapArray>>>;
 
-impl<'a> PlaceItems for &'a MapArray {
+impl<'a> TryPlaces for &'a MapArray {
     type Item = AnyArray;
 
     ghost array = { λ s. s.now };

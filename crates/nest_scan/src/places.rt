@@ -1,19 +1,17 @@
-//! The items of the places of an array one after another, where an item may take memory.
-ghost use Rattle.std.specs.Prelude.{◌≡◌, ℕ, ◌<◌, ◌+◌, ◌-◌, IfOk, IsOkUnless, IfSome, Some, alloc_error};
+//! The items of the places of an array one after another.
+ghost use Rattle.std.specs.Prelude.{◌≡◌, ℕ, ◌<◌, IfSome, Some};
 ghost use Rattle.std.specs.Iterator.{at_most, UpTo};
 ghost use Rattle.std.specs.Iterator.SizeHint.{IsWithinCount};
-ghost use Rattle.nest_memory.specs.declared.error.Error.TheVariants.{Memory};
 ghost use Rattle.nest_model.specs.Layout.{Layout};
 ghost use Rattle.nest_model.specs.Meaning.{len};
-ghost use Rattle.nest_model.specs.Nullness.{is_null_at};
-ghost use Rattle.nest_scan.specs.Places.{IsItemOrNull, OrMemory, all_places};
+ghost use Rattle.nest_scan.specs.Places.{all_places};
 
-use nest_memory::error::Error;
+use crate::tried::{Tried, TryPlaces};
 use std::alloc::{AllocError, Global};
 use std::marker::Model;
 
-/// A reference to an array that has an item for each of its places, for which memory may be taken.
-pub trait PlaceItems: Copy {
+/// What has an item for each place of an array.
+pub trait Places: Copy {
     type Item;
 
     /// The array.
@@ -29,90 +27,46 @@ pub trait PlaceItems: Copy {
     fn count(&self) -> usize
         ensures { result ≡ len (array self.now) };
 
-    /// The item of place i. `Memory` alone is refused.
-    fn item(&self, alloc: Global, i: usize) -> Result<Self::Item, Error>
+    /// The item of place i.
+    fn item(&self, i: usize) -> Self::Item
         requires asked { Asks (array self.now) }
         requires within { i < len (array self.now) }
-        ensures { OrMemory (IsItem (array self.now) i) result };
+        ensures { IsItem (array self.now) i result };
 }
 
-/// What is gone through from both ends.
-pub trait BothEnds: PlaceItems {}
+/// What is gone through from the back too.
+pub trait BothEnds {}
 
-/// An array with a validity, of which each place has an item, also where it is null.
-pub trait NullPlaces: BothEnds {
-    /// Whether place i is null.
-    fn is_null_place(&self, i: usize) -> bool
-        requires { i < len (Self.array self.now) }
-        ensures { result ≡ is_null_at (Self.array self.now) i };
-
-    ghost asks_nothing: { (a : Layout) → Self.Asks a };
-}
-
-/// The items of an array, `None` where a place is null.
-#[derive(Clone, Copy)]
-pub struct OrNull<A: NullPlaces>(pub A);
-
-impl<A: NullPlaces> PlaceItems for OrNull<A> {
-    type Item = Option<A::Item>;
-
-    ghost array = { λ s. A.array s.0 };
-
-    ghost Asks = { A.Asks };
-
-    ghost use Rattle.nest_scan.specs.Places.{IsItemOrNull};
-
-    ghost IsItem = { IsItemOrNull A.IsItem };
-
-    fn count(&self) -> usize {
-        self.0.count()
-    }
-
-    fn item(&self, alloc: Global, i: usize) -> Result<Option<A::Item>, Error> {
-        if self.0.is_null_place(i) {
-            return Ok(None);
-        }
-        match self.0.item(alloc, i) {
-            Ok(item) => Ok(Some(item)),
-            Err(error) => Err(error),
-        }
-    }
-}
-
-impl<A: NullPlaces> BothEnds for OrNull<A> {}
-
-/// The items of the places that are still to come. A place whose item finds no memory gives one `Err` and is passed.
+/// The items of the places that are still to come.
 #[derive(Drop)]
-pub struct PlacesIter<A: PlaceItems> {
-    alloc: Global,
-    source: A,
+pub struct PlacesIter<S: Places> {
+    source: S,
     front: usize,
     back: usize,
 }
 
-impl<A: PlaceItems> Model for PlacesIter<A> {
+impl<S: Places> Model for PlacesIter<S> {
     ghost use Rattle.std.specs.Prelude.{◌-◌, ◌≤◌};
     ghost use Rattle.nest_model.specs.Meaning.{len};
-    ghost use Rattle.nest_scan.specs.Places.{Places, coded_places, places};
+    ghost use Rattle.nest_scan.specs.Places.{PlacesLeft, coded_places, places};
 
-    ghost Value = { Places };
+    ghost Value = { PlacesLeft };
 
     ghost coded = { coded_places };
 
-    ghost view = { λ s. places (A.array s.source) s.front (s.back - s.front) };
+    ghost view = { λ s. places (S.array s.source) s.front (s.back - s.front) };
 
-    ghost invariant = { λ s. (s.front ≤ s.back) × (s.back ≤ len (A.array s.source)) × A.Asks (A.array s.source) };
+    ghost invariant = { λ s. (s.front ≤ s.back) × (s.back ≤ len (S.array s.source)) × S.Asks (S.array s.source) };
 }
 
-impl<A: PlaceItems> PlacesIter<A> {
+impl<S: Places> PlacesIter<S> {
     /// All places.
-    pub fn new(alloc: Global, source: A) -> PlacesIter<A>
-        requires { A.Asks (A.array source) }
-        ensures { result ≡ all_places (A.array source) }
+    pub fn of(source: S) -> PlacesIter<S>
+        requires { S.Asks (S.array source) }
+        ensures { result ≡ all_places (S.array source) }
     {
         let back = source.count();
         PlacesIter {
-            alloc,
             source,
             front: 0,
             back,
@@ -120,17 +74,26 @@ impl<A: PlaceItems> PlacesIter<A> {
     }
 }
 
+impl<A: TryPlaces> PlacesIter<Tried<A>> {
+    /// All places of an array, each of whose items may take memory. This call takes none.
+    pub fn new(alloc: Global, array: A) -> PlacesIter<Tried<A>>
+        requires { A.Asks (A.array array) }
+        ensures { result ≡ all_places (A.array array) }
+    {
+        PlacesIter::of(Tried::new(alloc, array))
+    }
+}
+
 /// The same places once more. No memory is taken.
-impl<A: PlaceItems> Clone for PlacesIter<A> {
+impl<S: Places> Clone for PlacesIter<S> {
     ghost use Rattle.std.specs.Prelude.{◌≡◌, ⊤};
 
     ghost is_clone = { λ s t. t ≡ s };
 
     ghost is_infallible = { λ _. ⊤ };
 
-    fn clone(&self) -> Result<PlacesIter<A>, AllocError> {
+    fn clone(&self) -> Result<PlacesIter<S>, AllocError> {
         Ok(PlacesIter {
-            alloc: self.alloc,
             source: self.source,
             front: self.front,
             back: self.back,
@@ -138,21 +101,21 @@ impl<A: PlaceItems> Clone for PlacesIter<A> {
     }
 }
 
-impl<A: PlaceItems> Iterator for PlacesIter<A> {
-    type Item = Result<A::Item, Error>;
+impl<S: Places> Iterator for PlacesIter<S> {
+    type Item = S::Item;
 
     ghost use Rattle.std.specs.Iterator.{at_most};
     ghost use Rattle.nest_scan.specs.Places.{GivesFirst};
 
-    ghost next_gives = { GivesFirst A.IsItem };
+    ghost next_gives = { GivesFirst S.IsItem };
 
     ghost remaining = { λ s. at_most s.count };
 
-    fn next(&mut self) -> Option<Result<A::Item, Error>> {
+    fn next(&mut self) -> Option<S::Item> {
         if self.front == self.back {
             return None;
         }
-        let item = self.source.item(self.alloc, self.front);
+        let item = self.source.item(self.front);
         self.front += 1;
         Some(item)
     }
@@ -167,22 +130,22 @@ impl<A: PlaceItems> Iterator for PlacesIter<A> {
     }
 }
 
-impl<A: BothEnds> DoubleEndedIterator for PlacesIter<A> {
+impl<S: Places + BothEnds> DoubleEndedIterator for PlacesIter<S> {
     ghost use Rattle.nest_scan.specs.Places.{GivesLast};
 
-    ghost next_back_gives = { GivesLast A.IsItem };
+    ghost next_back_gives = { GivesLast S.IsItem };
 
-    fn next_back(&mut self) -> Option<Result<A::Item, Error>> {
+    fn next_back(&mut self) -> Option<S::Item> {
         if self.front == self.back {
             return None;
         }
-        let item = self.source.item(self.alloc, self.back - 1);
+        let item = self.source.item(self.back - 1);
         self.back -= 1;
         Some(item)
     }
 }
 
-impl<A: PlaceItems> ExactSizeIterator for PlacesIter<A> {
+impl<S: Places> ExactSizeIterator for PlacesIter<S> {
     fn len(&self) -> usize {
         self.back - self.front
     }

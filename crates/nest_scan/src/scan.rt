@@ -2,7 +2,8 @@
 ghost use Rattle.std.specs.Prelude.{◌≡◌};
 ghost use Rattle.nest_scan.specs.Places.{all_places};
 
-use crate::places::{NullPlaces, OrNull, PlacesIter};
+use crate::places::PlacesIter;
+use crate::tried::{NullPlaces, OrNull, Tried};
 use std::alloc::Global;
 
 /// A reference to an array whose slots are gone through.
@@ -34,21 +35,21 @@ pub trait ScanValues: Copy {
 }
 
 impl<A: NullPlaces> Scan for A {
-    type Iter = PlacesIter<OrNull<A>>;
+    type Iter = PlacesIter<Tried<OrNull<A>>>;
 
     ghost Scans = { λ a it. it ≡ all_places (A.array a) };
 
-    fn iter(self, alloc: Global) -> PlacesIter<OrNull<A>> {
+    fn iter(self, alloc: Global) -> PlacesIter<Tried<OrNull<A>>> {
         PlacesIter::new(alloc, OrNull(self))
     }
 }
 
 impl<A: NullPlaces> ScanValues for A {
-    type ValuesIter = PlacesIter<A>;
+    type ValuesIter = PlacesIter<Tried<A>>;
 
     ghost ScansValues = { λ a it. it ≡ all_places (A.array a) };
 
-    fn values_iter(self, alloc: Global) -> PlacesIter<A> {
+    fn values_iter(self, alloc: Global) -> PlacesIter<Tried<A>> {
         PlacesIter::new(alloc, self)
     }
 }

@@ -1,16 +1,17 @@
 //! The records of an array, from both ends.
-use crate::places::{BothEnds, NullPlaces, OrNull, PlaceItems, PlacesIter};
+use crate::places::{BothEnds, PlacesIter};
+use crate::tried::{NullPlaces, OrNull, Tried, TryPlaces};
 use nest_array::{AnyScalar, StructArray, scalars_at};
 use nest_memory::error::Error;
 use std::alloc::Global;
 
 /// A scalar for each field of each record, also under a null: arrow2's `StructValueIter`.
-pub type StructValueIter<'a> = PlacesIter<&'a StructArray>;
+pub type StructValueIter<'a> = PlacesIter<Tried<&'a StructArray>>;
 
 /// A scalar for each field of each record, `None` where it is null.
-pub type StructIter<'a> = PlacesIter<OrNull<&'a StructArray>>;
+pub type StructIter<'a> = PlacesIter<Tried<OrNull<&'a StructArray>>>;
 
-impl<'a> PlaceItems for &'a StructArray {
+impl<'a> TryPlaces for &'a StructArray {
     type Item = Vec<AnyScalar>;
 
     ghost array = { λ s. s.now };

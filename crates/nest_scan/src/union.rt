@@ -2,16 +2,17 @@
 ghost use Rattle.std.specs.Prelude.{◌≡◌};
 ghost use Rattle.nest_scan.specs.Places.{all_places};
 
-use crate::places::{PlaceItems, PlacesIter};
+use crate::places::PlacesIter;
 use crate::scan::Scan;
+use crate::tried::{Tried, TryPlaces};
 use nest_array::{AnyScalar, UnionArray};
 use nest_memory::error::Error;
 use std::alloc::Global;
 
 /// The scalar that each slot picks: arrow2's `UnionIter`. It goes forward alone.
-pub type UnionIter<'a> = PlacesIter<&'a UnionArray>;
+pub type UnionIter<'a> = PlacesIter<Tried<&'a UnionArray>>;
 
-impl<'a> PlaceItems for &'a UnionArray {
+impl<'a> TryPlaces for &'a UnionArray {
     type Item = AnyScalar;
 
     ghost array = { λ s. s.now };
