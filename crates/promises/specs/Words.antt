@@ -1,6 +1,6 @@
 -- The words of this crate's contracts, by one name.
 pub use Rattle.nest_array.specs.Refusals.{RefusesOrMemory}
-pub use Rattle.nest_array.specs.ScalarParts.{IsPickOf, scalar_parts}
+pub use Rattle.nest_array.specs.ScalarParts.{IsPickOf, child_types, scalar_parts, slots_in, types_in}
 pub use Rattle.nest_array.specs.Seen.{layout_of, layouts_of}
 pub use Rattle.nest_array.specs.SeenScalar.{slot_of_value}
 pub use Rattle.nest_array.specs.Types.{default_list_type}
@@ -16,11 +16,11 @@ pub use Rattle.nest_memory.specs.Cut.{cut}
 pub use Rattle.nest_memory.specs.Physical.{physical_type}
 pub use Rattle.nest_memory.specs.Rising.{are_offsets, ends_from, largest_offset, last_of, numbers}
 pub use Rattle.nest_memory.specs.TypeOf.{field_list_of, field_of, type_of}
-pub use Rattle.nest_memory.specs.TypeTree.{fields_of, ids_of}
+pub use Rattle.nest_memory.specs.TypeTree.{fields_of, ids_of, size_of}
 pub use Rattle.nest_memory.specs.declared.error.Argument.TheVariants.{ItemType, Unfinished}
 pub use Rattle.nest_memory.specs.declared.error.Error.TheVariants.{InvalidArgumentError, Memory, OutOfSpec, Overflow}
 pub use Rattle.nest_memory.specs.declared.error.Spec.TheVariants.{ValidityLength}
-pub use Rattle.nest_model.specs.Accessors.{child_at, child_of, children_of, natives_of, offsets_of, start_of, types_of, union_offsets_of, validity_of, with_validity}
+pub use Rattle.nest_model.specs.Accessors.{bytes_of, child_at, child_of, children_of, natives_of, offsets_of, start_of, types_of, union_offsets_of, validity_of, with_validity}
 pub use Rattle.nest_model.specs.Array.{TopFits}
 pub use Rattle.nest_model.specs.BuilderAppend.{Accepted, IsReady, pending_slot, told}
 pub use Rattle.nest_model.specs.BuilderLevels.{own_slots}
@@ -32,9 +32,10 @@ pub use Rattle.nest_model.specs.Checks.{FailFirst, Pass}
 pub use Rattle.nest_model.specs.Cut.{cut_layout}
 pub use Rattle.nest_model.specs.Fits.{FirstFault, Fits, ValidityFault, validity_checks}
 pub use Rattle.nest_model.specs.Layout.{layout_type}
-pub use Rattle.nest_model.specs.Meaning.{len, run, slot, slots_of, union_place}
+pub use Rattle.nest_model.specs.Meaning.{each, len, run, slot, slots_of, union_place}
 pub use Rattle.nest_model.specs.Nullness.{has_keys, is_null_at, null_count}
 pub use Rattle.nest_model.specs.Part.{begin, extent, field_named}
 pub use Rattle.nest_model.specs.Reads.{where_valid}
 pub use Rattle.nest_model.specs.SameArray.{IsSameArray}
 pub use Rattle.nest_model.specs.Slot.{node_counts, seal}
+pub use Rattle.nest_scan.specs.Places.{GivesFirst, GivesLast, all_places, places}

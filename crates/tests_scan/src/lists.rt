@@ -2,11 +2,11 @@
 use crate::parts::{gave_nothing, gave_null, gave_numbers, list_array, not_null, numbers};
 use nest_array::ListArray;
 use nest_memory::error::Error;
-use nest_scan::{Scan, ScanValues};
+use nest_scan::{ListIter, ListValuesIter, Scan, ScanValues};
 use std::alloc::Global;
 
 /// [1,2], [], [3], [4,5].
-fn four_lists(alloc: Global, bits: Option<&[bool]>) -> Result<ListArray, Error> {
+pub(crate) fn four_lists(alloc: Global, bits: Option<&[bool]>) -> Result<ListArray, Error> {
     let items = numbers(alloc, &[1, 2, 3, 4, 5]);
     list_array(alloc, items, &[0, 2, 2, 3, 5], bits)
 }
@@ -37,7 +37,7 @@ fn nulls_among_lists(rt: HostRuntime) {
     let alloc = rt.alloc();
     let bits = [true, false, false, true].as_slice();
     let lists = four_lists(alloc, Some(bits)).expect(&rt, "four lists");
-    let mut slots = lists.iter(alloc);
+    let mut slots: ListIter<'_, i32> = lists.iter(alloc);
     assert!(rt; gave_numbers(not_null(slots.next_back()), &[4, 5]));
     assert!(rt; gave_null(slots.next_back()));
     assert!(rt; gave_numbers(not_null(slots.next()), &[1, 2]));
@@ -46,7 +46,7 @@ fn nulls_among_lists(rt: HostRuntime) {
     assert!(rt; gave_nothing(slots.next()));
     assert!(rt; gave_nothing(slots.next_back()));
     drop(slots);
-    let mut values = lists.values_iter(alloc);
+    let mut values = ListValuesIter::<'_, i32>::new(alloc, &lists);
     assert!(rt; gave_numbers(values.next(), &[1, 2]));
     assert!(rt; gave_numbers(values.next(), &[]));
     assert!(rt; gave_numbers(values.next(), &[3]));

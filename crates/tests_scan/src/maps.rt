@@ -11,8 +11,9 @@ use std::alloc::Global;
 /// Texts, as an array of any kind.
 pub(crate) fn texts(alloc: Global, offsets: &[i32], bytes: &[u8]) -> Result<AnyArray, Error> {
     match both(offsets_of(alloc, offsets), buffer(alloc, bytes)) {
-        Ok((offsets, values)) => Utf8Array::try_new(DataType::Utf8, offsets, values, None)
-            .map(|texts| AnyArray::Utf8(texts)),
+        Ok((offsets, values)) => Utf8Array::try_new(DataType::Utf8, offsets, values, None).map(
+            |texts| AnyArray::Utf8(texts),
+        ),
         Err(error) => Err(error),
     }
 }

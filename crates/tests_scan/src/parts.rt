@@ -53,8 +53,9 @@ pub(crate) fn validity(alloc: Global, bits: Option<&[bool]>) -> Result<Option<Bi
 /// Numbers of 32 bits as an array of any kind.
 pub(crate) fn numbers(alloc: Global, items: &[i32]) -> Result<AnyArray, Error> {
     match buffer(alloc, items) {
-        Ok(values) => PrimitiveArray::try_new(DataType::Int32, values, None)
-            .map(|array| AnyArray::Primitive(i32::wrap(array))),
+        Ok(values) => PrimitiveArray::try_new(DataType::Int32, values, None).map(
+            |array| AnyArray::Primitive(i32::wrap(array)),
+        ),
         Err(error) => Err(error),
     }
 }
@@ -94,7 +95,9 @@ pub(crate) fn gave_null<T: Drop>(item: Option<Result<Option<T>, Error>>) -> bool
 }
 
 /// The item that came, where it is not null.
-pub(crate) fn not_null<T: Drop>(item: Option<Result<Option<T>, Error>>) -> Option<Result<T, Error>> {
+pub(crate) fn not_null<T: Drop>(
+    item: Option<Result<Option<T>, Error>>,
+) -> Option<Result<T, Error>> {
     match item {
         Some(Ok(Some(item))) => Some(Ok(item)),
         Some(Err(error)) => Some(Err(error)),

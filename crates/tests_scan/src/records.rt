@@ -12,8 +12,9 @@ use std::alloc::Global;
 
 fn truths(alloc: Global, items: &[bool]) -> Result<AnyArray, Error> {
     match Bitmap::from_bools(alloc, items) {
-        Ok(values) => BooleanArray::try_new(DataType::Boolean, values, None)
-            .map(|array| AnyArray::Boolean(array)),
+        Ok(values) => BooleanArray::try_new(DataType::Boolean, values, None).map(
+            |array| AnyArray::Boolean(array),
+        ),
         Err(error) => Err(error),
     }
 }

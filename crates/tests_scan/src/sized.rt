@@ -13,8 +13,7 @@ fn lists_of_two(
     bits: Option<&[bool]>,
 ) -> Result<FixedSizeListArray, Error> {
     let item_type = items.data_type().clone(alloc);
-    let data_type =
-        item_type.and_then(|item| FixedSizeListArray::default_datatype(alloc, item, 2));
+    let data_type = item_type.and_then(|item| FixedSizeListArray::default_datatype(alloc, item, 2));
     match both(data_type, validity(alloc, bits)) {
         Ok((data_type, validity)) => {
             FixedSizeListArray::try_new(alloc, data_type, items, validity)
@@ -64,23 +63,57 @@ fn three_strings(alloc: Global, bits: Option<&[bool]>) -> Result<FixedSizeBinary
     }
 }
 
+/// Whether these bytes came.
+fn gave_bytes(item: Option<&[u8]>, bytes: &[u8]) -> bool {
+    match item {
+        Some(found) => *found == *bytes,
+        None => false,
+    }
+}
+
+/// Whether a slot of these bytes came.
+fn gave_slot(item: Option<Option<&[u8]>>, bytes: &[u8]) -> bool {
+    match item {
+        Some(item) => gave_bytes(item, bytes),
+        None => false,
+    }
+}
+
+/// Whether a slot came that is null.
+fn gave_null_slot(item: Option<Option<&[u8]>>) -> bool {
+    match item {
+        Some(item) => item.is_none(),
+        None => false,
+    }
+}
+
 #[test]
-fn byte_strings_from_both_ends(rt: HostRuntime) {
+fn values_of_byte_strings(rt: HostRuntime) {
     let alloc = rt.alloc();
     let bits = [true, false, true].as_slice();
     let array = three_strings(alloc, Some(bits)).expect(&rt, "three strings");
     let mut values = array.values_iter(alloc);
-    assert_eq!(rt; values.next_back(), Some(b"ef".as_slice()));
+    assert!(rt; gave_bytes(values.next_back(), b"ef"));
     assert_eq!(rt; values.len(), 2);
-    assert_eq!(rt; values.next(), Some(b"ab".as_slice()));
-    assert_eq!(rt; values.next(), Some(b"cd".as_slice()));
-    assert_eq!(rt; values.next(), None);
-    assert_eq!(rt; values.next_back(), None);
+    assert!(rt; gave_bytes(values.next(), b"ab"));
+    assert!(rt; gave_bytes(values.next(), b"cd"));
+    assert!(rt; values.next().is_none());
+    assert!(rt; values.next_back().is_none());
+    drop(values);
+    drop(array);
+}
+
+#[test]
+fn nulls_among_byte_strings(rt: HostRuntime) {
+    let alloc = rt.alloc();
+    let bits = [true, false, true].as_slice();
+    let array = three_strings(alloc, Some(bits)).expect(&rt, "three strings");
     let mut slots = array.iter(alloc);
-    assert_eq!(rt; slots.next(), Some(Some(b"ab".as_slice())));
-    assert_eq!(rt; slots.next(), Some(None));
-    assert_eq!(rt; slots.next_back(), Some(Some(b"ef".as_slice())));
+    assert!(rt; gave_slot(slots.next(), b"ab"));
+    assert!(rt; gave_null_slot(slots.next()));
+    assert!(rt; gave_slot(slots.next_back(), b"ef"));
     assert_eq!(rt; slots.size_hint(), (0, Some(0)));
-    assert_eq!(rt; slots.next_back(), None);
+    assert!(rt; slots.next_back().is_none());
+    drop(slots);
     drop(array);
 }

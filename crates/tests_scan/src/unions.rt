@@ -21,8 +21,11 @@ fn sparse(
         None => Ok(None),
         Some(ids) => Ok(Some(Vec::from_slice(alloc, ids)?)),
     };
-    let data_type =
-        both(fields, ids).map(|(fields, ids)| DataType::Union(fields, ids, UnionMode::Sparse));
+    let data_type = both(fields, ids).map(|(fields, ids)| DataType::Union(
+        fields,
+        ids,
+        UnionMode::Sparse,
+    ));
     match both(both(data_type, children), buffer(alloc, types)) {
         Ok(((data_type, children), types)) => {
             UnionArray::try_new(data_type, types, children, None)
