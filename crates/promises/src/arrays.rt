@@ -2,18 +2,19 @@
 //! layout, and `slots_of` the layout is that list.
 //!
 //! What every kind does is promised once, of any `A: Array`: so of the twelve native kinds, of truths, bytes and texts, of
-//! nulls, byte strings of one size, lists of three kinds, structs, maps, unions, and of `AnyArray`, which is any of them. What a kind does
+//! nulls, byte strings of one size, lists of three kinds, structs, maps, unions, dictionaries, and of `AnyArray`, which is any of them. What a kind does
 //! alone, its constructor and its values, follows kind by kind.
 
 ghost use Rattle.std.specs.Prelude.{◌≡◌, ◌+◌, ◌*◌, ◌≤◌, ◌<◌, ◌^◌, ◌↔◌, ◌⊎◌, false, true, Some, IsTrue, IfOk, IfErr, IsErrOf, IsOkUnless, MatchOption, MatchResult, get_or, length, map, not, pos, alloc_error};
 ghost use Rattle.nest_memory.specs.declared.datatypes.physical_type.PhysicalType.TheVariants as physical;
 ghost use Rattle.nest_model.specs.Layout as layouts;
 ghost use Rattle.nest_model.specs.Slot as slots;
-ghost use Rattle.promises.specs.Words.{FirstFault, Fits, IsPickOf, Memory, Overflow, Pass, RefusesOrMemory, TopFits, ValidityFault, begin, child_at, child_of, children_of, cut, cut_layout, extent, field_list_of, field_named, fields_of, has_keys, ids_of, is_null_at, layout_of, layout_type, layouts_of, len, null_count, offsets_of, optional, physical_type, scalar_parts, seal, slot, slot_of_value, slots_of, start_of, type_of, types_of, union_offsets_of, union_place, validity_checks, validity_of, where_valid, window_parts, window_slots, with_validity};
+ghost use Rattle.promises.specs.Words.{FirstFault, Fits, IsPickOf, Memory, Names, Overflow, Pass, RefusesOrMemory, TopFits, ValidityFault, begin, below_zero, child_at, child_of, children_of, cut, cut_layout, default_dictionary_type, extent, field_list_of, field_named, fields_of, has_keys, ids_of, is_null_at, key_at, key_type_of, keyed_by, keys_layout, keys_of, layout_of, layout_type, layouts_of, len, null_count, offsets_of, optional, physical_type, place, scalar_parts, seal, slot, slot_of_value, slots_of, start_of, type_of, types_of, union_offsets_of, union_place, validity_checks, validity_of, where_valid, window_parts, window_slots, with_validity};
 
 use nest_array::{
-    AnyArray, AnyScalar, Array, FixedSizeBinaryArray, FixedSizeListArray, LargeListArray,
-    ListArray, MapArray, NullArray, ScalarValue, StructArray, UnionArray, Window, new_scalar,
+    AnyArray, AnyKeys, AnyScalar, Array, DictionaryArray, FixedSizeBinaryArray, FixedSizeListArray,
+    LargeListArray, ListArray, MapArray, NullArray, ScalarValue, StructArray, UnionArray, Window,
+    new_scalar,
 };
 use nest_flat::any_primitive::Native;
 use nest_memory::bitmap::immutable::Bitmap;
@@ -246,6 +247,32 @@ pub fn unions(
     UnionArray::try_new(data_type, types, fields, offsets)
 }
 
+/// Values of any kind that are looked up by keys.
+pub fn values_by_keys(
+    alloc: Global,
+    data_type: DataType,
+    keys: AnyKeys,
+    values: AnyArray,
+) -> Result<DictionaryArray, Error>
+    ensures { let parts = layouts.dictionary (type_of data_type) (keys_layout keys) (layout_of values) in
+        MatchResult result (λ a. Fits parts × (a ≡ parts)) (λ e. RefusesOrMemory e parts) }
+{
+    DictionaryArray::try_new(alloc, data_type, keys, values)
+}
+
+/// The same under the type that the keys and the values make.
+pub fn values_by_keys_alone(
+    alloc: Global,
+    keys: AnyKeys,
+    values: AnyArray,
+) -> Result<DictionaryArray, Error>
+    ensures { let data_type = default_dictionary_type (keyed_by (key_type_of (keys_layout keys))) (layout_type (layout_of values)) in
+        let parts = layouts.dictionary data_type (keys_layout keys) (layout_of values) in
+        MatchResult result (λ a. Fits parts × (a ≡ parts)) (λ e. RefusesOrMemory e parts) }
+{
+    DictionaryArray::try_from_keys(alloc, keys, values)
+}
+
 /// The bytes of a row, `None` where it is null.
 pub fn row_at(rows: &FixedSizeBinaryArray, i: usize) -> Option<&[u8]>
     requires { i < len rows.now }
@@ -370,6 +397,51 @@ pub fn parts_of_records(records: StructArray) -> (Vec<Field>, Vec<AnyArray>, Opt
     ensures validity { result.2 ≡ validity_of records }
 {
     records.into_data()
+}
+
+/// Whether a raw key names a value; under a null it needn't.
+pub fn names_a_value(dictionary: &DictionaryArray, i: usize) -> bool
+    requires { i < len dictionary.now }
+    ensures { IsTrue result ↔ Names (key_at (keys_of dictionary.now) i) (len (child_of dictionary.now)) }
+{
+    dictionary.in_range(i)
+}
+
+/// A slot of a dictionary is the slot of the values at its key, or null where the key is.
+pub fn key_at_place(dictionary: &DictionaryArray, i: usize) -> usize
+    requires within { i < len dictionary.now }
+    requires not_negative { below_zero (key_at (keys_of dictionary.now) i) ≡ false }
+    ensures key { pos result ≡ key_at (keys_of dictionary.now) i }
+    ensures slot { slot dictionary.now i ≡ where_valid (validity_of dictionary.now) i (slot (child_of dictionary.now) result) }
+{
+    dictionary.key_value(i)
+}
+
+/// The value that a raw key names, by itself, under the type of the values; the slot where the key is valid.
+pub fn keyed_scalar(
+    alloc: Global,
+    dictionary: &DictionaryArray,
+    i: usize,
+) -> Result<AnyScalar, Error>
+    requires within { i < len dictionary.now }
+    requires in_range { Names (key_at (keys_of dictionary.now) i) (len (child_of dictionary.now)) }
+    ensures ok { IfOk result (λ s. s ≡ scalar_parts (layout_type (child_of dictionary.now)) (slot (child_of dictionary.now) (place (key_at (keys_of dictionary.now) i)))) }
+    ensures slot { IfOk result (λ s. slot dictionary.now i ≡ where_valid (validity_of dictionary.now) i s.slot) }
+    ensures err { IsOkUnless result (Memory alloc_error) }
+{
+    dictionary.value(alloc, i)
+}
+
+/// A new validity of a dictionary is refused for its length, or where a key that it makes valid names no value.
+pub fn new_validity_of_keys(
+    dictionary: &mut DictionaryArray,
+    validity: Option<Bitmap>,
+) -> Result<(), Error>
+    ensures { MatchResult result
+        (λ _. Pass (validity_checks dictionary.old validity) × (dictionary.new ≡ with_validity dictionary.old validity))
+        (λ e. ValidityFault e dictionary.old validity × (dictionary.new ≡ dictionary.old)) }
+{
+    dictionary.set_validity(validity)
 }
 
 /// A window over an array shows the cut of its slots, and takes no memory.

@@ -15,7 +15,7 @@
 //!
 //! *A constructor answers Ok exactly where the parts fit, with just those parts, and else the first check that fails*, want of
 //! memory aside: `natives`, `truths`, `byte_strings`, `texts` in [`flat`]; `nulls`, `rows_of_bytes`, `lists_of_one_size`,
-//! `lists`, `large_lists`, `records`, `maps`, `unions` in [`arrays`]. A new validity is taken exactly where it has no fault, and a refused one
+//! `lists`, `large_lists`, `records`, `maps`, `unions`, `values_by_keys` in [`arrays`]. A new validity is taken exactly where it has no fault, and a refused one
 //! changes nothing (`under_new_validity`, `new_validity_in_place`).
 //!
 //! *`equal` answers true exactly for equal data types and equal lists, after at most one comparison for each node of the left

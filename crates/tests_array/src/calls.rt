@@ -3,6 +3,7 @@ use crate::arrays::lists::by_large_offsets;
 use crate::arrays::sizes::pairs;
 use crate::arrays::structs::four;
 use crate::arrays::{both, buffer, lists_of_lists, numbers, offsets_of, truths, validity};
+use crate::dictionaries::four_texts;
 use crate::maps::two_maps;
 use nest_array::{AnyArray, Array, FixedSizeBinaryArray, NullArray};
 use nest_flat::any_primitive::AnyPrimitive;
@@ -193,6 +194,7 @@ fn nested_arrays(rt: HostRuntime) {
     expect_array(&rt, alloc, by_large_offsets(alloc), (3, 0));
     expect_array(&rt, alloc, four(alloc, &[1, 2, 3, 4]), (4, 1));
     expect_array(&rt, alloc, two_maps(alloc), (2, 0));
+    expect_array(&rt, alloc, four_texts(alloc), (4, 1));
     expect_array(&rt, alloc, numbers(alloc, &[1, 2]), (2, 0));
 }
 
@@ -221,6 +223,7 @@ fn in_variant(array: &AnyArray) -> &str {
         AnyArray::Struct(_) => "records",
         AnyArray::Map(_) => "maps",
         AnyArray::Union(_) => "unions",
+        AnyArray::Dictionary(_) => "values by keys",
     }
 }
 
@@ -250,4 +253,5 @@ fn copies_are_in_their_variant(rt: HostRuntime) {
     variant_of(&rt, alloc, by_large_offsets(alloc), "large lists");
     variant_of(&rt, alloc, four(alloc, &[1, 2, 3, 4]), "records");
     variant_of(&rt, alloc, two_maps(alloc), "maps");
+    variant_of(&rt, alloc, four_texts(alloc), "values by keys");
 }

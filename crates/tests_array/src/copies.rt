@@ -4,6 +4,7 @@ use crate::arrays::lists::by_large_offsets;
 use crate::arrays::sizes::pairs;
 use crate::arrays::structs::four;
 use crate::arrays::{lists_of_lists, numbers, validity};
+use crate::maps::two_maps;
 use nest_array::any::clone;
 use nest_array::{
     AnyArray, FixedSizeBinaryArray, FixedSizeListArray, LargeListArray, ListArray, NullArray,
@@ -81,6 +82,8 @@ fn arrays_are_shared(rt: HostRuntime) {
     assert!(rt; is_shared(array.arced(alloc), 3));
     let array = FixedSizeBinaryArray::from_slice(alloc, [*b"ab"].as_slice()).expect(&rt, "a row");
     assert!(rt; is_shared(array.arced(alloc), 1));
+    let array = two_maps(alloc).expect(&rt, "two maps");
+    assert!(rt; is_shared(array.arced(alloc), 2));
 }
 
 /// The array and whether its new validity was taken.

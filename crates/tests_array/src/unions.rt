@@ -2,6 +2,7 @@
 mod counts;
 mod scalars;
 
+use crate::arrays::memory::unless_refused;
 use crate::arrays::{
     any_list, are_same, both, buffer, list_array, numbers, offsets_of, two, validity,
 };
@@ -143,7 +144,7 @@ fn mixed(
 }
 
 /// The numbers from 10 to 13 and the letters from a to d in turn.
-fn in_turn(alloc: Global) -> Result<UnionArray, Error> {
+pub(crate) fn in_turn(alloc: Global) -> Result<UnionArray, Error> {
     let texts = letters(alloc, &[0, 1, 2, 3, 4], b"abcd");
     mixed(alloc, None, &[0, 1, 0, 1], &[10, 11, 12, 13], texts)
 }
@@ -456,6 +457,27 @@ fn copies_with_memory(rt: HostRuntime) {
     let shared = array.arced(alloc).expect(&rt, "a shared array");
     assert_eq!(rt; shared.len(), 4);
     drop(shared);
+}
+
+// The test passes whichever request for memory is refused.
+#[test]
+fn refused_memory(rt: HostRuntime) {
+    let Some(array) = unless_refused(&rt, in_turn(rt.alloc())) else {
+        return;
+    };
+    if let Some(copy) = unless_refused(&rt, array.clone(rt.alloc())) {
+        assert!(rt; copy == array);
+        drop(copy);
+    }
+    assert_eq!(rt; array.len(), 4);
+    if let Some(scalar) = unless_refused(&rt, array.value(rt.alloc(), 1)) {
+        assert!(rt; scalar.is_valid());
+        drop(scalar);
+    }
+    if let Some(shared) = unless_refused(&rt, array.arced(rt.alloc())) {
+        assert_eq!(rt; shared.len(), 4);
+        drop(shared);
+    }
 }
 
 #[test]

@@ -2,6 +2,7 @@
 use super::{
     are_same, both, buffer, int32s, lists_of_lists, numbers, offsets_of, sizes, structs, truths,
 };
+use crate::dictionaries::four_texts;
 use crate::maps::two_maps;
 use nest_array::{Array, FixedSizeBinaryArray, NullArray};
 use nest_flat::binary::BinaryArray;
@@ -74,6 +75,7 @@ fn nested_arrays_end_empty(rt: HostRuntime) {
     assert!(rt; ends_empty(super::lists::by_large_offsets(alloc)));
     assert!(rt; ends_empty(structs::four(alloc, &[1, 2, 3, 4])));
     assert!(rt; ends_empty(two_maps(alloc)));
+    assert!(rt; ends_empty(four_texts(alloc)));
     assert!(rt; ends_empty(numbers(alloc, &[1, 2])));
 }
 
