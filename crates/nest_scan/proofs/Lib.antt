@@ -1,1 +1,2 @@
+mod Keyed
 mod Records

@@ -1,6 +1,7 @@
 //! Iterators over arrays of any nesting in the Arrow format.
 #![tactic(auto)]
 
+pub mod dictionary;
 pub mod fixed_size_binary;
 pub mod fixed_size_list;
 pub mod list;
@@ -11,6 +12,10 @@ pub mod struct_;
 pub mod tried;
 pub mod union;
 
+pub use dictionary::{
+    DictionaryIter, DictionaryIterTyped, DictionaryValuesIter, DictionaryValuesIterTyped, KeysIter,
+    KeysValuesIter, ScanKeys, TextOffset,
+};
 pub use fixed_size_binary::{FixedSizeBinaryIter, FixedSizeBinaryValuesIter};
 pub use fixed_size_list::{FixedSizeListIter, FixedSizeListValuesIter};
 pub use list::{ListIter, ListValuesIter};

@@ -9,9 +9,15 @@
 //! | Byte strings ab, cd and ef from both ends | `sized::values_of_byte_strings` |
 //! | A sparse union of two fields of numbers by the ids 5 and 7: 11 items, from 11 down to none left | `unions::eleven_picks_and_none_left` |
 //! | A cut of a union; a clone goes on from the same slot | `unions::picks_of_a_cut` |
+//! | Keys 0, 1, null, 2 over A, B, C, back, back, front, front: C, null, A, B; by their texts A, B, null, C; as keys 0, 1, none, 2 | `dictionaries::scalars_from_both_ends`, `dictionaries::texts_and_nulls`, `dictionaries::keys_and_nulls` |
+//! | Values by raw keys, also under a null; texts of keys without nulls | `dictionaries::scalars_under_nulls`, `dictionaries::texts_without_nulls` |
+//! | Typed iteration over texts by other offsets, or over numbers, is refused | `dictionaries::values_of_other_types_are_refused` |
+//! | Null keys past the values: null, null | `dictionaries::null_keys_past_the_values` |
 //! | A place whose item finds no memory gives one `Err` and is passed, whichever request is refused | `memory::a_refused_list_is_passed`, `memory::a_refused_record_is_passed` |
 #![tactic(auto)]
 
+#[cfg(test)]
+mod dictionaries;
 #[cfg(test)]
 mod lists;
 #[cfg(test)]
