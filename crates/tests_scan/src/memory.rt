@@ -1,0 +1,77 @@
+//! The tests pass whichever request for memory is refused: the place whose item found none gives one `Err` and is passed, and all
+//! other places give their items.
+use crate::lists::four_lists;
+use crate::parts::{gave_nothing, is_numbers};
+use crate::records::four_records;
+use nest_array::AnyArray;
+use nest_memory::error::Error;
+use nest_scan::{Scan, ScanValues};
+use std::alloc::AllocError;
+use std::process::Abort;
+
+/// What a call gave, or `None` where memory was refused; nothing else may be.
+fn unless_refused<T>(rt: &impl Abort, outcome: Result<T, Error>) -> Option<T> {
+    match outcome {
+        Ok(value) => Some(value),
+        Err(error) => {
+            assert_eq!(rt; error, Error::Memory(AllocError));
+            None
+        }
+    }
+}
+
+/// That an item of these numbers came, or want of memory alone.
+fn expect_numbers(rt: &impl Abort, item: Option<Result<AnyArray, Error>>, numbers: &[i32]) {
+    assert!(rt; item.is_some());
+    if let Some(item) = item {
+        if let Some(array) = unless_refused(rt, item) {
+            assert!(rt; is_numbers(&array, numbers));
+            drop(array);
+        }
+    }
+}
+
+#[test]
+fn a_refused_list_is_passed(rt: HostRuntime) {
+    let alloc = rt.alloc();
+    let Some(lists) = unless_refused(&rt, four_lists(alloc, None)) else {
+        return;
+    };
+    let mut values = lists.values_iter(alloc);
+    expect_numbers(&rt, values.next(), &[1, 2]);
+    assert_eq!(rt; values.len(), 3);
+    expect_numbers(&rt, values.next_back(), &[4, 5]);
+    assert_eq!(rt; values.len(), 2);
+    expect_numbers(&rt, values.next_back(), &[3]);
+    assert_eq!(rt; values.len(), 1);
+    expect_numbers(&rt, values.next(), &[]);
+    assert_eq!(rt; values.size_hint(), (0, Some(0)));
+    assert!(rt; gave_nothing(values.next()));
+    assert!(rt; gave_nothing(values.next_back()));
+    drop(values);
+    drop(lists);
+}
+
+/// That a place came, or want of memory alone.
+fn expect_item<T: Drop>(rt: &impl Abort, item: Option<Result<T, Error>>) {
+    assert!(rt; item.is_some());
+    if let Some(item) = item {
+        drop(unless_refused(rt, item));
+    }
+}
+
+#[test]
+fn a_refused_record_is_passed(rt: HostRuntime) {
+    let alloc = rt.alloc();
+    let Some(records) = unless_refused(&rt, four_records(alloc, None)) else {
+        return;
+    };
+    let mut slots = records.iter(alloc);
+    for left in 0..4 {
+        assert_eq!(rt; slots.len(), 4 - left);
+        expect_item(&rt, slots.next());
+    }
+    assert!(rt; gave_nothing(slots.next()));
+    drop(slots);
+    drop(records);
+}
