@@ -15,11 +15,11 @@ pub use Rattle.nest_flat.specs.FlatParts.{optional}
 pub use Rattle.nest_flat.specs.Growth.{CanDrain, Extended, RefusesBeginning, first_slots, native_refusal, pushed_native, pushed_truth}
 pub use Rattle.nest_memory.specs.Bits.{bits_from}
 pub use Rattle.nest_memory.specs.Cut.{cut}
-pub use Rattle.nest_memory.specs.Physical.{physical_type}
+pub use Rattle.nest_memory.specs.Physical.{physical_type, text_of_width}
 pub use Rattle.nest_memory.specs.Rising.{are_offsets, below_zero, ends_from, largest_offset, last_of, numbers}
 pub use Rattle.nest_memory.specs.TypeOf.{field_list_of, field_of, type_of}
 pub use Rattle.nest_memory.specs.TypeTree.{fields_of, ids_of, size_of}
-pub use Rattle.nest_memory.specs.declared.error.Argument.TheVariants.{ItemType, Unfinished}
+pub use Rattle.nest_memory.specs.declared.error.Argument.TheVariants.{ItemType, Unfinished, ValuesType}
 pub use Rattle.nest_memory.specs.declared.error.Error.TheVariants.{InvalidArgumentError, Memory, OutOfSpec, Overflow}
 pub use Rattle.nest_memory.specs.declared.error.Spec.TheVariants.{ValidityLength}
 pub use Rattle.nest_model.specs.Accessors.{bytes_of, child_at, child_of, children_of, key_at, key_type_of, keys_of, natives_of, offsets_of, raw_keys, start_of, types_of, union_offsets_of, validity_of, with_validity}
@@ -32,7 +32,7 @@ pub use Rattle.nest_model.specs.BuilderTree.{IsPast, builder_type}
 pub use Rattle.nest_model.specs.BuilderWhole.{IsWhole, emptied}
 pub use Rattle.nest_model.specs.Checks.{FailFirst, Pass}
 pub use Rattle.nest_model.specs.Cut.{cut_layout}
-pub use Rattle.nest_model.specs.Fits.{FirstFault, Fits, Names, ValidityFault, validity_checks}
+pub use Rattle.nest_model.specs.Fits.{EachNames, FirstFault, Fits, Names, ValidityFault, validity_checks}
 pub use Rattle.nest_model.specs.Layout.{layout_type}
 pub use Rattle.nest_model.specs.Meaning.{each, len, run, slot, slots_of, union_place}
 pub use Rattle.nest_model.specs.Nullness.{has_keys, is_null_at, null_count}
