@@ -1,22 +1,20 @@
 -- The keys of dictionaries, and the texts that they name.
 use Rattle.std.specs.Prelude.{not, cond, if◌then◌else◌}
 use Rattle.std.specs.List.{count_by, range_with_len}
-use Rattle.std.proofs.Common.{◌≡◌, ℕ, zero, suc, ◌+◌, ◌<◌, ℤ, pos, negsuc, Bool, true, false, List, length, get_or, refl, ap, sym, ◌∙◌, subst, arith}
-use Rattle.std.proofs.lemmas.List.{length-map}
-use Rattle.std.proofs.lemmas.List.Elements.{All-get_or}
+use Rattle.std.proofs.Common.{◌≡◌, ℕ, zero, suc, ◌+◌, ◌<◌, ℤ, pos, negsuc, Bool, true, false, List, refl, ap, sym, ◌∙◌, subst, arith}
 use Rattle.std.proofs.lemmas.List.Sums.{sum_by-cons}
 use Rattle.nest_memory.specs.Rising.{below_zero}
-use Rattle.nest_model.specs.Accessors.{bytes_of, child_of, key_at, keys_of, natives_of, offsets_of, raw_keys, validity_of, whole}
-use Rattle.nest_model.specs.Array.{AreKeys, TopFits}
+use Rattle.nest_model.specs.Accessors.{bytes_of, child_of, key_at, keys_of, offsets_of, validity_of}
+use Rattle.nest_model.specs.Array.{TopFits}
 use Rattle.nest_model.specs.Fits.{Names}
-use Rattle.nest_model.specs.Layout.{Layout, primitive, text, dictionary, layout_type}
+use Rattle.nest_model.specs.Layout.{Layout, text, dictionary, layout_type}
 use Rattle.nest_model.specs.Meaning.{len, slot}
 use Rattle.nest_model.specs.Nullness.{is_null_at, null_count}
 use Rattle.nest_model.specs.Part.{Validity, valid_at}
 use Rattle.nest_model.specs.Reads.{where_valid}
 use Rattle.nest_model.specs.Slot as slots
 use Rattle.nest_model.specs.Slot.{Slot}
-use Rattle.nest_scan.specs.Items.{EachKeyNames, HasNoNull}
+use Rattle.nest_scan.specs.Items.{HasNoNull}
 
 abbrev pub IsDictionaryOf : Layout → Type 0
 IsDictionaryOf a = a ≡ dictionary (layout_type a) (keys_of a) (child_of a)
@@ -24,24 +22,11 @@ IsDictionaryOf a = a ≡ dictionary (layout_type a) (keys_of a) (child_of a)
 abbrev pub AreTextsOf : Bool → Layout → Type 0
 AreTextsOf l a = a ≡ text l (layout_type a) (offsets_of a) (bytes_of a) (validity_of a)
 
--- a raw key for each key
-keys-length : (ks : Layout) → AreKeys ks → length (raw_keys ks) ≡ len ks
-keys-length (primitive k t vs va) h = length-map vs whole
-keys-length ks h = absurd h
-
--- so each key names a value
-pub named : (a : Layout) (i : ℕ) → TopFits a → IsDictionaryOf a → EachKeyNames a → i < len a → Names (key_at (keys_of a) i) (len (child_of a))
-named a i h e n l =
-    let f = subst TopFits e h in
-    let k = ap len e in
-    let m = keys-length (keys_of a) f.0 in
-    All-get_or (λ z. Names z (len (child_of a))) (raw_keys (keys_of a)) i (pos 0) (omega (arith, k, l, m)) n
-
 not-false : (b : Bool) → not b ≡ false → b ≡ true
 not-false true h = refl
 not-false false h = cc
 
--- and where they needn't all, a valid one does
+-- a valid key names a value
 pub named-valid : (a : Layout) (i : ℕ) → TopFits a → IsDictionaryOf a → i < len a → is_null_at a i ≡ false → Names (key_at (keys_of a) i) (len (child_of a))
 named-valid a i h e l v =
     let f = subst TopFits e h in
@@ -54,6 +39,12 @@ not-negative (negsuc k) n h = absurd h
 
 pub key-below : (z : ℤ) (k n : ℕ) → pos k ≡ z → Names z n → k < n
 key-below z k n e h = subst (λ y. Names y n) (sym e) h
+
+-- so a valid key names a place of the values
+pub text-place : (a c : Layout) (i k : ℕ) → TopFits a → IsDictionaryOf a → c ≡ child_of a → i < len a → is_null_at a i ≡ false → pos k ≡ key_at (keys_of a) i → k < len c
+text-place a c i k h e s l v p =
+    let b = key-below (key_at (keys_of a) i) k (len (child_of a)) p (named-valid a i h e l v) in
+    omega (arith, b, ap len s)
 
 -- where no null is counted no place is one
 first-left : (b : Bool) (c : ℕ) → cond b 1 0 + c ≡ 0 → (b ≡ false) × (c ≡ 0)

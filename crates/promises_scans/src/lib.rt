@@ -2,19 +2,21 @@
 //! to give: the array, the first of them, how many. A kind of array says what the item of a place is, and nothing else.
 #![tactic(auto)]
 
-ghost use Rattle.std.specs.Prelude.{◌≡◌, ◌+◌, ◌-◌, ◌*◌, ◌<◌, true, false, None, Some, MatchOption, MatchResult, alloc_error};
+ghost use Rattle.std.specs.Prelude.{◌≡◌, ◌+◌, ◌-◌, ◌*◌, ◌<◌, true, false, pos, Some, MatchOption, MatchResult, alloc_error};
 ghost use Rattle.nest_model.specs.Slot as slots;
-ghost use Rattle.promises_scans.specs.Words.{GivesFirst, GivesLast, IsPickOf, Memory, all_places, begin, bytes_of, child_of, child_types, children_of, cut, cut_layout, each, extent, is_null_at, layout_of, layout_type, offsets_of, places, seal, size_of, slot, slots_in, slots_of, types_in, validity_of, where_valid};
+ghost use Rattle.promises_scans.specs.Words.{EachNames, GivesFirst, GivesLast, InvalidArgumentError, IsPickOf, Memory, ValuesType, all_places, begin, bytes_of, child_of, child_types, children_of, cut, cut_layout, each, extent, is_null_at, key_at, keys_of, layout_of, layout_type, len, null_count, offsets_of, physical_type, place, places, raw_keys, scalar_parts, seal, size_of, slot, slots_in, slots_of, text_of_width, types_in, validity_of, where_valid};
 
 use nest_array::{
-    AnyArray, AnyScalar, FixedSizeBinaryArray, FixedSizeListArray, LargeListArray, ListArray,
-    MapArray, StructArray, UnionArray,
+    AnyArray, AnyScalar, DictionaryArray, FixedSizeBinaryArray, FixedSizeListArray, LargeListArray,
+    ListArray, MapArray, StructArray, UnionArray,
 };
 use nest_memory::error::Error;
 use nest_scan::{
-    BothEnds, FixedSizeBinaryIter, FixedSizeBinaryValuesIter, FixedSizeListValuesIter, ListIter,
-    ListValuesIter, MapValuesIter, NullPlaces, OrNull, Places, PlacesIter, Scan, ScanValues,
-    StructIter, StructValueIter, Tried, TryPlaces, UnionIter,
+    BothEnds, DictionaryIter, DictionaryIterTyped, DictionaryValuesIter, DictionaryValuesIterTyped,
+    FixedSizeBinaryIter, FixedSizeBinaryValuesIter, FixedSizeListValuesIter, KeysIter,
+    KeysValuesIter, ListIter, ListValuesIter, MapValuesIter, NullPlaces, OrNull, Places,
+    PlacesIter, Scan, ScanKeys, ScanValues, StructIter, StructValueIter, TextOffset, Tried,
+    TryPlaces, UnionIter,
 };
 use std::alloc::Global;
 
@@ -214,4 +216,100 @@ pub fn slots_of_byte_rows(rows: &FixedSizeBinaryArray, alloc: Global) -> FixedSi
     ensures { result ≡ all_places rows.now }
 {
     rows.iter(alloc)
+}
+
+/// What the raw keys of a dictionary name, also under nulls.
+pub fn values_by_raw_keys(dictionary: &DictionaryArray, alloc: Global) -> DictionaryValuesIter<'_>
+    requires { EachNames (raw_keys (keys_of dictionary.now)) (len (child_of dictionary.now)) }
+    ensures { result ≡ all_places dictionary.now }
+{
+    dictionary.values_iter(alloc)
+}
+
+/// The next of them: the value at the raw key, under the values' data type.
+pub fn next_by_raw_key(values: &mut DictionaryValuesIter<'_>) -> Option<Result<AnyScalar, Error>>
+    requires { 0 < values.old.count }
+    ensures { MatchOption result ⊥ (λ r. MatchResult r
+        (λ s. s ≡ scalar_parts (layout_type (child_of values.old.array)) (slot (child_of values.old.array) (place (key_at (keys_of values.old.array) values.old.front))))
+        (λ e. e ≡ Memory alloc_error)) }
+{
+    values.next()
+}
+
+/// What the keys of a dictionary name. No key under a null is read.
+pub fn slots_by_keys(dictionary: &DictionaryArray, alloc: Global) -> DictionaryIter<'_>
+    ensures { result ≡ all_places dictionary.now }
+{
+    dictionary.iter(alloc)
+}
+
+/// The next of them: `None` exactly where the key is null.
+pub fn next_by_key(items: &mut DictionaryIter<'_>) -> Option<Result<Option<AnyScalar>, Error>>
+    requires { 0 < items.old.count }
+    ensures { MatchOption result ⊥ (λ r. MatchResult r
+        (λ item. MatchOption item (is_null_at items.old.array items.old.front ≡ true)
+        (λ s. (is_null_at items.old.array items.old.front ≡ false) × (slot items.old.array items.old.front ≡ where_valid (validity_of items.old.array) items.old.front s.slot)))
+        (λ e. e ≡ Memory alloc_error)) }
+{
+    items.next()
+}
+
+/// The keys of a dictionary, as places of values.
+pub fn keys_in_turn(dictionary: &DictionaryArray) -> KeysIter<'_>
+    ensures { result ≡ all_places dictionary.now }
+{
+    dictionary.keys_iter()
+}
+
+/// The next of them: `None` exactly where the key is null, else the key.
+pub fn next_key(keys: &mut KeysIter<'_>) -> Option<Option<usize>>
+    requires { 0 < keys.old.count }
+    ensures { MatchOption result ⊥ (λ item. MatchOption item (is_null_at keys.old.array keys.old.front ≡ true)
+        (λ k. (is_null_at keys.old.array keys.old.front ≡ false) × (pos k ≡ key_at (keys_of keys.old.array) keys.old.front))) }
+{
+    keys.next()
+}
+
+/// The raw keys of a dictionary, also those under nulls.
+pub fn raw_keys_in_turn(dictionary: &DictionaryArray) -> KeysValuesIter<'_>
+    requires { EachNames (raw_keys (keys_of dictionary.now)) (len (child_of dictionary.now)) }
+    ensures { result ≡ all_places dictionary.now }
+{
+    dictionary.keys_values_iter()
+}
+
+/// The texts of a dictionary, exactly where its values are texts by such offsets.
+pub fn typed_slots<O: TextOffset>(
+    dictionary: &DictionaryArray,
+) -> Result<DictionaryIterTyped<'_, O>, Error>
+    requires { null_count (child_of dictionary.now) ≡ 0 }
+    ensures { MatchResult result
+        (λ it. (physical_type (layout_type (child_of dictionary.now)) ≡ text_of_width O.IS_LARGE) × (it ≡ all_places dictionary.now))
+        (λ e. (physical_type (layout_type (child_of dictionary.now)) ≡ text_of_width O.IS_LARGE → ⊥) × (e ≡ InvalidArgumentError ValuesType)) }
+{
+    dictionary.iter_typed::<O>()
+}
+
+/// The next of them: `None` exactly where the key is null, else the text that the slot is.
+pub fn next_typed_slot<'a, O: TextOffset>(
+    texts: &mut DictionaryIterTyped<'a, O>,
+) -> Option<Option<&'a str>>
+    requires { 0 < texts.old.count }
+    ensures { MatchOption result ⊥ (λ item. MatchOption item (is_null_at texts.old.array texts.old.front ≡ true)
+        (λ x. (is_null_at texts.old.array texts.old.front ≡ false) × (slot texts.old.array texts.old.front ≡ slots.text x.now))) }
+{
+    texts.next()
+}
+
+/// The texts of a dictionary without nulls.
+pub fn typed_values<O: TextOffset>(
+    dictionary: &DictionaryArray,
+) -> Result<DictionaryValuesIterTyped<'_, O>, Error>
+    requires keys { null_count dictionary.now ≡ 0 }
+    requires values { null_count (child_of dictionary.now) ≡ 0 }
+    ensures { MatchResult result
+        (λ it. (physical_type (layout_type (child_of dictionary.now)) ≡ text_of_width O.IS_LARGE) × (it ≡ all_places dictionary.now))
+        (λ e. (physical_type (layout_type (child_of dictionary.now)) ≡ text_of_width O.IS_LARGE → ⊥) × (e ≡ InvalidArgumentError ValuesType)) }
+{
+    dictionary.values_iter_typed::<O>()
 }

@@ -123,55 +123,55 @@ impl<'a, O: Offset> Places for TypedOrNull<'a, O> {
 
 impl<'a, O: Offset> BothEnds for TypedOrNull<'a, O> {}
 
-/// A reference to a dictionary whose keys are gone through.
-pub trait ScanKeys<'a>: Copy {
+/// A dictionary, whose keys are gone through.
+pub trait ScanKeys {
     /// The dictionary.
     ghost keyed: { Self → Layout };
 
     /// The places that its keys name, `None` where a key is null. No key under a null is read.
-    fn keys_iter(self) -> KeysIter<'a>
-        ensures { result ≡ all_places (keyed self) };
+    fn keys_iter(&self) -> KeysIter<'_>
+        ensures { result ≡ all_places (keyed self.now) };
 
     /// The places that its raw keys name, also under nulls.
-    fn keys_values_iter(self) -> KeysValuesIter<'a>
-        requires { EachKeyNames (keyed self) }
-        ensures { result ≡ all_places (keyed self) };
+    fn keys_values_iter(&self) -> KeysValuesIter<'_>
+        requires { EachKeyNames (keyed self.now) }
+        ensures { result ≡ all_places (keyed self.now) };
 
     /// Its texts, `None` where a key is null. `ValuesType` where the values are no texts by such offsets.
-    fn iter_typed<O: TextOffset>(self) -> Result<DictionaryIterTyped<'a, O>, Error>
-        requires { null_count (child_of (keyed self)) ≡ 0 }
+    fn iter_typed<O: TextOffset>(&self) -> Result<DictionaryIterTyped<'_, O>, Error>
+        requires { null_count (child_of (keyed self.now)) ≡ 0 }
         ensures { MatchResult result
-            (λ it. AreTexts O.IS_LARGE (child_of (keyed self)) × (it ≡ all_places (keyed self)))
-            (λ e. (AreTexts O.IS_LARGE (child_of (keyed self)) → ⊥) × (e ≡ InvalidArgumentError ValuesType)) };
+            (λ it. AreTexts O.IS_LARGE (child_of (keyed self.now)) × (it ≡ all_places (keyed self.now)))
+            (λ e. (AreTexts O.IS_LARGE (child_of (keyed self.now)) → ⊥) × (e ≡ InvalidArgumentError ValuesType)) };
 
     /// Its texts, where no key is null. `ValuesType` where the values are no texts by such offsets.
-    fn values_iter_typed<O: TextOffset>(self) -> Result<DictionaryValuesIterTyped<'a, O>, Error>
-        requires keys { null_count (keyed self) ≡ 0 }
-        requires values { null_count (child_of (keyed self)) ≡ 0 }
+    fn values_iter_typed<O: TextOffset>(&self) -> Result<DictionaryValuesIterTyped<'_, O>, Error>
+        requires keys { null_count (keyed self.now) ≡ 0 }
+        requires values { null_count (child_of (keyed self.now)) ≡ 0 }
         ensures { MatchResult result
-            (λ it. AreTexts O.IS_LARGE (child_of (keyed self)) × (it ≡ all_places (keyed self)))
-            (λ e. (AreTexts O.IS_LARGE (child_of (keyed self)) → ⊥) × (e ≡ InvalidArgumentError ValuesType)) };
+            (λ it. AreTexts O.IS_LARGE (child_of (keyed self.now)) × (it ≡ all_places (keyed self.now)))
+            (λ e. (AreTexts O.IS_LARGE (child_of (keyed self.now)) → ⊥) × (e ≡ InvalidArgumentError ValuesType)) };
 }
 
-impl<'a> ScanKeys<'a> for &'a DictionaryArray {
-    ghost keyed = { λ s. s.now };
+impl ScanKeys for DictionaryArray {
+    ghost keyed = { λ a. a };
 
-    fn keys_iter(self) -> KeysIter<'a> {
+    fn keys_iter(&self) -> KeysIter<'_> {
         PlacesIter::of(ValidKeys(self))
     }
 
-    fn keys_values_iter(self) -> KeysValuesIter<'a> {
+    fn keys_values_iter(&self) -> KeysValuesIter<'_> {
         PlacesIter::of(RawKeys(self))
     }
 
-    fn iter_typed<O: TextOffset>(self) -> Result<DictionaryIterTyped<'a, O>, Error> {
+    fn iter_typed<O: TextOffset>(&self) -> Result<DictionaryIterTyped<'_, O>, Error> {
         match O::texts(self.values()) {
             Some(values) => Ok(PlacesIter::of(TypedOrNull(TypedValues { keys: self, values }))),
             None => Err(Error::InvalidArgumentError(Argument::ValuesType)),
         }
     }
 
-    fn values_iter_typed<O: TextOffset>(self) -> Result<DictionaryValuesIterTyped<'a, O>, Error> {
+    fn values_iter_typed<O: TextOffset>(&self) -> Result<DictionaryValuesIterTyped<'_, O>, Error> {
         match O::texts(self.values()) {
             Some(values) => Ok(PlacesIter::of(TypedValues { keys: self, values })),
             None => Err(Error::InvalidArgumentError(Argument::ValuesType)),
