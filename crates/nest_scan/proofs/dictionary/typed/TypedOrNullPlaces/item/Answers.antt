@@ -13,5 +13,5 @@ returns g c =
     let l = text-place a vs c.args.i c.key_value.result c.known.ensures.fits c.known.ensures.kind s c.requires.within v c.key_value.ensures.key in (
       v,
       named-text _ a vs c.args.i c.key_value.result c.value.result.now c.known.ensures.kind c.known-2.ensures.kind s c.key_value.ensures.slot v c.value.ensures.slot
-      (no-null vs c.key_value.result (subst HasNoNull (sym s) c.requires.asked) l),
+          (no-null vs c.key_value.result (subst HasNoNull (sym s) c.requires.asked) l),
     )
