@@ -1,12 +1,12 @@
 //! The tests pass whichever request for memory is refused: the place whose item found none gives one `Err` and is passed, and all
 //! other places give their items.
 use crate::lists::four_lists;
-use crate::parts::{gave_nothing, is_numbers};
+use crate::parts::{gave_nothing, list_array};
 use crate::records::four_records;
-use nest_array::AnyArray;
+use nest_array::{AnyArray, ListArray};
 use nest_memory::error::Error;
 use nest_scan::{Scan, ScanValues};
-use std::alloc::AllocError;
+use std::alloc::{AllocError, Global};
 use std::process::Abort;
 
 /// What a call gave, or `None` where memory was refused; nothing else may be.
@@ -20,12 +20,18 @@ fn unless_refused<T>(rt: &impl Abort, outcome: Result<T, Error>) -> Option<T> {
     }
 }
 
-/// That an item of these numbers came, or want of memory alone.
-fn expect_numbers(rt: &impl Abort, item: Option<Result<AnyArray, Error>>, numbers: &[i32]) {
+/// Lists of two, no, one and one of the four lists.
+fn lists_of_lists(alloc: Global) -> Result<ListArray, Error> {
+    let items = four_lists(alloc, None).map(|lists| lists.boxed());
+    list_array(alloc, items, &[0, 2, 2, 3, 4], None)
+}
+
+/// That so many lists came, or want of memory alone.
+fn expect_lists(rt: &impl Abort, item: Option<Result<AnyArray, Error>>, n: usize) {
     assert!(rt; item.is_some());
     if let Some(item) = item {
         if let Some(array) = unless_refused(rt, item) {
-            assert!(rt; is_numbers(&array, numbers));
+            assert_eq!(rt; array.len(), n);
             drop(array);
         }
     }
@@ -34,17 +40,17 @@ fn expect_numbers(rt: &impl Abort, item: Option<Result<AnyArray, Error>>, number
 #[test]
 fn a_refused_list_is_passed(rt: HostRuntime) {
     let alloc = rt.alloc();
-    let Some(lists) = unless_refused(&rt, four_lists(alloc, None)) else {
+    let Some(lists) = unless_refused(&rt, lists_of_lists(alloc)) else {
         return;
     };
     let mut values = lists.values_iter(alloc);
-    expect_numbers(&rt, values.next(), &[1, 2]);
+    expect_lists(&rt, values.next(), 2);
     assert_eq!(rt; values.len(), 3);
-    expect_numbers(&rt, values.next_back(), &[4, 5]);
+    expect_lists(&rt, values.next_back(), 1);
     assert_eq!(rt; values.len(), 2);
-    expect_numbers(&rt, values.next_back(), &[3]);
+    expect_lists(&rt, values.next_back(), 1);
     assert_eq!(rt; values.len(), 1);
-    expect_numbers(&rt, values.next(), &[]);
+    expect_lists(&rt, values.next(), 0);
     assert_eq!(rt; values.size_hint(), (0, Some(0)));
     assert!(rt; gave_nothing(values.next()));
     assert!(rt; gave_nothing(values.next_back()));
