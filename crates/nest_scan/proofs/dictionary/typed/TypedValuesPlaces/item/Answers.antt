@@ -1,7 +1,6 @@
-use Rattle.std.proofs.Common.{◌≡◌, false, sym, subst}
+use Rattle.std.proofs.Common.{sym, subst}
 use Rattle.nest_model.specs.Accessors.{child_of, key_at, keys_of}
 use Rattle.nest_model.specs.Meaning.{len}
-use Rattle.nest_model.specs.Nullness.{is_null_at}
 use Rattle.nest_scan.specs.Items.{HasNoNull}
 use Rattle.nest_scan.proofs.Keyed.{named-valid, not-negative, text-place, no-null, named-text}
 use Rattle.nest_scan.proofs.dictionary.typed.TypedValuesPlaces.item.Goals as goal
