@@ -49,13 +49,13 @@ fn scalars_from_both_ends(rt: HostRuntime) {
     let array = four_keys(alloc).expect(&rt, "four keys");
     let mut slots = array.iter(alloc);
     let last = spelled(alloc, not_null(slots.next_back()));
-    assert_eq!(rt; last.as_str(), "'C' ");
+    assert!(rt; last.as_str() == "'C' ");
     assert!(rt; gave_null(slots.next_back()));
-    assert_eq!(rt; slots.len(), 2);
+    assert!(rt; slots.len() == 2);
     let first = spelled(alloc, not_null(slots.next()));
-    assert_eq!(rt; first.as_str(), "'A' ");
+    assert!(rt; first.as_str() == "'A' ");
     let second = spelled(alloc, not_null(slots.next()));
-    assert_eq!(rt; second.as_str(), "'B' ");
+    assert!(rt; second.as_str() == "'B' ");
     assert!(rt; gave_nothing(slots.next()));
     assert!(rt; gave_nothing(slots.next_back()));
     drop(slots);
@@ -69,10 +69,10 @@ fn scalars_under_nulls(rt: HostRuntime) {
     if array.all_in_range() {
         let mut values = array.values_iter(alloc);
         let last = spelled(alloc, values.next_back());
-        assert_eq!(rt; last.as_str(), "'C' ");
+        assert!(rt; last.as_str() == "'C' ");
         let under_the_null = spelled(alloc, values.next_back());
-        assert_eq!(rt; under_the_null.as_str(), "'B' ");
-        assert_eq!(rt; values.size_hint(), (2, Some(2)));
+        assert!(rt; under_the_null.as_str() == "'B' ");
+        assert!(rt; values.size_hint() == (2, Some(2)));
         drop(values);
     }
     drop(array);
@@ -83,23 +83,23 @@ fn keys_and_nulls(rt: HostRuntime) {
     let alloc = rt.alloc();
     let array = four_keys(alloc).expect(&rt, "four keys");
     let mut keys = array.keys_iter();
-    assert_eq!(rt; keys.next(), Some(Some(0)));
+    assert!(rt; keys.next() == Some(Some(0)));
     let mut rest = keys.clone().expect(&rt, "the same keys once more");
-    assert_eq!(rt; rest.next_back(), Some(Some(2)));
-    assert_eq!(rt; keys.next(), Some(Some(1)));
-    assert_eq!(rt; keys.next(), Some(None));
-    assert_eq!(rt; keys.len(), 1);
-    assert_eq!(rt; keys.next(), Some(Some(2)));
-    assert_eq!(rt; keys.next(), None);
-    assert_eq!(rt; rest.len(), 2);
+    assert!(rt; rest.next_back() == Some(Some(2)));
+    assert!(rt; keys.next() == Some(Some(1)));
+    assert!(rt; keys.next() == Some(None));
+    assert!(rt; keys.len() == 1);
+    assert!(rt; keys.next() == Some(Some(2)));
+    assert!(rt; keys.next() == None);
+    assert!(rt; rest.len() == 2);
     drop(keys);
     drop(rest);
     if array.all_in_range() {
         let mut raw = array.keys_values_iter();
-        assert_eq!(rt; raw.next_back(), Some(2));
-        assert_eq!(rt; raw.next_back(), Some(1));
-        assert_eq!(rt; raw.next(), Some(0));
-        assert_eq!(rt; raw.len(), 1);
+        assert!(rt; raw.next_back() == Some(2));
+        assert!(rt; raw.next_back() == Some(1));
+        assert!(rt; raw.next() == Some(0));
+        assert!(rt; raw.len() == 1);
         drop(raw);
     }
     drop(array);
@@ -171,8 +171,8 @@ fn large_texts(alloc: Global, offsets: &[i64], bytes: &[u8]) -> Result<AnyArray,
 #[test]
 fn texts_and_nulls(rt: HostRuntime) {
     let alloc = rt.alloc();
-    assert_eq!(rt; typed::<i32>(four_keys(alloc)), Ok(true));
-    assert_eq!(rt; typed::<i64>(four_keys(alloc)), Err(NO_TEXTS));
+    assert!(rt; typed::<i32>(four_keys(alloc)) == Ok(true));
+    assert!(rt; typed::<i64>(four_keys(alloc)) == Err(NO_TEXTS));
 }
 
 #[test]
@@ -180,9 +180,9 @@ fn values_of_other_types_are_refused(rt: HostRuntime) {
     let alloc = rt.alloc();
     let large = large_texts(alloc, &[0, 1], b"x");
     let over_large = dictionary(alloc, &[0], None, large);
-    assert_eq!(rt; typed::<i32>(over_large), Err(NO_TEXTS));
+    assert!(rt; typed::<i32>(over_large) == Err(NO_TEXTS));
     let over_numbers = dictionary(alloc, &[0], None, numbers(alloc, &[7]));
-    assert_eq!(rt; typed::<i32>(over_numbers), Err(NO_TEXTS));
+    assert!(rt; typed::<i32>(over_numbers) == Err(NO_TEXTS));
 }
 
 /// Whether the texts of a dictionary without nulls are B and A.
@@ -210,12 +210,12 @@ fn typed_values<O: TextOffset>(array: Result<DictionaryArray, Error>) -> Result<
 fn texts_without_nulls(rt: HostRuntime) {
     let alloc = rt.alloc();
     let small = dictionary(alloc, &[1, 0], None, texts(alloc, &[0, 1, 2], b"AB"));
-    assert_eq!(rt; typed_values::<i32>(small), Ok(true));
+    assert!(rt; typed_values::<i32>(small) == Ok(true));
     let large = large_texts(alloc, &[0, 1, 2], b"AB");
     let large = dictionary(alloc, &[1, 0], None, large);
-    assert_eq!(rt; typed_values::<i64>(large), Ok(true));
+    assert!(rt; typed_values::<i64>(large) == Ok(true));
     let other = dictionary(alloc, &[1, 0], None, numbers(alloc, &[1, 2]));
-    assert_eq!(rt; typed_values::<i32>(other), Err(NO_TEXTS));
+    assert!(rt; typed_values::<i32>(other) == Err(NO_TEXTS));
 }
 
 #[test]
@@ -231,8 +231,8 @@ fn null_keys_past_the_values(rt: HostRuntime) {
     assert!(rt; gave_nothing(slots.next()));
     drop(slots);
     let mut keys = array.keys_iter();
-    assert_eq!(rt; keys.next_back(), Some(None));
-    assert_eq!(rt; keys.len(), 1);
+    assert!(rt; keys.next_back() == Some(None));
+    assert!(rt; keys.len() == 1);
     drop(keys);
     drop(array);
 }
