@@ -106,7 +106,7 @@ zero-last : (n m : ℕ) → last_of (replicate (suc n) 0) ≤ m
 zero-last n m = let e = zero-at (suc n) (length {A = ℕ} (replicate (suc n) 0) - 1) in omega arith
 
 -- flat arrays
-native-null : (k : PrimitiveType) (t : TypeTree) (n d : ℕ) → (0 < n → 0 < d) → physical_type t ≡ physical.Primitive k → null_slot t ≡ slots.null → IsNullArray t n (native_nulls k t n d)
+pub native-null : (k : PrimitiveType) (t : TypeTree) (n d : ℕ) → (0 < n → 0 < d) → physical_type t ≡ physical.Primitive k → null_slot t ≡ slots.null → IsNullArray t n (native_nulls k t n d)
 native-null k t n d h p e =
     let l = length-replicate n (zero_value k) in
     record {
