@@ -15,3 +15,4 @@ pub mod ShownTypes
 pub mod Tables
 pub mod UnionChecks
 pub mod Windows
+pub mod NullFaults

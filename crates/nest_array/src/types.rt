@@ -1,9 +1,9 @@
 //! The data types of children.
-ghost use Rattle.std.specs.Prelude.{◌≡◌, ◌↔◌, IsTrue, Some, IfOk, IsOkUnless, MatchOption, alloc_error};
+ghost use Rattle.std.specs.Prelude.{◌≡◌, ◌↔◌, IsSome, IsTrue, Some, IfOk, IsOkUnless, MatchOption, alloc_error};
 ghost use Rattle.nest_memory.specs.TypeOf.{field_of};
 ghost use Rattle.nest_memory.specs.TypeTree.{item_field};
 ghost use Rattle.nest_array.specs.Types.{default_field};
-ghost use Rattle.nest_array.specs.Words.{Memory, item_type, physical_type, type_of};
+ghost use Rattle.nest_array.specs.Words.{Memory, item_type as items_of, physical_type, type_of};
 
 use nest_memory::datatypes::DataType;
 use nest_memory::datatypes::field::Field;
@@ -13,11 +13,22 @@ use std::alloc::Global;
 
 /// Whether lists of this type have items of that type.
 pub(crate) fn has_items(list: &DataType, items: &DataType) -> bool
-    ensures { IsTrue result ↔ (item_type (type_of list.now) ≡ Some (type_of items.now)) }
+    ensures { IsTrue result ↔ (items_of (type_of list.now) ≡ Some (type_of items.now)) }
 {
     match list.item_type() {
         None => false,
         Some(item) => item == items,
+    }
+}
+
+/// The type of the items of lists of this type.
+pub(crate) fn item_type(list: &DataType) -> &DataType
+    requires { IsSome (items_of (type_of list.now)) }
+    ensures { items_of (type_of list.now) ≡ Some (type_of result.now) }
+{
+    match list.item_type() {
+        Some(item) => item,
+        None => unreachable!(),
     }
 }
 

@@ -14,7 +14,7 @@ use Rattle.nest_memory.specs.declared.error.Argument.TheVariants as argument
 use Rattle.nest_memory.specs.Physical.{physical_type, list_of_width, binary_of_width, text_of_width}
 use Rattle.nest_memory.specs.TypeTree as types
 use Rattle.nest_memory.specs.TypeTree.{TypeTree, FieldTree, field, FieldTrees, no_fields, more_fields, field_type, count_fields, item_type, size_of, fields_of, ids_of, mode_of, is_dense_mode, has_pairs, is_pair, value_type}
-use Rattle.nest_model.specs.Checks.{refuse_if, is_past}
+use Rattle.nest_model.specs.Checks.{refuse_if, first_of, is_past}
 use Rattle.nest_model.specs.Layout as layouts
 use Rattle.nest_model.specs.Layout.{Layout}
 use Rattle.nest_model.specs.Accessors.{with_type}
@@ -215,20 +215,38 @@ struct-fault (types.struct fs) n d h = refl
 struct-fault (types.extension x t m) n d h = struct-fault t n d h
 struct-fault t n d h = cc
 
--- the fault of a union before that of its fields, which this one is
-abbrev pub union_fault : FieldTrees → Option (List ℤ) → UnionMode → ℕ → Option Error → Option Error
-union_fault fs ids mode n rest =
-    refuse_if (nat_lt 127 (count_fields fs)) (OutOfSpec spec.TooManyFields)
-    (refuse_if (ids_count_differs ids (count_fields fs)) (OutOfSpec spec.IdCount)
+-- the fault of a union of so many fields before that of its fields, which is the last
+abbrev pub union_fault : ℕ → Option (List ℤ) → UnionMode → ℕ → Option Error → Option Error
+union_fault count ids mode n rest =
+    refuse_if (nat_lt 127 count) (OutOfSpec spec.TooManyFields)
+    (refuse_if (ids_count_differs ids count) (OutOfSpec spec.IdCount)
     (refuse_if (has_bad_id ids) (OutOfSpec spec.IdRange)
-    (refuse_if (nat_eq (count_fields fs) 0 && nat_lt 0 n) (OutOfSpec spec.UnionType)
+    (refuse_if (nat_eq count 0 && nat_lt 0 n) (OutOfSpec spec.UnionType)
     (refuse_if (is_dense_mode mode && nat_lt (2 ^ 31) n) Overflow
     rest))))
 
-pub union-fault : (t : TypeTree) (mode : UnionMode) (n d : ℕ) → mode_of t ≡ Some mode → fault_of t n d ≡ union_fault (fields_of t) (ids_of t) mode n (fields_fault (fields_of t) n d)
-union-fault (types.union fs ids m) mode n d e = let q : m ≡ mode = cc in ap (λ o. union_fault fs ids o n (fields_fault fs n d)) q
+pub union-fault : (t : TypeTree) (mode : UnionMode) (n d : ℕ) → mode_of t ≡ Some mode → fault_of t n d ≡ union_fault (count_fields (fields_of t)) (ids_of t) mode n (fields_fault (fields_of t) n d)
+union-fault (types.union fs ids m) mode n d e = let q : m ≡ mode = cc in ap (λ o. union_fault (count_fields fs) ids o n (fields_fault fs n d)) q
 union-fault (types.extension x t m) mode n d e = union-fault t mode n d e
 union-fault t mode n d e = cc
+
+-- the own fault of a type goes before that of its children
+first-refused : (b : Bool) (e : Error) (own rest : Option Error) → refuse_if b e (first_of own rest) ≡ first_of (refuse_if b e own) rest
+first-refused true e own rest = refl
+first-refused false e own rest = refl
+
+pub union-own : (count : ℕ) (ids : Option (List ℤ)) (mode : UnionMode) (n : ℕ) (rest : Option Error) → union_fault count ids mode n rest ≡ first_of (union_fault count ids mode n None) rest
+union-own count ids mode n rest =
+    let e5 = first-refused (is_dense_mode mode && nat_lt (2 ^ 31) n) Overflow None rest in
+    let e4 = first-refused (nat_eq count 0 && nat_lt 0 n) (OutOfSpec spec.UnionType) _ rest in
+    let e3 = first-refused (has_bad_id ids) (OutOfSpec spec.IdRange) _ rest in
+    let e2 = first-refused (ids_count_differs ids count) (OutOfSpec spec.IdCount) _ rest in
+    let e1 = first-refused (nat_lt 127 count) (OutOfSpec spec.TooManyFields) _ rest in
+    ap (λ o. refuse_if (nat_lt 127 count) (OutOfSpec spec.TooManyFields) (refuse_if (ids_count_differs ids count) (OutOfSpec spec.IdCount) (refuse_if (has_bad_id ids) (OutOfSpec spec.IdRange) (refuse_if (nat_eq count 0 && nat_lt 0 n) (OutOfSpec spec.UnionType) o)))) e5
+    ∙ ap (λ o. refuse_if (nat_lt 127 count) (OutOfSpec spec.TooManyFields) (refuse_if (ids_count_differs ids count) (OutOfSpec spec.IdCount) (refuse_if (has_bad_id ids) (OutOfSpec spec.IdRange) o))) e4
+    ∙ ap (λ o. refuse_if (nat_lt 127 count) (OutOfSpec spec.TooManyFields) (refuse_if (ids_count_differs ids count) (OutOfSpec spec.IdCount) o)) e3
+    ∙ ap (λ o. refuse_if (nat_lt 127 count) (OutOfSpec spec.TooManyFields) o) e2
+    ∙ e1
 
 -- a null slot of any type but a union's is Null
 pub native-slot : (k : PrimitiveType) (t : TypeTree) → physical_type t ≡ physical.Primitive k → null_slot t ≡ slots.null
