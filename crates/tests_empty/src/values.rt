@@ -86,7 +86,7 @@ fn ends_empty(array: AnyArray, empty: AnyArray) -> bool {
     let count = array.len();
     let cut = array.sliced(count, 0);
     let mut steps = Steps::new();
-    let same = equal_counted(&cut, &empty, &mut steps) && steps.get() == 0;
+    let same = equal_counted(&cut, &empty, &mut steps) && steps.count() == 0;
     drop(empty);
     drop(cut);
     same
