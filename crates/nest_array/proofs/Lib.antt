@@ -16,3 +16,4 @@ pub mod Tables
 pub mod UnionChecks
 pub mod Windows
 pub mod NullFaults
+pub mod NullMakes

@@ -13,7 +13,7 @@ pub use Rattle.nest_flat.specs.FlatParts.{optional}
 pub use Rattle.nest_flat.specs.Growth.{CanDrain, Extended, RefusesBeginning, first_slots, native_refusal, pushed_native, pushed_truth}
 pub use Rattle.nest_memory.specs.Bits.{bits_from}
 pub use Rattle.nest_memory.specs.Cut.{cut}
-pub use Rattle.nest_memory.specs.Physical.{physical_type}
+pub use Rattle.nest_memory.specs.Physical.{binary_of_width, physical_type, text_of_width}
 pub use Rattle.nest_memory.specs.Rising.{are_offsets, ends_from, largest_offset, last_of, numbers}
 pub use Rattle.nest_memory.specs.TypeOf.{field_list_of, field_of, type_of}
 pub use Rattle.nest_memory.specs.TypeTree.{fields_of, ids_of}
@@ -32,8 +32,10 @@ pub use Rattle.nest_model.specs.Checks.{FailFirst, Pass}
 pub use Rattle.nest_model.specs.Cut.{cut_layout}
 pub use Rattle.nest_model.specs.Fits.{FirstFault, Fits, ValidityFault, validity_checks}
 pub use Rattle.nest_model.specs.Layout.{layout_type}
+pub use Rattle.nest_model.specs.MadeNulls.{AcceptsKind, HasNone, HasNulls, RefusesKind, RefusesType}
 pub use Rattle.nest_model.specs.Meaning.{len, run, slot, slots_of, union_place}
 pub use Rattle.nest_model.specs.Nullness.{has_keys, is_null_at, null_count}
+pub use Rattle.nest_model.specs.Nulls.{empty_fault, type_fault}
 pub use Rattle.nest_model.specs.Part.{begin, extent, field_named}
 pub use Rattle.nest_model.specs.Reads.{where_valid}
 pub use Rattle.nest_model.specs.SameArray.{IsSameArray}

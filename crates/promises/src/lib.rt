@@ -26,6 +26,8 @@
 //! `push_bytes`, `push_text` and their freezes in [`builders`]; `push_row`, `tell_row`, `freeze_rows`, and both together in
 //! `push_and_freeze`, in [`rows`].
 //!
+//! Of every data type without a fault there are null and empty arrays: [`empties`].
+//!
 //! # Below and above
 //!
 //! [`memory`] has what all this stands on: buffers, bitmaps and offsets are lists, and data types are trees. What follows from
@@ -41,6 +43,7 @@
 
 pub mod arrays;
 pub mod builders;
+pub mod empties;
 pub mod equality;
 pub mod flat;
 pub mod memory;
