@@ -4,15 +4,19 @@ use Rattle.std.proofs.Common.{◌≡◌, ℕ, zero, suc, ◌+◌, ◌*◌, ◌<�
 use Rattle.nest_memory.specs.Physical.{physical_type, list_of_width}
 use Rattle.nest_memory.specs.TypeOf.{type_of, field_of, field_list_of}
 use Rattle.nest_memory.specs.TypeTree as types
-use Rattle.nest_memory.specs.TypeTree.{TypeTree, FieldTrees, field, field_type, count_fields, item_type, size_of, fields_of, ids_of, mode_of, is_dense, is_dense_mode, is_pair}
+use Rattle.nest_memory.specs.TypeTree.{TypeTree, FieldTree, field, field_type, count_fields, item_type, size_of, fields_of, ids_of, mode_of, is_dense, is_dense_mode, is_pair, has_pairs}
 use Rattle.nest_memory.specs.declared.datatypes.UnionMode.{UnionMode}
 use Rattle.nest_memory.specs.declared.datatypes.field.Field.{Field}
 use Rattle.nest_memory.specs.declared.datatypes.physical_type.PhysicalType.TheVariants as physical
+use Rattle.nest_memory.specs.declared.error.Argument.TheVariants as argument
+use Rattle.nest_memory.specs.declared.error.Error.TheVariants.{OutOfSpec, InvalidArgumentError, Overflow}
+use Rattle.nest_memory.specs.declared.error.Spec.TheVariants as spec
+use Rattle.nest_model.specs.Checks.{refuse_if, is_past}
 use Rattle.nest_model.specs.Decide.{refuse-none, first-none}
 use Rattle.nest_model.specs.MadeNulls.{not-past}
-use Rattle.nest_model.specs.NullKinds.{field_weight, fields_weight, list-fault, sized-fault, map-fault, struct-fault}
+use Rattle.nest_model.specs.NullKinds.{type_weight, field_weight, fields_weight, field-weight, list-fault, sized-fault, map-fault, struct-fault}
 use Rattle.nest_model.specs.NullLaws.{not-above}
-use Rattle.nest_model.specs.NullLayout.{null_item, null_children}
+use Rattle.nest_model.specs.NullLayout.{null_array, null_item, null_children}
 use Rattle.nest_model.specs.Nulls.{ids_count_differs, has_bad_id, fault_of, field_fault, fields_fault}
 use Rattle.nest_array.specs.declared.any.AnyArray.{AnyArray}
 use Rattle.nest_array.specs.Seen.{layout_of, layouts_of}
@@ -47,7 +51,10 @@ map-long (types.extension x t m) n d h e = map-long t n d h e
 map-long t n d h e = cc
 
 pub map-below : (t u : TypeTree) (n d : ℕ) → physical_type t ≡ physical.Map → item_type t ≡ Some u → fault_of t n d ≡ None → fault_of u 0 0 ≡ None
-map-below t u n d h i e = let r = refuse-none _ _ _ (sym (map-fault t u n d h i) ∙ e) in (refuse-none _ _ _ r.1).1
+map-below t u n d h i e =
+    let own = refuse_if (is_past (n + 1)) Overflow (fault_of u 0 0) in
+    let r = refuse-none (not (has_pairs t)) (InvalidArgumentError argument.MapInner) own (sym (map-fault t u n d h i) ∙ e) in
+    (refuse-none (is_past (n + 1)) Overflow (fault_of u 0 0) r.1).1
 
 -- lists of one size
 pub sized-item : (t : TypeTree) → physical_type t ≡ physical.FixedSizeList → IsSome (item_type t)
@@ -61,7 +68,10 @@ sized-long (types.extension x t m) n d h e = sized-long t n d h e
 sized-long t n d h e = cc
 
 pub sized-below : (t u : TypeTree) (n d : ℕ) → physical_type t ≡ physical.FixedSizeList → item_type t ≡ Some u → fault_of t n d ≡ None → fault_of u (n * size_of t) d ≡ None
-sized-below t u n d h i e = let r = refuse-none _ _ _ (sym (sized-fault t u n d h i) ∙ e) in (refuse-none _ _ _ r.1).1
+sized-below t u n d h i e =
+    let own = refuse_if (is_past (n * size_of t)) Overflow (fault_of u (n * size_of t) d) in
+    let r = refuse-none (nat_eq (size_of t) 0) (OutOfSpec spec.ZeroSize) own (sym (sized-fault t u n d h i) ∙ e) in
+    (refuse-none (is_past (n * size_of t)) Overflow (fault_of u (n * size_of t) d) r.1).1
 
 product-some : (n s : ℕ) → 0 < n * s → 0 < n
 product-some zero s h = absurd (let e : 0 * s ≡ 0 = omega arith in omega arith)
@@ -124,17 +134,26 @@ field-lighter [] i f h = absurd (omega arith)
 field-lighter (g ∷ gs) zero f h = omega arith
 field-lighter (g ∷ gs) (suc i) f h = omega (arith, field-lighter gs i f (omega arith))
 
+pub weight-of : (f : FieldTree) (t : TypeTree) → t ≡ field_type f → type_weight t ≡ field_weight f
+weight-of f t e = ap type_weight e ∙ field-weight f
+
+pub fault-of : (f : FieldTree) (t : TypeTree) (n d : ℕ) → t ≡ field_type f → fault_of t n d ≡ field_fault f n d
+fault-of (field x v b es) t n d e = ap (λ u. fault_of u n d) e
+
+item-of : (f : FieldTree) (n d : ℕ) → null_array (field_type f) n d ≡ null_item f n d
+item-of (field x v b es) n d = refl
+
 pub field-below : (fs : List Field) (i n d : ℕ) (f : Field) → i < length fs → fields_fault (field_list_of fs) n d ≡ None → field_fault (field_of (get_or fs i f)) n d ≡ None
 field-below [] i n d f h e = absurd (omega arith)
 field-below (g ∷ gs) zero n d f h e = (first-none _ _ e).0
 field-below (g ∷ gs) (suc i) n d f h e = field-below gs i n d f (omega arith) (first-none _ _ e).1
 
-pub all-nulls : (xs : Seq AnyArray) (fs : List Field) (n v : ℕ) → length xs ≡ length fs → ((k : ℕ) (d : AnyArray) (f : Field) → k < length fs → layout_of (get_or xs k d) ≡ null_item (field_of (get_or fs k f)) n v)
+pub all-nulls : (xs : Seq AnyArray) (fs : List Field) (n v : ℕ) → length xs ≡ length fs → ((k : ℕ) (d : AnyArray) (f : Field) → k < length fs → layout_of (get_or xs k d) ≡ null_array (field_type (field_of (get_or fs k f))) n v)
     → layouts_of xs ≡ null_children (field_list_of fs) n v
 all-nulls [] [] n v e h = refl
 all-nulls [] (f ∷ fs) n v e h = absurd (omega arith)
 all-nulls (x ∷ xs) [] n v e h = absurd (omega arith)
 all-nulls (x ∷ xs) (f ∷ fs) n v e h =
-    let a : layout_of x ≡ null_item (field_of f) n v = h 0 x f (omega arith) in
+    let a : layout_of x ≡ null_item (field_of f) n v = h 0 x f (omega arith) ∙ item-of (field_of f) n v in
     let b = all-nulls xs fs n v (omega arith) (λ k d g l. h (suc k) d g (omega arith)) in
     cc

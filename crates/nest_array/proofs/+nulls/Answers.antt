@@ -8,7 +8,7 @@ use Rattle.nest_model.specs.MadeNulls.{top-fits, fits}
 use Rattle.nest_model.specs.NullKinds.{type_weight, field_weight, fields_weight, item-lighter, fields-lighter, list-parts, map-parts, sized-parts, struct-parts, union-parts}
 use Rattle.nest_model.specs.NullLayout.{none_valid, null_array, null_children}
 use Rattle.nest_model.specs.Nulls.{fault_of, field_fault, fields_fault}
-use Rattle.nest_array.proofs.NullMakes.{list-item, list-long, list-below, map-item, map-long, map-below, sized-item, sized-long, sized-below, sized-valid, struct-below, union-mode, union-ids, union-short, union-below, field-lighter, field-below, all-nulls}
+use Rattle.nest_array.proofs.NullMakes.{list-item, list-long, list-below, map-item, map-long, map-below, sized-item, sized-long, sized-below, sized-valid, struct-below, union-mode, union-ids, union-short, union-below, field-lighter, weight-of, fault-of, field-below, all-nulls}
 use Rattle.nest_array.proofs.+nulls.Goals as goal
 
 pub list::ListArray::nulls-nulls-requires : goal.list::ListArray::nulls-nulls-requires
@@ -20,8 +20,7 @@ list::ListArray::nulls-item_type-requires t c = list-item false (type_of c.args.
 pub list::ListArray::nulls-null_array-requires : goal.list::ListArray::nulls-null_array-requires
 list::ListArray::nulls-null_array-requires t c =
     let a = type_of c.args.data_type.now in
-    let u = type_of c.item_type.result.now in
-    (
+    let u = type_of c.item_type.result.now in (
       omega (arith, item-lighter a u c.item_type.ensures),
       (list-below false a u c.args.length c.args.values c.requires.kind c.item_type.ensures c.requires.unrefused, λ z. z),
     )
@@ -53,8 +52,7 @@ list::large::LargeListArray::nulls-item_type-requires t c = list-item true (type
 pub list::large::LargeListArray::nulls-null_array-requires : goal.list::large::LargeListArray::nulls-null_array-requires
 list::large::LargeListArray::nulls-null_array-requires t c =
     let a = type_of c.args.data_type.now in
-    let u = type_of c.item_type.result.now in
-    (
+    let u = type_of c.item_type.result.now in (
       omega (arith, item-lighter a u c.item_type.ensures),
       (list-below true a u c.args.length c.args.values c.requires.kind c.item_type.ensures c.requires.unrefused, λ z. z),
     )
@@ -86,8 +84,7 @@ map::MapArray::nulls-item_type-requires t c = map-item (type_of c.args.data_type
 pub map::MapArray::nulls-null_array-requires : goal.map::MapArray::nulls-null_array-requires
 map::MapArray::nulls-null_array-requires t c =
     let a = type_of c.args.data_type.now in
-    let u = type_of c.item_type.result.now in
-    (
+    let u = type_of c.item_type.result.now in (
       omega (arith, item-lighter a u c.item_type.ensures),
       (map-below a u c.args.length c.args.values c.requires.kind c.item_type.ensures c.requires.unrefused, λ z. z),
     )
@@ -123,8 +120,7 @@ pub fixed_size_list::FixedSizeListArray::nulls-null_array-requires : goal.fixed_
 fixed_size_list::FixedSizeListArray::nulls-null_array-requires t c =
     let a = type_of c.args.data_type.now in
     let u = type_of c.item_type.result.now in
-    let s = c.unwrap_or.ensures ∙ c.size.ensures.or_zero in
-    (
+    let s = c.unwrap_or.ensures ∙ c.size.ensures.or_zero in (
       omega (arith, item-lighter a u c.item_type.ensures),
       (
         ap (λ k. fault_of u (c.args.length * k) c.args.values) s ∙ sized-below a u c.args.length c.args.values c.requires.kind c.item_type.ensures c.requires.unrefused,
@@ -156,8 +152,7 @@ fixed_size_list::FixedSizeListArray::nulls-returns-in-Ok-clause-ok t c =
 
 pub struct_::StructArray::nulls-null_fields-requires : goal.struct_::StructArray::nulls-null_fields-requires
 struct_::StructArray::nulls-null_fields-requires t c =
-    let a = type_of c.args.data_type.now in
-    (
+    let a = type_of c.args.data_type.now in (
       omega (arith, fields-lighter a, ap fields_weight c.fields.ensures.fields),
       (ap (λ fs. fields_fault fs c.args.length c.args.values) c.fields.ensures.fields ∙ struct-below a c.args.length c.args.values c.requires.kind c.requires.unrefused, c.requires.valid),
     )
@@ -175,16 +170,15 @@ struct_::StructArray::nulls-returns-in-Ok-clause-ok t c =
     let k = c.in_ok-children.ensures.ok ∙ ap (λ fs. null_children fs c.args.length c.args.values) c.fields.ensures.fields in
     c.new.ensures ∙ (λ i. layouts.struct (c.in-Ok.ensures.ok i) (k i) (c.in_ok-validity.ensures.ok i)) ∙ sym (struct-parts a c.args.length c.args.values c.requires.kind)
 
-pub union::UnionArray::nulls-first_type-requires : goal.union::UnionArray::nulls-first_type-requires
-union::UnionArray::nulls-first_type-requires t c = union-ids (type_of c.args.data_type.now) c.args.length c.args.values c.requires.kind c.requires.unrefused
+pub union::UnionArray::nulls-null_types-requires : goal.union::UnionArray::nulls-null_types-requires
+union::UnionArray::nulls-null_types-requires t c = union-ids (type_of c.args.data_type.now) c.args.length c.args.values c.requires.kind c.requires.unrefused
 
 pub union::UnionArray::nulls-places-requires : goal.union::UnionArray::nulls-places-requires
 union::UnionArray::nulls-places-requires t c = union-short (type_of c.args.data_type.now) c.args.length c.args.values c.requires.kind c.requires.unrefused
 
 pub union::UnionArray::nulls-null_fields-requires : goal.union::UnionArray::nulls-null_fields-requires
 union::UnionArray::nulls-null_fields-requires t c =
-    let a = type_of c.args.data_type.now in
-    (
+    let a = type_of c.args.data_type.now in (
       omega (arith, fields-lighter a, ap fields_weight c.fields.ensures.fields),
       (ap (λ fs. fields_fault fs c.args.length c.args.values) c.fields.ensures.fields ∙ union-below a c.args.length c.args.values c.requires.kind c.requires.unrefused, c.requires.valid),
     )
@@ -193,7 +187,7 @@ pub union::UnionArray::nulls-new-requires : goal.union::UnionArray::nulls-new-re
 union::UnionArray::nulls-new-requires t c =
     let a = type_of c.args.data_type.now in
     let m = union-mode a c.requires.kind in
-    let ks = c.in_ok-types.ensures.ok ∙ ap (replicate c.args.length) c.first_type.ensures in
+    let ks = c.in_ok-types.ensures.ok in
     let os = c.in_ok-offsets.ensures.ok m.0 m.1 in
     let k = c.in_ok-fields.ensures.ok ∙ ap (λ fs. null_children fs c.args.length c.args.values) c.fields.ensures.fields in
     fits a c.args.length c.args.values _ c.requires.valid c.requires.unrefused
@@ -203,18 +197,24 @@ pub union::UnionArray::nulls-returns-in-Ok-clause-ok : goal.union::UnionArray::n
 union::UnionArray::nulls-returns-in-Ok-clause-ok t c =
     let a = type_of c.args.data_type.now in
     let m = union-mode a c.requires.kind in
-    let ks = c.in_ok-types.ensures.ok ∙ ap (replicate c.args.length) c.first_type.ensures in
+    let ks = c.in_ok-types.ensures.ok in
     let os = c.in_ok-offsets.ensures.ok m.0 m.1 in
     let k = c.in_ok-fields.ensures.ok ∙ ap (λ fs. null_children fs c.args.length c.args.values) c.fields.ensures.fields in
     c.new.ensures ∙ (λ i. layouts.union (c.in-Ok.ensures.ok i) (ks i) (k i) (os i) 0) ∙ sym (union-parts a m.0 c.args.length c.args.values m.1)
 
 pub nulls::null_fields-null_array-requires : goal.nulls::null_fields-null_array-requires
 nulls::null_fields-null_array-requires t c =
-    let e = ap (λ f. field_weight (field_of f)) c.index-fields-i.is in
+    let f = field_of c.index-fields-i.result in
+    let e = ap (λ x. field_weight (field_of x)) c.index-fields-i.is in
     let w = field-lighter c.args.fields.now c.loop-i.i c.index-fields-i.result (omega arith) in
-    (
-      omega (arith, e, w),
-      (ap (λ f. field_fault (field_of f) c.args.length c.args.values) c.index-fields-i.is ∙ field-below c.args.fields.now c.loop-i.i c.args.length c.args.values c.index-fields-i.result (omega arith) c.requires.unrefused, c.requires.valid),
+    let q = weight-of f (type_of c.data_type.result.now) c.data_type.ensures in (
+      omega (arith, e, w, q),
+      (
+        fault-of f (type_of c.data_type.result.now) c.args.length c.args.values c.data_type.ensures
+            ∙ ap (λ x. field_fault (field_of x) c.args.length c.args.values) c.index-fields-i.is
+            ∙ field-below c.args.fields.now c.loop-i.i c.args.length c.args.values c.index-fields-i.result (omega arith) c.requires.unrefused,
+        c.requires.valid,
+      ),
     )
 
 pub nulls::null_fields-returns-clause-ok : goal.nulls::null_fields-returns-clause-ok

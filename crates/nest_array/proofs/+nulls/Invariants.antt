@@ -1,8 +1,9 @@
 use Rattle.std.proofs.Common.{◌≡◌, ℕ, ◌+◌, ◌*◌, ◌<◌, length, get_or}
 use Rattle.nest_memory.specs.TypeOf.{type_of, field_of, field_list_of}
+use Rattle.nest_memory.specs.TypeTree.{field_type}
 use Rattle.nest_memory.specs.declared.datatypes.field.Field.{Field}
 use Rattle.nest_model.specs.NullKinds.{type_weight, fields_weight}
-use Rattle.nest_model.specs.NullLayout.{null_item}
+use Rattle.nest_model.specs.NullLayout.{null_array}
 use Rattle.nest_array.specs.declared.any.AnyArray.{AnyArray}
 use Rattle.nest_array.specs.Seen.{layout_of}
 use Rattle.nest_array.proofs.+nulls.Given as goal
@@ -35,5 +36,5 @@ abbrev pub invariant-nulls::null_fields-loop-i : goal.invariant-nulls::null_fiel
 invariant-nulls::null_fields-loop-i l =
     record {
       same_length : length l.children.items ≡ l.i;
-      done : (k : ℕ) (d : AnyArray) (f : Field) → k < l.i → layout_of (get_or l.children.items k d) ≡ null_item (field_of (get_or l.fields k f)) l.length l.values;
+      done : (k : ℕ) (d : AnyArray) (f : Field) → k < l.i → layout_of (get_or l.children.items k d) ≡ null_array (field_type (field_of (get_or l.fields k f))) l.length l.values;
     }

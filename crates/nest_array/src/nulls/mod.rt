@@ -216,7 +216,7 @@ pub(crate) fn null_fields(
 {
     let mut children = Vec::with_capacity(alloc, fields.len())?;
     for i in 0..fields.len() {
-        children.push(null_array(alloc, &fields[i].data_type, length, values)?)?;
+        children.push(null_array(alloc, fields[i].data_type(), length, values)?)?;
     }
     Ok(children)
 }

@@ -1,5 +1,5 @@
 //! Arrays of unions that are null, and such arrays without a slot.
-ghost use Rattle.std.specs.Prelude.{◌≡◌, ◌<◌, ◌≤◌, ◌^◌, IfOk, IsOkUnless, MatchResult, None, Some, alloc_error, false, map, pos, true};
+ghost use Rattle.std.specs.Prelude.{◌≡◌, ◌<◌, ◌≤◌, ◌^◌, IfOk, IsOkUnless, MatchResult, None, Some, alloc_error, false, map, pos, replicate, true};
 ghost use Rattle.nest_memory.specs.declared.datatypes.physical_type.PhysicalType.TheVariants as physical;
 ghost use Rattle.std.specs.List.{range_with_len};
 ghost use Rattle.nest_memory.specs.TypeTree.{ids_of, is_dense, mode_of};
@@ -55,7 +55,7 @@ impl UnionArray {
         ensures ok { IfOk result (λ a. a ≡ nulls_of (type_of data_type.now) length values) }
         ensures err { IsOkUnless result (Memory alloc_error) }
     {
-        let types = Buffer::filled(alloc, first_type(data_type), length)?;
+        let types = null_types(alloc, data_type, length)?;
         let offsets = places(alloc, data_type, length)?;
         let fields = null_fields(alloc, data_type.fields(), length, values)?;
         match data_type.clone(alloc) {
@@ -85,6 +85,16 @@ impl Nulls for UnionArray {
     ) -> Result<UnionArray, Error> {
         UnionArray::nulls(alloc, data_type, length, values)
     }
+}
+
+// The types of slots that are null.
+fn null_types(alloc: Global, data_type: &DataType, length: usize) -> Result<Buffer<i8>, Error>
+    requires { has_bad_id (ids_of (type_of data_type.now)) ≡ false }
+    ensures ok { IfOk result (λ b. b ≡ replicate length (null_type (ids_of (type_of data_type.now)))) }
+    ensures err { IsOkUnless result (Memory alloc_error) }
+{
+    let first = first_type(data_type);
+    Buffer::filled(alloc, first, length)
 }
 
 // The type of the slots that are null: the first id, without ids that of the first field.
