@@ -15,51 +15,72 @@ const FEW: usize = 8000;
 
 const ITEMS: usize = 8_000_000;
 
-/// What is compared. Each kind but records holds the same number of items.
+/// What is compared. Numbers and lists hold the same number of items; of the others an eighth as many rows are compared.
 #[derive(Clone, Copy)]
 enum Kind {
+    Numbers,
     ShortLists,
     LongLists,
     ListsOfLists,
     FixedSizeLists,
     Records,
+    Maps,
+    TextsByKeys,
+    SparseUnions,
+    DenseUnions,
 }
 
-const KINDS: [Kind; 5] = [
+const KINDS: [Kind; 10] = [
+    Kind::Numbers,
     Kind::ShortLists,
     Kind::LongLists,
     Kind::ListsOfLists,
     Kind::FixedSizeLists,
     Kind::Records,
+    Kind::Maps,
+    Kind::TextsByKeys,
+    Kind::SparseUnions,
+    Kind::DenseUnions,
 ];
 
 impl Kind {
     fn name(self) -> &'static str {
         match self {
+            Kind::Numbers => "  numbers",
             Kind::ShortLists => "  lists of 8 numbers",
             Kind::LongLists => "  lists of 1000 numbers",
             Kind::ListsOfLists => "  lists of 10 lists of 8 numbers",
             Kind::FixedSizeLists => "  lists of a fixed size of 8 numbers",
             Kind::Records => "  records of a number and a text",
+            Kind::Maps => "  maps of 4 entries from a number to a text",
+            Kind::TextsByKeys => "  texts by keys of 32 bits over 1000 of them",
+            Kind::SparseUnions => "  sparse unions of numbers and texts",
+            Kind::DenseUnions => "  dense unions of numbers and texts",
         }
     }
 
-    /// How many items or records there are, of n items.
+    /// How many items or rows there are, of n items.
     fn count(self, n: usize) -> usize {
         match self {
-            Kind::Records => n / 8,
-            _ => n,
+            Kind::Numbers | Kind::ShortLists | Kind::LongLists => n,
+            Kind::ListsOfLists | Kind::FixedSizeLists => n,
+            _ => n / 8,
         }
     }
 
-    /// An array of n items, each tenth row and item null where `nulls` says so.
+    /// An array of n items, each tenth row and item null where `nulls` says so; unions have no nulls.
     fn made(self, alloc: Global, n: usize, nulls: bool) -> Result<AnyArray, Error> {
         match self {
+            Kind::Numbers => arrays::numbers(alloc, n, nulls),
             Kind::ShortLists => lists(alloc, n, 8, nulls),
             Kind::LongLists => lists(alloc, n, 1000, nulls),
             Kind::ListsOfLists => lists_of_lists(alloc, n, nulls),
             Kind::FixedSizeLists => fixed_size_lists(alloc, n, 8, nulls),
             Kind::Records => arrays::records(alloc, n / 8, nulls),
+            Kind::Maps => arrays::maps(alloc, n / 8, 4, nulls),
+            Kind::TextsByKeys => arrays::texts_by_keys(alloc, n / 8, nulls),
+            Kind::SparseUnions => arrays::sparse_unions(alloc, n / 8),
+            Kind::DenseUnions => arrays::dense_unions(alloc, n / 8),
         }
     }
 }

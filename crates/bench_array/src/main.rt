@@ -7,6 +7,7 @@ mod building;
 mod comparing;
 mod copies;
 mod cuts;
+mod kinds;
 mod rows;
 
 use anyhow::Result;
@@ -17,6 +18,7 @@ fn run<R: Clock + Print + AllocGlobal>(rt: &R, measured: bool) -> Result<()> {
     cuts::run(rt, measured)?;
     rows::run(rt, measured)?;
     copies::run(rt, measured)?;
+    kinds::run(rt, measured)?;
     building::run(rt, measured)?;
     comparing::run(rt, measured)
 }

@@ -4,10 +4,13 @@ pub mod Counts
 pub mod FixedSizeBinaries
 pub mod FixedSizes
 pub mod Joined
+pub mod Keyed
+pub mod KeyedScalars
 pub mod Leaves
 pub mod Lists
 pub mod LogicalTypes
 pub mod Picks
+pub mod RawKeys
 pub mod SameRows
 pub mod SameScalars
 pub mod Scalars

@@ -1,14 +1,14 @@
 -- What the slots of a union pick.
-use Rattle.std.specs.Prelude.{◌↔◌, IsTrue, Option, Some, None, List as Seq, [], ◌∷◌}
-use Rattle.std.proofs.Common.{◌≡◌, ℕ, zero, suc, ◌+◌, ◌<◌, ◌≤◌, ℤ, pos, negsuc, Bool, true, false, length, get_or, refl, ap, sym, ◌∙◌, subst, arith}
-use Rattle.nest_memory.specs.TypeTree.{TypeTree, fields_of, ids_of, logical_type}
+use Rattle.std.specs.Prelude.{◌↔◌, IsTrue, Option, Some, List as Seq, [], ◌∷◌}
+use Rattle.std.proofs.Common.{◌≡◌, ℕ, zero, suc, ◌+◌, ◌<◌, ◌≤◌, ℤ, pos, Bool, false, length, get_or, refl, ap, sym, ◌∙◌, subst, arith}
+use Rattle.nest_memory.specs.TypeTree.{TypeTree, fields_of, ids_of}
 use Rattle.nest_model.specs.Accessors.{child_at, children_of, start_of, types_of, union_offsets_of}
 use Rattle.nest_model.specs.Array.{TopFits}
 use Rattle.nest_model.specs.Facts.{IsUnion, union-facts}
 use Rattle.nest_model.specs.Fits.{EachType}
 use Rattle.nest_model.specs.Layout.{Layout, Layouts, no_layouts, more_layouts, union, layout_type, count_layouts}
 use Rattle.nest_model.specs.LayoutCode.{weight, weight_all}
-use Rattle.nest_model.specs.Meaning.{len, run, slot, slots_of, union_place}
+use Rattle.nest_model.specs.Meaning.{len, run, slot, union_place}
 use Rattle.nest_model.specs.Nullness.{has_keys, is_null_at}
 use Rattle.nest_model.specs.NullnessLaws.{slot-null_at}
 use Rattle.nest_model.specs.Part.{field_named}

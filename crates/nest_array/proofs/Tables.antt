@@ -2,16 +2,14 @@
 use Rattle.std.specs.Prelude.{◌↔◌, ◌⊎◌, Option, Some, None, List, [], ◌∷◌, slice_get, if◌then◌else◌}
 use Rattle.std.specs.Ordering.{int_eq}
 use Rattle.std.specs.List.{All}
-use Rattle.std.proofs.Common.{◌≡◌, ℕ, zero, suc, ◌+◌, ◌<◌, ◌≤◌, ◌++◌, ℤ, pos, negsuc, Bool, true, false, length, get_or, take, set, refl, ap, sym, ◌∙◌, subst, inl, inr, arith, get_or-set_same, get_or-set_other, take-suc}
+use Rattle.std.proofs.Common.{◌≡◌, ℕ, suc, ◌+◌, ◌<◌, ◌≤◌, ◌++◌, ℤ, pos, negsuc, Bool, true, false, length, get_or, take, set, refl, ap, sym, ◌∙◌, subst, inl, inr, arith, get_or-set_same, get_or-set_other, take-suc}
 use Rattle.std.proofs.lemmas.Bool.Decides.{Decides-int_eq}
-use Rattle.std.proofs.lemmas.List.{get_or_past, get_or-replicate, length-take-le}
-use Rattle.std.proofs.Math.Facts.{to_z_pos}
+use Rattle.std.proofs.lemmas.List.{get_or_past, length-take-le}
 use Rattle.std.proofs.lemmas.Option.{slice_get-get_or}
-use Rattle.std.proofs.lemmas.List.Elements.{All-get_or, All-from_get_or}
-use Rattle.nest_model.specs.Fits.{Names, EachCovers, EachNames, EachMeansField, EachOffsetNames, IdsInRange, MeansField, SlotsThere, child_len}
+use Rattle.nest_model.specs.Fits.{Names, EachCovers, EachNames, EachMeansField, IdsInRange, MeansField, SlotsThere, child_len}
 use Rattle.nest_model.specs.Layout.{Layouts, count_layouts}
 use Rattle.nest_model.specs.Part.{field_named, last_place}
-use Rattle.nest_array.specs.Positions.{IsTable, EachNamed, SlotsMeant, meant, position}
+use Rattle.nest_array.specs.Positions.{IsTable, SlotsMeant, meant, position}
 
 -- the last place of a number in a list with one number more
 abbrev before : ℤ → ℤ → Option ℕ → Option ℕ

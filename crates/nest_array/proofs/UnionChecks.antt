@@ -1,14 +1,14 @@
 -- The checks of a union, one after another.
 use Rattle.std.specs.Int.Signed.{le_z}
 use Rattle.std.specs.Prelude.{◌⊎◌, ◌↔◌, IsTrue, nat_eq, nat_lt, Option, List, Result, Ok, Err, MatchResult}
-use Rattle.std.proofs.Common.{◌≡◌, ℕ, ◌+◌, ◌<◌, ◌≤◌, ℤ, pos, negsuc, Bool, true, false, length, refl, ap, sym, ◌∙◌, subst, inl, inr, arith, rules}
+use Rattle.std.proofs.Common.{◌≡◌, ℕ, ◌<◌, ◌≤◌, ℤ, pos, negsuc, Bool, true, false, length, refl, sym, ◌∙◌, subst, inl, inr, arith, rules}
 use Rattle.std.proofs.lemmas.Bool.Decides.{nat_tests}
 use lib.IntN.{nat_abs}
 use Rattle.nest_memory.specs.declared.error.Error.{Error}
 use Rattle.nest_memory.specs.TypeTree.{TypeTree, count_fields, fields_of, ids_of, is_dense}
 use Rattle.nest_memory.specs.Physical.{physical_type}
 use Rattle.nest_memory.specs.declared.datatypes.physical_type.PhysicalType.TheVariants as physical
-use Rattle.nest_model.specs.Checks.{Checks, check, error_number, FailsOr, FailFirst, Pass}
+use Rattle.nest_model.specs.Checks.{error_number, FailsOr, FailFirst, Pass}
 use Rattle.nest_model.specs.Fits.{EachType, Fits, FirstFault, Names, OffsetsByMode, OffsetsCount}
 use Rattle.nest_model.specs.Layout.{Layouts, union, count_layouts}
 use Rattle.nest_array.specs.Positions.{id_checks}

@@ -3,8 +3,8 @@ use Rattle.std.specs.Prelude.{◌+◌, ◌≤◌, List as Seq, [], ◌∷◌}
 use Rattle.std.proofs.Common.{arith}
 use denote.Param.Weighed.{most}
 use Rattle.nest_array.specs.declared.any.AnyArray.{AnyArray}
-use Rattle.nest_array.specs.declared.any.AnyArray.TheVariants.{Null, Boolean, Primitive, Binary, LargeBinary, Utf8, LargeUtf8, FixedSizeBinary, FixedSizeList, List, LargeList, Struct, Map, Union}
-use Rattle.nest_array.specs.declared.fixed_size_list.FixedSizeListArray.TheDeep.{deep-AnyArray}
+use Rattle.nest_array.specs.declared.any.AnyArray.TheVariants.{Null, Boolean, Primitive, Binary, LargeBinary, Utf8, LargeUtf8, FixedSizeBinary, FixedSizeList, List, LargeList, Struct, Map, Dictionary, Union}
+use Rattle.nest_array.specs.declared.dictionary.DictionaryArray.TheDeep.{deep-AnyArray}
 use Rattle.nest_model.specs.LayoutCode.{weight, weight_all}
 use Rattle.nest_array.specs.Seen.{layout_of, layouts_of}
 
@@ -23,6 +23,7 @@ deep-size (LargeList a) = omega arith
 deep-size (Struct a) = omega arith
 deep-size (Map a) = omega arith
 deep-size (Union a) = omega arith
+deep-size (Dictionary a) = omega arith
 
 pub most-size : (as_ : Seq AnyArray) → most deep-AnyArray as_ ≤ weight_all (layouts_of as_)
 most-size [] = omega arith

@@ -3,11 +3,13 @@ use Rattle.std.specs.Prelude.{◌≡◌, Bool, true, false}
 use Rattle.nest_memory.specs.declared.datatypes.physical_type.PhysicalType.{PhysicalType}
 use Rattle.nest_memory.specs.declared.datatypes.physical_type.PhysicalType.TheVariants as physical
 use Rattle.nest_memory.specs.Physical.{physical_type, list_of_width, binary_of_width, text_of_width}
+use Rattle.nest_model.specs.Accessors.{keys_of, key_type_of}
 use Rattle.nest_model.specs.Layout.{Layout, null, boolean, primitive, binary, text, fixed_size_binary, fixed_size_list, list, map, struct, union, dictionary}
 use Rattle.nest_model.specs.Array.{TopFits}
 use Rattle.nest_flat.specs.AnyPrimitive.{primitive_kind}
 use Rattle.nest_array.specs.declared.any.AnyArray.{AnyArray}
 use Rattle.nest_array.specs.declared.any.AnyArray.TheVariants as any
+use Rattle.nest_array.specs.Keys.{keyed_by}
 
 abbrev pub physical_kind : AnyArray → PhysicalType
 physical_kind (any.Null a) = physical.Null
@@ -24,11 +26,17 @@ physical_kind (any.LargeList a) = physical.LargeList
 physical_kind (any.Struct a) = physical.Struct
 physical_kind (any.Map a) = physical.Map
 physical_kind (any.Union a) = physical.Union
+physical_kind (any.Dictionary a) = physical.Dictionary (keyed_by (key_type_of (keys_of a)))
 
 -- it is the physical type of native values
 abbrev pub IsPrimitive : PhysicalType → Type 0
 IsPrimitive (physical.Primitive k) = Unit {0}
 IsPrimitive p = ⊥
+
+-- it is the physical type of dictionaries
+abbrev pub IsKeyed : PhysicalType → Type 0
+IsKeyed (physical.Dictionary k) = Unit {0}
+IsKeyed p = ⊥
 
 -- the data type of a layout is of its kind; a dictionary's is told by its keys
 abbrev pub IsTyped : Layout → Type 0
@@ -67,6 +75,7 @@ has_leaves (any.LargeList a) = false
 has_leaves (any.Struct a) = false
 has_leaves (any.Map a) = false
 has_leaves (any.Union a) = false
+has_leaves (any.Dictionary a) = false
 has_leaves a = true
 
 -- the values of this physical type have no children

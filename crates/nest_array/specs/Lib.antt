@@ -1,4 +1,5 @@
 pub mod Falls
+pub mod Keys
 pub mod Kinds
 pub mod Positions
 pub mod Refusals
@@ -6,7 +7,9 @@ pub mod RowSlots
 pub mod ScalarFalls
 pub mod ScalarParts
 pub mod Seen
+pub mod SeenDictionary
 pub mod SeenFixedSizeList
+pub mod SeenKeys
 pub mod SeenLargeList
 pub mod SeenList
 pub mod SeenLists

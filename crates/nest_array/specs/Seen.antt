@@ -1,7 +1,7 @@
 -- An array of any kind as its layout.
 use Rattle.std.specs.Prelude.{List as Seq, [], ◌∷◌}
 use Rattle.nest_array.specs.declared.any.AnyArray.{AnyArray}
-use Rattle.nest_array.specs.declared.any.AnyArray.TheVariants.{Null, Boolean, Primitive, Binary, LargeBinary, Utf8, LargeUtf8, FixedSizeBinary, FixedSizeList, List, LargeList, Struct, Map, Union}
+use Rattle.nest_array.specs.declared.any.AnyArray.TheVariants.{Null, Boolean, Primitive, Binary, LargeBinary, Utf8, LargeUtf8, FixedSizeBinary, FixedSizeList, List, LargeList, Struct, Map, Dictionary, Union}
 use Rattle.nest_flat.specs.AnyPrimitive.{primitive_layout}
 use Rattle.nest_model.specs.Layout.{Layout, Layouts, no_layouts, more_layouts}
 
@@ -20,6 +20,7 @@ layout_of (LargeList a) = a
 layout_of (Struct a) = a
 layout_of (Map a) = a
 layout_of (Union a) = a
+layout_of (Dictionary a) = a
 
 abbrev pub layouts_of : Seq AnyArray → Layouts
 layouts_of [] = no_layouts

@@ -10,7 +10,7 @@ pub use Rattle.nest_memory.specs.TypeOf.{type_of}
 pub use Rattle.nest_memory.specs.TypeTree.{item_type, size_of}
 pub use Rattle.nest_memory.specs.declared.error.Error.TheVariants.{Memory}
 pub use Rattle.nest_model.specs.Accessors.{child_of, offsets_of, validity_of, with_validity}
-pub use Rattle.nest_model.specs.Array.{TopFits}
+pub use Rattle.nest_model.specs.Array.{Keeps, TopFits}
 pub use Rattle.nest_model.specs.Cut.{cut_layout}
 pub use Rattle.nest_model.specs.CutOf.{HasValidity, IsCut, RefusesValidity}
 pub use Rattle.nest_model.specs.Fits.{FirstFault, Fits, ValidityFault, ValidityFits}

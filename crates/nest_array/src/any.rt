@@ -8,6 +8,7 @@ ghost use Rattle.nest_flat.specs.AnyPrimitive.{primitive_layout};
 ghost use Rattle.nest_array.specs.Words.{IsCut, Memory, TopFits, ValidityFault, cut, cut_layout, has_keys, is_null_at, layout_of, layout_type, len, null_count, physical_type, slot, type_of, validity_of, with_validity};
 
 use crate::array::Array;
+use crate::dictionary::DictionaryArray;
 use crate::equal::kinds::as_primitive;
 use crate::fixed_size_binary::FixedSizeBinaryArray;
 use crate::fixed_size_list::FixedSizeListArray;
@@ -45,6 +46,7 @@ pub enum AnyArray {
     Struct(StructArray),
     Map(MapArray),
     Union(UnionArray),
+    Dictionary(DictionaryArray),
 }
 
 // The same expression over the array of each variant.
@@ -65,6 +67,7 @@ macro_rules! each_array {
             AnyArray::Struct($array) => $body,
             AnyArray::Map($array) => $body,
             AnyArray::Union($array) => $body,
+            AnyArray::Dictionary($array) => $body,
         }
     };
 }
@@ -160,8 +163,8 @@ impl AnyArray {
         cut
     }
 
-    /// Takes a new validity. `NoValidity` for a null array and a union, `ValidityLength` where it has not a bit for each slot;
-    /// the array stays as it was then.
+    /// Takes a new validity. `NoValidity` for a null array and a union, `ValidityLength` where it has not a bit for each slot,
+    /// `KeyRange` where a key that is valid under it names no value; the array stays as it was then.
     pub fn set_validity(&mut self, validity: Option<Bitmap>) -> Result<(), Error>
         ensures { MatchResult result
             (λ _. Pass (validity_checks (layout_of self.old) validity) × (layout_of self.new ≡ with_validity (layout_of self.old) validity))
@@ -190,6 +193,7 @@ impl AnyArray {
                 drop(validity);
                 Err(Error::InvalidArgumentError(Argument::NoValidity))
             }
+            AnyArray::Dictionary(array) => with_known!(array, validity),
         }
     }
 
@@ -213,6 +217,7 @@ impl AnyArray {
             AnyArray::Struct(array) => array.cut(o, n),
             AnyArray::Map(array) => array.slice(o, n),
             AnyArray::Union(array) => array.slice(o, n),
+            AnyArray::Dictionary(array) => array.slice(o, n),
         }
     }
 
@@ -237,6 +242,7 @@ impl AnyArray {
             AnyArray::Struct(array) => boxed_struct(alloc, array),
             AnyArray::Map(array) => boxed_map(alloc, array),
             AnyArray::Union(array) => boxed_union(alloc, array),
+            AnyArray::Dictionary(array) => boxed_dictionary(alloc, array),
         }
     }
 }
@@ -304,6 +310,18 @@ fn boxed_struct(alloc: Global, array: &StructArray) -> Result<AnyArray, Error>
 #[cycle(clone)]
 #[inline(never)]
 fn boxed_map(alloc: Global, array: &MapArray) -> Result<AnyArray, Error>
+    ensures ok { IfOk result (λ a. layout_of a ≡ array.now) }
+    ensures err { IsOkUnless result (Memory alloc_error) }
+{
+    match array.clone(alloc) {
+        Ok(array) => Ok(array.boxed()),
+        Err(error) => Err(error),
+    }
+}
+
+#[cycle(clone)]
+#[inline(never)]
+fn boxed_dictionary(alloc: Global, array: &DictionaryArray) -> Result<AnyArray, Error>
     ensures ok { IfOk result (λ a. layout_of a ≡ array.now) }
     ensures err { IsOkUnless result (Memory alloc_error) }
 {

@@ -3,6 +3,7 @@
 
 pub mod any;
 pub mod array;
+pub mod dictionary;
 pub mod equal;
 pub mod fixed_size_binary;
 pub mod fixed_size_list;
@@ -20,6 +21,8 @@ pub mod window;
 
 pub use any::{AnyArray, clone};
 pub use array::Array;
+pub use dictionary::DictionaryArray;
+pub use dictionary::keys::{AnyKeys, DictionaryKey};
 pub use fixed_size_binary::FixedSizeBinaryArray;
 pub use fixed_size_list::FixedSizeListArray;
 pub use generic_binary::{FixedSizeBinaryValues, GenericBinaryArray};

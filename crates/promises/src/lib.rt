@@ -1,7 +1,8 @@
-//! What is promised of the public calls, layer by layer. Each function here is one promise: its contract says it in the
-//! model's words, and its body is the call (or the calls) that keep it. Nothing that runs stands on this crate; it is here to be
-//! read, and to be broken: each edit in `must-fail/` puts a wrong body in place of one of these calls, and the prover has to
-//! refuse it. So a promise that a library's contract no longer carries is found here, and so is one that says too little.
+//! What is promised of the public calls, layer by layer: a crate for each layer, which this page names as a module. Each
+//! function there is one promise: its contract says it in the model's words, and its body is the call (or the calls) that keep
+//! it. Nothing that runs stands on these crates; they are here to be read, and to be broken: each edit in their `must-fail/` puts
+//! a wrong body in place of one of these calls, and the prover has to refuse it. So a promise that a library's contract no
+//! longer carries is found here, and so is one that says too little.
 //!
 //! # The main theorem
 //!
@@ -15,7 +16,7 @@
 //!
 //! *A constructor answers Ok exactly where the parts fit, with just those parts, and else the first check that fails*, want of
 //! memory aside: `natives`, `truths`, `byte_strings`, `texts` in [`flat`]; `nulls`, `rows_of_bytes`, `lists_of_one_size`,
-//! `lists`, `large_lists`, `records`, `maps`, `unions` in [`arrays`]. A new validity is taken exactly where it has no fault, and a refused one
+//! `lists`, `large_lists`, `records`, `maps`, `unions`, `values_by_keys` in [`arrays`]. A new validity is taken exactly where it has no fault, and a refused one
 //! changes nothing (`under_new_validity`, `new_validity_in_place`).
 //!
 //! *`equal` answers true exactly for equal data types and equal lists, after at most one comparison for each node of the left
@@ -41,10 +42,10 @@
 //! is the one refusal that no contract can rule out.
 #![tactic(auto)]
 
-pub mod arrays;
-pub mod builders;
-pub mod empties;
-pub mod equality;
-pub mod flat;
-pub mod memory;
-pub mod rows;
+pub use promises_arrays as arrays;
+pub use promises_builders as builders;
+pub use promises_empties as empties;
+pub use promises_equality as equality;
+pub use promises_flat as flat;
+pub use promises_memory as memory;
+pub use promises_rows as rows;

@@ -3,6 +3,7 @@ use crate::arrays::lists::by_large_offsets;
 use crate::arrays::sizes::pairs;
 use crate::arrays::structs::four;
 use crate::arrays::{both, buffer, lists_of_lists, numbers, offsets_of, truths, validity};
+use crate::dictionaries::four_texts;
 use crate::maps::two_maps;
 use nest_array::{AnyArray, Array, FixedSizeBinaryArray, NullArray};
 use nest_flat::any_primitive::AnyPrimitive;
@@ -61,11 +62,11 @@ fn has_type(array: Result<AnyArray, Error>, data_type: &DataType) -> bool {
 
 /// The calls that give an array answer one, of the same type, and not want of memory.
 fn expect_given<A: Array>(rt: &impl Abort, alloc: Global, array: &A, found: (usize, usize)) {
-    assert_eq!(rt; counts_of(array.to_boxed(alloc)), Some(found));
+    assert!(rt; counts_of(array.to_boxed(alloc)) == Some(found));
     assert!(rt; has_type(array.to_boxed(alloc), array.data_type()));
     if 1 <= array.len() {
         let cut = counts_of(array.sliced(alloc, 0, 1)).expect(rt, "a cut");
-        assert_eq!(rt; cut.0, 1);
+        assert!(rt; cut.0 == 1);
         assert!(rt; has_type(array.sliced(alloc, 0, 1), array.data_type()));
     }
 }
@@ -75,9 +76,9 @@ fn expect_taken<A: Array>(rt: &impl Abort, alloc: Global, array: &A, n: usize) {
     let all = [false, true, true, true];
     if n <= all.len() {
         let bits = validity(alloc, Some(&all[0..n])).expect(rt, "bits");
-        assert_eq!(rt; counts_of(array.with_validity(alloc, bits)), Some((n, 1)));
+        assert!(rt; counts_of(array.with_validity(alloc, bits)) == Some((n, 1)));
     }
-    assert_eq!(rt; counts_of(array.with_validity(alloc, None)), Some((n, 0)));
+    assert!(rt; counts_of(array.with_validity(alloc, None)) == Some((n, 0)));
 }
 
 /// Each call of an array with these counts that takes a validity.
@@ -88,15 +89,15 @@ fn expect_array<A: Array + Drop>(
     found: (usize, usize),
 ) {
     let mut array = array.expect(rt, "an array");
-    assert_eq!(rt; counts(&array), Some(found));
+    assert!(rt; counts(&array) == Some(found));
     expect_given(rt, alloc, &array, found);
     expect_taken(rt, alloc, &array, found.0);
     let masked = array.validity().is_some();
     let n = array.len();
     if n >= 1 {
         array.slice(1, n - 1);
-        assert_eq!(rt; array.len().saturating_add(1), n);
-        assert_eq!(rt; array.validity().is_some(), masked);
+        assert!(rt; array.len().saturating_add(1) == n);
+        assert!(rt; array.validity().is_some() == masked);
     }
     drop(array);
 }
@@ -193,13 +194,14 @@ fn nested_arrays(rt: HostRuntime) {
     expect_array(&rt, alloc, by_large_offsets(alloc), (3, 0));
     expect_array(&rt, alloc, four(alloc, &[1, 2, 3, 4]), (4, 1));
     expect_array(&rt, alloc, two_maps(alloc), (2, 0));
+    expect_array(&rt, alloc, four_texts(alloc), (4, 1));
     expect_array(&rt, alloc, numbers(alloc, &[1, 2]), (2, 0));
 }
 
 #[test]
 fn null_arrays(rt: HostRuntime) {
     let array = NullArray::new(DataType::Null, 3);
-    assert_eq!(rt; counts(&array), Some((3, 3)));
+    assert!(rt; counts(&array) == Some((3, 3)));
     expect_given(&rt, rt.alloc(), &array, (3, 3));
     assert!(rt; Array::validity(&array).is_none());
     drop(array);
@@ -221,6 +223,7 @@ fn in_variant(array: &AnyArray) -> &str {
         AnyArray::Struct(_) => "records",
         AnyArray::Map(_) => "maps",
         AnyArray::Union(_) => "unions",
+        AnyArray::Dictionary(_) => "values by keys",
     }
 }
 
@@ -232,7 +235,7 @@ fn variant_of<A: Array + Drop>(
 ) {
     let array = array.expect(rt, "an array");
     let copy = array.to_boxed(alloc).expect(rt, "a copy");
-    assert_eq!(rt; in_variant(&copy), kind);
+    assert!(rt; in_variant(&copy) == kind);
     drop(copy);
     drop(array);
 }
@@ -250,4 +253,5 @@ fn copies_are_in_their_variant(rt: HostRuntime) {
     variant_of(&rt, alloc, by_large_offsets(alloc), "large lists");
     variant_of(&rt, alloc, four(alloc, &[1, 2, 3, 4]), "records");
     variant_of(&rt, alloc, two_maps(alloc), "maps");
+    variant_of(&rt, alloc, four_texts(alloc), "values by keys");
 }

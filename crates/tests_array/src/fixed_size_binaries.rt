@@ -58,12 +58,12 @@ fn the_first_failed_check_answers(rt: HostRuntime) -> Result<(), Fail> {
     ];
     for (size, fault) in table {
         let found = refused(rt.alloc(), size, b"abcdef", Some(bits))?;
-        assert_eq!(rt; found, Some(Error::OutOfSpec(fault)));
+        assert!(rt; found == Some(Error::OutOfSpec(fault)));
     }
-    assert_eq!(rt; refused(rt.alloc(), 3, b"abcdef", Some(bits))?, None);
+    assert!(rt; refused(rt.alloc(), 3, b"abcdef", Some(bits))?.is_none());
     let values = bytes_of(rt.alloc(), b"abcdef")?;
     let other = FixedSizeBinaryArray::try_new(DataType::Binary, values, None);
-    assert_eq!(rt; refusal(other), Some(Error::OutOfSpec(Spec::WrongType)));
+    assert!(rt; refusal(other) == Some(Error::OutOfSpec(Spec::WrongType)));
     Ok(())
 }
 
@@ -109,10 +109,7 @@ fn rows_are_the_slots(rt: HostRuntime) -> Result<(), Fail> {
     assert!(rt; has(&array, 0, b"ab"));
     assert!(rt; holds_the_rest(array));
     let short = pairs(rt.alloc(), ROWS.as_slice(), [true, false].as_slice());
-    assert_eq!(rt;
-        refusal(short),
-        Some(Error::OutOfSpec(Spec::ValidityLength))
-    );
+    assert!(rt; refusal(short) == Some(Error::OutOfSpec(Spec::ValidityLength)));
     Ok(())
 }
 

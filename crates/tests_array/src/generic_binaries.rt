@@ -45,10 +45,10 @@ fn text_counts(alloc: Global) -> Result<(usize, usize), Error> {
 
 #[test]
 fn arrays_show_all_their_bytes(rt: HostRuntime) -> Result<(), Fail> {
-    assert_eq!(rt; binary_counts(rt.alloc())?, (4, 3));
-    assert_eq!(rt; text_counts(rt.alloc())?, (4, 3));
+    assert!(rt; binary_counts(rt.alloc())? == (4, 3));
+    assert!(rt; text_counts(rt.alloc())? == (4, 3));
     let array = FixedSizeBinaryArray::from_slice(rt.alloc(), [*b"ab", *b"cd"].as_slice())?;
-    assert_eq!(rt; sizes(&array), (4, 2));
+    assert!(rt; sizes(&array) == (4, 2));
     drop(array);
     Ok(())
 }

@@ -30,12 +30,21 @@
 //! | Windows over arrays and in windows | `arrays::windows::windows_in_windows`, `arrays::reads::lists_of_other_kinds_lend_their_items` |
 //! | What a slot of each kind holds as a scalar, a null among them | `scalars::whole_numbers`, `scalars::wide_numbers_and_spans`, `scalars::nulls`, `scalars::truths_texts_and_bytes`, `scalars::lists_of_each_kind`, `scalars::records` |
 //! | Scalars are equal by data type and slot, whatever the offsets, and whatever lies under a null | `scalars::equality` |
-//! | A scalar for which memory is refused leaves its array | `scalars::memory::refused_memory` |
+//! | Copies, values and scalars for which memory is refused leave their array, of lists, records, maps, unions and dictionaries | `scalars::memory::refused_memory`, `arrays::memory::refused_memory`, `maps::memory`, `unions::refused_memory`, `dictionaries::refused_memory` |
 //! | Comparisons that are told: of natives by blocks of 16 and a rest (0, 1, 15, 16, 17, 33 values; the last or the first differs) | `counts::native_values_by_blocks_and_a_rest`, `counts::last_value_of_blocks_and_of_a_rest`, `counts::first_value_of_a_block` |
 //! | Of lists at other offsets 9, of lists of lists 19, of records with a null 10, of pairs 9, of nulls one each | `counts::lists_at_other_offsets`, `counts::each_node_of_lists_of_lists`, `counts::records_but_not_under_a_null`, `counts::pairs_and_their_items`, `counts::each_null` |
 //! | Other lengths over the same items are told apart, items under a null are not | `counts::lists_of_other_lengths_over_the_same_items`, `counts::items_under_a_null_of_the_child` |
 //! | No comparison for other types and lengths, one where the first slot alone is null, two where the second item of bytes differs | `counts::nothing_for_other_lengths_and_types`, `counts::a_null_in_the_first_place`, `counts::a_null_list_in_the_first_place`, `counts::bytes_up_to_the_first_that_differ` |
 //! | What is read of a count stops at 2^64 - 1 | `counts::a_count_stops_at_the_largest_number` |
+//! | Keys 0, 1, 0 over a and b cut to the last two, against keys 1, 0 over a, b, a: equal | `dictionaries::equality::other_keys_of_the_same_values` |
+//! | A null key against a key to a null value, and the same below another key: equal, but only the key is a null place | `dictionaries::equality::a_null_key_and_a_null_value`, `dictionaries::equality::nulls_by_each_key_and_by_the_value` |
+//! | Keys that are all null with raw keys 9, 9 over one text: taken, not in range, and never valid, also after a cut | `dictionaries::null_keys_may_be_any_raw_keys` |
+//! | Keys under the type of texts over values of a type of the user's over texts: equal | `dictionaries::equality::values_are_told_by_their_logical_type` |
+//! | A raw key 9 under a null beside a valid key, the keys -1 and 2^64 - 1: refused; each refusal before the next | `dictionaries::refusals::raw_keys_under_nulls_and_negative_ones`, `dictionaries::refusals::each_check_before_the_next` |
+//! | Null keys with raw keys 0, 9 over one text: the first may become valid, the second not, and the array is handed back | `dictionaries::validities_under_which_keys_name_values` |
+//! | Comparisons of slots by keys: 2 for the keys 0, 1, 0 cut and others, 1 for a null key and a null value, 1 for values under a type of the user's, 2 behind two keys | `dictionaries::counts` |
+//! | A slot by its key as a scalar, null by the key and by the value; the value at a raw key, also under a null; the data types of both | `dictionaries::scalars` |
+//! | Keys of each width, the largest and negative ones | `dictionaries::widths::signed_keys_name_values`, `dictionaries::widths::the_largest_key_of_each_width` |
 #![tactic(auto)]
 
 #[cfg(test)]
@@ -46,6 +55,8 @@ mod calls;
 mod copies;
 #[cfg(test)]
 mod counts;
+#[cfg(test)]
+mod dictionaries;
 #[cfg(test)]
 mod fixed_size_binaries;
 #[cfg(test)]

@@ -128,19 +128,19 @@ fn has_entry(entries: Result<AnyArray, Error>, key: &str, value: &str) -> bool {
 #[test]
 fn two_maps_entry_by_entry(rt: HostRuntime) {
     let array = two_maps(rt.alloc()).expect(&rt, "two maps");
-    assert_eq!(rt; array.len(), 2);
+    assert!(rt; array.len() == 2);
     assert!(rt; has_entry(array.value(rt.alloc(), 0), "a", "b"));
     assert!(rt; has_entry(array.value(rt.alloc(), 1), "aa", "bb"));
-    assert_eq!(rt; array.offsets().as_slice(), [0, 1, 2].as_slice());
-    assert_eq!(rt; array.field().len(), 3);
+    assert!(rt; array.offsets().as_slice() == [0, 1, 2].as_slice());
+    assert!(rt; array.field().len() == 3);
     drop(array);
 }
 
 #[test]
 fn maps_lend_their_entries(rt: HostRuntime) {
     let array = two_maps(rt.alloc()).expect(&rt, "two maps");
-    assert_eq!(rt; array.len(), 2);
-    assert_eq!(rt; array.window(1).offset(), 1);
-    assert_eq!(rt; array.window(1).len(), 1);
+    assert!(rt; array.len() == 2);
+    assert!(rt; array.window(1).offset() == 1);
+    assert!(rt; array.window(1).len() == 1);
     drop(array);
 }

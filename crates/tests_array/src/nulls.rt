@@ -18,7 +18,7 @@ fn refusal(array: Result<NullArray, Error>) -> Option<Error> {
 #[test]
 fn each_slot_is_null(rt: HostRuntime) {
     let array = NullArray::new(DataType::Null, 3);
-    assert_eq!(rt; array.null_count(), 3);
+    assert!(rt; array.null_count() == 3);
     assert!(rt; array.is_null(1));
     assert!(rt; array.validity().is_none());
     drop(array);
@@ -37,6 +37,6 @@ fn a_cut_of_nothing_is_the_empty_array(rt: HostRuntime) {
 #[test]
 fn other_types_are_refused(rt: HostRuntime) {
     let wrong = Some(Error::OutOfSpec(Spec::WrongType));
-    assert_eq!(rt; refusal(NullArray::try_new(DataType::Boolean, 3)), wrong);
-    assert_eq!(rt; refusal(NullArray::try_new(DataType::Null, 3)), None);
+    assert!(rt; refusal(NullArray::try_new(DataType::Boolean, 3)) == wrong);
+    assert!(rt; refusal(NullArray::try_new(DataType::Null, 3)).is_none());
 }

@@ -14,7 +14,7 @@ fn lists_under_another_type(rt: HostRuntime) {
     let alloc = rt.alloc();
     let items = numbers(alloc, &[1, 2, 3]);
     let refused = lists_under(alloc, Ok(DataType::Int32), items, &[0, 3], None).err();
-    assert_eq!(rt; refused, WRONG_TYPE);
+    assert!(rt; refused == WRONG_TYPE);
 }
 
 /// Why large lists of numbers under the type of lists are refused.
@@ -44,17 +44,14 @@ fn refused_of_one_size(alloc: Global) -> Option<Error> {
 
 #[test]
 fn other_lists_under_the_type_of_lists(rt: HostRuntime) {
-    assert_eq!(rt; refused_large(rt.alloc()), WRONG_TYPE);
-    assert_eq!(rt; refused_of_one_size(rt.alloc()), WRONG_TYPE);
+    assert!(rt; refused_large(rt.alloc()) == WRONG_TYPE);
+    assert!(rt; refused_of_one_size(rt.alloc()) == WRONG_TYPE);
 }
 
 #[test]
 fn records_under_another_type(rt: HostRuntime) {
     let none = Vec::new(rt.alloc());
-    assert_eq!(rt;
-        StructArray::try_new(DataType::Utf8, none, None).err(),
-        WRONG_TYPE
-    );
+    assert!(rt; StructArray::try_new(DataType::Utf8, none, None).err() == WRONG_TYPE);
 }
 
 /// The type of records of a number and a text.
@@ -98,7 +95,7 @@ fn children_in_another_order_than_the_fields(rt: HostRuntime) {
     let alloc = rt.alloc();
     let children = two(alloc, empty_texts(alloc, &[0, 0]), numbers(alloc, &[1]));
     let refused = refused_records(alloc, children, None);
-    assert_eq!(rt; refused, Some(Error::OutOfSpec(Spec::ChildType)));
+    assert!(rt; refused == Some(Error::OutOfSpec(Spec::ChildType)));
 }
 
 #[test]
@@ -110,7 +107,7 @@ fn children_of_two_lengths_before_the_validity(rt: HostRuntime) {
         empty_texts(alloc, &[0, 0, 0, 0]),
     );
     let refused = refused_records(alloc, children, Some(&[true; 9]));
-    assert_eq!(rt; refused, Some(Error::OutOfSpec(Spec::ChildLength)));
+    assert!(rt; refused == Some(Error::OutOfSpec(Spec::ChildLength)));
 }
 
 #[test]
@@ -118,9 +115,9 @@ fn fields_of_list_types(rt: HostRuntime) {
     let lists = ListArray::default_datatype(rt.alloc(), DataType::Int32);
     let data_type = lists.expect(&rt, "a type of lists");
     let field = ListArray::get_child_field(&data_type);
-    assert_eq!(rt; field.name.as_str(), "item");
+    assert!(rt; field.name.as_str() == "item");
     assert!(rt; field.is_nullable);
-    assert_eq!(rt; LargeListArray::try_get_child(&data_type).err(), WRONG_TYPE);
+    assert!(rt; LargeListArray::try_get_child(&data_type).err() == WRONG_TYPE);
     drop(data_type);
 }
 
@@ -128,13 +125,10 @@ fn fields_of_list_types(rt: HostRuntime) {
 fn fields_of_large_list_types(rt: HostRuntime) {
     let large = LargeListArray::default_datatype(rt.alloc(), DataType::Int32);
     let data_type = large.expect(&rt, "a type of large lists");
-    assert_eq!(rt;
-        LargeListArray::get_child_field(&data_type).name.as_str(),
-        "item"
-    );
+    assert!(rt; LargeListArray::get_child_field(&data_type).name.as_str() == "item");
     let items = DataType::Int32;
     assert!(rt; *LargeListArray::get_child_type(&data_type) == items);
-    assert_eq!(rt; ListArray::try_get_child(&data_type).err(), WRONG_TYPE);
+    assert!(rt; ListArray::try_get_child(&data_type).err() == WRONG_TYPE);
     drop(items);
     drop(data_type);
 }

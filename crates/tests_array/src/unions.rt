@@ -2,6 +2,7 @@
 mod counts;
 mod scalars;
 
+use crate::arrays::memory::unless_refused;
 use crate::arrays::{
     any_list, are_same, both, buffer, list_array, numbers, offsets_of, two, validity,
 };
@@ -10,6 +11,7 @@ use nest_flat::any_primitive::AnyPrimitive;
 use nest_flat::utf8::Utf8Array;
 use nest_memory::buffer::Buffer;
 use nest_memory::datatypes::field::Field;
+use nest_memory::datatypes::physical_type::PhysicalType;
 use nest_memory::datatypes::{DataType, UnionMode};
 use nest_memory::error::{Argument, Error, Spec};
 use std::alloc::Global;
@@ -143,9 +145,29 @@ fn mixed(
 }
 
 /// The numbers from 10 to 13 and the letters from a to d in turn.
-fn in_turn(alloc: Global) -> Result<UnionArray, Error> {
+pub(crate) fn in_turn(alloc: Global) -> Result<UnionArray, Error> {
     let texts = letters(alloc, &[0, 1, 2, 3, 4], b"abcd");
     mixed(alloc, None, &[0, 1, 0, 1], &[10, 11, 12, 13], texts)
+}
+
+/// The n slots of an array from place o; a refusal where it hasn't them.
+fn cut(array: Result<UnionArray, Error>, o: usize, n: usize) -> Result<UnionArray, Error> {
+    match array {
+        Ok(array) => {
+            let len = array.len();
+            if o > len || n > len - o {
+                drop(array);
+                return Err(Error::Overflow);
+            }
+            Ok(array.sliced(o, n))
+        }
+        Err(error) => Err(error),
+    }
+}
+
+/// The second and the third of four picks.
+fn middle(alloc: Global) -> Result<UnionArray, Error> {
+    cut(in_turn(alloc), 1, 2)
 }
 
 /// What slot i picks: a field, and a slot of it.
@@ -203,7 +225,7 @@ fn fields_by_ids(rt: HostRuntime) {
     let array = sparse(alloc, Some(&[5, 7]), types, items, items).expect(&rt, "eleven picks");
     let fields = [0usize, 1, 0, 1, 1, 1, 0, 1, 1, 0, 0];
     for i in 0..11 {
-        assert_eq!(rt; pick(&array, i), Some((fields[i], i)));
+        assert!(rt; pick(&array, i) == Some((fields[i], i)));
     }
     drop(array);
 }
@@ -212,46 +234,40 @@ fn fields_by_ids(rt: HostRuntime) {
 fn ids_out_of_range(rt: HostRuntime) {
     let alloc = rt.alloc();
     let refused = sparse(alloc, Some(&[5, 7]), &[5, 6], &[1, 2], &[1, 2]);
-    assert_eq!(rt; refusal(refused), NO_TYPE);
+    assert!(rt; refusal(refused) == NO_TYPE);
     let refused = sparse(alloc, Some(&[5, 128]), &[5], &[1], &[1]);
-    assert_eq!(rt; refusal(refused), NO_ID);
+    assert!(rt; refusal(refused) == NO_ID);
     let refused = sparse(alloc, Some(&[-1, 5]), &[5], &[1], &[1]);
-    assert_eq!(rt; refusal(refused), NO_ID);
+    assert!(rt; refusal(refused) == NO_ID);
     let array = sparse(alloc, Some(&[0, 127]), &[0, 127], &[1, 2], &[3, 4]);
     let array = array.expect(&rt, "two picks");
-    assert_eq!(rt; number_at(&array, 0), Some(1));
-    assert_eq!(rt; number_at(&array, 1), Some(4));
+    assert!(rt; number_at(&array, 0) == Some(1));
+    assert!(rt; number_at(&array, 1) == Some(4));
     drop(array);
 }
 
 #[test]
 fn a_cut_begins_at_its_place(rt: HostRuntime) {
-    let array = in_turn(rt.alloc()).expect(&rt, "four picks");
-    let cut = array.sliced(1, 2);
-    assert_eq!(rt; cut.len(), 2);
-    assert_eq!(rt; pick(&cut, 0), Some((1, 1)));
+    let cut = middle(rt.alloc()).expect(&rt, "two picks");
+    assert!(rt; cut.len() == 2);
+    assert!(rt; pick(&cut, 0) == Some((1, 1)));
     assert!(rt; is_text_at(&cut, 0, "b"));
-    assert_eq!(rt; number_at(&cut, 1), Some(12));
+    assert!(rt; number_at(&cut, 1) == Some(12));
     let cut = cut.sliced(1, 1);
-    assert_eq!(rt; number_at(&cut, 0), Some(12));
+    assert!(rt; number_at(&cut, 0) == Some(12));
     drop(cut);
 }
 
 #[test]
 fn dense_slots_are_there(rt: HostRuntime) {
     let alloc = rt.alloc();
-    assert_eq!(rt;
-        refusal(single(alloc, None, &[0], &[7], Some(&[1]))),
-        NO_SLOT
-    );
-    assert_eq!(rt;
-        refusal(single(alloc, None, &[0], &[7], Some(&[-1]))),
-        NO_SLOT
-    );
+    assert!(rt; refusal(single(alloc, None, &[0], &[7], Some(&[1]))) == NO_SLOT);
+    assert!(rt; refusal(single(alloc, None, &[0], &[7], Some(&[-1]))) == NO_SLOT);
     let array = single(alloc, None, &[0, 0], &[8, 7], Some(&[1, 0])).expect(&rt, "two picks");
-    assert_eq!(rt; number_at(&array, 0), Some(7));
+    assert!(rt; array.len() == 2);
+    assert!(rt; number_at(&array, 0) == Some(7));
     let cut = array.sliced(1, 1);
-    assert_eq!(rt; number_at(&cut, 0), Some(8));
+    assert!(rt; number_at(&cut, 0) == Some(8));
     assert!(rt; cut.offsets().is_some());
     drop(cut);
 }
@@ -261,7 +277,7 @@ fn the_later_of_two_fields_with_one_id(rt: HostRuntime) {
     let alloc = rt.alloc();
     let texts = letters(alloc, &[0, 1], b"a");
     let array = mixed(alloc, Some(&[5, 5]), &[5], &[1], texts).expect(&rt, "a pick");
-    assert_eq!(rt; pick(&array, 0), Some((1, 0)));
+    assert!(rt; pick(&array, 0) == Some((1, 0)));
     assert!(rt; is_text_at(&array, 0, "a"));
     drop(array);
 }
@@ -270,24 +286,18 @@ fn the_later_of_two_fields_with_one_id(rt: HostRuntime) {
 fn each_field_covers_a_sparse_union(rt: HostRuntime) {
     let alloc = rt.alloc();
     let texts = letters(alloc, &[0, 1], b"a");
-    assert_eq!(rt;
-        refusal(mixed(alloc, None, &[0, 0], &[1, 2], texts)),
-        NO_SLOT
-    );
+    assert!(rt; refusal(mixed(alloc, None, &[0, 0], &[1, 2], texts)) == NO_SLOT);
 }
 
 #[test]
 fn types_at_the_ends(rt: HostRuntime) {
     let alloc = rt.alloc();
     let array = single(alloc, Some(&[127]), &[127], &[7], None).expect(&rt, "a pick");
-    assert_eq!(rt; number_at(&array, 0), Some(7));
+    assert!(rt; number_at(&array, 0) == Some(7));
     drop(array);
-    assert_eq!(rt;
-        refusal(single(alloc, Some(&[127]), &[-1], &[7], None)),
-        NO_TYPE
-    );
-    assert_eq!(rt; refusal(single(alloc, None, &[-1], &[7], None)), NO_TYPE);
-    assert_eq!(rt; refusal(single(alloc, None, &[1], &[7], None)), NO_TYPE);
+    assert!(rt; refusal(single(alloc, Some(&[127]), &[-1], &[7], None)) == NO_TYPE);
+    assert!(rt; refusal(single(alloc, None, &[-1], &[7], None)) == NO_TYPE);
+    assert!(rt; refusal(single(alloc, None, &[1], &[7], None)) == NO_TYPE);
 }
 
 /// So many fields without a slot.
@@ -299,27 +309,27 @@ fn wide(alloc: Global, n: usize) -> Result<UnionArray, Error> {
 #[test]
 fn as_many_fields_as_types(rt: HostRuntime) {
     let alloc = rt.alloc();
-    assert_eq!(rt; refusal(wide(alloc, 127)), None);
+    assert!(rt; refusal(wide(alloc, 127)).is_none());
     let many = Some(Error::OutOfSpec(Spec::TooManyFields));
-    assert_eq!(rt; refusal(wide(alloc, 128)), many);
-    assert_eq!(rt; refusal(wide(alloc, 0)), None);
+    assert!(rt; refusal(wide(alloc, 128)) == many);
+    assert!(rt; refusal(wide(alloc, 0)).is_none());
 }
 
 #[test]
 fn other_refusals(rt: HostRuntime) {
     let alloc = rt.alloc();
     let wrong = union_under(alloc, Ok(DataType::Int32), &[], Ok(Vec::new(alloc)), None);
-    assert_eq!(rt; refusal(wrong), Some(Error::OutOfSpec(Spec::WrongType)));
+    assert!(rt; refusal(wrong) == Some(Error::OutOfSpec(Spec::WrongType)));
     let two_fields = union_type(alloc, number_fields(alloc, 2), None, UnionMode::Sparse);
     let fewer = union_under(alloc, two_fields, &[], no_numbers(alloc, 1), None);
-    assert_eq!(rt; refusal(fewer), Some(Error::OutOfSpec(Spec::FieldCount)));
+    assert!(rt; refusal(fewer) == Some(Error::OutOfSpec(Spec::FieldCount)));
     let other = union_type(alloc, number_and_text(alloc), None, UnionMode::Sparse);
     let other = union_under(alloc, other, &[], no_numbers(alloc, 2), None);
-    assert_eq!(rt; refusal(other), Some(Error::OutOfSpec(Spec::ChildType)));
+    assert!(rt; refusal(other) == Some(Error::OutOfSpec(Spec::ChildType)));
     let longer = single(alloc, None, &[0], &[7], Some(&[0, 0]));
-    assert_eq!(rt; refusal(longer), Some(Error::OutOfSpec(Spec::OffsetCount)));
+    assert!(rt; refusal(longer) == Some(Error::OutOfSpec(Spec::OffsetCount)));
     let ids = single(alloc, Some(&[1, 2]), &[1], &[7], None);
-    assert_eq!(rt; refusal(ids), Some(Error::OutOfSpec(Spec::IdCount)));
+    assert!(rt; refusal(ids) == Some(Error::OutOfSpec(Spec::IdCount)));
 }
 
 #[test]
@@ -328,10 +338,10 @@ fn offsets_by_the_mode(rt: HostRuntime) {
     let mode = Some(Error::OutOfSpec(Spec::UnionMode));
     let dense = union_type(alloc, number_fields(alloc, 1), None, UnionMode::Dense);
     let without = union_under(alloc, dense, &[], no_numbers(alloc, 1), None);
-    assert_eq!(rt; refusal(without), mode);
+    assert!(rt; refusal(without) == mode);
     let sparse = union_type(alloc, number_fields(alloc, 1), None, UnionMode::Sparse);
     let given = union_under(alloc, sparse, &[], no_numbers(alloc, 1), Some(&[]));
-    assert_eq!(rt; refusal(given), mode);
+    assert!(rt; refusal(given) == mode);
 }
 
 #[test]
@@ -339,17 +349,11 @@ fn picks_of_two_fields_differ(rt: HostRuntime) {
     let alloc = rt.alloc();
     let first = sparse(alloc, None, &[0], &[7], &[7]);
     let second = sparse(alloc, None, &[1], &[7], &[7]);
-    assert_eq!(rt; are_same(first, second), Ok(false));
+    assert!(rt; are_same(first, second) == Ok(false));
     let first = sparse(alloc, None, &[0], &[7], &[7]);
-    assert_eq!(rt;
-        are_same(first, sparse(alloc, None, &[0], &[7], &[8])),
-        Ok(true)
-    );
+    assert!(rt; are_same(first, sparse(alloc, None, &[0], &[7], &[8])) == Ok(true));
     let first = sparse(alloc, None, &[0], &[7], &[7]);
-    assert_eq!(rt;
-        are_same(first, sparse(alloc, None, &[0], &[8], &[7])),
-        Ok(false)
-    );
+    assert!(rt; are_same(first, sparse(alloc, None, &[0], &[8], &[7])) == Ok(false));
 }
 
 /// A list of one pick.
@@ -362,10 +366,10 @@ fn listed(alloc: Global, types: &[i8], bits: Option<&[bool]>) -> Result<AnyArray
 fn lists_of_unions(rt: HostRuntime) {
     let alloc = rt.alloc();
     let first = listed(alloc, &[0], None);
-    assert_eq!(rt; are_same(first, listed(alloc, &[1], None)), Ok(false));
+    assert!(rt; are_same(first, listed(alloc, &[1], None)) == Ok(false));
     let null = [false].as_slice();
     let first = listed(alloc, &[0], Some(null));
-    assert_eq!(rt; are_same(first, listed(alloc, &[1], Some(null))), Ok(true));
+    assert!(rt; are_same(first, listed(alloc, &[1], Some(null))) == Ok(true));
 }
 
 /// Two dense picks of the first slot of the first of two fields.
@@ -379,15 +383,9 @@ fn first_twice(alloc: Global, first: &[i32], second: &[i32]) -> Result<UnionArra
 fn what_is_not_picked_does_not_count(rt: HostRuntime) {
     let alloc = rt.alloc();
     let array = first_twice(alloc, &[7, 8], &[7]);
-    assert_eq!(rt;
-        are_same(array, first_twice(alloc, &[7, 9], &[5])),
-        Ok(true)
-    );
+    assert!(rt; are_same(array, first_twice(alloc, &[7, 9], &[5])) == Ok(true));
     let array = first_twice(alloc, &[7, 8], &[7]);
-    assert_eq!(rt;
-        are_same(array, first_twice(alloc, &[8, 8], &[7])),
-        Ok(false)
-    );
+    assert!(rt; are_same(array, first_twice(alloc, &[8, 8], &[7])) == Ok(false));
 }
 
 /// A sparse union of one field, which is a union.
@@ -412,19 +410,10 @@ fn nested(alloc: Global, types: &[i8]) -> Result<UnionArray, Error> {
 #[test]
 fn unions_of_unions(rt: HostRuntime) {
     let alloc = rt.alloc();
-    assert_eq!(rt;
-        are_same(nested(alloc, &[0, 1]), nested(alloc, &[0, 1])),
-        Ok(true)
-    );
-    assert_eq!(rt;
-        are_same(nested(alloc, &[0, 1]), nested(alloc, &[0, 0])),
-        Ok(false)
-    );
-    let cut = nested(alloc, &[0, 1]).map(|array| array.sliced(1, 1));
-    assert_eq!(rt;
-        are_same(cut, nested(alloc, &[1, 1]).map(|array| array.sliced(1, 1))),
-        Ok(true)
-    );
+    assert!(rt; are_same(nested(alloc, &[0, 1]), nested(alloc, &[0, 1])) == Ok(true));
+    assert!(rt; are_same(nested(alloc, &[0, 1]), nested(alloc, &[0, 0])) == Ok(false));
+    let last = cut(nested(alloc, &[0, 1]), 1, 1);
+    assert!(rt; are_same(last, cut(nested(alloc, &[1, 1]), 1, 1)) == Ok(true));
 }
 
 /// Whether a call gave an array that is equal; it is let go.
@@ -446,16 +435,38 @@ fn copies_with_memory(rt: HostRuntime) {
     assert!(rt; is_given(array.clone(alloc), &array));
     let any = array.to_boxed(alloc).expect(&rt, "a copy");
     assert!(rt; is_given(any.clone(alloc), &any));
-    assert_eq!(rt; any.null_count(), 0);
+    assert!(rt; any.null_count() == 0);
     assert!(rt; any.validity().is_none());
     drop(any);
+    assert!(rt; array.len() == 4);
     let cut = Array::sliced(&array, alloc, 1, 2).expect(&rt, "a cut");
-    assert_eq!(rt; cut.len(), 2);
+    assert!(rt; cut.len() == 2);
     assert!(rt; !cut.is_null(0));
     drop(cut);
     let shared = array.arced(alloc).expect(&rt, "a shared array");
-    assert_eq!(rt; shared.len(), 4);
+    assert!(rt; shared.len() == 4);
     drop(shared);
+}
+
+// The test passes whichever request for memory is refused.
+#[test]
+fn refused_memory(rt: HostRuntime) {
+    let Some(array) = unless_refused(&rt, in_turn(rt.alloc())) else {
+        return;
+    };
+    if let Some(copy) = unless_refused(&rt, array.clone(rt.alloc())) {
+        assert!(rt; copy == array);
+        drop(copy);
+    }
+    assert!(rt; array.len() == 4);
+    if let Some(scalar) = unless_refused(&rt, array.value(rt.alloc(), 1)) {
+        assert!(rt; scalar.is_valid());
+        drop(scalar);
+    }
+    if let Some(shared) = unless_refused(&rt, array.arced(rt.alloc())) {
+        assert!(rt; shared.len() == 4);
+        drop(shared);
+    }
 }
 
 #[test]
@@ -463,11 +474,11 @@ fn a_union_takes_no_validity(rt: HostRuntime) {
     let alloc = rt.alloc();
     let refused = Some(Error::InvalidArgumentError(Argument::NoValidity));
     let array = in_turn(alloc).expect(&rt, "four picks");
-    assert_eq!(rt; array.with_validity(alloc, None).err(), refused);
+    assert!(rt; array.with_validity(alloc, None).err() == refused);
     let bits = validity(alloc, Some(&[true; 4])).expect(&rt, "four bits");
     let mut any = array.boxed();
-    assert_eq!(rt; any.set_validity(bits).err(), refused);
-    assert_eq!(rt; any.len(), 4);
+    assert!(rt; any.set_validity(bits).err() == refused);
+    assert!(rt; any.len() == 4);
     drop(any);
 }
 
@@ -475,12 +486,16 @@ fn a_union_takes_no_validity(rt: HostRuntime) {
 fn what_a_type_tells(rt: HostRuntime) {
     let alloc = rt.alloc();
     let array = in_turn(alloc).expect(&rt, "four picks");
-    assert!(rt; UnionArray::is_sparse(array.data_type()));
-    assert_eq!(rt; UnionArray::get_fields(array.data_type()).len(), 2);
-    assert_eq!(rt; array.types().len(), 4);
-    assert_eq!(rt; array.fields().len(), 2);
+    let data_type = array.data_type();
+    assert!(rt; data_type.to_physical_type() == PhysicalType::Union);
+    assert!(rt; UnionArray::is_sparse(data_type));
+    assert!(rt; UnionArray::get_fields(data_type).len() == 2);
+    assert!(rt; array.types().len() == 4);
+    assert!(rt; array.fields().len() == 2);
     drop(array);
     let array = single(alloc, None, &[0], &[7], Some(&[0])).expect(&rt, "a pick");
-    assert!(rt; !UnionArray::is_sparse(array.data_type()));
+    let data_type = array.data_type();
+    assert!(rt; data_type.to_physical_type() == PhysicalType::Union);
+    assert!(rt; !UnionArray::is_sparse(data_type));
     drop(array);
 }

@@ -84,7 +84,7 @@ fn offsets_are(array: &Result<ListArray, Error>, offsets: &[i32]) -> bool {
 #[test]
 fn pushed_rows_are_the_slots(rt: HostRuntime) -> Result<(), Fail> {
     let text = text_of(rt.alloc(), pushed(rt.alloc()))?;
-    assert_eq!(rt; text.as_str(), "[ 1 null ] null [ ] ");
+    assert!(rt; text.as_str() == "[ 1 null ] null [ ] ");
     let array = pushed(rt.alloc());
     assert!(rt; offsets_are(&array, [0i32, 2, 2, 2].as_slice()));
     drop(array);
@@ -115,11 +115,11 @@ fn wait_and_tell(rows: &mut MutableListArray) -> Result<bool, Error> {
 #[test]
 fn items_wait_for_their_row(rt: HostRuntime) -> Result<(), Fail> {
     let mut rows = MutableListArray::new(rt.alloc())?;
-    assert_eq!(rt; wait_and_tell(&mut rows), Ok(true));
+    assert!(rt; wait_and_tell(&mut rows) == Ok(true));
     let array = rows.freeze();
     assert!(rt; rows.is_whole());
     drop(rows);
-    assert_eq!(rt; text_of(rt.alloc(), array)?.as_str(), "[ 7 ] ");
+    assert!(rt; text_of(rt.alloc(), array)?.as_str() == "[ 7 ] ");
     Ok(())
 }
 
@@ -139,14 +139,14 @@ fn refused_rows_change_nothing(rt: HostRuntime) {
         };
         match rows.try_push(row) {
             Ok(()) => accepted = accepted.saturating_add(1),
-            Err(error) => assert_eq!(rt; error, Error::Memory(AllocError)),
+            Err(error) => assert!(rt; error == Error::Memory(AllocError)),
         }
-        assert_eq!(rt; rows.len(), accepted);
+        assert!(rt; rows.len() == accepted);
     }
     if let Some(error) = refusal(rows.freeze()) {
-        assert_eq!(rt; error, Error::Memory(AllocError));
+        assert!(rt; error == Error::Memory(AllocError));
     }
-    assert_eq!(rt; rows.len(), 0);
+    assert!(rt; rows.len() == 0);
     assert!(rt; rows.is_whole());
     drop(rows);
 }

@@ -111,7 +111,7 @@ fn pushed_rows_equal_an_array_with_a_number_under_a_null(rt: HostRuntime) {
     let frozen = pushed(alloc, rows.as_slice());
     let items = numbers(alloc, &[1, 0, 5], Some(&[true, false, true]));
     let made = lists(alloc, items, &[0, 2, 3, 3], Some(&[true, false, true]));
-    assert_eq!(rt; are_same(frozen, made), Ok(true));
+    assert!(rt; are_same(frozen, made) == Ok(true));
 }
 
 #[test]
@@ -120,7 +120,7 @@ fn pushed_rows_differ_from_an_array_without_the_null(rt: HostRuntime) {
     let rows = [Some([Some(1)].as_slice()), None];
     let frozen = pushed(alloc, rows.as_slice());
     let made = lists(alloc, numbers(alloc, &[1], None), &[0, 1, 1], None);
-    assert_eq!(rt; are_same(frozen, made), Ok(false));
+    assert!(rt; are_same(frozen, made) == Ok(false));
 }
 
 #[test]
@@ -135,7 +135,7 @@ fn four_lists_of_five_numbers(rt: HostRuntime) {
     let frozen = pushed(alloc, rows.as_slice());
     let items = numbers(alloc, &[1, 2, 3, 4, 5], None);
     let made = lists(alloc, items, &[0, 2, 2, 3, 5], None);
-    assert_eq!(rt; are_same(frozen, made), Ok(true));
+    assert!(rt; are_same(frozen, made) == Ok(true));
 }
 
 #[test]
@@ -143,9 +143,9 @@ fn offsets_within_and_past_the_numbers(rt: HostRuntime) {
     let alloc = rt.alloc();
     let within = lists(alloc, numbers(alloc, &[1, 2, 3, 4, 5], None), &[0, 2], None);
     let rows = [Some([Some(1), Some(2)].as_slice())];
-    assert_eq!(rt; are_same(within, pushed(alloc, rows.as_slice())), Ok(true));
+    assert!(rt; are_same(within, pushed(alloc, rows.as_slice())) == Ok(true));
     let past = lists(alloc, numbers(alloc, &[1, 2, 3, 4, 5], None), &[0, 6], None).err();
-    assert_eq!(rt; past, Some(Error::OutOfSpec(Spec::OffsetPastChild)));
+    assert!(rt; past == Some(Error::OutOfSpec(Spec::OffsetPastChild)));
 }
 
 /// Whether the array was made, and whether it and its items have a validity; it is let go.
@@ -168,18 +168,9 @@ fn validities(array: Result<ListArray, Error>) -> Option<(bool, bool)> {
 fn no_validity_before_the_first_null(rt: HostRuntime) {
     let alloc = rt.alloc();
     let full = [Some([Some(1)].as_slice()), Some([].as_slice())];
-    assert_eq!(rt;
-        validities(pushed(alloc, full.as_slice())),
-        Some((false, false))
-    );
+    assert!(rt; validities(pushed(alloc, full.as_slice())) == Some((false, false)));
     let null_row = [Some([Some(1)].as_slice()), None];
-    assert_eq!(rt;
-        validities(pushed(alloc, null_row.as_slice())),
-        Some((true, false))
-    );
+    assert!(rt; validities(pushed(alloc, null_row.as_slice())) == Some((true, false)));
     let null_item = [Some([Some(1), None].as_slice())];
-    assert_eq!(rt;
-        validities(pushed(alloc, null_item.as_slice())),
-        Some((false, true))
-    );
+    assert!(rt; validities(pushed(alloc, null_item.as_slice())) == Some((false, true)));
 }

@@ -63,9 +63,9 @@ fn texts_are_frozen_and_read_back(rt: HostRuntime) -> Result<(), Fail> {
         texts.values().len(),
     );
     drop(texts);
-    assert_eq!(rt; pushed, Ok(()));
-    assert_eq!(rt; left, (0, false, 0));
-    assert_eq!(rt; frozen(rt.alloc(), array)?.as_str(), "a|null|é||");
+    assert!(rt; pushed == Ok(()));
+    assert!(rt; left == (0, false, 0));
+    assert!(rt; frozen(rt.alloc(), array)?.as_str() == "a|null|é||");
     Ok(())
 }
 
@@ -91,8 +91,8 @@ fn texts_are_joined_and_cut(rt: HostRuntime) -> Result<(), Fail> {
     let bytes = double_and_cut(rt.alloc(), &mut texts);
     let text = shown(rt.alloc(), &texts);
     drop(texts);
-    assert_eq!(rt; bytes, Ok(4));
-    assert_eq!(rt; text?.as_str(), "a|null|é||a|null|");
+    assert!(rt; bytes == Ok(4));
+    assert!(rt; text?.as_str() == "a|null|é||a|null|");
     Ok(())
 }
 
@@ -120,7 +120,7 @@ fn bytes_are_frozen(rt: HostRuntime) -> Result<(), Fail> {
     let array = bytes.freeze();
     let again = bytes.freeze();
     drop(bytes);
-    assert_eq!(rt; pushed, Ok(()));
+    assert!(rt; pushed == Ok(()));
     assert!(rt; ends_are(array, &[0, 2, 2, 5]));
     assert!(rt; ends_are(again, &[0]));
     Ok(())
@@ -144,19 +144,19 @@ fn refused_texts_change_nothing(rt: HostRuntime) {
                     accepted.1.saturating_add(more),
                 );
             }
-            Err(error) => assert_eq!(rt; error, Error::Memory(AllocError)),
+            Err(error) => assert!(rt; error == Error::Memory(AllocError)),
         }
-        assert_eq!(rt; (texts.len(), texts.values().len()), accepted);
+        assert!(rt; (texts.len(), texts.values().len()) == accepted);
     }
     if let Ok(items) = vec![in rt.alloc(); Some("a"), None, Some("b")] {
         if let Err(error) = texts.try_extend(items) {
-            assert_eq!(rt; error, Error::Memory(AllocError));
-            assert_eq!(rt; (texts.len(), texts.values().len()), accepted);
+            assert!(rt; error == Error::Memory(AllocError));
+            assert!(rt; (texts.len(), texts.values().len()) == accepted);
         }
     }
     if let Ok(array) = texts.freeze() {
         drop(array);
     }
-    assert_eq!(rt; (texts.len(), texts.values().len()), (0, 0));
+    assert!(rt; (texts.len(), texts.values().len()) == (0, 0));
     drop(texts);
 }

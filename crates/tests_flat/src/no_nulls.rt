@@ -14,15 +14,15 @@ fn told(validity: Option<&Bitmap>) -> Option<usize> {
 #[test]
 fn natives_without_nulls(rt: HostRuntime) -> Result<(), Fail> {
     let mut builder = MutablePrimitiveArray::<i64>::new(rt.alloc());
-    assert_eq!(rt; builder.try_push(Some(7)), Ok(()));
-    assert_eq!(rt; builder.try_extend([Some(8i64), Some(9)]), Ok(()));
+    assert!(rt; builder.try_push(Some(7)) == Ok(()));
+    assert!(rt; builder.try_extend([Some(8i64), Some(9)]) == Ok(()));
     let frozen = builder.freeze().expect(&rt, "three numbers");
-    assert_eq!(rt; told(frozen.validity()), None);
+    assert!(rt; told(frozen.validity()).is_none());
     drop(frozen);
-    assert_eq!(rt; builder.try_push(Some(7)), Ok(()));
-    assert_eq!(rt; builder.try_push(None), Ok(()));
+    assert!(rt; builder.try_push(Some(7)) == Ok(()));
+    assert!(rt; builder.try_push(None) == Ok(()));
     let frozen = builder.freeze().expect(&rt, "a number and a null");
-    assert_eq!(rt; told(frozen.validity()), Some(1));
+    assert!(rt; told(frozen.validity()) == Some(1));
     drop(frozen);
     drop(builder);
     Ok(())
@@ -31,13 +31,13 @@ fn natives_without_nulls(rt: HostRuntime) -> Result<(), Fail> {
 #[test]
 fn truths_without_nulls(rt: HostRuntime) -> Result<(), Fail> {
     let mut builder = MutableBooleanArray::new(rt.alloc());
-    assert_eq!(rt; builder.try_push(Some(false)), Ok(()));
+    assert!(rt; builder.try_push(Some(false)) == Ok(()));
     let frozen = builder.freeze().expect(&rt, "a truth");
-    assert_eq!(rt; told(frozen.validity()), None);
+    assert!(rt; told(frozen.validity()).is_none());
     drop(frozen);
-    assert_eq!(rt; builder.try_push(None), Ok(()));
+    assert!(rt; builder.try_push(None) == Ok(()));
     let frozen = builder.freeze().expect(&rt, "a null");
-    assert_eq!(rt; told(frozen.validity()), Some(1));
+    assert!(rt; told(frozen.validity()) == Some(1));
     drop(frozen);
     drop(builder);
     Ok(())
@@ -46,13 +46,13 @@ fn truths_without_nulls(rt: HostRuntime) -> Result<(), Fail> {
 #[test]
 fn bytes_without_nulls(rt: HostRuntime) -> Result<(), Fail> {
     let mut builder = MutableBinaryArray::<i32>::new(rt.alloc())?;
-    assert_eq!(rt; builder.try_push(Some(b"ab".as_slice())), Ok(()));
+    assert!(rt; builder.try_push(Some(b"ab".as_slice())) == Ok(()));
     let frozen = builder.freeze().expect(&rt, "two bytes");
-    assert_eq!(rt; told(frozen.validity()), None);
+    assert!(rt; told(frozen.validity()).is_none());
     drop(frozen);
-    assert_eq!(rt; builder.try_push(None), Ok(()));
+    assert!(rt; builder.try_push(None) == Ok(()));
     let frozen = builder.freeze().expect(&rt, "a null");
-    assert_eq!(rt; told(frozen.validity()), Some(1));
+    assert!(rt; told(frozen.validity()) == Some(1));
     drop(frozen);
     drop(builder);
     Ok(())
@@ -61,13 +61,13 @@ fn bytes_without_nulls(rt: HostRuntime) -> Result<(), Fail> {
 #[test]
 fn texts_without_nulls(rt: HostRuntime) -> Result<(), Fail> {
     let mut builder = MutableUtf8Array::<i64>::new(rt.alloc())?;
-    assert_eq!(rt; builder.try_push(Some("")), Ok(()));
+    assert!(rt; builder.try_push(Some("")) == Ok(()));
     let frozen = builder.freeze().expect(&rt, "a text");
-    assert_eq!(rt; told(frozen.validity()), None);
+    assert!(rt; told(frozen.validity()).is_none());
     drop(frozen);
-    assert_eq!(rt; builder.try_push(None), Ok(()));
+    assert!(rt; builder.try_push(None) == Ok(()));
     let frozen = builder.freeze().expect(&rt, "a null");
-    assert_eq!(rt; told(frozen.validity()), Some(1));
+    assert!(rt; told(frozen.validity()) == Some(1));
     drop(frozen);
     drop(builder);
     Ok(())

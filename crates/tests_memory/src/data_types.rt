@@ -101,13 +101,13 @@ fn nested(alloc: Global) -> Result<DataType, Error> {
 }
 
 fn expect_parts(rt: &impl Abort, t: &DataType) {
-    assert_eq!(rt; t.to_physical_type(), PhysicalType::Union);
-    assert_eq!(rt; t.union_mode(), Some(UnionMode::Dense));
-    assert_eq!(rt; t.union_ids().map(|ids| ids.len()), Some(2));
+    assert!(rt; t.to_physical_type() == PhysicalType::Union);
+    assert!(rt; t.union_mode() == Some(UnionMode::Dense));
+    assert!(rt; t.union_ids().map(|ids| ids.len()) == Some(2));
     let fields = t.fields();
-    assert_eq!(rt; fields.len(), 2);
-    assert_eq!(rt; fields[0].name.as_str(), "time");
-    assert_eq!(rt; fields[0].metadata.len(), 1);
+    assert!(rt; fields.len() == 2);
+    assert!(rt; fields[0].name.as_str() == "time");
+    assert!(rt; fields[0].metadata.len() == 1);
 }
 
 fn expect_copy(rt: &impl Abort, copy: Result<DataType, Error>, source: &DataType) {
@@ -117,7 +117,7 @@ fn expect_copy(rt: &impl Abort, copy: Result<DataType, Error>, source: &DataType
             assert!(rt; copy == *source);
             drop(copy);
         }
-        Err(refused) => assert_eq!(rt; refused, Error::Memory(AllocError)),
+        Err(refused) => assert!(rt; refused == Error::Memory(AllocError)),
     }
 }
 
@@ -130,7 +130,7 @@ fn a_refused_clone_leaves_its_source(rt: HostRuntime) {
             expect_parts(&rt, &source);
             drop(source);
         }
-        Err(refused) => assert_eq!(rt; refused, Error::Memory(AllocError)),
+        Err(refused) => assert!(rt; refused == Error::Memory(AllocError)),
     }
 }
 
@@ -150,16 +150,16 @@ fn is_same(field: &Field, other: Result<Field, Error>) -> Result<bool, Error> {
 fn fields_differ_in_each_part(rt: HostRuntime) {
     let alloc = rt.alloc();
     let field = Field::new(alloc, "item", DataType::Int32, true).expect(&rt, "a field");
-    assert_eq!(rt; is_same(&field, field.clone(alloc)), Ok(true));
+    assert!(rt; is_same(&field, field.clone(alloc)) == Ok(true));
     let other = Field::new(alloc, "items", DataType::Int32, true);
-    assert_eq!(rt; is_same(&field, other), Ok(false));
+    assert!(rt; is_same(&field, other) == Ok(false));
     let other = Field::new(alloc, "item", DataType::Int64, true);
-    assert_eq!(rt; is_same(&field, other), Ok(false));
+    assert!(rt; is_same(&field, other) == Ok(false));
     let other = Field::new(alloc, "item", DataType::Int32, false);
-    assert_eq!(rt; is_same(&field, other), Ok(false));
+    assert!(rt; is_same(&field, other) == Ok(false));
     let other = tagged(alloc, field, "unit", "m").expect(&rt, "a tagged field");
     let field = Field::new(alloc, "item", DataType::Int32, true);
-    assert_eq!(rt; is_same(&other, field), Ok(false));
+    assert!(rt; is_same(&other, field) == Ok(false));
     drop(other);
 }
 
@@ -176,8 +176,8 @@ fn parts_through_extensions(rt: HostRuntime) {
     let map = boxed(alloc, entries(alloc)).map(|entries| DataType::Map(entries, false));
     let map = extension_of(alloc, "map.of.bytes", map, None).expect(&rt, "a map");
     assert!(rt; map.has_pairs());
-    assert_eq!(rt; map.to_logical_type().to_physical_type(), PhysicalType::Map);
-    assert_eq!(rt; map.item_type().map(|t| t.fields().len()), Some(2));
+    assert!(rt; map.to_logical_type().to_physical_type() == PhysicalType::Map);
+    assert!(rt; map.item_type().map(|t| t.fields().len()) == Some(2));
     drop(map);
 }
 
@@ -185,11 +185,11 @@ fn parts_through_extensions(rt: HostRuntime) {
 fn parts_of_lists(rt: HostRuntime) {
     let list = list_of(rt.alloc(), Ok(DataType::Date32)).expect(&rt, "a list");
     assert!(rt; !list.has_pairs());
-    assert_eq!(rt; list.item_field().map(|f| f.is_nullable), Some(true));
-    assert_eq!(rt; list.size(), None);
+    assert!(rt; list.item_field().map(|f| f.is_nullable) == Some(true));
+    assert!(rt; list.size().is_none());
     drop(list);
     let bytes = DataType::FixedSizeBinary(3);
-    assert_eq!(rt; bytes.size(), Some(3));
+    assert!(rt; bytes.size() == Some(3));
     drop(bytes);
 }
 
@@ -212,7 +212,7 @@ fn native_types(rt: HostRuntime) {
         (physical(DataType::Decimal(5, 2)), PrimitiveType::Int128),
         (physical(DataType::Decimal256(50, 2)), PrimitiveType::Int256),
     ] {
-        assert_eq!(rt; t, PhysicalType::Primitive(native));
+        assert!(rt; t == PhysicalType::Primitive(native));
     }
 }
 
@@ -232,7 +232,7 @@ fn times_as_native_types(rt: HostRuntime) {
         (physical(point), PrimitiveType::Int64),
         (physical(span), PrimitiveType::Int64),
     ] {
-        assert_eq!(rt; t, PhysicalType::Primitive(native));
+        assert!(rt; t == PhysicalType::Primitive(native));
     }
 }
 
@@ -243,20 +243,17 @@ fn intervals_as_native_types(rt: HostRuntime) {
         (IntervalUnit::DayTime, PrimitiveType::DaysMs),
         (IntervalUnit::MonthDayNano, PrimitiveType::MonthDayNano),
     ] {
-        assert_eq!(rt;
-            physical(DataType::Interval(unit)),
-            PhysicalType::Primitive(native)
-        );
+        assert!(rt; physical(DataType::Interval(unit)) == PhysicalType::Primitive(native));
     }
 }
 
 #[test]
 fn other_physical_types(rt: HostRuntime) {
-    assert_eq!(rt; physical(DataType::Null), PhysicalType::Null);
-    assert_eq!(rt; physical(DataType::Boolean), PhysicalType::Boolean);
-    assert_eq!(rt; physical(DataType::LargeUtf8), PhysicalType::LargeUtf8);
+    assert!(rt; physical(DataType::Null) == PhysicalType::Null);
+    assert!(rt; physical(DataType::Boolean) == PhysicalType::Boolean);
+    assert!(rt; physical(DataType::LargeUtf8) == PhysicalType::LargeUtf8);
     let fixed = physical(DataType::FixedSizeBinary(2));
-    assert_eq!(rt; fixed, PhysicalType::FixedSizeBinary);
+    assert!(rt; fixed == PhysicalType::FixedSizeBinary);
 }
 
 #[test]
@@ -266,10 +263,7 @@ fn native_data_types(rt: HostRuntime) {
         PrimitiveType::Int256,
         PrimitiveType::DaysMs,
     ] {
-        assert_eq!(rt;
-            physical(DataType::from(native)),
-            PhysicalType::Primitive(native)
-        );
+        assert!(rt; physical(DataType::from(native)) == PhysicalType::Primitive(native));
     }
     let bytes = DataType::from(IntegerType::UInt8);
     assert!(rt; bytes == DataType::UInt8);
@@ -290,7 +284,7 @@ fn texts_of_errors(rt: HostRuntime) -> Result<(), Fail> {
         ),
         (Error::Memory(AllocError), "out of memory"),
     ] {
-        assert_eq!(rt; format!(in alloc; "{error}")?.as_str(), text);
+        assert!(rt; format!(in alloc; "{error}")?.as_str() == text);
     }
     Ok(())
 }
@@ -298,12 +292,12 @@ fn texts_of_errors(rt: HostRuntime) -> Result<(), Fail> {
 #[test]
 fn parts_of_dictionaries(rt: HostRuntime) {
     let words = words(rt.alloc()).expect(&rt, "a dictionary of texts");
-    assert_eq!(rt; words.key_type(), Some(IntegerType::Int8));
+    assert!(rt; words.key_type() == Some(IntegerType::Int8));
     assert!(rt; words.is_ordered());
     assert!(rt; words.value_type().is_some());
     drop(words);
     let plain = DataType::Utf8;
-    assert_eq!(rt; plain.key_type(), None);
+    assert!(rt; plain.key_type().is_none());
     assert!(rt; !plain.is_ordered());
     drop(plain);
     assert!(rt; UnionMode::Sparse.is_sparse());
@@ -313,10 +307,10 @@ fn parts_of_dictionaries(rt: HostRuntime) {
 #[test]
 fn fields_that_are_taken_out(rt: HostRuntime) {
     let entries = entries(rt.alloc()).expect(&rt, "a field of records");
-    assert_eq!(rt; entries.data_type().fields().len(), 2);
+    assert!(rt; entries.data_type().fields().len() == 2);
     let Field { data_type, .. } = entries;
     let fields = data_type.into_fields();
-    assert_eq!(rt; fields.as_ref().map(|fields| fields.len()), Some(2));
+    assert!(rt; fields.as_ref().map(|fields| fields.len()) == Some(2));
     drop(fields);
     assert!(rt; DataType::Utf8.into_fields().is_none());
 }

@@ -15,7 +15,7 @@ fn unless_refused<T>(rt: &impl Abort, outcome: Result<T, Error>) -> Option<T> {
     match outcome {
         Ok(value) => Some(value),
         Err(error) => {
-            assert_eq!(rt; error, Error::Memory(AllocError));
+            assert!(rt; error == Error::Memory(AllocError));
             None
         }
     }
@@ -30,8 +30,8 @@ fn buffers(rt: HostRuntime) {
     let none = Buffer::<u16>::new(rt.alloc()).expect(&rt, "no item");
     assert!(rt; none.is_empty());
     let whole = buffer_of(rt.alloc(), &[5, 6, 7, 8]).expect(&rt, "four items");
-    assert_eq!(rt; whole.len(), 4);
-    assert_eq!(rt; whole.get(3), 8);
+    assert!(rt; whole.len() == 4);
+    assert!(rt; whole.get(3) == 8);
     drop(none);
     drop(whole);
 }
@@ -40,13 +40,13 @@ fn buffers(rt: HostRuntime) {
 fn cuts_of_a_shared_buffer(rt: HostRuntime) {
     let whole = buffer_of(rt.alloc(), &[5, 6, 7, 8]).expect(&rt, "four items");
     let mut copy = whole.clone().expect(&rt, "a second owner");
-    assert_eq!(rt; whole.len(), 4);
+    assert!(rt; whole.len() == 4);
     let cut = whole.sliced(1, 2);
-    assert_eq!(rt; cut.as_slice(), [6, 7].as_slice());
-    assert_eq!(rt; copy.as_slice(), [5, 6, 7, 8].as_slice());
+    assert!(rt; cut.as_slice() == [6, 7].as_slice());
+    assert!(rt; copy.as_slice() == [5, 6, 7, 8].as_slice());
     copy.slice(1, 3);
     copy.slice(1, 2);
-    assert_eq!(rt; copy.as_slice(), [7, 8].as_slice());
+    assert!(rt; copy.as_slice() == [7, 8].as_slice());
     drop(cut);
     drop(copy);
 }
@@ -59,7 +59,7 @@ fn buffers_without_memory(rt: HostRuntime) {
         drop(none);
     }
     if let Some(some) = unless_refused(&rt, buffer_of(rt.alloc(), &[1, 2])) {
-        assert_eq!(rt; some.len(), 2);
+        assert!(rt; some.len() == 2);
         drop(some);
     }
 }

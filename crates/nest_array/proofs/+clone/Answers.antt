@@ -1,4 +1,4 @@
-use Rattle.std.proofs.Common.{◌≡◌, ◌+◌, ◌≤◌, ◌<◌, length, get_or, ap, sym, ◌∙◌, arith}
+use Rattle.std.proofs.Common.{◌≡◌, length, ap, arith}
 use Rattle.nest_model.specs.LayoutCode.{weight, weight_all}
 use Rattle.nest_array.specs.Seen.{layout_of}
 use Rattle.nest_array.proofs.Children.{weight-at, same-all}

@@ -49,3 +49,9 @@ invariant-struct_::clone_all-loop-i l =
       same_length : length l.copies.items ≡ l.i;
       done : (k : ℕ) (d : AnyArray) → k < l.i → layout_of (get_or l.copies.items k d) ≡ layout_of (get_or l.children k d);
     }
+
+abbrev pub decreases-any::boxed_dictionary : goal.decreases-any::boxed_dictionary
+decreases-any::boxed_dictionary l = 4 * weight l.array.now + 2
+
+abbrev pub decreases-dictionary::DictionaryArray::clone : goal.decreases-dictionary::DictionaryArray::clone
+decreases-dictionary::DictionaryArray::clone l = 4 * weight l.self.now + 1

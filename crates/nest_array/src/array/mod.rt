@@ -68,7 +68,7 @@ pub trait Array {
         ensures err { IsOkUnless result (Memory alloc_error) };
 
     /// The array under a new validity, on shared memory. `NoValidity` for a null array and a union, `ValidityLength` where
-    /// the validity has not a bit for each slot, `Memory`.
+    /// the validity has not a bit for each slot, `KeyRange` where a key that is valid under it names no value, `Memory`.
     fn with_validity(&self, alloc: Global, validity: Option<Bitmap>) -> Result<AnyArray, Error>
         ensures { MatchResult result
             (λ a. Pass (validity_checks (layout self.now) validity) × (layout_of a ≡ with_validity (layout self.now) validity))

@@ -1,6 +1,7 @@
 //! The trait of arrays of nulls, of byte strings of one size, and of those that hold arrays.
 use crate::any::AnyArray;
 use crate::array::{Slotted, Variant};
+use crate::dictionary::DictionaryArray;
 use crate::fixed_size_binary::FixedSizeBinaryArray;
 use crate::fixed_size_list::FixedSizeListArray;
 use crate::list::ListArray;
@@ -315,5 +316,43 @@ impl Slotted for UnionArray {
 impl Variant for UnionArray {
     fn into_any(self) -> AnyArray {
         AnyArray::Union(self)
+    }
+}
+
+impl Slotted for DictionaryArray {
+    ghost parts = { λ a. a };
+
+    fn len(&self) -> usize {
+        DictionaryArray::len(self)
+    }
+
+    fn data_type(&self) -> &DataType {
+        DictionaryArray::data_type(self)
+    }
+
+    fn validity(&self) -> Option<&Bitmap> {
+        DictionaryArray::validity(self)
+    }
+
+    fn is_null(&self, i: usize) -> bool {
+        DictionaryArray::is_null(self, i)
+    }
+
+    fn null_count(&self) -> usize {
+        DictionaryArray::null_count(self)
+    }
+
+    fn slice(&mut self, o: usize, n: usize) {
+        DictionaryArray::slice(self, o, n)
+    }
+
+    fn again(&self, alloc: Global) -> Result<DictionaryArray, Error> {
+        self.clone(alloc)
+    }
+}
+
+impl Variant for DictionaryArray {
+    fn into_any(self) -> AnyArray {
+        AnyArray::Dictionary(self)
     }
 }

@@ -2,10 +2,11 @@
 ghost use Rattle.std.specs.Prelude.{◌≡◌};
 ghost use Rattle.nest_memory.specs.declared.datatypes.physical_type.PhysicalType.TheVariants as physical;
 ghost use Rattle.nest_flat.specs.AnyPrimitive.{primitive_layout};
-ghost use Rattle.nest_array.specs.Kinds.{physical_kind, IsPrimitive};
+ghost use Rattle.nest_array.specs.Kinds.{physical_kind, IsKeyed, IsPrimitive};
 ghost use Rattle.nest_array.specs.Words.{Alike, layout_of, layout_type, physical_type};
 
 use crate::any::AnyArray;
+use crate::dictionary::DictionaryArray;
 use crate::fixed_size_binary::FixedSizeBinaryArray;
 use crate::fixed_size_list::FixedSizeListArray;
 use crate::list::ListArray;
@@ -38,6 +39,7 @@ pub(crate) fn kind(a: &AnyArray)
         AnyArray::Struct(x) => x.known(),
         AnyArray::Map(x) => x.known(),
         AnyArray::Union(x) => x.known(),
+        AnyArray::Dictionary(x) => x.known(),
     }
 }
 
@@ -214,6 +216,18 @@ pub(crate) fn as_union(b: &AnyArray) -> &UnionArray
     kind(b);
     match b {
         AnyArray::Union(y) => y,
+        _ => unreachable!(),
+    }
+}
+
+/// The array whose data type is that of a dictionary.
+pub(crate) fn as_dictionary(b: &AnyArray) -> &DictionaryArray
+    requires { IsKeyed (physical_type (layout_type (layout_of b.now))) }
+    ensures { result.now ≡ layout_of b.now }
+{
+    kind(b);
+    match b {
+        AnyArray::Dictionary(y) => y,
         _ => unreachable!(),
     }
 }

@@ -1,6 +1,7 @@
 //! Equality of arrays of any kind: equal data types and equal slots, by comparisons that are told to a count. No call
 //! takes memory.
 mod flat;
+mod keyed;
 pub(crate) mod kinds;
 mod picks;
 mod records;
@@ -19,6 +20,7 @@ use crate::null::NullArray;
 use crate::steps::Steps;
 use crate::window::Window;
 use flat::{each_same_slot, same_primitives};
+use keyed::same_keyed;
 use kinds::kind;
 use nest_memory::datatypes::DataType;
 use picks::same_picks;
@@ -131,6 +133,7 @@ pub(crate) fn same_run(
             same_rows(&Lists::Map(x), o, &Lists::Map(y), p, n, steps)
         }
         AnyArray::Union(x) => same_picks(x, o, kinds::as_union(b), p, n, steps),
+        AnyArray::Dictionary(x) => same_keyed(x, o, kinds::as_dictionary(b), p, n, steps),
         _ => same_leaves(a, o, b, p, n, steps),
     }
 }

@@ -4,7 +4,9 @@ ghost use Rattle.nest_array.specs.Words.{Alike, IsSameArray, Tells, layout_of, l
 
 use crate::any::AnyArray;
 use crate::array::Array;
+use crate::dictionary::DictionaryArray;
 use crate::equal::flat::each_same_slot;
+use crate::equal::keyed::same_keyed;
 use crate::equal::picks::same_picks;
 use crate::equal::records::same_records;
 use crate::equal::rows::Lists;
@@ -390,6 +392,42 @@ impl PartialEq for UnionArray {
 }
 
 impl Eq for UnionArray {
+    ghost use Rattle.nest_flat.specs.SameFlat.{same_array-equiv};
+
+    ghost laws = { same_array-equiv };
+}
+
+impl SlotRuns for DictionaryArray {
+    fn is_same_run(
+        &self,
+        o: usize,
+        other: &DictionaryArray,
+        p: usize,
+        n: usize,
+        steps: &mut Steps,
+    ) -> bool {
+        same_keyed(self, o, other, p, n, steps)
+    }
+}
+
+impl PartialEq for DictionaryArray {
+    ghost use Rattle.std.specs.Cmp.{partial_equiv_from_equiv};
+    ghost use Rattle.nest_model.specs.SameArray.{same_array};
+    ghost use Rattle.nest_flat.specs.SameFlat.{same_array-equiv};
+
+    ghost eq = { same_array };
+
+    ghost laws = { partial_equiv_from_equiv same_array-equiv };
+
+    fn eq(&self, other: &DictionaryArray) -> bool
+        ensures computes { result ≡ same_array self.now other.now }
+        ensures decides { IsTrue result ↔ IsSameArray self.now other.now }
+    {
+        same_arrays(self, other)
+    }
+}
+
+impl Eq for DictionaryArray {
     ghost use Rattle.nest_flat.specs.SameFlat.{same_array-equiv};
 
     ghost laws = { same_array-equiv };

@@ -1,5 +1,5 @@
 //! Which data types and lengths have no array of nulls: looked at on the type alone, before anything is made.
-ghost use Rattle.std.specs.Prelude.{◌≡◌, ◌&&◌, ◌+◌, ◌^◌, MatchOption, None, nat_eq, nat_lt, option_map};
+ghost use Rattle.std.specs.Prelude.{◌≡◌, ◌&&◌, ◌+◌, ◌^◌, MatchOption, None, nat_eq, nat_lt, option_map, true};
 ghost use Rattle.nest_memory.specs.TypeOf.{field_list_of, field_of};
 ghost use Rattle.nest_memory.specs.TypeTree as types;
 ghost use Rattle.nest_memory.specs.TypeTree.{is_dense_mode};
@@ -7,8 +7,11 @@ ghost use Rattle.nest_memory.specs.declared.error.Error.TheVariants.{Overflow};
 ghost use Rattle.nest_model.specs.Checks.{is_past, refuse_if};
 ghost use Rattle.nest_model.specs.NullKinds.{union_fault as own_fault_of};
 ghost use Rattle.nest_model.specs.Nulls.{are_ids, fault_of, field_fault, fields_fault, has_bad_id, ids_count_differs, is_id};
+ghost use Rattle.nest_model.specs.Fits.{is_dictionary};
+ghost use Rattle.nest_array.specs.Keys.{RefusesDictionary};
 ghost use Rattle.nest_array.specs.Words.{AcceptsKind, RefusesKind, type_of};
 
+use crate::types::is_dictionary;
 use nest_memory::datatypes::field::Field;
 use nest_memory::datatypes::physical_type::PhysicalType;
 use nest_memory::datatypes::{DataType, UnionMode};
@@ -53,6 +56,17 @@ pub(crate) fn kind_fault(
         MatchOption result (AcceptsKind kind (type_of data_type.now) first) (λ e. RefusesKind e kind (type_of data_type.now) first) }
 {
     if data_type.to_physical_type() != kind {
+        return Some(Error::OutOfSpec(Spec::WrongType));
+    }
+    fault(data_type, length, values)
+}
+
+/// The same, where the type has to be one of dictionaries first, whatever its keys.
+pub(crate) fn dictionary_fault(data_type: &DataType, length: usize, values: usize) -> Option<Error>
+    ensures { let first = fault_of (type_of data_type.now) length values in
+        MatchOption result ((is_dictionary (type_of data_type.now) ≡ true) × (first ≡ None)) (λ e. RefusesDictionary e (type_of data_type.now) first) }
+{
+    if !is_dictionary(data_type) {
         return Some(Error::OutOfSpec(Spec::WrongType));
     }
     fault(data_type, length, values)

@@ -12,6 +12,7 @@ ghost use Rattle.nest_array.specs.Words.{AcceptsKind, HasNone, HasNulls, Memory,
 
 use crate::any::AnyArray;
 use crate::array::{Slotted, Variant};
+use crate::dictionary::DictionaryArray;
 use crate::fixed_size_binary::FixedSizeBinaryArray;
 use crate::fixed_size_list::FixedSizeListArray;
 use crate::list::ListArray;
@@ -20,6 +21,7 @@ use crate::map::MapArray;
 use crate::null::NullArray;
 use crate::struct_::StructArray;
 use crate::union::UnionArray;
+pub(crate) use fault::dictionary_fault;
 use fault::{fault, kind_fault};
 use nest_flat::any_primitive::AnyPrimitive;
 use nest_flat::binary::BinaryArray;
@@ -197,7 +199,9 @@ pub(crate) fn null_array(
         PhysicalType::Struct => boxed(StructArray::nulls(alloc, data_type, length, values)),
         PhysicalType::Map => boxed(MapArray::nulls(alloc, data_type, length, values)),
         PhysicalType::Union => boxed(UnionArray::nulls(alloc, data_type, length, values)),
-        PhysicalType::Dictionary(_) => unreachable!(),
+        PhysicalType::Dictionary(_key) => {
+            boxed(DictionaryArray::nulls(alloc, data_type, length, values))
+        }
     }
 }
 

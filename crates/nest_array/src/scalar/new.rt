@@ -12,6 +12,7 @@ ghost use Rattle.nest_array.specs.SeenScalar.{IsValue, ValueFits, slot_of_value}
 ghost use Rattle.nest_array.specs.Words.{Memory, layout_of, layout_type, layouts_of, len, slot};
 
 use crate::any::AnyArray;
+use crate::dictionary::DictionaryArray;
 use crate::equal::rows::{Lists, Rows};
 use crate::scalar::{AnyScalar, ScalarValue};
 use crate::struct_::StructArray;
@@ -63,6 +64,7 @@ fn value_at(alloc: Global, array: &AnyArray, i: usize) -> Result<ScalarValue, Er
         AnyArray::Struct(records) => record_at(alloc, records, i),
         AnyArray::Map(maps) => list_at(alloc, &Lists::Map(maps), i),
         AnyArray::Union(picks) => pick_at(alloc, picks, i),
+        AnyArray::Dictionary(keyed) => keyed_at(alloc, keyed, i),
     }
 }
 
@@ -165,4 +167,18 @@ fn pick_at(alloc: Global, picks: &UnionArray, i: usize) -> Result<ScalarValue, E
         Ok(scalar) => Ok(ScalarValue::Pick(field, Box::new(alloc, scalar)?)),
         Err(error) => Err(error),
     }
+}
+
+/// The value that the key names, null where the key is.
+#[cycle(new_scalar)]
+fn keyed_at(alloc: Global, keyed: &DictionaryArray, i: usize) -> Result<ScalarValue, Error>
+    requires { i < len keyed.now }
+    ensures ok { IfOk result (λ v. IsValue keyed.now i v) }
+    ensures err { IsOkUnless result (Memory alloc_error) }
+{
+    keyed.known();
+    if keyed.is_null(i) {
+        return Ok(ScalarValue::Null);
+    }
+    value_at(alloc, keyed.values(), keyed.place(i))
 }

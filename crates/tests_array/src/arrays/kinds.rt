@@ -2,6 +2,7 @@
 use super::{
     are_same, both, buffer, int32s, lists_of_lists, numbers, offsets_of, sizes, structs, truths,
 };
+use crate::dictionaries::four_texts;
 use crate::maps::two_maps;
 use nest_array::{Array, FixedSizeBinaryArray, NullArray};
 use nest_flat::binary::BinaryArray;
@@ -74,6 +75,7 @@ fn nested_arrays_end_empty(rt: HostRuntime) {
     assert!(rt; ends_empty(super::lists::by_large_offsets(alloc)));
     assert!(rt; ends_empty(structs::four(alloc, &[1, 2, 3, 4])));
     assert!(rt; ends_empty(two_maps(alloc)));
+    assert!(rt; ends_empty(four_texts(alloc)));
     assert!(rt; ends_empty(numbers(alloc, &[1, 2])));
 }
 
@@ -93,21 +95,18 @@ fn counts_of<A: Array + Drop>(array: Result<A, Error>) -> Option<(usize, usize)>
 #[test]
 fn arrays_in_their_variants(rt: HostRuntime) {
     let array = structs::four(rt.alloc(), &[1, 2, 3, 4]).expect(&rt, "four records");
-    assert_eq!(rt; array.len(), 4);
-    assert_eq!(rt; counts(&array), (4, 1));
-    assert_eq!(rt; counts_of(array.to_boxed(rt.alloc())), Some((4, 1)));
-    assert_eq!(rt;
-        counts_of(Array::sliced(&array, rt.alloc(), 3, 1)),
-        Some((1, 0))
-    );
+    assert!(rt; array.len() == 4);
+    assert!(rt; counts(&array) == (4, 1));
+    assert!(rt; counts_of(array.to_boxed(rt.alloc())) == Some((4, 1)));
+    assert!(rt; counts_of(Array::sliced(&array, rt.alloc(), 3, 1)) == Some((1, 0)));
     let same = structs::four(rt.alloc(), &[1, 2, 3, 4]).map(|array| array.boxed());
-    assert_eq!(rt; are_same(same, Ok(array.boxed())), Ok(true));
+    assert!(rt; are_same(same, Ok(array.boxed())) == Ok(true));
 }
 
 #[test]
 fn arrays_that_are_shared(rt: HostRuntime) {
     let array = lists_of_lists(rt.alloc()).expect(&rt, "three lists");
     let shared = array.arced(rt.alloc()).expect(&rt, "a shared array");
-    assert_eq!(rt; shared.len(), 3);
+    assert!(rt; shared.len() == 3);
     drop(shared);
 }

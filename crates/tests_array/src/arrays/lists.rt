@@ -12,18 +12,15 @@ use std::alloc::Global;
 #[test]
 fn lists_in_lists(rt: HostRuntime) {
     let array = lists_of_lists(rt.alloc()).expect(&rt, "three lists");
-    assert_eq!(rt; array.len(), 3);
+    assert!(rt; array.len() == 3);
     let items = array
         .value(rt.alloc(), 1)
         .expect(&rt, "three lists of numbers");
-    assert_eq!(rt; items.len(), 3);
+    assert!(rt; items.len() == 3);
     drop(items);
     drop(array);
     let alloc = rt.alloc();
-    assert_eq!(rt;
-        are_same(lists_of_lists(alloc), lists_of_lists(alloc)),
-        Ok(true)
-    );
+    assert!(rt; are_same(lists_of_lists(alloc), lists_of_lists(alloc)) == Ok(true));
 }
 
 #[test]
@@ -32,10 +29,10 @@ fn lists_by_other_offsets(rt: HostRuntime) {
     let array = list_array(alloc, numbers(alloc, &[1, 2, 3]), &[0, 2, 3], None);
     let bits = Some([true, true].as_slice());
     let same = list_array(alloc, numbers(alloc, &[9, 1, 2, 3]), &[1, 3, 4], bits);
-    assert_eq!(rt; are_same(array, same), Ok(true));
+    assert!(rt; are_same(array, same) == Ok(true));
     let array = list_array(alloc, numbers(alloc, &[1, 2, 3]), &[0, 2, 3], None);
     let other = list_array(alloc, numbers(alloc, &[1, 2, 3]), &[0, 1, 3], None);
-    assert_eq!(rt; are_same(array, other), Ok(false));
+    assert!(rt; are_same(array, other) == Ok(false));
 }
 
 /// Lists of the numbers from 1 to 5 by these offsets.
@@ -46,11 +43,11 @@ fn of_five(alloc: Global, offsets: &[i32]) -> Result<ListArray, Error> {
 #[test]
 fn offsets_within_the_child(rt: HostRuntime) {
     let array = of_five(rt.alloc(), &[0, 2]).expect(&rt, "one list");
-    assert_eq!(rt; array.len(), 1);
+    assert!(rt; array.len() == 1);
     assert!(rt; has_numbers(array.value(rt.alloc(), 0), &[1, 2]));
     drop(array);
     let past = of_five(rt.alloc(), &[0, 6]).err();
-    assert_eq!(rt; past, Some(Error::OutOfSpec(Spec::OffsetPastChild)));
+    assert!(rt; past == Some(Error::OutOfSpec(Spec::OffsetPastChild)));
 }
 
 #[test]
@@ -58,7 +55,7 @@ fn children_of_their_type(rt: HostRuntime) {
     let inner = any_list(of_five(rt.alloc(), &[0, 2, 2, 3, 5]));
     let of_numbers = list_type(rt.alloc(), Ok(DataType::Int32));
     let refused = lists_under(rt.alloc(), of_numbers, inner, &[0, 2, 4], None).err();
-    assert_eq!(rt; refused, Some(Error::OutOfSpec(Spec::ChildType)));
+    assert!(rt; refused == Some(Error::OutOfSpec(Spec::ChildType)));
 }
 
 #[test]
@@ -66,9 +63,9 @@ fn nulls_keep_their_items(rt: HostRuntime) {
     let bits = Some([true, false].as_slice());
     let items = numbers(rt.alloc(), &[1, 2, 3]);
     let array = list_array(rt.alloc(), items, &[0, 2, 3], bits).expect(&rt, "two lists");
-    assert_eq!(rt; array.len(), 2);
+    assert!(rt; array.len() == 2);
     assert!(rt; array.is_null(1));
-    assert_eq!(rt; array.null_count(), 1);
+    assert!(rt; array.null_count() == 1);
     assert!(rt; has_numbers(array.value(rt.alloc(), 1), &[3]));
     drop(array);
 }
@@ -94,11 +91,11 @@ pub(crate) fn by_large_offsets(alloc: Global) -> Result<LargeListArray, Error> {
 #[test]
 fn lists_by_large_offsets(rt: HostRuntime) {
     let mut array = by_large_offsets(rt.alloc()).expect(&rt, "three lists");
-    assert_eq!(rt; array.len(), 3);
-    assert_eq!(rt; array.null_count(), 0);
+    assert!(rt; array.len() == 3);
+    assert!(rt; array.null_count() == 0);
     assert!(rt; has_numbers(array.value(rt.alloc(), 2), &[2, 3]));
     array.slice(1, 2);
-    assert_eq!(rt; array.len(), 2);
+    assert!(rt; array.len() == 2);
     assert!(rt; has_numbers(array.value(rt.alloc(), 0), &[]));
     drop(array);
 }
@@ -106,11 +103,11 @@ fn lists_by_large_offsets(rt: HostRuntime) {
 #[test]
 fn types_of_lists(rt: HostRuntime) {
     let data_type = list_type(rt.alloc(), Ok(DataType::Int32)).expect(&rt, "a type");
-    assert_eq!(rt; data_type.to_physical_type(), PhysicalType::List);
+    assert!(rt; data_type.to_physical_type() == PhysicalType::List);
     let items = DataType::Int32;
     assert!(rt; *ListArray::get_child_type(&data_type) == items);
     let refused = LargeListArray::try_get_child(&data_type).err();
-    assert_eq!(rt; refused, Some(Error::OutOfSpec(Spec::WrongType)));
+    assert!(rt; refused == Some(Error::OutOfSpec(Spec::WrongType)));
     drop(items);
     drop(data_type);
 }

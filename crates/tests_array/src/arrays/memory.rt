@@ -9,7 +9,7 @@ pub(crate) fn unless_refused<T>(rt: &impl Abort, outcome: Result<T, Error>) -> O
     match outcome {
         Ok(value) => Some(value),
         Err(error) => {
-            assert_eq!(rt; error, Error::Memory(AllocError));
+            assert!(rt; error == Error::Memory(AllocError));
             None
         }
     }
@@ -24,13 +24,13 @@ fn refused_memory(rt: HostRuntime) {
         assert!(rt; copy == array);
         drop(copy);
     }
-    assert_eq!(rt; array.len(), 3);
+    assert!(rt; array.len() == 3);
     if let Some(items) = unless_refused(&rt, array.value(rt.alloc(), 1)) {
-        assert_eq!(rt; items.len(), 3);
+        assert!(rt; items.len() == 3);
         drop(items);
     }
-    assert_eq!(rt; array.len(), 3);
-    assert_eq!(rt; array.offsets().as_slice(), [0, 2, 5, 6].as_slice());
-    assert_eq!(rt; array.values().len(), 6);
+    assert!(rt; array.len() == 3);
+    assert!(rt; array.offsets().as_slice() == [0, 2, 5, 6].as_slice());
+    assert!(rt; array.values().len() == 6);
     drop(array);
 }

@@ -52,12 +52,12 @@ pub(crate) fn four(alloc: Global, items: &[i32]) -> Result<StructArray, Error> {
 #[test]
 fn records_of_two_fields(rt: HostRuntime) {
     let array = four(rt.alloc(), &[42, 28, 19, 31]).expect(&rt, "four records");
-    assert_eq!(rt; array.len(), 4);
+    assert!(rt; array.len() == 4);
     assert!(rt; array.is_null(2));
-    assert_eq!(rt; array.null_count(), 1);
-    assert_eq!(rt; array.fields().len(), 2);
+    assert!(rt; array.null_count() == 1);
+    assert!(rt; array.fields().len() == 2);
     let cut = array.sliced(2, 2);
-    assert_eq!(rt; cut.len(), 2);
+    assert!(rt; cut.len() == 2);
     assert!(rt; cut.is_null(0));
     assert!(rt; cut.is_valid(1));
     drop(cut);
@@ -67,9 +67,9 @@ fn records_of_two_fields(rt: HostRuntime) {
 fn numbers_under_a_null(rt: HostRuntime) {
     let alloc = rt.alloc();
     let array = four(alloc, &[42, 28, 19, 31]);
-    assert_eq!(rt; are_same(array, four(alloc, &[42, 28, 77, 31])), Ok(true));
+    assert!(rt; are_same(array, four(alloc, &[42, 28, 77, 31])) == Ok(true));
     let array = four(alloc, &[42, 28, 19, 31]);
-    assert_eq!(rt; are_same(array, four(alloc, &[42, 28, 19, 77])), Ok(false));
+    assert!(rt; are_same(array, four(alloc, &[42, 28, 19, 77])) == Ok(false));
 }
 
 #[test]
@@ -77,7 +77,7 @@ fn children_in_the_order_of_fields(rt: HostRuntime) {
     let alloc = rt.alloc();
     let children = two(alloc, numbers(alloc, &[42]), any_truths(alloc, &[true]));
     let refused = records_under(alloc, record_type(alloc), children, None).err();
-    assert_eq!(rt; refused, Some(Error::OutOfSpec(Spec::ChildType)));
+    assert!(rt; refused == Some(Error::OutOfSpec(Spec::ChildType)));
 }
 
 #[test]
@@ -90,9 +90,9 @@ fn children_of_one_length(rt: HostRuntime) {
         Some(bits.as_slice()),
     )
     .err();
-    assert_eq!(rt; refused, Some(Error::OutOfSpec(Spec::ChildLength)));
+    assert!(rt; refused == Some(Error::OutOfSpec(Spec::ChildLength)));
     let refused = records(rt.alloc(), &[true, false], &[1, 2], Some(bits.as_slice())).err();
-    assert_eq!(rt; refused, Some(Error::OutOfSpec(Spec::ValidityLength)));
+    assert!(rt; refused == Some(Error::OutOfSpec(Spec::ValidityLength)));
 }
 
 #[test]
@@ -100,20 +100,20 @@ fn a_child_for_each_field(rt: HostRuntime) {
     let alloc = rt.alloc();
     let no_fields = Ok(DataType::Struct(Vec::new(alloc)));
     let refused = records_under(alloc, no_fields, Ok(Vec::new(alloc)), None).err();
-    assert_eq!(rt; refused, Some(Error::OutOfSpec(Spec::NoFields)));
+    assert!(rt; refused == Some(Error::OutOfSpec(Spec::NoFields)));
     let refused = records_under(alloc, record_type(alloc), Ok(Vec::new(alloc)), None).err();
-    assert_eq!(rt; refused, Some(Error::OutOfSpec(Spec::FieldCount)));
+    assert!(rt; refused == Some(Error::OutOfSpec(Spec::FieldCount)));
 }
 
 #[test]
 fn parts_of_records(rt: HostRuntime) {
     let array = four(rt.alloc(), &[42, 28, 19, 31]).expect(&rt, "four records");
     let (fields, children, validity) = array.into_data();
-    assert_eq!(rt; fields.len(), 2);
-    assert_eq!(rt; fields[1].name.as_str(), "i");
-    assert_eq!(rt; children.len(), 2);
+    assert!(rt; fields.len() == 2);
+    assert!(rt; fields[1].name.as_str() == "i");
+    assert!(rt; children.len() == 2);
     assert!(rt; super::is_numbers(&children[1], &[42, 28, 19, 31]));
-    assert_eq!(rt; validity.as_ref().map(|bits| bits.unset_bits()), Some(1));
+    assert!(rt; validity.as_ref().map(|bits| bits.unset_bits()) == Some(1));
     drop(fields);
     drop(children);
     drop(validity);

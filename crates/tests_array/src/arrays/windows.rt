@@ -11,15 +11,15 @@ fn windows_in_windows(rt: HostRuntime) {
         &rt,
         "four lists",
     );
-    assert_eq!(rt; array.len(), 4);
+    assert!(rt; array.len() == 4);
     let whole = Window::of(&array);
-    assert_eq!(rt; whole.len(), 4);
+    assert!(rt; whole.len() == 4);
     let window = Window::new(&array, 1, 3);
-    assert_eq!(rt; window.len(), 3);
+    assert!(rt; window.len() == 3);
     assert!(rt; window.is_null(1));
     let cut = window.cut(1, 2);
-    assert_eq!(rt; cut.offset(), 2);
-    assert_eq!(rt; cut.len(), 2);
+    assert!(rt; cut.offset() == 2);
+    assert!(rt; cut.len() == 2);
     assert!(rt; cut.is_null(0));
     assert!(rt; !cut.is_null(1));
     assert!(rt; cut.cut(2, 0).is_empty());

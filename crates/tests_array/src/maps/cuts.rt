@@ -7,9 +7,9 @@ use nest_memory::error::{Error, Spec};
 #[test]
 fn cut_to_the_second_map(rt: HostRuntime) {
     let array = two_maps(rt.alloc()).expect(&rt, "two maps");
-    assert_eq!(rt; array.len(), 2);
+    assert!(rt; array.len() == 2);
     let cut = array.sliced(1, 1);
-    assert_eq!(rt; cut.len(), 1);
+    assert!(rt; cut.len() == 1);
     assert!(rt; has_entry(cut.value(rt.alloc(), 0), "aa", "bb"));
     drop(cut);
 }
@@ -24,13 +24,13 @@ fn cut_of_a_cut(rt: HostRuntime) {
         Some(bits),
     );
     let mut array = array.expect(&rt, "four maps");
-    assert_eq!(rt; array.len(), 4);
+    assert!(rt; array.len() == 4);
     array.slice(1, 3);
-    assert_eq!(rt; array.null_count(), 1);
-    assert_eq!(rt; array.len(), 3);
+    assert!(rt; array.null_count() == 1);
+    assert!(rt; array.len() == 3);
     array.slice(1, 2);
-    assert_eq!(rt; array.len(), 2);
-    assert_eq!(rt; array.null_count(), 0);
+    assert!(rt; array.len() == 2);
+    assert!(rt; array.null_count() == 0);
     assert!(rt; array.validity().is_some());
     assert!(rt; has_entry(array.value(rt.alloc(), 0), "aa", "bb"));
     drop(array);
@@ -41,10 +41,10 @@ fn null_over_one_record(rt: HostRuntime) {
     let bits = [true, false].as_slice();
     let array = maps_of(rt.alloc(), entries(rt.alloc()), &[0, 1, 2], Some(bits));
     let array = array.expect(&rt, "two maps");
-    assert_eq!(rt; array.len(), 2);
+    assert!(rt; array.len() == 2);
     assert!(rt; array.is_null(1));
     assert!(rt; array.is_valid(0));
-    assert_eq!(rt; array.null_count(), 1);
+    assert!(rt; array.null_count() == 1);
     assert!(rt; has_entry(array.value(rt.alloc(), 1), "aa", "bb"));
     drop(array);
 }
@@ -62,16 +62,16 @@ fn new_validity_by_its_length(rt: HostRuntime) {
     let array = two_maps(rt.alloc()).expect(&rt, "two maps");
     let long = validity(rt.alloc(), Some(&[false, true, true])).expect(&rt, "three bits");
     let (mut array, refused): (MapArray, Option<Error>) = kept(array.with_validity(long));
-    assert_eq!(rt; refused, Some(Error::OutOfSpec(Spec::ValidityLength)));
+    assert!(rt; refused == Some(Error::OutOfSpec(Spec::ValidityLength)));
     let long = validity(rt.alloc(), Some(&[false, true, true])).expect(&rt, "three bits");
     let refused = Err(Error::OutOfSpec(Spec::ValidityLength));
-    assert_eq!(rt; array.set_validity(long), refused);
-    assert_eq!(rt; array.null_count(), 0);
+    assert!(rt; array.set_validity(long) == refused);
+    assert!(rt; array.null_count() == 0);
     let bits = validity(rt.alloc(), Some(&[false, true])).expect(&rt, "two bits");
-    assert_eq!(rt; array.set_validity(bits), Ok(()));
-    assert_eq!(rt; array.null_count(), 1);
+    assert!(rt; array.set_validity(bits) == Ok(()));
+    assert!(rt; array.null_count() == 1);
     let (array, refused): (MapArray, Option<Error>) = kept(array.with_validity(None));
-    assert_eq!(rt; refused, None);
-    assert_eq!(rt; array.null_count(), 0);
+    assert!(rt; refused.is_none());
+    assert!(rt; array.null_count() == 0);
     drop(array);
 }

@@ -15,11 +15,8 @@ fn rebuilt(alloc: Global) -> Result<MapArray, Error> {
 #[test]
 fn rebuilt_maps_are_equal(rt: HostRuntime) {
     let alloc = rt.alloc();
-    assert_eq!(rt; are_same(two_maps(alloc), rebuilt(alloc)), Ok(true));
-    assert_eq!(rt;
-        are_same(any(two_maps(alloc)), any(rebuilt(alloc))),
-        Ok(true)
-    );
+    assert!(rt; are_same(two_maps(alloc), rebuilt(alloc)) == Ok(true));
+    assert!(rt; are_same(any(two_maps(alloc)), any(rebuilt(alloc))) == Ok(true));
 }
 
 /// Maps as an array of any kind.
@@ -35,18 +32,15 @@ fn null_over(alloc: Global, end: i32) -> Result<MapArray, Error> {
 #[test]
 fn entries_under_a_null(rt: HostRuntime) {
     let alloc = rt.alloc();
-    assert_eq!(rt;
-        are_same(null_over(alloc, 2), null_over(alloc, 3)),
-        Ok(true)
-    );
-    assert_eq!(rt; are_same(null_over(alloc, 2), two_maps(alloc)), Ok(false));
+    assert!(rt; are_same(null_over(alloc, 2), null_over(alloc, 3)) == Ok(true));
+    assert!(rt; are_same(null_over(alloc, 2), two_maps(alloc)) == Ok(false));
 }
 
 #[test]
 fn other_entries_differ(rt: HostRuntime) {
     let alloc = rt.alloc();
     let others = maps_of(alloc, entries(alloc), &[1, 2, 3], None);
-    assert_eq!(rt; are_same(two_maps(alloc), others), Ok(false));
+    assert!(rt; are_same(two_maps(alloc), others) == Ok(false));
     let longer = maps_of(alloc, entries(alloc), &[0, 1, 3], None);
-    assert_eq!(rt; are_same(any(two_maps(alloc)), any(longer)), Ok(false));
+    assert!(rt; are_same(any(two_maps(alloc)), any(longer)) == Ok(false));
 }

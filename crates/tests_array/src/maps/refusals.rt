@@ -21,7 +21,7 @@ fn extension_of_records_inside(rt: HostRuntime) {
     let alloc = rt.alloc();
     let data_type = map_type(alloc, extension(alloc, pair_type(alloc)));
     let refused = maps_under(alloc, data_type, entries(alloc), &[0, 1, 2], None).err();
-    assert_eq!(rt; refused, MAP_INNER);
+    assert!(rt; refused == MAP_INNER);
 }
 
 #[test]
@@ -30,7 +30,7 @@ fn extension_of_maps(rt: HostRuntime) {
     let data_type = extension(alloc, map_type(alloc, pair_type(alloc)));
     let array = maps_under(alloc, data_type, entries(alloc), &[0, 1, 2], None);
     let array = array.expect(&rt, "two maps");
-    assert_eq!(rt; array.len(), 2);
+    assert!(rt; array.len() == 2);
     drop(array);
 }
 
@@ -46,14 +46,14 @@ fn three_fields_inside(rt: HostRuntime) {
     let alloc = rt.alloc();
     let data_type = map_type(alloc, triple_type(alloc));
     let refused = maps_under(alloc, data_type, entries(alloc), &[0, 1, 2], None).err();
-    assert_eq!(rt; refused, MAP_INNER);
+    assert!(rt; refused == MAP_INNER);
 }
 
 #[test]
 fn entries_that_are_no_records(rt: HostRuntime) {
     let alloc = rt.alloc();
     let refused = maps_of(alloc, numbers(alloc, &[1, 2]), &[0, 1, 2], None).err();
-    assert_eq!(rt; refused, MAP_INNER);
+    assert!(rt; refused == MAP_INNER);
 }
 
 /// The checks in their order: each of these fails all later ones too.
@@ -62,27 +62,28 @@ fn first_of_the_checks(rt: HostRuntime) {
     let alloc = rt.alloc();
     let long = Some([true, true, true].as_slice());
     let past = maps_under(alloc, Ok(DataType::Int32), entries(alloc), &[0, 1, 4], long).err();
-    assert_eq!(rt; past, Some(Error::OutOfSpec(Spec::OffsetPastChild)));
+    assert!(rt; past == Some(Error::OutOfSpec(Spec::OffsetPastChild)));
     let lists = list_type(alloc, Ok(DataType::Int32));
     let refused = maps_under(alloc, lists, entries(alloc), &[0, 1, 2], long).err();
-    assert_eq!(rt; refused, Some(Error::OutOfSpec(Spec::WrongType)));
+    assert!(rt; refused == Some(Error::OutOfSpec(Spec::WrongType)));
     let inner = map_type(alloc, triple_type(alloc));
     let refused = maps_under(alloc, inner, entries(alloc), &[0, 1, 2], long).err();
-    assert_eq!(rt; refused, MAP_INNER);
+    assert!(rt; refused == MAP_INNER);
     let data_type = map_type(alloc, pair_type(alloc));
     let refused = maps_under(alloc, data_type, numbers(alloc, &[1, 2]), &[0, 1, 2], long).err();
-    assert_eq!(rt;
-        refused,
-        Some(Error::InvalidArgumentError(Argument::ChildType))
-    );
+    assert!(rt; refused == Some(Error::InvalidArgumentError(Argument::ChildType)));
     let refused = maps_of(alloc, entries(alloc), &[0, 1, 2], long).err();
-    assert_eq!(rt; refused, Some(Error::OutOfSpec(Spec::ValidityLength)));
+    assert!(rt; refused == Some(Error::OutOfSpec(Spec::ValidityLength)));
 }
 
 #[test]
 fn no_offset_past_the_entries(rt: HostRuntime) {
     let alloc = rt.alloc();
-    assert_eq!(rt; maps_of(alloc, entries(alloc), &[0, 3], None).err(), None);
+    assert!(rt;
+        maps_of(alloc, entries(alloc), &[0, 3], None)
+            .err()
+            .is_none()
+    );
     let past = maps_of(alloc, entries(alloc), &[0, 4], None).err();
-    assert_eq!(rt; past, Some(Error::OutOfSpec(Spec::OffsetPastChild)));
+    assert!(rt; past == Some(Error::OutOfSpec(Spec::OffsetPastChild)));
 }

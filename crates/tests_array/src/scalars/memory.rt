@@ -3,6 +3,9 @@ use super::scalar_at;
 use crate::arrays::memory::unless_refused;
 use crate::arrays::structs::four;
 use crate::arrays::{any_list, lists_of_lists};
+use crate::dictionaries::four_texts;
+use crate::maps::two_maps;
+use crate::unions::in_turn;
 use nest_array::{AnyArray, Array};
 use nest_memory::error::Error;
 use std::alloc::Global;
@@ -22,7 +25,7 @@ fn expect_same_twice(rt: &impl Abort, alloc: Global, array: Result<AnyArray, Err
         assert!(rt; scalar.is_valid());
         drop(scalar);
     }
-    assert_eq!(rt; array.len(), n);
+    assert!(rt; array.len() == n);
     drop(array);
 }
 
@@ -32,4 +35,7 @@ fn refused_memory(rt: HostRuntime) {
     expect_same_twice(&rt, alloc, any_list(lists_of_lists(alloc)));
     let records = four(alloc, &[42, 28, 19, 31]);
     expect_same_twice(&rt, alloc, records.map(|records| records.boxed()));
+    expect_same_twice(&rt, alloc, two_maps(alloc).map(|maps| maps.boxed()));
+    expect_same_twice(&rt, alloc, in_turn(alloc).map(|picks| picks.boxed()));
+    expect_same_twice(&rt, alloc, four_texts(alloc).map(|keyed| keyed.boxed()));
 }

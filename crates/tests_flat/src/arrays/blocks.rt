@@ -25,14 +25,14 @@ fn blocks_of_every_length(rt: HostRuntime) {
     let alloc = rt.alloc();
     let x = numbers(alloc, DataType::Int32, &ITEMS, None).expect(&rt, "eighteen numbers");
     let y = numbers(alloc, DataType::Int32, &ITEMS[1..], None).expect(&rt, "seventeen numbers");
-    assert_eq!(rt; are_equal(&x, 3, &y, 9, 0), Some(true));
-    assert_eq!(rt; are_equal(&x, 18, &y, 17, 0), Some(true));
-    assert_eq!(rt; are_equal(&x, 4, &y, 3, 1), Some(true));
-    assert_eq!(rt; are_equal(&x, 4, &y, 4, 1), Some(false));
-    assert_eq!(rt; are_equal(&x, 1, &y, 0, 16), Some(true));
-    assert_eq!(rt; are_equal(&x, 2, &y, 1, 16), Some(true));
-    assert_eq!(rt; are_equal(&x, 1, &y, 0, 17), Some(true));
-    assert_eq!(rt; are_equal(&x, 1, &y, 1, 16), Some(false));
+    assert!(rt; are_equal(&x, 3, &y, 9, 0) == Some(true));
+    assert!(rt; are_equal(&x, 18, &y, 17, 0) == Some(true));
+    assert!(rt; are_equal(&x, 4, &y, 3, 1) == Some(true));
+    assert!(rt; are_equal(&x, 4, &y, 4, 1) == Some(false));
+    assert!(rt; are_equal(&x, 1, &y, 0, 16) == Some(true));
+    assert!(rt; are_equal(&x, 2, &y, 1, 16) == Some(true));
+    assert!(rt; are_equal(&x, 1, &y, 0, 17) == Some(true));
+    assert!(rt; are_equal(&x, 1, &y, 1, 16) == Some(false));
     drop(x);
     drop(y);
 }
@@ -42,9 +42,9 @@ fn blocks_that_differ_in_one_value(rt: HostRuntime) {
     let alloc = rt.alloc();
     let x = numbers(alloc, DataType::Int32, &[1, 2, 3, 4, 5], None).expect(&rt, "numbers");
     let y = numbers(alloc, DataType::Int32, &[9, 2, 3, 4, 9], None).expect(&rt, "numbers");
-    assert_eq!(rt; are_equal(&x, 1, &y, 1, 3), Some(true));
-    assert_eq!(rt; are_equal(&x, 1, &y, 1, 4), Some(false));
-    assert_eq!(rt; are_equal(&x, 0, &y, 0, 4), Some(false));
+    assert!(rt; are_equal(&x, 1, &y, 1, 3) == Some(true));
+    assert!(rt; are_equal(&x, 1, &y, 1, 4) == Some(false));
+    assert!(rt; are_equal(&x, 0, &y, 0, 4) == Some(false));
     drop(x);
     drop(y);
 }
@@ -57,9 +57,9 @@ fn raw_values_alone_count(rt: HostRuntime) {
     let y = numbers(alloc, DataType::Int32, &[1, 7, 3], bits).expect(&rt, "three numbers");
     let valid = numbers(alloc, DataType::Int32, &[1, 2, 3], None).expect(&rt, "three numbers");
     assert!(rt; x == y);
-    assert_eq!(rt; are_equal(&x, 0, &y, 0, 3), Some(false));
+    assert!(rt; are_equal(&x, 0, &y, 0, 3) == Some(false));
     assert!(rt; x != valid);
-    assert_eq!(rt; are_equal(&x, 0, &valid, 0, 3), Some(true));
+    assert!(rt; are_equal(&x, 0, &valid, 0, 3) == Some(true));
     drop(x);
     drop(y);
     drop(valid);

@@ -14,15 +14,15 @@ fn three(alloc: Global) -> Result<PrimitiveArray<i32>, Error> {
 #[test]
 fn cuts_of_numbers(rt: HostRuntime) {
     let array = three(rt.alloc()).expect(&rt, "three slots");
-    assert_eq!(rt; array.len(), 3);
+    assert!(rt; array.len() == 3);
     let mut cut = array.sliced(1, 2);
-    assert_eq!(rt; cut.null_count(), 1);
-    assert_eq!(rt; cut.len(), 2);
-    assert_eq!(rt; cut.get(0), None);
+    assert!(rt; cut.null_count() == 1);
+    assert!(rt; cut.len() == 2);
+    assert!(rt; cut.get(0).is_none());
     cut.slice(1, 1);
-    assert_eq!(rt; cut.len(), 1);
-    assert_eq!(rt; cut.get(0), Some(3));
-    assert_eq!(rt; cut.null_count(), 0);
+    assert!(rt; cut.len() == 1);
+    assert!(rt; cut.get(0) == Some(3));
+    assert!(rt; cut.null_count() == 0);
     drop(cut);
 }
 
@@ -30,12 +30,12 @@ fn cuts_of_numbers(rt: HostRuntime) {
 fn cuts_of_truths(rt: HostRuntime) {
     let bits = Some([true, false, true].as_slice());
     let array = truths(rt.alloc(), &[false, false, true], bits).expect(&rt, "three slots");
-    assert_eq!(rt; array.len(), 3);
+    assert!(rt; array.len() == 3);
     let mut cut = array.sliced(1, 2);
-    assert_eq!(rt; cut.len(), 2);
+    assert!(rt; cut.len() == 2);
     cut.slice(1, 1);
-    assert_eq!(rt; cut.len(), 1);
-    assert_eq!(rt; cut.get(0), Some(true));
+    assert!(rt; cut.len() == 1);
+    assert!(rt; cut.get(0) == Some(true));
     drop(cut);
 }
 
@@ -43,23 +43,23 @@ fn cuts_of_truths(rt: HostRuntime) {
 fn cuts_of_bytes(rt: HostRuntime) {
     let offsets = [0, 1, 1, 3].as_slice();
     let array = binaries(rt.alloc(), &[4, 5, 6], offsets, None).expect(&rt, "three slots");
-    assert_eq!(rt; array.len(), 3);
+    assert!(rt; array.len() == 3);
     let mut cut = array.sliced(1, 2);
-    assert_eq!(rt; cut.len(), 2);
+    assert!(rt; cut.len() == 2);
     cut.slice(1, 1);
-    assert_eq!(rt; cut.len(), 1);
-    assert_eq!(rt; cut.value(0), [5, 6].as_slice());
-    assert_eq!(rt; cut.offsets().as_slice(), [1, 3].as_slice());
+    assert!(rt; cut.len() == 1);
+    assert!(rt; cut.value(0) == [5, 6].as_slice());
+    assert!(rt; cut.offsets().as_slice() == [1, 3].as_slice());
     drop(cut);
 }
 
 #[test]
 fn cuts_of_texts(rt: HostRuntime) {
     let array = texts(rt.alloc(), b"onetwo", &[0, 3, 6], None).expect(&rt, "two slots");
-    assert_eq!(rt; array.len(), 2);
+    assert!(rt; array.len() == 2);
     let mut cut = array.sliced(1, 1);
-    assert_eq!(rt; cut.len(), 1);
-    assert_eq!(rt; cut.value(0), "two");
+    assert!(rt; cut.len() == 1);
+    assert!(rt; cut.value(0) == "two");
     cut.slice(0, 0);
     assert!(rt; cut.is_empty());
     drop(cut);
@@ -69,12 +69,12 @@ fn cuts_of_texts(rt: HostRuntime) {
 fn new_validity_taken(rt: HostRuntime) {
     let mut array = three(rt.alloc()).expect(&rt, "three slots");
     let first = validity(rt.alloc(), Some(&[false, true, true])).expect(&rt, "three bits");
-    assert_eq!(rt; array.set_validity(first), Ok(()));
-    assert_eq!(rt; array.len(), 3);
-    assert_eq!(rt; array.get(0), None);
-    assert_eq!(rt; array.get(1), Some(2));
-    assert_eq!(rt; array.set_validity(None), Ok(()));
-    assert_eq!(rt; array.null_count(), 0);
+    assert!(rt; array.set_validity(first) == Ok(()));
+    assert!(rt; array.len() == 3);
+    assert!(rt; array.get(0).is_none());
+    assert!(rt; array.get(1) == Some(2));
+    assert!(rt; array.set_validity(None) == Ok(()));
+    assert!(rt; array.null_count() == 0);
     drop(array);
 }
 
@@ -83,10 +83,10 @@ fn short_validity_refused(rt: HostRuntime) {
     let mut array = three(rt.alloc()).expect(&rt, "three slots");
     let refused = Err(Error::OutOfSpec(Spec::ValidityLength));
     let short = validity(rt.alloc(), Some(&[false, false])).expect(&rt, "two bits");
-    assert_eq!(rt; array.set_validity(short), refused);
-    assert_eq!(rt; array.len(), 3);
-    assert_eq!(rt; array.get(0), Some(1));
-    assert_eq!(rt; array.null_count(), 1);
+    assert!(rt; array.set_validity(short) == refused);
+    assert!(rt; array.len() == 3);
+    assert!(rt; array.get(0) == Some(1));
+    assert!(rt; array.null_count() == 1);
     drop(array);
 }
 
@@ -103,10 +103,10 @@ fn validity_by_value(rt: HostRuntime) {
     let array = three(rt.alloc()).expect(&rt, "three slots");
     let short = validity(rt.alloc(), Some(&[false])).expect(&rt, "one bit");
     let (array, refused) = kept(array.with_validity(short));
-    assert_eq!(rt; refused, Some(Error::OutOfSpec(Spec::ValidityLength)));
-    assert_eq!(rt; array.null_count(), 1);
+    assert!(rt; refused == Some(Error::OutOfSpec(Spec::ValidityLength)));
+    assert!(rt; array.null_count() == 1);
     let (array, refused) = kept(array.with_validity(None));
-    assert_eq!(rt; refused, None);
-    assert_eq!(rt; array.null_count(), 0);
+    assert!(rt; refused.is_none());
+    assert!(rt; array.null_count() == 0);
     drop(array);
 }

@@ -11,7 +11,7 @@ fn unless_refused<T>(rt: &impl Abort, outcome: Result<T, Error>) -> Option<T> {
     match outcome {
         Ok(value) => Some(value),
         Err(error) => {
-            assert_eq!(rt; error, Error::Memory(AllocError));
+            assert!(rt; error == Error::Memory(AllocError));
             None
         }
     }
@@ -30,9 +30,9 @@ fn refused_clone_of_numbers(rt: HostRuntime) {
         return;
     };
     expect_same(&rt, array.clone(rt.alloc()), &array);
-    assert_eq!(rt; array.len(), 2);
-    assert_eq!(rt; array.get(0), Some(1));
-    assert_eq!(rt; array.null_count(), 1);
+    assert!(rt; array.len() == 2);
+    assert!(rt; array.get(0) == Some(1));
+    assert!(rt; array.null_count() == 1);
     drop(array);
 }
 
@@ -43,9 +43,9 @@ fn refused_clone_of_truths(rt: HostRuntime) {
         return;
     };
     expect_same(&rt, array.clone(rt.alloc()), &array);
-    assert_eq!(rt; array.len(), 2);
-    assert_eq!(rt; array.get(0), Some(true));
-    assert_eq!(rt; array.null_count(), 1);
+    assert!(rt; array.len() == 2);
+    assert!(rt; array.get(0) == Some(true));
+    assert!(rt; array.null_count() == 1);
     drop(array);
 }
 
@@ -56,9 +56,9 @@ fn refused_clone_of_bytes(rt: HostRuntime) {
         return;
     };
     expect_same(&rt, array.clone(rt.alloc()), &array);
-    assert_eq!(rt; array.len(), 2);
-    assert_eq!(rt; array.value(0), [4, 5].as_slice());
-    assert_eq!(rt; array.null_count(), 1);
+    assert!(rt; array.len() == 2);
+    assert!(rt; array.value(0) == [4, 5].as_slice());
+    assert!(rt; array.null_count() == 1);
     drop(array);
 }
 
@@ -69,9 +69,9 @@ fn refused_clone_of_texts(rt: HostRuntime) {
         return;
     };
     expect_same(&rt, array.clone(rt.alloc()), &array);
-    assert_eq!(rt; array.len(), 2);
-    assert_eq!(rt; array.value(0), "ab");
-    assert_eq!(rt; array.null_count(), 1);
+    assert!(rt; array.len() == 2);
+    assert!(rt; array.value(0) == "ab");
+    assert!(rt; array.null_count() == 1);
     drop(array);
 }
 
@@ -86,11 +86,11 @@ fn refused_clone_of_any(rt: HostRuntime) {
         return;
     };
     if let Some(copy) = unless_refused(&rt, array.clone(rt.alloc())) {
-        assert_eq!(rt; copy.len(), 2);
-        assert_eq!(rt; copy.null_count(), 1);
+        assert!(rt; copy.len() == 2);
+        assert!(rt; copy.null_count() == 1);
         drop(copy);
     }
-    assert_eq!(rt; array.len(), 2);
-    assert_eq!(rt; array.null_count(), 1);
+    assert!(rt; array.len() == 2);
+    assert!(rt; array.null_count() == 1);
     drop(array);
 }

@@ -15,16 +15,16 @@ fn numbers_under_nulls(rt: HostRuntime) {
     let bits = Some([true, false].as_slice());
     let array = numbers(alloc, DataType::Int32, &[1, 2], bits);
     let same = numbers(alloc, DataType::Int32, &[1, 9], bits);
-    assert_eq!(rt; are_same(array, same), Ok(true));
+    assert!(rt; are_same(array, same) == Ok(true));
     let array = numbers(alloc, DataType::Int32, &[1, 2], bits);
     let valid = numbers(alloc, DataType::Int32, &[1, 2], None);
-    assert_eq!(rt; are_same(array, valid), Ok(false));
+    assert!(rt; are_same(array, valid) == Ok(false));
     let array = numbers(alloc, DataType::Int32, &[1, 2], bits);
     let dates = numbers(alloc, DataType::Date32, &[1, 2], bits);
-    assert_eq!(rt; are_same(array, dates), Ok(false));
+    assert!(rt; are_same(array, dates) == Ok(false));
     let array = numbers(alloc, DataType::Int32, &[1, 2], None);
     let other = numbers(alloc, DataType::Int32, &[1, 3], None);
-    assert_eq!(rt; are_same(array, other), Ok(false));
+    assert!(rt; are_same(array, other) == Ok(false));
 }
 
 #[test]
@@ -32,15 +32,9 @@ fn truths_under_nulls(rt: HostRuntime) {
     let alloc = rt.alloc();
     let bits = Some([true, false].as_slice());
     let array = truths(alloc, &[true, false], bits);
-    assert_eq!(rt;
-        are_same(array, truths(alloc, &[true, true], bits)),
-        Ok(true)
-    );
+    assert!(rt; are_same(array, truths(alloc, &[true, true], bits)) == Ok(true));
     let array = truths(alloc, &[true, false], bits);
-    assert_eq!(rt;
-        are_same(array, truths(alloc, &[false, false], bits)),
-        Ok(false)
-    );
+    assert!(rt; are_same(array, truths(alloc, &[false, false], bits)) == Ok(false));
 }
 
 #[test]
@@ -49,10 +43,10 @@ fn bytes_by_other_offsets(rt: HostRuntime) {
     let bits = Some([true, false].as_slice());
     let array = binaries(alloc, &[4, 5], &[0, 1, 2], bits);
     let same = binaries(alloc, &[9, 4], &[1, 2, 2], bits);
-    assert_eq!(rt; are_same(array, same), Ok(true));
+    assert!(rt; are_same(array, same) == Ok(true));
     let array = binaries(alloc, &[4, 5], &[0, 1, 2], bits);
     let other = binaries(alloc, &[4, 5], &[0, 2, 2], bits);
-    assert_eq!(rt; are_same(array, other), Ok(false));
+    assert!(rt; are_same(array, other) == Ok(false));
 }
 
 #[test]
@@ -61,10 +55,10 @@ fn texts_by_other_offsets(rt: HostRuntime) {
     let bits = Some([true, false].as_slice());
     let array = texts(alloc, b"ab", &[0, 1, 2], bits);
     let same = texts(alloc, b"xa", &[1, 2, 2], bits);
-    assert_eq!(rt; are_same(array, same), Ok(true));
+    assert!(rt; are_same(array, same) == Ok(true));
     let array = texts(alloc, b"ab", &[0, 1, 2], None);
     let other = texts(alloc, b"ac", &[0, 1, 2], None);
-    assert_eq!(rt; are_same(array, other), Ok(false));
+    assert!(rt; are_same(array, other) == Ok(false));
 }
 
 #[test]
@@ -76,11 +70,11 @@ fn a_null_is_no_value(rt: HostRuntime) {
     let long = [0, 5, 8, 8, 13, 13, 13].as_slice();
     let hello = || binaries(alloc, b"helloworld", short, two);
     let foo = || binaries(alloc, b"hellofooworld", long, three);
-    assert_eq!(rt; are_same(hello(), foo()), Ok(false));
-    assert_eq!(rt; are_same(hello(), hello()), Ok(true));
-    assert_eq!(rt; are_same(foo(), foo()), Ok(true));
+    assert!(rt; are_same(hello(), foo()) == Ok(false));
+    assert!(rt; are_same(hello(), hello()) == Ok(true));
+    assert!(rt; are_same(foo(), foo()) == Ok(true));
     let under_null = binaries(alloc, b"hellofooworld", long, two);
-    assert_eq!(rt; are_same(hello(), under_null), Ok(true));
+    assert!(rt; are_same(hello(), under_null) == Ok(true));
 }
 
 #[test]

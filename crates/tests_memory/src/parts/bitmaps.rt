@@ -13,13 +13,13 @@ fn bitmap_of(alloc: Global, bytes: &[u8], len: usize) -> Result<Bitmap, Error> {
 fn bits_lie_least_significant_first(rt: HostRuntime) {
     let bits = bitmap_of(rt.alloc(), &[0b0000_0101, 0b1000_0000], 16).expect(&rt, "two bytes");
     assert!(rt; !bits.is_empty());
-    assert_eq!(rt; bits.len(), 16);
+    assert!(rt; bits.len() == 16);
     for i in 0..16usize {
         if i < bits.len() {
-            assert_eq!(rt; bits.get_bit(i), i == 0 || i == 2 || i == 15);
+            assert!(rt; bits.get_bit(i) == (i == 0 || i == 2 || i == 15));
         }
     }
-    assert_eq!(rt; bits.unset_bits(), 13);
+    assert!(rt; bits.unset_bits() == 13);
     drop(bits);
 }
 
@@ -27,13 +27,13 @@ fn bits_lie_least_significant_first(rt: HostRuntime) {
 fn cuts_of_shared_bits(rt: HostRuntime) {
     let mut bits = bitmap_of(rt.alloc(), &[0b0000_0101, 0b1000_0000], 16).expect(&rt, "two bytes");
     let shared = bits.clone().expect(&rt, "a second owner");
-    assert_eq!(rt; bits.len(), 16);
+    assert!(rt; bits.len() == 16);
     bits.slice(1, 15);
-    assert_eq!(rt; bits.unset_bits(), 13);
-    assert_eq!(rt; bits.len(), 15);
+    assert!(rt; bits.unset_bits() == 13);
+    assert!(rt; bits.len() == 15);
     let end = bits.sliced(13, 2);
-    assert_eq!(rt; end.unset_bits(), 1);
-    assert_eq!(rt; shared.unset_bits(), 13);
+    assert!(rt; end.unset_bits() == 1);
+    assert!(rt; shared.unset_bits() == 13);
     drop(end);
     drop(shared);
 }
@@ -41,32 +41,32 @@ fn cuts_of_shared_bits(rt: HostRuntime) {
 #[test]
 fn short_bitmap(rt: HostRuntime) {
     let refused = bitmap_of(rt.alloc(), &[1], 9).err();
-    assert_eq!(rt; refused, Some(Error::OutOfSpec(Spec::ValidityLength)));
+    assert!(rt; refused == Some(Error::OutOfSpec(Spec::ValidityLength)));
 }
 
 #[test]
 fn bits_from_both_ends(rt: HostRuntime) {
     let bools = [true, true, false, true, false, false, false, false, true];
     let mut bits = Bitmap::from_bools(rt.alloc(), &bools).expect(&rt, "nine bits");
-    assert_eq!(rt; bits.len(), 9);
+    assert!(rt; bits.len() == 9);
     bits.slice(1, 8);
     let mut iter = bits.iter();
-    assert_eq!(rt; iter.len(), 8);
-    assert_eq!(rt; iter.next_back(), Some(true));
-    assert_eq!(rt; iter.next(), Some(true));
-    assert_eq!(rt; iter.next(), Some(false));
-    assert_eq!(rt; iter.len(), 5);
-    assert_eq!(rt; iter.filter(|bit| *bit).count(), 1);
+    assert!(rt; iter.len() == 8);
+    assert!(rt; iter.next_back() == Some(true));
+    assert!(rt; iter.next() == Some(true));
+    assert!(rt; iter.next() == Some(false));
+    assert!(rt; iter.len() == 5);
+    assert!(rt; iter.filter(|bit| *bit).count() == 1);
     drop(bits);
 }
 
 #[test]
 fn pushed_bits_from_both_ends(rt: HostRuntime) {
     let mut grown = MutableBitmap::new(rt.alloc());
-    assert_eq!(rt; grown.push(true), Ok(()));
+    assert!(rt; grown.push(true) == Ok(()));
     let mut iter = grown.iter();
-    assert_eq!(rt; iter.next(), Some(true));
-    assert_eq!(rt; iter.next_back(), None);
+    assert!(rt; iter.next() == Some(true));
+    assert!(rt; iter.next_back().is_none());
     drop(grown);
 }
 
@@ -90,19 +90,16 @@ fn grown(alloc: Global) -> Result<MutableBitmap, Error> {
 #[test]
 fn growing_bitmaps(rt: HostRuntime) {
     let mut bits = grown(rt.alloc()).expect(&rt, "61 bits");
-    assert_eq!(rt; bits.len(), 61);
-    assert_eq!(rt; bits.unset_bits(), 27);
+    assert!(rt; bits.len() == 61);
+    assert!(rt; bits.unset_bits() == 27);
     bits.set(0, false);
     assert!(rt; !bits.get(0));
-    assert_eq!(rt; bits.reserve(1000), Ok(()));
+    assert!(rt; bits.reserve(1000) == Ok(()));
     bits.truncate(41);
     bits.shrink_to_fit();
-    assert_eq!(rt; bits.unset_bits(), 8);
-    assert_eq!(rt;
-        bits.extend_constant(usize::MAX, true),
-        Err(Error::Overflow)
-    );
-    assert_eq!(rt; bits.len(), 41);
+    assert!(rt; bits.unset_bits() == 8);
+    assert!(rt; bits.extend_constant(usize::MAX, true) == Err(Error::Overflow));
+    assert!(rt; bits.len() == 41);
     drop(bits);
 }
 
@@ -111,8 +108,8 @@ fn frozen_bits(rt: HostRuntime) {
     let mut bits = grown(rt.alloc()).expect(&rt, "61 bits");
     let frozen = bits.freeze().expect(&rt, "the same bits");
     assert!(rt; bits.is_empty());
-    assert_eq!(rt; frozen.len(), 61);
-    assert_eq!(rt; frozen.unset_bits(), 27);
+    assert!(rt; frozen.len() == 61);
+    assert!(rt; frozen.unset_bits() == 27);
     drop(bits);
     drop(frozen);
 }
@@ -127,12 +124,12 @@ fn bits_grow_without_memory(rt: HostRuntime) {
         if unless_refused(&rt, grown.push(true)).is_some() {
             accepted = accepted.saturating_add(1);
         }
-        assert_eq!(rt; grown.len(), accepted);
+        assert!(rt; grown.len() == accepted);
     }
     unless_refused(&rt, grown.reserve(1000));
-    assert_eq!(rt; grown.len(), accepted);
+    assert!(rt; grown.len() == accepted);
     if unless_refused(&rt, grown.extend_constant(5000, false)).is_some() {
-        assert_eq!(rt; grown.unset_bits(), 5000);
+        assert!(rt; grown.unset_bits() == 5000);
     }
     drop(grown);
 }
@@ -143,7 +140,7 @@ fn bits_freeze_without_memory(rt: HostRuntime) {
     unless_refused(&rt, grown.extend_constant(40, true));
     let before = grown.len();
     if let Some(frozen) = unless_refused(&rt, grown.freeze()) {
-        assert_eq!(rt; frozen.len(), before);
+        assert!(rt; frozen.len() == before);
         drop(frozen);
     }
     assert!(rt; grown.is_empty());
@@ -154,7 +151,7 @@ fn bits_freeze_without_memory(rt: HostRuntime) {
 fn bitmaps_without_memory(rt: HostRuntime) {
     drop(unless_refused(&rt, MutableBitmap::with_capacity(rt.alloc(), 9)));
     if let Some(bits) = unless_refused(&rt, Bitmap::from_bools(rt.alloc(), &[true, false])) {
-        assert_eq!(rt; bits.unset_bits(), 1);
+        assert!(rt; bits.unset_bits() == 1);
         drop(bits);
     }
     if let Some(bits) = unless_refused(&rt, bitmap_of(rt.alloc(), &[], 0)) {

@@ -8,13 +8,10 @@ use std::process::Abort;
 #[test]
 fn offsets_past_the_largest(rt: HostRuntime) {
     let mut small = Offsets::<i32>::new(rt.alloc()).expect(&rt, "no slot");
-    assert_eq!(rt; small.try_push_usize(2147483647), Ok(()));
-    assert_eq!(rt; small.try_push_usize(1), Err(Error::Overflow));
-    assert_eq!(rt;
-        small.try_extend_from_lengths(&[0, 1]),
-        Err(Error::Overflow)
-    );
-    assert_eq!(rt; small.len_proxy(), 1);
+    assert!(rt; small.try_push_usize(2147483647) == Ok(()));
+    assert!(rt; small.try_push_usize(1) == Err(Error::Overflow));
+    assert!(rt; small.try_extend_from_lengths(&[0, 1]) == Err(Error::Overflow));
+    assert!(rt; small.len_proxy() == 1);
     drop(small);
 }
 
@@ -41,10 +38,10 @@ fn grown(alloc: Global) -> Result<Offsets<i64>, Error> {
 fn growing_offsets(rt: HostRuntime) {
     let mut offsets = grown(rt.alloc()).expect(&rt, "five slots");
     assert!(rt; offsets.capacity() >= 1);
-    assert_eq!(rt; offsets.extend_constant(usize::MAX), Err(Error::Overflow));
-    assert_eq!(rt; size(&offsets), (5, 5));
+    assert!(rt; offsets.extend_constant(usize::MAX) == Err(Error::Overflow));
+    assert!(rt; size(&offsets) == (5, 5));
     if offsets.len_proxy() == 5 {
-        assert_eq!(rt; offsets.start_end(2), (2, 5));
+        assert!(rt; offsets.start_end(2) == (2, 5));
     }
     drop(offsets);
 }
@@ -53,9 +50,9 @@ fn growing_offsets(rt: HostRuntime) {
 fn joined_offsets(rt: HostRuntime) {
     let more = grown(rt.alloc()).expect(&rt, "five slots");
     let mut joined = Offsets::<i64>::new(rt.alloc()).expect(&rt, "no slot");
-    assert_eq!(rt; joined.try_push_usize(4), Ok(()));
-    assert_eq!(rt; joined.try_extend_from_self(&more), Ok(()));
-    assert_eq!(rt; size(&joined), (6, 9));
+    assert!(rt; joined.try_push_usize(4) == Ok(()));
+    assert!(rt; joined.try_extend_from_self(&more) == Ok(()));
+    assert!(rt; size(&joined) == (6, 9));
     drop(more);
     drop(joined);
 }
@@ -63,13 +60,13 @@ fn joined_offsets(rt: HostRuntime) {
 #[test]
 fn frozen_offsets(rt: HostRuntime) {
     let mut offsets = grown(rt.alloc()).expect(&rt, "five slots");
-    assert_eq!(rt; offsets.reserve(10), Ok(()));
-    assert_eq!(rt; offsets.len_proxy(), 5);
+    assert!(rt; offsets.reserve(10) == Ok(()));
+    assert!(rt; offsets.len_proxy() == 5);
     offsets.truncate(3);
     offsets.shrink_to_fit();
     let frozen = offsets.freeze().expect(&rt, "the same offsets");
-    assert_eq!(rt; offsets.len_proxy(), 0);
-    assert_eq!(rt; frozen.as_slice(), [0, 2, 2, 5].as_slice());
+    assert!(rt; offsets.len_proxy() == 0);
+    assert!(rt; frozen.as_slice() == [0, 2, 2, 5].as_slice());
     drop(offsets);
     drop(frozen);
 }
@@ -82,7 +79,7 @@ fn expect_kept(
     after: (usize, usize),
 ) {
     if unless_refused(rt, done).is_none() {
-        assert_eq!(rt; after, before);
+        assert!(rt; after == before);
     }
 }
 
@@ -96,10 +93,7 @@ fn offsets_are_pushed_without_memory(rt: HostRuntime) {
     for length in 0..9usize {
         let before = grown.len_proxy();
         let pushed = unless_refused(&rt, grown.try_push_usize(length)).is_some();
-        assert_eq!(rt;
-            grown.len_proxy(),
-            before.saturating_add(usize::from(pushed))
-        );
+        assert!(rt; grown.len_proxy() == before.saturating_add(usize::from(pushed)));
     }
     drop(grown);
 }
@@ -141,9 +135,9 @@ fn offsets_freeze_without_memory(rt: HostRuntime) {
     };
     let before = size(&grown);
     if let Some(frozen) = unless_refused(&rt, grown.freeze()) {
-        assert_eq!(rt; (frozen.len_proxy(), frozen.last()), before);
+        assert!(rt; (frozen.len_proxy(), frozen.last()) == before);
         drop(frozen);
     }
-    assert_eq!(rt; size(&grown), (0, 0));
+    assert!(rt; size(&grown) == (0, 0));
     drop(grown);
 }

@@ -19,46 +19,46 @@ fn growing_from(alloc: Global, parts: &[i64]) -> Result<Offsets<i64>, Error> {
 fn offset_types(rt: HostRuntime) {
     assert!(rt; !i32::IS_LARGE);
     assert!(rt; i64::IS_LARGE);
-    assert_eq!(rt; i32::from_usize(2147483647), Some(2147483647));
-    assert_eq!(rt; i32::from_usize(2147483648), None);
-    assert_eq!(rt; i64::from_usize(9223372036854775808), None);
+    assert!(rt; i32::from_usize(2147483647) == Some(2147483647));
+    assert!(rt; i32::from_usize(2147483648).is_none());
+    assert!(rt; i64::from_usize(9223372036854775808).is_none());
     assert!(rt; (-1i32).is_negative());
-    assert_eq!(rt; 7i64.to_usize(), 7);
+    assert!(rt; 7i64.to_usize() == 7);
 }
 
 #[test]
 fn refused_offsets(rt: HostRuntime) {
     for parts in [[].as_slice(), [-1, 0].as_slice(), [2, 1].as_slice()] {
-        assert_eq!(rt; offsets_of(rt.alloc(), parts).err(), WRONG);
+        assert!(rt; offsets_of(rt.alloc(), parts).err() == WRONG);
     }
-    assert_eq!(rt; growing_from(rt.alloc(), &[1, 2]).err(), WRONG);
+    assert!(rt; growing_from(rt.alloc(), &[1, 2]).err() == WRONG);
 }
 
 #[test]
 fn offsets_of_one_slot(rt: HostRuntime) {
     let one = offsets_of(rt.alloc(), &[2, 2]).expect(&rt, "one slot");
-    assert_eq!(rt; one.len_proxy(), 1);
-    assert_eq!(rt; one.first(), 2);
-    assert_eq!(rt; one.last(), 2);
+    assert!(rt; one.len_proxy() == 1);
+    assert!(rt; one.first() == 2);
+    assert!(rt; one.last() == 2);
     drop(one);
     let two = growing_from(rt.alloc(), &[0, 2, 2]).expect(&rt, "two slots");
-    assert_eq!(rt; two.len_proxy(), 2);
+    assert!(rt; two.len_proxy() == 2);
     drop(two);
     let none = OffsetsBuffer::<i32>::new(rt.alloc()).expect(&rt, "no slot");
-    assert_eq!(rt; none.as_slice(), [0].as_slice());
+    assert!(rt; none.as_slice() == [0].as_slice());
     drop(none);
 }
 
 #[test]
 fn cuts_of_shared_offsets(rt: HostRuntime) {
     let mut shared = offsets_of(rt.alloc(), &[0, 4, 6, 6]).expect(&rt, "three slots");
-    assert_eq!(rt; shared.len(), 4);
+    assert!(rt; shared.len() == 4);
     shared.slice(1, 3);
-    assert_eq!(rt; shared.len_proxy(), 2);
+    assert!(rt; shared.len_proxy() == 2);
     let copy = shared.clone().expect(&rt, "a second owner");
     let cut = copy.sliced(0, 2);
-    assert_eq!(rt; cut.as_slice(), [4, 6].as_slice());
-    assert_eq!(rt; shared.len(), 3);
+    assert!(rt; cut.as_slice() == [4, 6].as_slice());
+    assert!(rt; shared.len() == 3);
     drop(cut);
     drop(shared);
 }
@@ -67,11 +67,11 @@ fn cuts_of_shared_offsets(rt: HostRuntime) {
 #[test]
 fn offsets_without_memory(rt: HostRuntime) {
     if let Some(none) = unless_refused(&rt, OffsetsBuffer::<i32>::new(rt.alloc())) {
-        assert_eq!(rt; none.len(), 1);
+        assert!(rt; none.len() == 1);
         drop(none);
     }
     if let Some(one) = unless_refused(&rt, offsets_of(rt.alloc(), &[0, 3])) {
-        assert_eq!(rt; one.last(), 3);
+        assert!(rt; one.last() == 3);
         drop(one);
     }
 }

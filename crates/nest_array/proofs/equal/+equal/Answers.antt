@@ -1,5 +1,4 @@
-use Rattle.std.specs.Prelude.{◌⊎◌}
-use Rattle.std.proofs.Common.{◌≡◌, ◌+◌, inl, inr, length, refl, sym, ap, ◌∙◌, subst, arith}
+use Rattle.std.proofs.Common.{◌+◌, refl, sym, ap, ◌∙◌, subst, arith}
 use Rattle.nest_memory.specs.TypeTree.{logical_type}
 use Rattle.nest_model.specs.Accessors.{child_of, child_at, children_of}
 use Rattle.nest_model.specs.Layout.{layout_type}
@@ -8,11 +7,12 @@ use Rattle.nest_model.specs.Meaning.{run, slot, len}
 use Rattle.nest_model.specs.Slot.{node_count, node_counts}
 use Rattle.nest_flat.specs.BareSlots.{same-along}
 use Rattle.nest_flat.specs.SameRuns.{runs-differ}
-use Rattle.nest_array.specs.RowSlots.{IsWithin, row_slot, bound_of}
+use Rattle.nest_array.specs.RowSlots.{Alike, IsWithin, row_slot, bound_of}
 use Rattle.nest_array.specs.Seen.{layout_of, layouts_of}
 use Rattle.nest_array.specs.SeenLists.{lists_layout}
 use Rattle.nest_array.proofs.Counts.{same-more, told-more, told-stops, null-told, tells-after, tells-more, tells-exact, tells-stopped, nodes-least}
 use Rattle.nest_array.proofs.Joined.{lists-bounds, lists-joined, lists-nodes, rows-within, items-along}
+use Rattle.nest_array.proofs.Keyed.{keyed-place, keyed-alike, alike-along}
 use Rattle.nest_array.proofs.LogicalTypes.{same-items}
 use Rattle.nest_array.proofs.Picks.{field-types, picks-field, picks-same, pick-nodes}
 use Rattle.nest_array.proofs.SameRows.{row-nodes, lists-same, lists-differ, struct-known, children-typed, children-cover, record-shown, records-shown, records-same, record-same, record-nodes, records-nodes}
@@ -238,3 +238,43 @@ same_rows-returns-clause-told t c =
     tells-more _ _ _ _ c.args.n _ _ (tells-exact _ _ _ c.args.n c.in-Some.ensures.told) c.same_run.ensures.told
     (ap (λ ss. c.args.n + node_counts ss) (items-along (layout_of c.items-items.result.now) (child_of a) c.span-start.result.0 (bound_of a c.args.o) c.in-Some.total c.items-items.ensures.shown c.span-start.ensures.start)
     ∙ sym (lists-nodes a c.args.o c.args.n c.in-Some.total c.known_rows.ensures c.requires.within (c.are_full.ensures.0 c.if-not-are_full.false) c.in-Some.ensures.same.1))
+
+pub keyed::same_keyed-returns-then-not-is_same_keyed-clause-same : goal.keyed::same_keyed-returns-then-not-is_same_keyed-clause-same
+keyed::same_keyed-returns-then-not-is_same_keyed-clause-same t c =
+    runs-differ (slot c.args.x.now) (slot c.args.y.now) c.args.o c.args.p c.args.n c.loop-k.k _ c.is_same_keyed.ensures.same c.if-not-is_same_keyed.true c.loop-k-test.true
+
+pub keyed::same_keyed-returns-then-not-is_same_keyed-clause-told : goal.keyed::same_keyed-returns-then-not-is_same_keyed-clause-told
+keyed::same_keyed-returns-then-not-is_same_keyed-clause-told t c =
+    told-stops (slot c.args.x.now) c.args.o c.loop-k.k c.args.n _ _ _ _ _ c.if-not-is_same_keyed.true c.loop-k-test.true c.loop-k.invariant.told c.is_same_keyed.ensures.told refl
+
+pub keyed::same_keyed-loop-k-preserved : goal.keyed::same_keyed-loop-k-preserved
+keyed::same_keyed-loop-k-preserved t c =
+    record {
+      same = same-more (slot c.args.x.now) (slot c.args.y.now) c.args.o c.args.p c.loop-k.k c.loop-k.invariant.same (c.is_same_keyed.ensures.same.0 c.if-not-is_same_keyed.false);
+      told = told-more (slot c.args.x.now) c.args.o c.loop-k.k _ _ _ _ _ c.if-not-is_same_keyed.false c.loop-k.invariant.told c.is_same_keyed.ensures.told refl;
+    }
+
+pub keyed::is_same_keyed-same_run-requires : goal.keyed::is_same_keyed-same_run-requires
+keyed::is_same_keyed-same_run-requires t c =
+    let a = c.args.x.now in
+    let b = c.args.y.now in
+    let w = ap weight c.values-values.ensures in
+    let e = ap weight c.known.ensures.kind in
+    let u = ap len c.values-values.ensures in
+    let v = ap len c.values-other_values.ensures in
+    let x = keyed-place a c.args.i c.known.ensures.fits c.known.ensures.kind c.requires.within (sym c.is_null.ensures.place ∙ c.if-is_null.false) in
+    let y = keyed-place b c.args.j c.known-2.ensures.fits c.known-2.ensures.kind c.requires.other_within (sym c.is_null-else-is_null.ensures.place ∙ c.if-is_null-2.false) in
+    let d : Alike (child_of a) (child_of b) = keyed-alike a b c.known.ensures.fits c.known.ensures.kind c.known-2.ensures.fits c.known-2.ensures.kind c.requires.alike in (
+      omega arith,
+      (
+        alike-along _ _ (child_of a) (child_of b) c.values-values.ensures c.values-other_values.ensures d,
+        (
+          omega (arith, u, x, c.place.ensures),
+          omega (arith, v, y, c.place-2.ensures),
+        ),
+      ),
+    )
+
+pub keyed::is_same_keyed-returns-else-is_null_value-clause-told : goal.keyed::is_same_keyed-returns-else-is_null_value-clause-told
+keyed::is_same_keyed-returns-else-is_null_value-clause-told t c =
+    null-told _ _ _ _ c.tell.ensures c.is_null_value.ensures

@@ -66,3 +66,16 @@ invariant-picks::same_picks-loop-k l =
       same : run (slot l.x) l.o l.k ≡ run (slot l.y) l.p l.k;
       told : l.steps ≡ l.initial.steps + node_counts (run (slot l.x) l.o l.k);
     }
+
+abbrev pub decreases-keyed::same_keyed : goal.decreases-keyed::same_keyed
+decreases-keyed::same_keyed l = 6 * weight l.x.now + 4
+
+abbrev pub decreases-keyed::is_same_keyed : goal.decreases-keyed::is_same_keyed
+decreases-keyed::is_same_keyed l = 6 * weight l.x.now + 3
+
+abbrev pub invariant-keyed::same_keyed-loop-k : goal.invariant-keyed::same_keyed-loop-k
+invariant-keyed::same_keyed-loop-k l =
+    record {
+      same : run (slot l.x) l.o l.k ≡ run (slot l.y) l.p l.k;
+      told : l.steps ≡ l.initial.steps + node_counts (run (slot l.x) l.o l.k);
+    }

@@ -4,8 +4,10 @@ use Rattle.nest_model.specs.Meaning.{len}
 use Rattle.nest_model.specs.Slot as slots
 use Rattle.nest_array.specs.Seen.{layout_of, layouts_of}
 use Rattle.nest_array.proofs.Children.{covers-at, weight-at}
+use Rattle.nest_array.proofs.Keyed.{keyed-place}
+use Rattle.nest_array.proofs.KeyedScalars.{keyed-value}
 use Rattle.nest_array.proofs.SameRows.{struct-known, children-cover, record-shown}
-use Rattle.nest_array.proofs.Scalars.{made-slots, made-types, fields-typed, pick-spells}
+use Rattle.nest_array.proofs.Scalars.{made-slots, made-types, fields-typed}
 use Rattle.nest_array.proofs.scalar.new.+new_scalar.Goals as goal
 
 pub record_at-scalars_at-requires : goal.record_at-scalars_at-requires
@@ -48,3 +50,17 @@ pub scalars_at-returns-clause-types : goal.scalars_at-returns-clause-types
 scalars_at-returns-clause-types t c =
     let l : length c.loop-k.scalars.items ≡ length c.args.arrays.now = omega (arith, c.loop-k.invariant.same_length) in
     made-types c.loop-k.scalars.items c.args.arrays.now c.args.i l (λ j d e n. c.loop-k.invariant.done j d e (omega arith))
+
+pub keyed_at-value_at-requires : goal.keyed_at-value_at-requires
+keyed_at-value_at-requires t c =
+    let a = c.args.keyed.now in
+    let w = ap weight c.values.ensures in
+    let e = ap weight c.known.ensures.kind in
+    let u = ap len c.values.ensures in
+    let x = keyed-place a c.args.i c.known.ensures.fits c.known.ensures.kind c.requires (sym c.is_null.ensures.place ∙ c.if-is_null.false) in
+    (omega arith, omega (arith, u, x, c.place.ensures))
+
+pub keyed_at-returns-clause-ok : goal.keyed_at-returns-clause-ok
+keyed_at-returns-clause-ok t c =
+    keyed-value c.args.keyed.now (layout_of c.values.result.now) c.args.i _ _ c.known.ensures.fits c.known.ensures.kind c.values.ensures c.place.ensures
+    (sym c.is_null.ensures.place ∙ c.if-is_null.false) c.value_at.ensures.ok

@@ -18,6 +18,9 @@ decreases-record_at l = 4 * weight l.records.now + 1
 abbrev pub decreases-pick_at : goal.decreases-pick_at
 decreases-pick_at l = 4 * weight l.picks.now + 1
 
+abbrev pub decreases-keyed_at : goal.decreases-keyed_at
+decreases-keyed_at l = 4 * weight l.keyed.now + 1
+
 abbrev pub decreases-scalars_at : goal.decreases-scalars_at
 decreases-scalars_at l = 4 * weight_all (layouts_of l.arrays.now)
 

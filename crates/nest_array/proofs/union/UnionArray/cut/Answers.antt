@@ -1,4 +1,4 @@
-use Rattle.std.proofs.Common.{◌≡◌, ◌+◌, ◌≤◌, length, ap, arith}
+use Rattle.std.proofs.Common.{◌+◌, ◌≤◌, length, ap, arith}
 use Rattle.nest_model.specs.FitsLaws.{top-fits-cut}
 use Rattle.nest_model.specs.Meaning.{len}
 use Rattle.nest_model.specs.Runs.{length-cut}

@@ -1,4 +1,4 @@
-use Rattle.std.proofs.Common.{◌≡◌, ◌<◌, pos, get_or, length, ap, sym, ◌∙◌, subst, arith, rules, w8}
+use Rattle.std.proofs.Common.{◌<◌, pos, get_or, length, ap, sym, ◌∙◌, subst, arith, rules, w8}
 use Rattle.std.proofs.lemmas.Grind.{get_or_default_zero}
 use Rattle.std.proofs.lemmas.Int.{to_z-of_z}
 use Rattle.std.specs.Prelude.{Some}

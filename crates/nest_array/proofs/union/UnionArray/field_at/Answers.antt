@@ -1,4 +1,4 @@
-use Rattle.std.proofs.Common.{ap, sym, ◌∙◌, arith}
+use Rattle.std.proofs.Common.{ap, sym, arith}
 use Rattle.nest_model.specs.Accessors.{children_of}
 use Rattle.nest_model.specs.Layout.{count_layouts}
 use Rattle.nest_array.proofs.Children.{layouts-count}

@@ -1,4 +1,3 @@
-use Rattle.std.proofs.Common.{ap, sym, ◌∙◌, subst}
 use Rattle.nest_array.proofs.Picks.{picks-field}
 use Rattle.nest_array.proofs.union.UnionArray.index.Goals as goal
 

@@ -1,4 +1,3 @@
-use Rattle.std.specs.Prelude.{Some}
 use Rattle.std.specs.Int.Signed.{le_z}
 use Rattle.std.proofs.Common.{◌≡◌, ℤ, pos, true, ap, ◌∙◌, sym, subst, w32, rules}
 use Rattle.std.proofs.lemmas.Int.{to_z-of_z}

@@ -1,9 +1,8 @@
-use Rattle.std.specs.Prelude.{IsTrue}
-use Rattle.std.proofs.Common.{◌≡◌, ◌≤◌, length, true, false, sym, ◌∙◌, subst, arith, rules}
+use Rattle.std.proofs.Common.{◌≡◌, ◌≤◌, sym, ◌∙◌, subst, arith, rules}
 use Rattle.nest_memory.specs.Physical.{physical_type}
 use Rattle.nest_memory.specs.declared.datatypes.physical_type.PhysicalType.TheVariants as physical
 use Rattle.nest_memory.specs.TypeOf.{type_of}
-use Rattle.nest_memory.specs.TypeTree.{FieldTrees, count_fields, fields_of}
+use Rattle.nest_memory.specs.TypeTree.{FieldTrees}
 use Rattle.nest_model.specs.Fits.{EachType, OffsetsCount}
 use Rattle.nest_model.specs.Layout.{count_layouts}
 use Rattle.nest_array.specs.Seen.{layouts_of}

@@ -1,0 +1,5 @@
+use Rattle.nest_model.specs.CutOf.{is-cut}
+use Rattle.nest_array.proofs.dictionary.DictionaryArray.slice.Goals as goal
+
+pub returns : goal.returns
+returns c = is-cut _ _ _ _ c.requires c.cut.ensures
