@@ -1,6 +1,6 @@
 -- The faults of null arrays: a struct's, a union's, and one of a kind.
 use Rattle.std.specs.Prelude.{Option, Some, None, nat_eq, MatchOption}
-use Rattle.std.proofs.Common.{◌≡◌, ℕ, ℤ, Bool, false, List, length, ap, sym, ◌∙◌, inl, inr}
+use Rattle.std.proofs.Common.{◌≡◌, ℕ, ℤ, Bool, false, List, length, ap, sym, ◌∙◌, subst, inl, inr}
 use Rattle.nest_memory.specs.Physical.{physical_type}
 use Rattle.nest_memory.specs.TypeOf.{field_list_of, count_fields-field_list_of}
 use Rattle.nest_memory.specs.TypeTree.{TypeTree, count_fields}
@@ -26,3 +26,11 @@ union-told fs count ids mode n own rest e h =
 pub kind-fault : (p : PhysicalType) (t : TypeTree) (fault r : Option Error) → physical_type t ≡ p → r ≡ fault → MatchOption r (AcceptsKind p t fault) (λ e. RefusesKind e p t fault)
 kind-fault p t fault None k h = (k, sym h)
 kind-fault p t fault (Some e) k h = inr (k, inl (sym h))
+
+pub at-none : {A : Type 0} (r : Option A) (P : Type 0) (Q : A → Type 0) → r ≡ None → MatchOption r P Q → P
+at-none None P Q e h = h
+at-none (Some a) P Q e h = cc
+
+pub at-some : {A : Type 0} (r : Option A) (x : A) (P : Type 0) (Q : A → Type 0) → r ≡ Some x → MatchOption r P Q → Q x
+at-some None x P Q e h = cc
+at-some (Some a) x P Q e h = let q : a ≡ x = cc in subst Q q h

@@ -4,7 +4,8 @@ use Rattle.std.proofs.Common.{◌≡◌, ℕ, zero, suc, ◌+◌, ◌*◌, ◌<�
 use Rattle.nest_memory.specs.Physical.{physical_type, list_of_width}
 use Rattle.nest_memory.specs.TypeOf.{type_of, field_of, field_list_of}
 use Rattle.nest_memory.specs.TypeTree as types
-use Rattle.nest_memory.specs.TypeTree.{TypeTree, FieldTree, field, field_type, count_fields, item_type, size_of, fields_of, ids_of, mode_of, is_dense, is_dense_mode, is_pair, has_pairs}
+use Rattle.nest_memory.specs.TypeTree.{TypeTree, FieldTree, field, field_type, count_fields, item_type, size_of, fields_of, ids_of, mode_of, is_dense, is_dense_mode, is_pair, has_pairs, key_type, value_type}
+use Rattle.nest_memory.specs.declared.datatypes.IntegerType.{IntegerType}
 use Rattle.nest_memory.specs.declared.datatypes.UnionMode.{UnionMode}
 use Rattle.nest_memory.specs.declared.datatypes.field.Field.{Field}
 use Rattle.nest_memory.specs.declared.datatypes.physical_type.PhysicalType.TheVariants as physical
@@ -13,8 +14,9 @@ use Rattle.nest_memory.specs.declared.error.Error.TheVariants.{OutOfSpec, Invali
 use Rattle.nest_memory.specs.declared.error.Spec.TheVariants as spec
 use Rattle.nest_model.specs.Checks.{refuse_if, is_past}
 use Rattle.nest_model.specs.Decide.{refuse-none, first-none}
+use Rattle.nest_model.specs.Fits.{is_dictionary}
 use Rattle.nest_model.specs.MadeNulls.{not-past}
-use Rattle.nest_model.specs.NullKinds.{type_weight, field_weight, fields_weight, field-weight, list-fault, sized-fault, map-fault, struct-fault}
+use Rattle.nest_model.specs.NullKinds.{type_weight, field_weight, fields_weight, field-weight, list-fault, sized-fault, map-fault, struct-fault, dictionary-fault}
 use Rattle.nest_model.specs.NullLaws.{not-above}
 use Rattle.nest_model.specs.NullLayout.{null_array, null_item, null_children}
 use Rattle.nest_model.specs.Nulls.{ids_count_differs, has_bad_id, fault_of, field_fault, fields_fault}
@@ -127,6 +129,25 @@ union-below (types.union fs ids mode) n d h e =
     (refuse-none _ _ _ f.1).1
 union-below (types.extension x t m) n d h e = union-below t n d h e
 union-below t n d h e = cc
+
+-- dictionaries
+pub dictionary-kind : (t : TypeTree) (k : IntegerType) → physical_type t ≡ physical.Dictionary k → is_dictionary t ≡ true
+dictionary-kind (types.dictionary j v b) k h = refl
+dictionary-kind (types.extension x t m) k h = dictionary-kind t k h
+dictionary-kind t k h = cc
+
+pub dictionary-key : (t : TypeTree) → is_dictionary t ≡ true → key_type t ≡ None → ⊥
+dictionary-key (types.dictionary j v b) h e = cc
+dictionary-key (types.extension x t m) h e = dictionary-key t h e
+dictionary-key t h e = cc
+
+pub dictionary-value : (t : TypeTree) → is_dictionary t ≡ true → IsSome (value_type t)
+dictionary-value (types.dictionary j v b) h = refl
+dictionary-value (types.extension x t m) h = dictionary-value t h
+dictionary-value t h = cc
+
+pub dictionary-below : (t u : TypeTree) (n d : ℕ) → value_type t ≡ Some u → fault_of t n d ≡ None → fault_of u d d ≡ None
+dictionary-below t u n d h e = sym (dictionary-fault t u n d h) ∙ e
 
 -- fields one by one
 pub field-lighter : (fs : List Field) (i : ℕ) (f : Field) → i < length fs → field_weight (field_of (get_or fs i f)) < fields_weight (field_list_of fs)

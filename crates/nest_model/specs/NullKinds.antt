@@ -1,6 +1,7 @@
 -- Null and empty arrays by the kind of their data type, whatever extensions it has: their parts, their faults, and how deep a type is.
 use Rattle.std.specs.Prelude.{Option, Some, None, replicate, not, ◌&&◌, nat_eq, nat_lt, if◌then◌else◌, ◌^◌}
 use Rattle.std.proofs.Common.{◌≡◌, ℕ, zero, suc, ◌+◌, ◌*◌, ◌<◌, ◌≤◌, ℤ, Bool, true, false, List, [], ◌∷◌, refl, ap, sym, ◌∙◌, subst, arith}
+use Rattle.nest_memory.specs.declared.datatypes.IntegerType.{IntegerType}
 use Rattle.nest_memory.specs.declared.datatypes.IntervalUnit.TheVariants.{YearMonth, DayTime, MonthDayNano}
 use Rattle.nest_memory.specs.declared.datatypes.UnionMode.{UnionMode}
 use Rattle.nest_memory.specs.declared.datatypes.physical_type.PhysicalType.{PhysicalType}
@@ -13,14 +14,14 @@ use Rattle.nest_memory.specs.declared.error.Spec.TheVariants as spec
 use Rattle.nest_memory.specs.declared.error.Argument.TheVariants as argument
 use Rattle.nest_memory.specs.Physical.{physical_type, list_of_width, binary_of_width, text_of_width}
 use Rattle.nest_memory.specs.TypeTree as types
-use Rattle.nest_memory.specs.TypeTree.{TypeTree, FieldTree, field, FieldTrees, no_fields, more_fields, field_type, count_fields, item_type, size_of, fields_of, ids_of, mode_of, is_dense_mode, has_pairs, is_pair, value_type}
+use Rattle.nest_memory.specs.TypeTree.{TypeTree, FieldTree, field, FieldTrees, no_fields, more_fields, field_type, count_fields, item_type, size_of, fields_of, ids_of, mode_of, is_dense_mode, has_pairs, is_pair, key_type, value_type}
 use Rattle.nest_model.specs.Checks.{refuse_if, first_of, is_past}
 use Rattle.nest_model.specs.Layout as layouts
 use Rattle.nest_model.specs.Layout.{Layout}
 use Rattle.nest_model.specs.Accessors.{with_type}
 use Rattle.nest_model.specs.Slot as slots
 use Rattle.nest_model.specs.Nulls.{null_slot, ids_count_differs, has_bad_id, fault_of, fields_fault}
-use Rattle.nest_model.specs.NullLayout.{none_valid, native_nulls, flat_nulls, null_type, null_offsets, null_array, null_children}
+use Rattle.nest_model.specs.NullLayout.{none_valid, native_of_key, type_of_key, native_nulls, flat_nulls, null_type, null_offsets, null_array, null_children}
 
 -- how many types a data type is made of
 abbrev mutual
@@ -137,6 +138,15 @@ union-parts (types.union fs ids m) mode n d e = let q : m ≡ mode = cc in ap (�
 union-parts (types.extension x t m) mode n d e = ap (λ a. with_type a (types.extension x t m)) (union-parts t mode n d e)
 union-parts t mode n d e = cc
 
+pub dictionary-parts : (t u : TypeTree) (k : IntegerType) (n d : ℕ) → key_type t ≡ Some k → value_type t ≡ Some u
+    → null_array t n d ≡ layouts.dictionary t (native_nulls (native_of_key k) (type_of_key k) n d) (null_array u d d)
+dictionary-parts (types.dictionary j v b) u k n d h e =
+    let p : j ≡ k = cc in
+    let q : v ≡ u = cc in
+    λ i. layouts.dictionary (types.dictionary j v b) (native_nulls (native_of_key (p i)) (type_of_key (p i)) n d) (null_array (q i) d d)
+dictionary-parts (types.extension x t m) u k n d h e = ap (λ a. with_type a (types.extension x t m)) (dictionary-parts t u k n d h e)
+dictionary-parts t u k n d h e = cc
+
 -- faults
 abbrev pub float_fault : PhysicalType → Option Error
 float_fault (physical.Primitive primitives.Float16) = Some NotYetImplemented
@@ -214,6 +224,11 @@ pub struct-fault : (t : TypeTree) (n d : ℕ) → physical_type t ≡ physical.S
 struct-fault (types.struct fs) n d h = refl
 struct-fault (types.extension x t m) n d h = struct-fault t n d h
 struct-fault t n d h = cc
+
+pub dictionary-fault : (t u : TypeTree) (n d : ℕ) → value_type t ≡ Some u → fault_of t n d ≡ fault_of u d d
+dictionary-fault (types.dictionary j v b) u n d e = let q : v ≡ u = cc in ap (λ w. fault_of w d d) q
+dictionary-fault (types.extension x t m) u n d e = dictionary-fault t u n d e
+dictionary-fault t u n d e = cc
 
 -- the fault of a union of so many fields before that of its fields, which is the last
 abbrev pub union_fault : ℕ → Option (List ℤ) → UnionMode → ℕ → Option Error → Option Error

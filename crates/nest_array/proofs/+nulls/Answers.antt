@@ -5,10 +5,10 @@ use Rattle.nest_memory.specs.TypeOf.{type_of, field_of, field_list_of}
 use Rattle.nest_memory.specs.TypeTree.{size_of, fields_of}
 use Rattle.nest_model.specs.Layout as layouts
 use Rattle.nest_model.specs.MadeNulls.{top-fits, fits}
-use Rattle.nest_model.specs.NullKinds.{type_weight, field_weight, fields_weight, item-lighter, fields-lighter, list-parts, map-parts, sized-parts, struct-parts, union-parts}
+use Rattle.nest_model.specs.NullKinds.{type_weight, field_weight, fields_weight, item-lighter, fields-lighter, value-lighter, dictionary-parts, list-parts, map-parts, sized-parts, struct-parts, union-parts}
 use Rattle.nest_model.specs.NullLayout.{none_valid, null_array, null_children}
 use Rattle.nest_model.specs.Nulls.{fault_of, field_fault, fields_fault}
-use Rattle.nest_array.proofs.NullMakes.{list-item, list-long, list-below, map-item, map-long, map-below, sized-item, sized-long, sized-below, sized-valid, struct-below, union-mode, union-ids, union-short, union-below, field-lighter, weight-of, fault-of, field-below, all-nulls}
+use Rattle.nest_array.proofs.NullMakes.{list-item, list-long, list-below, map-item, map-long, map-below, sized-item, sized-long, sized-below, sized-valid, struct-below, union-mode, union-ids, union-short, union-below, dictionary-kind, dictionary-key, dictionary-value, dictionary-below, field-lighter, weight-of, fault-of, field-below, all-nulls}
 use Rattle.nest_array.proofs.+nulls.Goals as goal
 
 pub list::ListArray::nulls-nulls-requires : goal.list::ListArray::nulls-nulls-requires
@@ -221,3 +221,36 @@ pub nulls::null_fields-returns-clause-ok : goal.nulls::null_fields-returns-claus
 nulls::null_fields-returns-clause-ok t c =
     let l : length c.loop-i.children.items ≡ length c.args.fields.now = omega (arith, c.loop-i.invariant.same_length) in
     all-nulls c.loop-i.children.items c.args.fields.now c.args.length c.args.values l (λ k d f h. c.loop-i.invariant.done k d f (omega arith))
+
+pub nulls::null_array-nulls-requires-clause-kind : goal.nulls::null_array-nulls-requires-clause-kind
+nulls::null_array-nulls-requires-clause-kind t c = dictionary-kind (type_of c.args.data_type.now) _ (sym c.to_physical_type.ensures ∙ c.in-Dictionary.is)
+
+pub dictionary::DictionaryArray::nulls-unreachable-requires : goal.dictionary::DictionaryArray::nulls-unreachable-requires
+dictionary::DictionaryArray::nulls-unreachable-requires t c = dictionary-key (type_of c.args.data_type.now) c.requires.kind (sym c.key_type.ensures ∙ c.in-None.is)
+
+pub dictionary::DictionaryArray::nulls-value_type-requires : goal.dictionary::DictionaryArray::nulls-value_type-requires
+dictionary::DictionaryArray::nulls-value_type-requires t c = dictionary-value (type_of c.args.data_type.now) c.requires.kind
+
+pub dictionary::DictionaryArray::nulls-null_array-requires : goal.dictionary::DictionaryArray::nulls-null_array-requires
+dictionary::DictionaryArray::nulls-null_array-requires t c =
+    let a = type_of c.args.data_type.now in
+    let u = type_of c.value_type.result.now in
+    (omega (arith, value-lighter a u c.value_type.ensures), (dictionary-below a u c.args.length c.args.values c.value_type.ensures c.requires.unrefused, λ z. z))
+
+pub dictionary::DictionaryArray::nulls-of-requires : goal.dictionary::DictionaryArray::nulls-of-requires
+dictionary::DictionaryArray::nulls-of-requires t c =
+    let a = type_of c.args.data_type.now in
+    let u = type_of c.value_type.result.now in
+    (top-fits a c.args.length c.args.values _ c.requires.valid c.requires.unrefused
+    ((λ i. layouts.dictionary (c.in-Ok.ensures.ok i) (c.in_ok-keys.ensures.ok i) (c.in_ok-named.ensures.ok i))
+    ∙ sym (dictionary-parts a u c.in-Some.key c.args.length c.args.values (sym c.key_type.ensures ∙ c.in-Some.is) c.value_type.ensures))).1
+
+pub dictionary::DictionaryArray::nulls-returns-in-Ok-clause-ok : goal.dictionary::DictionaryArray::nulls-returns-in-Ok-clause-ok
+dictionary::DictionaryArray::nulls-returns-in-Ok-clause-ok t c =
+    let a = type_of c.args.data_type.now in
+    let u = type_of c.value_type.result.now in
+    IfOk-weaker c.of.result _ _
+    (λ made h.
+    h ∙ (λ i. layouts.dictionary (c.in-Ok.ensures.ok i) (c.in_ok-keys.ensures.ok i) (c.in_ok-named.ensures.ok i))
+    ∙ sym (dictionary-parts a u c.in-Some.key c.args.length c.args.values (sym c.key_type.ensures ∙ c.in-Some.is) c.value_type.ensures))
+    c.of.ensures.ok

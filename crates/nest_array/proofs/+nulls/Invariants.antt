@@ -32,6 +32,9 @@ decreases-struct_::StructArray::nulls l = 3 * type_weight (type_of l.data_type.n
 abbrev pub decreases-union::UnionArray::nulls : goal.decreases-union::UnionArray::nulls
 decreases-union::UnionArray::nulls l = 3 * type_weight (type_of l.data_type.now) + 1
 
+abbrev pub decreases-dictionary::DictionaryArray::nulls : goal.decreases-dictionary::DictionaryArray::nulls
+decreases-dictionary::DictionaryArray::nulls l = 3 * type_weight (type_of l.data_type.now) + 1
+
 abbrev pub invariant-nulls::null_fields-loop-i : goal.invariant-nulls::null_fields-loop-i
 invariant-nulls::null_fields-loop-i l =
     record {

@@ -10,7 +10,7 @@ ghost use Rattle.nest_array.specs.SeenKeys.{keys_layout};
 ghost use Rattle.nest_array.specs.Words.{HasNone, HasNulls, Memory, type_of};
 
 use crate::dictionary::DictionaryArray;
-use crate::dictionary::keys::AnyKeys;
+use crate::dictionary::keys::{AnyKeys, wrapped};
 use crate::nulls::{dictionary_fault, null_array};
 use crate::types::value_type;
 use nest_flat::primitive::PrimitiveArray;
@@ -30,15 +30,20 @@ impl AnyKeys {
         ensures err { IsOkUnless result (Memory alloc_error) }
     {
         let data_type = DataType::from(key);
+        macro_rules! nulls {
+            ($key:ty) => {
+                wrapped::<$key>(PrimitiveArray::of_nulls(alloc, &data_type, length, values))
+            };
+        }
         let keys = match key {
-            IntegerType::Int8 => PrimitiveArray::of_nulls(alloc, &data_type, length, values).map(AnyKeys::Int8),
-            IntegerType::Int16 => PrimitiveArray::of_nulls(alloc, &data_type, length, values).map(AnyKeys::Int16),
-            IntegerType::Int32 => PrimitiveArray::of_nulls(alloc, &data_type, length, values).map(AnyKeys::Int32),
-            IntegerType::Int64 => PrimitiveArray::of_nulls(alloc, &data_type, length, values).map(AnyKeys::Int64),
-            IntegerType::UInt8 => PrimitiveArray::of_nulls(alloc, &data_type, length, values).map(AnyKeys::UInt8),
-            IntegerType::UInt16 => PrimitiveArray::of_nulls(alloc, &data_type, length, values).map(AnyKeys::UInt16),
-            IntegerType::UInt32 => PrimitiveArray::of_nulls(alloc, &data_type, length, values).map(AnyKeys::UInt32),
-            IntegerType::UInt64 => PrimitiveArray::of_nulls(alloc, &data_type, length, values).map(AnyKeys::UInt64),
+            IntegerType::Int8 => nulls!(i8),
+            IntegerType::Int16 => nulls!(i16),
+            IntegerType::Int32 => nulls!(i32),
+            IntegerType::Int64 => nulls!(i64),
+            IntegerType::UInt8 => nulls!(u8),
+            IntegerType::UInt16 => nulls!(u16),
+            IntegerType::UInt32 => nulls!(u32),
+            IntegerType::UInt64 => nulls!(u64),
         };
         drop(data_type);
         keys

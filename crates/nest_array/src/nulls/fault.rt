@@ -3,13 +3,14 @@ ghost use Rattle.std.specs.Prelude.{◌≡◌, ◌&&◌, ◌+◌, ◌^◌, Match
 ghost use Rattle.nest_memory.specs.TypeOf.{field_list_of, field_of};
 ghost use Rattle.nest_memory.specs.TypeTree as types;
 ghost use Rattle.nest_memory.specs.TypeTree.{is_dense_mode};
-ghost use Rattle.nest_memory.specs.declared.error.Error.TheVariants.{Overflow};
+ghost use Rattle.nest_memory.specs.declared.error.Error.TheVariants.{OutOfSpec, Overflow};
+ghost use Rattle.nest_memory.specs.declared.error.Spec.TheVariants.{WrongType};
 ghost use Rattle.nest_model.specs.Checks.{is_past, refuse_if};
 ghost use Rattle.nest_model.specs.NullKinds.{union_fault as own_fault_of};
 ghost use Rattle.nest_model.specs.Nulls.{are_ids, fault_of, field_fault, fields_fault, has_bad_id, ids_count_differs, is_id};
 ghost use Rattle.nest_model.specs.Fits.{is_dictionary};
 ghost use Rattle.nest_array.specs.Keys.{RefusesDictionary};
-ghost use Rattle.nest_array.specs.Words.{AcceptsKind, RefusesKind, type_of};
+ghost use Rattle.nest_array.specs.Words.{AcceptsKind, RefusesKind, physical_type, type_of};
 
 use crate::types::is_dictionary;
 use nest_memory::datatypes::field::Field;
@@ -55,10 +56,22 @@ pub(crate) fn kind_fault(
     ensures { let first = fault_of (type_of data_type.now) length values in
         MatchOption result (AcceptsKind kind (type_of data_type.now) first) (λ e. RefusesKind e kind (type_of data_type.now) first) }
 {
+    match kind_refusal(data_type, kind) {
+        Some(error) => Some(error),
+        None => fault(data_type, length, values),
+    }
+}
+
+// That the type is of another kind.
+fn kind_refusal(data_type: &DataType, kind: PhysicalType) -> Option<Error>
+    ensures { MatchOption result
+        (physical_type (type_of data_type.now) ≡ kind)
+        (λ e. (e ≡ OutOfSpec WrongType) × ¬ (physical_type (type_of data_type.now) ≡ kind)) }
+{
     if data_type.to_physical_type() != kind {
         return Some(Error::OutOfSpec(Spec::WrongType));
     }
-    fault(data_type, length, values)
+    None
 }
 
 /// The same, where the type has to be one of dictionaries first, whatever its keys.
