@@ -1,7 +1,7 @@
 //! Data types, each made of parts that may be refused.
 use nest_array::AnyArray;
 use nest_memory::datatypes::field::Field;
-use nest_memory::datatypes::{DataType, UnionMode};
+use nest_memory::datatypes::{DataType, IntegerType, UnionMode};
 use nest_memory::error::Error;
 use std::alloc::Global;
 
@@ -32,6 +32,15 @@ pub fn sized(alloc: Global, item: Result<DataType, Error>, size: usize) -> Resul
 
 pub fn map(alloc: Global, entries: Result<DataType, Error>) -> Result<DataType, Error> {
     Ok(DataType::Map(boxed(alloc, entries)?, false))
+}
+
+/// Dictionaries of such values by such keys.
+pub fn dictionary(
+    alloc: Global,
+    key: IntegerType,
+    values: Result<DataType, Error>,
+) -> Result<DataType, Error> {
+    Ok(DataType::Dictionary(key, Box::new(alloc, values?)?, false))
 }
 
 /// The type under a name of its own.
