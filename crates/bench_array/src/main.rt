@@ -9,6 +9,7 @@ mod copies;
 mod cuts;
 mod kinds;
 mod rows;
+mod scans;
 
 use anyhow::Result;
 use bench_tools::is_measured;
@@ -17,6 +18,7 @@ use std::rt::Clock;
 fn run<R: Clock + Print + AllocGlobal>(rt: &R, measured: bool) -> Result<()> {
     cuts::run(rt, measured)?;
     rows::run(rt, measured)?;
+    scans::run(rt, measured)?;
     copies::run(rt, measured)?;
     kinds::run(rt, measured)?;
     building::run(rt, measured)?;

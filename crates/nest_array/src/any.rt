@@ -9,7 +9,7 @@ ghost use Rattle.nest_array.specs.Words.{IsCut, Memory, TopFits, ValidityFault, 
 
 use crate::array::Array;
 use crate::dictionary::DictionaryArray;
-use crate::equal::kinds::as_primitive;
+use crate::equal::kinds::{as_large_utf8, as_primitive, as_utf8};
 use crate::fixed_size_binary::FixedSizeBinaryArray;
 use crate::fixed_size_list::FixedSizeListArray;
 use crate::list::ListArray;
@@ -136,6 +136,30 @@ impl AnyArray {
             return None;
         }
         Some(T::of(as_primitive(self)))
+    }
+
+    /// The array of texts by offsets of 32 bits, where its data type is of their kind.
+    pub fn as_utf8(&self) -> Option<&Utf8Array<i32>>
+        ensures { MatchOption result
+            (physical_type (layout_type (layout_of self.now)) ≡ physical.Utf8 → ⊥)
+            (λ a. (physical_type (layout_type (layout_of self.now)) ≡ physical.Utf8) × (a.now ≡ layout_of self.now)) }
+    {
+        if self.data_type().to_physical_type() != PhysicalType::Utf8 {
+            return None;
+        }
+        Some(as_utf8(self))
+    }
+
+    /// The array of texts by offsets of 64 bits, where its data type is of their kind.
+    pub fn as_large_utf8(&self) -> Option<&Utf8Array<i64>>
+        ensures { MatchOption result
+            (physical_type (layout_type (layout_of self.now)) ≡ physical.LargeUtf8 → ⊥)
+            (λ a. (physical_type (layout_type (layout_of self.now)) ≡ physical.LargeUtf8) × (a.now ≡ layout_of self.now)) }
+    {
+        if self.data_type().to_physical_type() != PhysicalType::LargeUtf8 {
+            return None;
+        }
+        Some(as_large_utf8(self))
     }
 
     /// How many slots are null.

@@ -32,7 +32,7 @@ pub use list::offset::ListOffset;
 pub use map::MapArray;
 pub use null::NullArray;
 pub use nulls::{new_empty_array, new_null_array};
-pub use scalar::{AnyScalar, ScalarValue, new_scalar};
+pub use scalar::{AnyScalar, ScalarValue, new_scalar, scalars_at};
 pub use steps::Steps;
 pub use struct_::StructArray;
 pub use union::UnionArray;

@@ -23,6 +23,9 @@
 //! list*: `are_equal` and `are_equal_counted` in [`equality`], and the same answer of `==`, of windows, of runs, of each kind, and
 //! of scalars with their slots (`are_equal_scalars`).
 //!
+//! *An iterator gives each place's item once, from both ends, and tells exactly how many are left*: `from_the_front`, `from_the_back`,
+//! `items_left` and their neighbours in [`scans`], once for all kinds, and what the item of each kind is.
+//!
 //! *A builder freezes to what was pushed, and a refused push changes no slot at any depth*: `push_native`, `push_truth`,
 //! `push_bytes`, `push_text` and their freezes in [`builders`]; `push_row`, `tell_row`, `freeze_rows`, and both together in
 //! `push_and_freeze`, in [`rows`].
@@ -49,3 +52,4 @@ pub use promises_equality as equality;
 pub use promises_flat as flat;
 pub use promises_memory as memory;
 pub use promises_rows as rows;
+pub use promises_scans as scans;

@@ -7,7 +7,8 @@ ghost use Rattle.promises_equality.specs.Words.{IsSameArray, Memory, layout_of, 
 
 use nest_array::equal::{equal, equal_counted, equal_windows};
 use nest_array::{
-    AnyArray, AnyScalar, ListArray, MapArray, Steps, StructArray, UnionArray, Window,
+    AnyArray, AnyScalar, DictionaryArray, ListArray, MapArray, Steps, StructArray, UnionArray,
+    Window,
 };
 use nest_flat::flat_array::{FlatArray, same_arrays, same_run};
 use nest_memory::error::Error;
@@ -88,6 +89,13 @@ pub fn are_equal_records(a: &StructArray, b: &StructArray) -> bool
 
 /// Of maps.
 pub fn are_equal_maps(a: &MapArray, b: &MapArray) -> bool
+    ensures { IsTrue result ↔ IsSameArray a.now b.now }
+{
+    *a == *b
+}
+
+/// Of dictionaries: by the values that keys name, whatever the keys are.
+pub fn are_equal_by_keys(a: &DictionaryArray, b: &DictionaryArray) -> bool
     ensures { IsTrue result ↔ IsSameArray a.now b.now }
 {
     *a == *b

@@ -1,4 +1,5 @@
-use Rattle.std.proofs.Common.{◌≡◌, ℕ, ◌+◌, ◌*◌, ◌<◌, length, get_or}
+use Rattle.std.proofs.Common.{◌≡◌, ℕ, ◌+◌, ◌*◌, ◌<◌, ◌≤◌, length, get_or}
+use Rattle.std.specs.Prelude.{vec_capacity}
 use Rattle.nest_array.specs.declared.any.AnyArray.{AnyArray}
 use Rattle.nest_model.specs.LayoutCode.{weight, weight_all}
 use Rattle.nest_array.specs.Seen.{layout_of, layouts_of}
@@ -47,6 +48,7 @@ abbrev pub invariant-struct_::clone_all-loop-i : goal.invariant-struct_::clone_a
 invariant-struct_::clone_all-loop-i l =
     record {
       same_length : length l.copies.items ≡ l.i;
+      room : length l.children ≤ vec_capacity l.copies;
       done : (k : ℕ) (d : AnyArray) → k < l.i → layout_of (get_or l.copies.items k d) ≡ layout_of (get_or l.children k d);
     }
 

@@ -218,9 +218,11 @@ impl FixedSizeListArray {
         ensures err { IsOkUnless result (Memory alloc_error) }
     {
         let start = self.start(i);
-        let mut items = self.values.clone(alloc)?;
-        items.slice(start, self.size);
-        Ok(items)
+        let mut items = self.values.clone(alloc);
+        if let Ok(items) = &mut items {
+            items.slice(start, self.size);
+        }
+        items
     }
 
     /// The items of slot i, `None` where it is null.

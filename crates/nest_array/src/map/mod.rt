@@ -200,9 +200,11 @@ impl MapArray {
         ensures err { IsOkUnless result (Memory alloc_error) }
     {
         let (start, count) = self.range(i);
-        let mut entries = self.field.clone(alloc)?;
-        entries.slice(start, count);
-        Ok(entries)
+        let mut entries = self.field.clone(alloc);
+        if let Ok(entries) = &mut entries {
+            entries.slice(start, count);
+        }
+        entries
     }
 
     /// The entries of slot i, also under a null, borrowed.

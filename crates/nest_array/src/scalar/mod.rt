@@ -10,7 +10,7 @@ ghost use Rattle.nest_array.specs.Words.{type_of};
 use crate::any::AnyArray;
 use nest_flat::any_native::AnyNative;
 use nest_memory::datatypes::DataType;
-pub use new::new_scalar;
+pub use new::{new_scalar, scalars_at};
 use std::marker::Model;
 
 /// A data type and one slot of it. It stands in the place of arrow2's `Box<dyn Scalar>`.

@@ -140,9 +140,9 @@ fn record_at(alloc: Global, records: &StructArray, i: usize) -> Result<ScalarVal
     }
 }
 
-/// The scalar of slot i of each array.
+/// The scalar of slot i of each array, as a record has them. `Memory` alone is refused.
 #[cycle(new_scalar)]
-fn scalars_at(alloc: Global, arrays: &[AnyArray], i: usize) -> Result<Vec<AnyScalar>, Error>
+pub fn scalars_at(alloc: Global, arrays: &[AnyArray], i: usize) -> Result<Vec<AnyScalar>, Error>
     requires { EachCovers (layouts_of arrays.now) (i + 1) }
     ensures slots { IfOk result (λ v. slots_in v.items ≡ each (layouts_of arrays.now) i) }
     ensures types { IfOk result (λ v. types_in v.items ≡ child_types (layouts_of arrays.now)) }

@@ -303,7 +303,10 @@ pub(crate) fn clone_all(alloc: Global, children: &[AnyArray]) -> Result<Vec<AnyA
 {
     let mut copies = Vec::with_capacity(alloc, children.len())?;
     for i in 0..children.len() {
-        copies.push(children[i].clone(alloc)?)?;
+        match children[i].clone(alloc) {
+            Ok(copy) => copies.push_reserved(copy),
+            Err(error) => return Err(error),
+        }
     }
     Ok(copies)
 }

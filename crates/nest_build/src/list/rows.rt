@@ -66,6 +66,7 @@ impl ListRows {
     ///
     /// # Errors
     /// `Overflow` where the end is past the largest offset, `Memory`. No row changes then.
+    #[inline]
     pub fn push(&mut self, valid: bool, end: usize) -> Result<(), Error>
         requires { end_from 0 self.old ≤ end }
         ensures ok { OnOk result (self.new ≡ self.old ++ told_row valid end ∷ []) }

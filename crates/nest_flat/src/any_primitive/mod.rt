@@ -159,6 +159,8 @@ impl AnyPrimitive {
     }
 
     /// The same array, on shared memory.
+    // Inlined, so that what makes a variant of the copy writes it in its place at once.
+    #[inline(always)]
     pub fn clone(&self, alloc: Global) -> Result<AnyPrimitive, Error>
         ensures ok { IfOk result (λ a. primitive_layout a ≡ primitive_layout self.now) }
         ensures err { IsOkUnless result (Memory alloc_error) }

@@ -8,6 +8,7 @@ use crate::datatypes::field::{Field, Metadata};
 use crate::datatypes::{DataType, IntegerType, TimeUnit, UnionMode};
 use crate::error::Error;
 use std::alloc::{AllocError, Global};
+use std::collections::BTreeMap;
 
 impl DataType {
     /// An equal data type of its own. Refused with `Memory` alone.
@@ -29,52 +30,60 @@ impl Field {
     }
 }
 
-// The types with parts are copied out of line: else the room for all their parts would be cleared for a plain type too.
+// A type without parts, or with one box, is written where its result is wanted; the other types come by one place in
+// memory, which is cleared at each call. So what those need is cleared in functions of their own.
 #[cycle(cloning)]
 fn copy(alloc: Global, source: &DataType) -> Result<DataType, AllocError>
     ensures { IfOk result (λ t. type_of t ≡ type_of source.now) }
 {
-    match source {
-        DataType::Null => Ok(DataType::Null),
-        DataType::Boolean => Ok(DataType::Boolean),
-        DataType::Int8 => Ok(DataType::Int8),
-        DataType::Int16 => Ok(DataType::Int16),
-        DataType::Int32 => Ok(DataType::Int32),
-        DataType::Int64 => Ok(DataType::Int64),
-        DataType::UInt8 => Ok(DataType::UInt8),
-        DataType::UInt16 => Ok(DataType::UInt16),
-        DataType::UInt32 => Ok(DataType::UInt32),
-        DataType::UInt64 => Ok(DataType::UInt64),
-        DataType::Float16 => Ok(DataType::Float16),
-        DataType::Float32 => Ok(DataType::Float32),
-        DataType::Float64 => Ok(DataType::Float64),
+    let copied = match source {
+        DataType::Null => return Ok(DataType::Null),
+        DataType::Boolean => return Ok(DataType::Boolean),
+        DataType::Int8 => return Ok(DataType::Int8),
+        DataType::Int16 => return Ok(DataType::Int16),
+        DataType::Int32 => return Ok(DataType::Int32),
+        DataType::Int64 => return Ok(DataType::Int64),
+        DataType::UInt8 => return Ok(DataType::UInt8),
+        DataType::UInt16 => return Ok(DataType::UInt16),
+        DataType::UInt32 => return Ok(DataType::UInt32),
+        DataType::UInt64 => return Ok(DataType::UInt64),
+        DataType::Float16 => return Ok(DataType::Float16),
+        DataType::Float32 => return Ok(DataType::Float32),
+        DataType::Float64 => return Ok(DataType::Float64),
         DataType::Timestamp(unit, zone) => copy_timestamp(alloc, *unit, zone),
-        DataType::Date32 => Ok(DataType::Date32),
-        DataType::Date64 => Ok(DataType::Date64),
-        DataType::Time32(unit) => Ok(DataType::Time32(*unit)),
-        DataType::Time64(unit) => Ok(DataType::Time64(*unit)),
-        DataType::Duration(unit) => Ok(DataType::Duration(*unit)),
-        DataType::Interval(unit) => Ok(DataType::Interval(*unit)),
-        DataType::Binary => Ok(DataType::Binary),
-        DataType::FixedSizeBinary(size) => Ok(DataType::FixedSizeBinary(*size)),
-        DataType::LargeBinary => Ok(DataType::LargeBinary),
-        DataType::Utf8 => Ok(DataType::Utf8),
-        DataType::LargeUtf8 => Ok(DataType::LargeUtf8),
-        DataType::List(field) => copy_list(alloc, field),
-        DataType::FixedSizeList(field, size) => copy_fixed_size_list(alloc, field, *size),
-        DataType::LargeList(field) => copy_large_list(alloc, field),
+        DataType::Date32 => return Ok(DataType::Date32),
+        DataType::Date64 => return Ok(DataType::Date64),
+        DataType::Time32(unit) => return Ok(DataType::Time32(*unit)),
+        DataType::Time64(unit) => return Ok(DataType::Time64(*unit)),
+        DataType::Duration(unit) => return Ok(DataType::Duration(*unit)),
+        DataType::Interval(unit) => return Ok(DataType::Interval(*unit)),
+        DataType::Binary => return Ok(DataType::Binary),
+        DataType::FixedSizeBinary(size) => return Ok(DataType::FixedSizeBinary(*size)),
+        DataType::LargeBinary => return Ok(DataType::LargeBinary),
+        DataType::Utf8 => return Ok(DataType::Utf8),
+        DataType::LargeUtf8 => return Ok(DataType::LargeUtf8),
+        DataType::List(field) => return Ok(DataType::List(copy_boxed(alloc, field)?)),
+        DataType::FixedSizeList(field, size) => {
+            return Ok(DataType::FixedSizeList(copy_boxed(alloc, field)?, *size));
+        }
+        DataType::LargeList(field) => return Ok(DataType::LargeList(copy_boxed(alloc, field)?)),
         DataType::Struct(fields) => copy_struct(alloc, fields),
         DataType::Union(fields, ids, mode) => copy_union(alloc, fields, ids, *mode),
-        DataType::Map(entries, sorted) => copy_map(alloc, entries, *sorted),
-        DataType::Dictionary(key, values, ordered) => {
-            copy_dictionary(alloc, *key, values, *ordered)
+        DataType::Map(entries, sorted) => {
+            return Ok(DataType::Map(copy_boxed(alloc, entries)?, *sorted));
         }
-        DataType::Decimal(precision, scale) => Ok(DataType::Decimal(*precision, *scale)),
-        DataType::Decimal256(precision, scale) => Ok(DataType::Decimal256(*precision, *scale)),
+        DataType::Dictionary(key, values, ordered) => {
+            return Ok(DataType::Dictionary(*key, copy_inner(alloc, values)?, *ordered));
+        }
+        DataType::Decimal(precision, scale) => return Ok(DataType::Decimal(*precision, *scale)),
+        DataType::Decimal256(precision, scale) => {
+            return Ok(DataType::Decimal256(*precision, *scale));
+        }
         DataType::Extension(name, inner, metadata) => {
             copy_extension(alloc, name, inner, metadata)
         }
-    }
+    };
+    Ok(copied?)
 }
 
 #[inline(never)]
@@ -86,34 +95,6 @@ fn copy_timestamp(
     ensures { IfOk result (λ t. type_of t ≡ types.timestamp unit (text_of zone.now)) }
 {
     Ok(DataType::Timestamp(unit, copy_text(alloc, zone)?))
-}
-
-#[cycle(cloning)]
-#[inline(never)]
-fn copy_list(alloc: Global, field: &Box<Field>) -> Result<DataType, AllocError>
-    ensures { IfOk result (λ t. type_of t ≡ types.list (field_of field.now.value)) }
-{
-    Ok(DataType::List(copy_boxed(alloc, field)?))
-}
-
-#[cycle(cloning)]
-#[inline(never)]
-fn copy_fixed_size_list(
-    alloc: Global,
-    field: &Box<Field>,
-    size: usize,
-) -> Result<DataType, AllocError>
-    ensures { IfOk result (λ t. type_of t ≡ types.fixed_size_list (field_of field.now.value) size) }
-{
-    Ok(DataType::FixedSizeList(copy_boxed(alloc, field)?, size))
-}
-
-#[cycle(cloning)]
-#[inline(never)]
-fn copy_large_list(alloc: Global, field: &Box<Field>) -> Result<DataType, AllocError>
-    ensures { IfOk result (λ t. type_of t ≡ types.large_list (field_of field.now.value)) }
-{
-    Ok(DataType::LargeList(copy_boxed(alloc, field)?))
 }
 
 #[cycle(cloning)]
@@ -139,28 +120,6 @@ fn copy_union(
 
 #[cycle(cloning)]
 #[inline(never)]
-fn copy_map(alloc: Global, entries: &Box<Field>, sorted: bool) -> Result<DataType, AllocError>
-    ensures { IfOk result (λ t. type_of t ≡ types.map (field_of entries.now.value) sorted) }
-{
-    Ok(DataType::Map(copy_boxed(alloc, entries)?, sorted))
-}
-
-#[cycle(cloning)]
-#[inline(never)]
-fn copy_dictionary(
-    alloc: Global,
-    key: IntegerType,
-    values: &Box<DataType>,
-    ordered: bool,
-) -> Result<DataType, AllocError>
-    ensures { IfOk result (λ t. type_of t ≡ types.dictionary key (type_of values.now.value) ordered) }
-{
-    let copied = Box::new(alloc, copy(alloc, values)?)?;
-    Ok(DataType::Dictionary(key, copied, ordered))
-}
-
-#[cycle(cloning)]
-#[inline(never)]
 fn copy_extension(
     alloc: Global,
     name: &String,
@@ -169,7 +128,7 @@ fn copy_extension(
 ) -> Result<DataType, AllocError>
     ensures { IfOk result (λ t. type_of t ≡ types.extension (string_bytes name.now) (type_of inner.now.value) (text_of metadata.now)) }
 {
-    let copied = Box::new(alloc, copy(alloc, inner)?)?;
+    let copied = copy_inner(alloc, inner)?;
     Ok(DataType::Extension(
         String::from_str(alloc, name.as_str())?,
         copied,
@@ -178,18 +137,29 @@ fn copy_extension(
 }
 
 #[cycle(cloning)]
+#[inline(never)]
+fn copy_inner(alloc: Global, inner: &Box<DataType>) -> Result<Box<DataType>, AllocError>
+    ensures { IfOk result (λ t. type_of t.value ≡ type_of inner.now.value) }
+{
+    let copied = copy(alloc, inner)?;
+    Ok(Box::new(alloc, copied)?)
+}
+
+#[cycle(cloning)]
+#[inline(always)]
 fn copy_field(alloc: Global, field: &Field) -> Result<Field, AllocError>
     ensures { IfOk result (λ f. field_of f ≡ field_of field.now) }
 {
     Ok(Field {
         name: String::from_str(alloc, field.name.as_str())?,
-        data_type: copy(alloc, &field.data_type)?,
         is_nullable: field.is_nullable,
-        metadata: copy_metadata(&field.metadata)?,
+        metadata: copy_metadata(alloc, &field.metadata)?,
+        data_type: copy(alloc, &field.data_type)?,
     })
 }
 
 #[cycle(cloning)]
+#[inline(never)]
 fn copy_boxed(alloc: Global, field: &Box<Field>) -> Result<Box<Field>, AllocError>
     ensures { IfOk result (λ f. field_of f.value ≡ field_of field.now.value) }
 {
@@ -203,7 +173,8 @@ fn copy_fields(alloc: Global, fields: &Vec<Field>) -> Result<Vec<Field>, AllocEr
 {
     let mut copied = Vec::with_capacity(alloc, fields.len())?;
     for field in fields {
-        copied.push(copy_field(alloc, field)?)?;
+        let field = copy_field(alloc, field)?;
+        copied.push_reserved(field);
     }
     Ok(copied)
 }
@@ -226,8 +197,20 @@ fn copy_ids(alloc: Global, ids: &Option<Vec<i32>>) -> Result<Option<Vec<i32>>, A
     }
 }
 
+// Most fields have none, and then no map is walked.
+#[inline]
+fn copy_metadata(alloc: Global, metadata: &Metadata) -> Result<Metadata, AllocError>
+    ensures { IfOk result (λ m. entries_of m.entries ≡ entries_of metadata.now.entries) }
+{
+    if metadata.is_empty() {
+        return Ok(BTreeMap::new(alloc));
+    }
+    Ok(copy_entries(metadata)?)
+}
+
 // On the map's own allocator, which is `Global` too.
-fn copy_metadata(metadata: &Metadata) -> Result<Metadata, AllocError>
+#[inline(never)]
+fn copy_entries(metadata: &Metadata) -> Result<Metadata, AllocError>
     ensures { IfOk result (λ m. entries_of m.entries ≡ entries_of metadata.now.entries) }
 {
     let copied = metadata.clone()?;

@@ -195,9 +195,11 @@ impl LargeListArray {
         ensures err { IsOkUnless result (Memory alloc_error) }
     {
         let (start, count) = self.range(i);
-        let mut items = self.values.clone(alloc)?;
-        items.slice(start, count);
-        Ok(items)
+        let mut items = self.values.clone(alloc);
+        if let Ok(items) = &mut items {
+            items.slice(start, count);
+        }
+        items
     }
 
     /// The items of slot i, also under a null, borrowed.

@@ -4,7 +4,7 @@ use Rattle.nest_array.specs.Seen.{layout_of}
 use Rattle.nest_array.proofs.Lists.{IsByOffsets, map-by_offsets, slot-items}
 use Rattle.nest_array.proofs.map.MapArray.value.Goals as goal
 
-pub returns-clause-items : goal.returns-clause-items
-returns-clause-items c =
+pub returns-in-Ok-clause-items : goal.returns-in-Ok-clause-items
+returns-in-Ok-clause-items c =
     slot-items c.args.self.now (layout_of c.slice.new.self) c.args.i
     (subst IsByOffsets c.self.view_is (map-by_offsets (type_of c.self.inside.data_type) c.self.inside.ranges.offsets (layout_of c.self.inside.field.value) c.self.inside.ranges.validity c.self.invariant)) c.requires (search rules)

@@ -1,0 +1,3 @@
+-- What contracts of this crate cite.
+pub mod Items
+pub mod Places
