@@ -51,12 +51,12 @@ fn eleven_picks_and_none_left(rt: HostRuntime) {
     let array = eleven(alloc).expect(&rt, "eleven slots");
     let mut slots = UnionIter::new(alloc, &array);
     let wanted = [0, 101, 2, 103, 104, 105, 6, 107, 108, 9, 10];
-    let mut left = 11;
+    let mut left = 11usize;
     for number in wanted {
         assert!(rt; slots.len() == left);
         let text = format!(in alloc; "Int32({number}) ").expect(&rt, "a short text");
         assert!(rt; spelled(alloc, slots.next()).as_str() == text.as_str());
-        left -= 1;
+        left = left.saturating_sub(1);
     }
     assert!(rt; slots.size_hint() == (0, Some(0)));
     assert!(rt; gave_nothing(slots.next()));
@@ -77,7 +77,9 @@ fn in_turn(alloc: Global) -> Result<UnionArray, Error> {
 #[test]
 fn picks_of_a_cut(rt: HostRuntime) {
     let alloc = rt.alloc();
-    let array = in_turn(alloc).expect(&rt, "four slots").sliced(1, 2);
+    let array = in_turn(alloc).expect(&rt, "four slots");
+    assert!(rt; array.len() == 4);
+    let array = array.sliced(1, 2);
     let mut slots = array.iter(alloc);
     assert!(rt; spelled(alloc, slots.next()).as_str() == "'b' ");
     let mut again = slots.clone().expect(&rt, "the same slot once more");
