@@ -22,99 +22,57 @@ fn pair(alloc: Global) -> Result<DataType, Error> {
 #[test]
 fn other_kinds_come_first(rt: HostRuntime) {
     let alloc = rt.alloc();
-    assert_eq!(rt;
-        refused(NullArray::new_null(alloc, DataType::Float32, 1)),
-        WRONG
-    );
-    assert_eq!(rt;
-        refused(NullArray::new_empty(alloc, DataType::Boolean)),
-        WRONG
-    );
-    assert_eq!(rt;
-        refused(FixedSizeBinaryArray::new_null(alloc, DataType::Binary, 1)),
-        WRONG
-    );
-    assert_eq!(rt;
-        refused(FixedSizeBinaryArray::new_empty(alloc, DataType::Utf8)),
-        WRONG
-    );
-    assert_eq!(rt;
-        refused(FixedSizeListArray::new_null(alloc, DataType::FixedSizeBinary(0), 1)),
-        WRONG
-    );
-    assert_eq!(rt;
-        refused(FixedSizeListArray::new_empty(alloc, DataType::Null)),
-        WRONG
-    );
-    assert_eq!(rt;
-        refused(ListArray::new_null(alloc, DataType::Float32, usize::MAX)),
-        WRONG
-    );
-    assert_eq!(rt; refused(ListArray::new_empty(alloc, DataType::Null)), WRONG);
-    assert_eq!(rt;
-        refused(LargeListArray::new_null(alloc, DataType::Null, 1)),
-        WRONG
-    );
-    assert_eq!(rt;
-        refused(LargeListArray::new_empty(alloc, DataType::Null)),
-        WRONG
-    );
-    assert_eq!(rt;
-        refused(StructArray::new_null(alloc, DataType::Null, 1)),
-        WRONG
-    );
-    assert_eq!(rt;
-        refused(StructArray::new_empty(alloc, DataType::Null)),
-        WRONG
-    );
-    assert_eq!(rt;
-        refused(MapArray::new_null(alloc, DataType::Null, 1)),
-        WRONG
-    );
-    assert_eq!(rt; refused(MapArray::new_empty(alloc, DataType::Null)), WRONG);
-    assert_eq!(rt;
-        refused(UnionArray::new_null(alloc, DataType::Null, 1)),
-        WRONG
-    );
-    assert_eq!(rt;
-        refused(UnionArray::new_empty(alloc, DataType::Null)),
-        WRONG
-    );
+    assert!(rt; refused(NullArray::new_null(alloc, DataType::Float32, 1)) == WRONG);
+    assert!(rt; refused(NullArray::new_empty(alloc, DataType::Boolean)) == WRONG);
+    assert!(rt; refused(FixedSizeBinaryArray::new_null(alloc, DataType::Binary, 1)) == WRONG);
+    assert!(rt; refused(FixedSizeBinaryArray::new_empty(alloc, DataType::Utf8)) == WRONG);
+    assert!(rt; refused(FixedSizeListArray::new_null(alloc, DataType::FixedSizeBinary(0), 1)) == WRONG);
+    assert!(rt; refused(FixedSizeListArray::new_empty(alloc, DataType::Null)) == WRONG);
+    assert!(rt; refused(ListArray::new_null(alloc, DataType::Float32, usize::MAX)) == WRONG);
+    assert!(rt; refused(ListArray::new_empty(alloc, DataType::Null)) == WRONG);
+    assert!(rt; refused(LargeListArray::new_null(alloc, DataType::Null, 1)) == WRONG);
+    assert!(rt; refused(LargeListArray::new_empty(alloc, DataType::Null)) == WRONG);
+    assert!(rt; refused(StructArray::new_null(alloc, DataType::Null, 1)) == WRONG);
+    assert!(rt; refused(StructArray::new_empty(alloc, DataType::Null)) == WRONG);
+    assert!(rt; refused(MapArray::new_null(alloc, DataType::Null, 1)) == WRONG);
+    assert!(rt; refused(MapArray::new_empty(alloc, DataType::Null)) == WRONG);
+    assert!(rt; refused(UnionArray::new_null(alloc, DataType::Null, 1)) == WRONG);
+    assert!(rt; refused(UnionArray::new_empty(alloc, DataType::Null)) == WRONG);
 }
 
 #[test]
 fn nulls_of_each_kind(rt: HostRuntime) {
     let alloc = rt.alloc();
     let array = NullArray::new_null(alloc, DataType::Null, 2).expect(&rt, "nulls");
-    assert_eq!(rt; array.null_count(), 2);
+    assert!(rt; array.null_count() == 2);
     drop(array);
     let array = FixedSizeBinaryArray::new_null(alloc, DataType::FixedSizeBinary(3), 2).expect(
         &rt, "bytes",
     );
-    assert_eq!(rt; array.null_count(), 2);
-    assert_eq!(rt; array.values().as_slice(), [0, 0, 0, 0, 0, 0].as_slice());
+    assert!(rt; array.null_count() == 2);
+    assert!(rt; array.values().as_slice() == [0, 0, 0, 0, 0, 0].as_slice());
     drop(array);
     let of = sized(alloc, Ok(DataType::Int8), 3).expect(&rt, "a type");
     let array = FixedSizeListArray::new_null(alloc, of, 2).expect(&rt, "lists");
-    assert_eq!(rt; array.null_count(), 2);
-    assert_eq!(rt; array.values().len(), 6);
+    assert!(rt; array.null_count() == 2);
+    assert!(rt; array.values().len() == 6);
     drop(array);
     let of = list(alloc, Ok(DataType::Int8)).expect(&rt, "a type");
     let array = ListArray::new_null(alloc, of, 2).expect(&rt, "lists");
-    assert_eq!(rt; array.null_count(), 2);
-    assert_eq!(rt; array.offsets().as_slice(), [0, 0, 0].as_slice());
+    assert!(rt; array.null_count() == 2);
+    assert!(rt; array.offsets().as_slice() == [0, 0, 0].as_slice());
     drop(array);
     let of = extension(alloc, large_list(alloc, Ok(DataType::Int8))).expect(&rt, "a type");
     let array = LargeListArray::new_null(alloc, of, 2).expect(&rt, "lists");
-    assert_eq!(rt; array.null_count(), 2);
+    assert!(rt; array.null_count() == 2);
     drop(array);
     let of = map(alloc, pair(alloc)).expect(&rt, "a type");
     let array = MapArray::new_null(alloc, of, 2).expect(&rt, "maps");
-    assert_eq!(rt; array.null_count(), 2);
+    assert!(rt; array.null_count() == 2);
     drop(array);
     let of = pair(alloc).expect(&rt, "a type");
     let array = StructArray::new_null(alloc, of, 2).expect(&rt, "records");
-    assert_eq!(rt; array.null_count(), 2);
+    assert!(rt; array.null_count() == 2);
     drop(array);
 }
 
@@ -122,36 +80,36 @@ fn nulls_of_each_kind(rt: HostRuntime) {
 fn none_of_each_kind(rt: HostRuntime) {
     let alloc = rt.alloc();
     let array = NullArray::new_empty(alloc, DataType::Null).expect(&rt, "no null");
-    assert_eq!(rt; array.len(), 0);
+    assert!(rt; array.len() == 0);
     drop(array);
     let array = FixedSizeBinaryArray::new_empty(alloc, DataType::FixedSizeBinary(3)).expect(
         &rt, "no bytes",
     );
-    assert_eq!(rt; array.len(), 0);
+    assert!(rt; array.len() == 0);
     assert!(rt; array.validity().is_none());
     drop(array);
     let of = sized(alloc, Ok(DataType::Int8), 3).expect(&rt, "a type");
     let array = FixedSizeListArray::new_empty(alloc, of).expect(&rt, "no list");
-    assert_eq!(rt; array.len(), 0);
+    assert!(rt; array.len() == 0);
     drop(array);
     let of = list(alloc, Ok(DataType::Int8)).expect(&rt, "a type");
     let array = ListArray::new_empty(alloc, of).expect(&rt, "no list");
-    assert_eq!(rt; array.len(), 0);
+    assert!(rt; array.len() == 0);
     drop(array);
     let of = extension(alloc, large_list(alloc, Ok(DataType::Int8))).expect(&rt, "a type");
     let array = LargeListArray::new_empty(alloc, of).expect(&rt, "no list");
-    assert_eq!(rt; array.len(), 0);
+    assert!(rt; array.len() == 0);
     drop(array);
     let of = map(alloc, pair(alloc)).expect(&rt, "a type");
     let array = MapArray::new_empty(alloc, of).expect(&rt, "no map");
-    assert_eq!(rt; array.len(), 0);
+    assert!(rt; array.len() == 0);
     drop(array);
     let of = pair(alloc).expect(&rt, "a type");
     let array = StructArray::new_empty(alloc, of).expect(&rt, "no record");
-    assert_eq!(rt; array.len(), 0);
+    assert!(rt; array.len() == 0);
     drop(array);
     let of = union(alloc, numbers(alloc, 2), None, UnionMode::Dense).expect(&rt, "a type");
     let array = UnionArray::new_empty(alloc, of).expect(&rt, "no pick");
-    assert_eq!(rt; array.len(), 0);
+    assert!(rt; array.len() == 0);
     drop(array);
 }

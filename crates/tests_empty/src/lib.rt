@@ -2,7 +2,7 @@
 //!
 //! | What the row shows | Test |
 //! |---|---|
-//! | Lists of the size 2^33, 2^33 of them, are too many items; of 2^32 + 1, 2^32 - 1 of them are 2^64 - 1 nulls | `refusals::products_before_children`, `values::as_many_nulls_as_a_length_can_be` |
+//! | Lists of the size 2^33, 2^33 of them, are too many items; of the size 2^64 - 1 there is one, of as many nulls, but not two | `refusals::products_before_children`, `values::the_longest_product` |
 //! | Three dates are three nulls, and three are counted | `values::three_dates` |
 //! | A sparse union of numbers and texts by the ids 5 and 7, two slots: types 5 and 5, picks of null numbers, no null counted | `unions::the_first_id_is_the_type` |
 //! | A cut to nothing of each kind is the empty array of its type, after no comparison | `values::a_cut_to_nothing_is_the_empty_array` |

@@ -48,8 +48,8 @@ fn is_null_of(scalar: AnyScalar, data_type: &DataType) -> bool {
 fn the_first_id_is_the_type(rt: HostRuntime) {
     let made = nulls(rt.alloc(), number_or_text(rt.alloc(), Some(&[5, 7])), 2);
     let union = union_of(made).expect(&rt, "a union");
-    assert_eq!(rt; union.types().as_slice(), [5, 5].as_slice());
-    assert_eq!(rt; union.null_count(), 0);
+    assert!(rt; union.types().as_slice() == [5, 5].as_slice());
+    assert!(rt; union.null_count() == 0);
     assert!(rt; union.offsets().is_none());
     assert!(rt; picks_null_of(rt.alloc(), &union, 0, &DataType::Int32));
     assert!(rt; picks_null_of(rt.alloc(), &union, 1, &DataType::Int32));
@@ -60,10 +60,10 @@ fn the_first_id_is_the_type(rt: HostRuntime) {
 fn the_later_of_two_fields_with_one_id(rt: HostRuntime) {
     let made = nulls(rt.alloc(), number_or_text(rt.alloc(), Some(&[5, 5])), 2);
     let union = union_of(made).expect(&rt, "a union");
-    assert_eq!(rt; union.types().as_slice(), [5, 5].as_slice());
+    assert!(rt; union.types().as_slice() == [5, 5].as_slice());
     if union.len() == 2 {
-        assert_eq!(rt; union.index(0), (1, 0));
-        assert_eq!(rt; union.index(1), (1, 1));
+        assert!(rt; union.index(0) == (1, 0));
+        assert!(rt; union.index(1) == (1, 1));
     }
     assert!(rt; picks_null_of(rt.alloc(), &union, 1, &DataType::Utf8));
     drop(union);
@@ -77,7 +77,7 @@ fn without_ids_the_first_field(rt: HostRuntime) {
         1,
     );
     let union = union_of(made).expect(&rt, "a union");
-    assert_eq!(rt; union.types().as_slice(), [0].as_slice());
+    assert!(rt; union.types().as_slice() == [0].as_slice());
     assert!(rt; picks_null_of(rt.alloc(), &union, 0, &DataType::Int32));
     drop(union);
 }
@@ -87,11 +87,11 @@ fn without_fields(rt: HostRuntime) {
     let alloc = rt.alloc();
     let nothing = Some(Error::OutOfSpec(Spec::UnionType));
     let empty = union(alloc, numbers(alloc, 0), None, UnionMode::Sparse);
-    assert_eq!(rt; refusal(nulls(alloc, empty, 0)), None);
+    assert!(rt; refusal(nulls(alloc, empty, 0)) == None);
     let empty = union(alloc, numbers(alloc, 0), None, UnionMode::Sparse);
-    assert_eq!(rt; refusal(none(alloc, empty)), None);
+    assert!(rt; refusal(none(alloc, empty)) == None);
     let empty = union(alloc, numbers(alloc, 0), None, UnionMode::Sparse);
-    assert_eq!(rt; refusal(nulls(alloc, empty, 1)), nothing);
+    assert!(rt; refusal(nulls(alloc, empty, 1)) == nothing);
 }
 
 #[test]
@@ -103,10 +103,7 @@ fn dense_slots_one_after_another(rt: HostRuntime) {
         None,
         UnionMode::Dense,
     );
-    assert_eq!(rt;
-        refusal(nulls(alloc, dense, 2147483649)),
-        Some(Error::Overflow)
-    );
+    assert!(rt; refusal(nulls(alloc, dense, 2147483649)) == Some(Error::Overflow));
     let dense = union(
         alloc,
         one(alloc, Ok(DataType::Int32)),
@@ -114,11 +111,8 @@ fn dense_slots_one_after_another(rt: HostRuntime) {
         UnionMode::Dense,
     );
     let union = union_of(nulls(alloc, dense, 2)).expect(&rt, "a union");
-    assert_eq!(rt; union.types().as_slice(), [0, 0].as_slice());
-    assert_eq!(rt;
-        union.offsets().map(|offsets| offsets.as_slice()),
-        Some([0, 1].as_slice())
-    );
+    assert!(rt; union.types().as_slice() == [0, 0].as_slice());
+    assert!(rt; union.offsets().map(|offsets| offsets.as_slice()) == Some([0, 1].as_slice()));
     drop(union);
 }
 
@@ -126,27 +120,15 @@ fn dense_slots_one_after_another(rt: HostRuntime) {
 fn refused_types(rt: HostRuntime) {
     let alloc = rt.alloc();
     let many = union(alloc, numbers(alloc, 128), None, UnionMode::Sparse);
-    assert_eq!(rt;
-        refusal(none(alloc, many)),
-        Some(Error::OutOfSpec(Spec::TooManyFields))
-    );
+    assert!(rt; refusal(none(alloc, many)) == Some(Error::OutOfSpec(Spec::TooManyFields)));
     let most = union(alloc, numbers(alloc, 127), None, UnionMode::Sparse);
-    assert_eq!(rt; refusal(nulls(alloc, most, 1)), None);
+    assert!(rt; refusal(nulls(alloc, most, 1)) == None);
     let ids = union(alloc, numbers(alloc, 1), Some(&[1, 2]), UnionMode::Sparse);
-    assert_eq!(rt;
-        refusal(nulls(alloc, ids, 0)),
-        Some(Error::OutOfSpec(Spec::IdCount))
-    );
+    assert!(rt; refusal(nulls(alloc, ids, 0)) == Some(Error::OutOfSpec(Spec::IdCount)));
     let ids = union(alloc, numbers(alloc, 1), Some(&[200]), UnionMode::Sparse);
-    assert_eq!(rt;
-        refusal(nulls(alloc, ids, 0)),
-        Some(Error::OutOfSpec(Spec::IdRange))
-    );
+    assert!(rt; refusal(nulls(alloc, ids, 0)) == Some(Error::OutOfSpec(Spec::IdRange)));
     let ids = union(alloc, numbers(alloc, 1), Some(&[-1]), UnionMode::Dense);
-    assert_eq!(rt;
-        refusal(none(alloc, ids)),
-        Some(Error::OutOfSpec(Spec::IdRange))
-    );
+    assert!(rt; refusal(none(alloc, ids)) == Some(Error::OutOfSpec(Spec::IdRange)));
     let ids = union(alloc, numbers(alloc, 1), Some(&[127]), UnionMode::Dense);
-    assert_eq!(rt; refusal(nulls(alloc, list(alloc, ids), 3)), None);
+    assert!(rt; refusal(nulls(alloc, list(alloc, ids), 3)) == None);
 }

@@ -1,5 +1,5 @@
 //! What null and empty arrays hold.
-use crate::types::{extension, large_list, list, map, none, nulls, records, sized, two, union};
+use crate::types::{extension, large_list, list, map, none, nulls, records, refusal, sized, two, union};
 use nest_array::equal::equal_counted;
 use nest_array::{AnyArray, Steps};
 use nest_memory::datatypes::{DataType, UnionMode};
@@ -58,6 +58,26 @@ fn as_many_nulls_as_a_length_can_be(rt: HostRuntime) {
     let most = nulls(alloc, Ok(DataType::Null), usize::MAX).expect(&rt, "nulls");
     assert!(rt; is_of(&most, usize::MAX, usize::MAX));
     drop(most);
+}
+
+// Whether the array is of fixed-size lists over a child of so many items.
+fn holds_items(array: &AnyArray, items: usize) -> bool {
+    match array {
+        AnyArray::FixedSizeList(array) => array.values().len() == items,
+        _ => false,
+    }
+}
+
+#[test]
+fn the_longest_product(rt: HostRuntime) {
+    let alloc = rt.alloc();
+    let of = sized(alloc, Ok(DataType::Null), usize::MAX);
+    let one = nulls(alloc, of, 1).expect(&rt, "one list");
+    assert!(rt; is_of(&one, 1, 1));
+    assert!(rt; holds_items(&one, usize::MAX));
+    drop(one);
+    let of = sized(alloc, Ok(DataType::Null), usize::MAX);
+    assert!(rt; refusal(nulls(alloc, of, 2)) == Some(Error::Overflow));
 }
 
 fn child_is_empty(array: &AnyArray) -> bool {
@@ -128,6 +148,6 @@ fn refused_memory(rt: HostRuntime) {
             assert!(rt; is_of(&array, 3, 3));
             drop(array);
         }
-        Err(error) => assert_eq!(rt; error, Error::Memory(AllocError)),
+        Err(error) => assert!(rt; error == Error::Memory(AllocError)),
     }
 }
