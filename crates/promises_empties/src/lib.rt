@@ -2,12 +2,12 @@
 //! by its first fault, a type before its product, the product before its children, these from the left.
 #![tactic(auto)]
 
-ghost use Rattle.std.specs.Prelude.{◌≡◌, ◌+◌, ◌<◌, ◌^◌, None, IfOk, IsOkUnless, MatchResult, alloc_error, false, replicate};
+ghost use Rattle.std.specs.Prelude.{◌≡◌, ◌+◌, ◌<◌, ◌^◌, None, IfOk, IsOkUnless, MatchResult, alloc_error, false, replicate, true};
 ghost use Rattle.nest_memory.specs.declared.datatypes.physical_type.PhysicalType.TheVariants as physical;
-ghost use Rattle.promises_empties.specs.Words.{AcceptsKind, HasNone, HasNulls, Memory, RefusesKind, RefusesType, binary_of_width, empty_fault, layout_of, physical_type, text_of_width, type_fault, type_of};
+ghost use Rattle.promises_empties.specs.Words.{AcceptsKind, HasNone, HasNulls, Memory, RefusesDictionary, RefusesKind, RefusesType, binary_of_width, empty_fault, is_dictionary, layout_of, physical_type, text_of_width, type_fault, type_of};
 
 use nest_array::{
-    AnyArray, FixedSizeBinaryArray, FixedSizeListArray, LargeListArray, ListArray, MapArray,
+    AnyArray, DictionaryArray, FixedSizeBinaryArray, FixedSizeListArray, LargeListArray, ListArray, MapArray,
     NullArray, StructArray, UnionArray, new_empty_array, new_null_array,
 };
 use nest_flat::binary::BinaryArray;
@@ -307,4 +307,26 @@ pub fn no_unions(alloc: Global, data_type: DataType) -> Result<UnionArray, Error
         (λ e. RefusesKind e physical.Union t (empty_fault t)) }
 {
     UnionArray::new_empty(alloc, data_type)
+}
+
+/// Nulls of the kind of dictionaries, whatever the keys: another kind of type is refused first.
+pub fn null_dictionaries(
+    alloc: Global,
+    data_type: DataType,
+    length: usize,
+) -> Result<DictionaryArray, Error>
+    ensures { let t = type_of data_type in MatchResult result
+        (λ a. (is_dictionary t ≡ true) × (type_fault t length ≡ None) × HasNulls t length a)
+        (λ e. RefusesDictionary e t (type_fault t length)) }
+{
+    DictionaryArray::new_null(alloc, data_type, length)
+}
+
+/// No slot of the kind of dictionaries, whatever the keys: another kind of type is refused first.
+pub fn no_dictionaries(alloc: Global, data_type: DataType) -> Result<DictionaryArray, Error>
+    ensures { let t = type_of data_type in MatchResult result
+        (λ a. (is_dictionary t ≡ true) × (empty_fault t ≡ None) × HasNone t a)
+        (λ e. RefusesDictionary e t (empty_fault t)) }
+{
+    DictionaryArray::new_empty(alloc, data_type)
 }

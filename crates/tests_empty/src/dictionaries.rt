@@ -1,9 +1,9 @@
 //! Dictionaries of nulls: their keys are null, over one null value.
-use crate::types::{dictionary, extension, list, none, nulls, refusal};
+use crate::types::{dictionary, extension, list, none, nulls, records, refusal, two};
 use nest_array::{AnyArray, DictionaryArray};
 use nest_memory::datatypes::{DataType, IntegerType};
 use nest_memory::error::{Error, Spec};
-use std::alloc::Global;
+use std::alloc::{AllocError, Global};
 
 fn lists_by_keys(alloc: Global) -> Result<DataType, Error> {
     dictionary(alloc, IntegerType::Int8, list(alloc, Ok(DataType::Int32)))
@@ -66,4 +66,22 @@ fn values_are_looked_at(rt: HostRuntime) {
     let wrong = Some(Error::OutOfSpec(Spec::WrongType));
     assert!(rt; DictionaryArray::new_null(alloc, DataType::Float64, 1).err() == wrong);
     assert!(rt; DictionaryArray::new_empty(alloc, DataType::Int8).err() == wrong);
+}
+
+fn lists_and_names(alloc: Global) -> Result<DataType, Error> {
+    let names = dictionary(alloc, IntegerType::UInt32, Ok(DataType::Utf8));
+    records(two(alloc, list(alloc, Ok(DataType::Int32)), names))
+}
+
+// Passes whichever request for memory is refused.
+#[test]
+fn refused_memory(rt: HostRuntime) {
+    match nulls(rt.alloc(), lists_and_names(rt.alloc()), 3) {
+        Ok(array) => {
+            assert!(rt; array.len() == 3);
+            assert!(rt; array.null_count() == 3);
+            drop(array);
+        }
+        Err(error) => assert!(rt; error == Error::Memory(AllocError)),
+    }
 }

@@ -18,7 +18,7 @@
 //! | 128 fields, two ids of one field, the id 200 | `unions::refused_types` |
 //! | Entries that are no records of two fields, also where they are an extension of such; extensions at every level | `refusals::entries_of_maps`, `values::extensions_at_every_level` |
 //! | The constructors of each kind refuse another kind first | `kinds` |
-//! | Nothing is lost where any one request for memory is refused | `values::refused_memory` |
+//! | Nothing is lost where any one request for memory is refused | `values::refused_memory`, `dictionaries::refused_memory` |
 #![tactic(auto)]
 
 #[cfg(test)]
