@@ -1,11 +1,9 @@
-use Rattle.std.specs.Prelude.{None}
-use Rattle.std.proofs.Common.{◌≡◌, ◌<◌, ◌*◌, ◌^◌, ◌∙◌, ap, sym, subst, length, replicate, true, false, arith}
+use Rattle.std.proofs.Common.{◌≡◌, ◌<◌, ◌*◌, ◌^◌, ◌∙◌, ap, sym, subst, length, true, false, arith}
 use Rattle.std.proofs.lemmas.Result.{IfOk-weaker}
-use Rattle.nest_memory.specs.TypeOf.{type_of, field_of, field_list_of}
-use Rattle.nest_memory.specs.TypeTree.{size_of, fields_of}
+use Rattle.nest_memory.specs.TypeOf.{type_of, field_of}
 use Rattle.nest_model.specs.Layout as layouts
 use Rattle.nest_model.specs.MadeNulls.{top-fits, fits}
-use Rattle.nest_model.specs.NullKinds.{type_weight, field_weight, fields_weight, item-lighter, fields-lighter, value-lighter, dictionary-parts, list-parts, map-parts, sized-parts, struct-parts, union-parts}
+use Rattle.nest_model.specs.NullKinds.{field_weight, fields_weight, item-lighter, fields-lighter, value-lighter, dictionary-parts, list-parts, map-parts, sized-parts, struct-parts, union-parts}
 use Rattle.nest_model.specs.NullLayout.{none_valid, null_array, null_children}
 use Rattle.nest_model.specs.Nulls.{fault_of, field_fault, fields_fault}
 use Rattle.nest_array.proofs.NullMakes.{list-item, list-long, list-below, map-item, map-long, map-below, sized-item, sized-long, sized-below, sized-valid, struct-below, union-mode, union-ids, union-short, union-below, dictionary-kind, dictionary-key, dictionary-value, dictionary-below, field-lighter, weight-of, fault-of, field-below, all-nulls}
@@ -222,11 +220,14 @@ nulls::null_fields-returns-clause-ok t c =
     let l : length c.loop-i.children.items ≡ length c.args.fields.now = omega (arith, c.loop-i.invariant.same_length) in
     all-nulls c.loop-i.children.items c.args.fields.now c.args.length c.args.values l (λ k d f h. c.loop-i.invariant.done k d f (omega arith))
 
-pub nulls::null_array-nulls-requires-clause-kind : goal.nulls::null_array-nulls-requires-clause-kind
-nulls::null_array-nulls-requires-clause-kind t c = dictionary-kind (type_of c.args.data_type.now) _ (sym c.to_physical_type.ensures ∙ c.in-Dictionary.is)
+pub nulls::null_array-nulls-requires-in-Dictionary : goal.nulls::null_array-nulls-requires-in-Dictionary
+nulls::null_array-nulls-requires-in-Dictionary t c = (
+      omega arith,
+      (dictionary-kind (type_of c.args.data_type.now) _ (sym c.to_physical_type.ensures ∙ c.in-Dictionary.is), (c.requires.unrefused, c.requires.valid)),
+    )
 
 pub dictionary::DictionaryArray::nulls-unreachable-requires : goal.dictionary::DictionaryArray::nulls-unreachable-requires
-dictionary::DictionaryArray::nulls-unreachable-requires t c = dictionary-key (type_of c.args.data_type.now) c.requires.kind (sym c.key_type.ensures ∙ c.in-None.is)
+dictionary::DictionaryArray::nulls-unreachable-requires t c = dictionary-key (type_of c.args.data_type.now) c.requires.kind (sym c.key_type.ensures ∙ c.in_default.is)
 
 pub dictionary::DictionaryArray::nulls-value_type-requires : goal.dictionary::DictionaryArray::nulls-value_type-requires
 dictionary::DictionaryArray::nulls-value_type-requires t c = dictionary-value (type_of c.args.data_type.now) c.requires.kind

@@ -1,5 +1,5 @@
-use Rattle.std.proofs.Common.{rules, ◌≡◌, ◌<◌, ◌∙◌, false, ap, sym, length, arith}
-use Rattle.std.specs.Prelude.{Option, option_map, None, nat_eq, vec_len}
+use Rattle.std.proofs.Common.{rules, ◌≡◌, ◌∙◌, false, ap, sym, length, arith}
+use Rattle.std.specs.Prelude.{nat_eq, vec_len}
 use Rattle.nest_memory.specs.TypeOf.{field_list_of}
 use Rattle.nest_model.specs.Checks.{first_of}
 use Rattle.nest_model.specs.Nulls.{fields_fault}
