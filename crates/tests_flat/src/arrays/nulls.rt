@@ -17,9 +17,9 @@ fn three_dates(rt: HostRuntime) {
     let dates = PrimitiveArray::<i32>::new_null(rt.alloc(), DataType::Date32, 3).expect(
         &rt, "dates",
     );
-    assert_eq!(rt; dates.len(), 3);
-    assert_eq!(rt; dates.null_count(), 3);
-    assert_eq!(rt; dates.values().as_slice(), [0, 0, 0].as_slice());
+    assert!(rt; dates.len() == 3);
+    assert!(rt; dates.null_count() == 3);
+    assert!(rt; dates.values().as_slice() == [0, 0, 0].as_slice());
     assert!(rt; *dates.data_type() == DataType::Date32);
     let none = PrimitiveArray::<i32>::new_empty(rt.alloc(), DataType::Date32).expect(&rt, "none");
     assert!(rt; none.is_empty());
@@ -32,95 +32,88 @@ fn three_dates(rt: HostRuntime) {
 fn spans_are_zeros(rt: HostRuntime) {
     let day_time = DataType::Interval(IntervalUnit::DayTime);
     let days = PrimitiveArray::<days_ms>::new_null(rt.alloc(), day_time, 1).expect(&rt, "days");
-    assert_eq!(rt; days.null_count(), 1);
+    assert!(rt; days.null_count() == 1);
     let month = DataType::Interval(IntervalUnit::MonthDayNano);
     let months = PrimitiveArray::<months_days_ns>::new_null(rt.alloc(), month, 2).expect(
         &rt, "months",
     );
-    assert_eq!(rt; months.null_count(), 2);
+    assert!(rt; months.null_count() == 2);
     drop(days);
     drop(months);
 }
 
 #[test]
-fn truths_bytes_and_texts(rt: HostRuntime) {
+fn null_truths(rt: HostRuntime) {
     let truths = BooleanArray::new_null(rt.alloc(), DataType::Boolean, 9).expect(&rt, "truths");
-    assert_eq!(rt; truths.null_count(), 9);
-    assert_eq!(rt; truths.values().unset_bits(), 9);
+    assert!(rt; truths.null_count() == 9);
+    assert!(rt; truths.values().unset_bits() == 9);
+    drop(truths);
+}
+
+#[test]
+fn null_bytes(rt: HostRuntime) {
     let bytes = BinaryArray::<i64>::new_null(rt.alloc(), DataType::LargeBinary, 2).expect(
         &rt, "bytes",
     );
-    assert_eq!(rt; bytes.null_count(), 2);
-    assert_eq!(rt; bytes.offsets().as_slice(), [0, 0, 0].as_slice());
+    assert!(rt; bytes.null_count() == 2);
+    assert!(rt; bytes.offsets().as_slice() == [0, 0, 0].as_slice());
     assert!(rt; bytes.values().is_empty());
-    let texts = Utf8Array::<i32>::new_null(rt.alloc(), DataType::Utf8, 2).expect(&rt, "texts");
-    assert_eq!(rt; texts.null_count(), 2);
-    assert_eq!(rt; texts.offsets().as_slice(), [0, 0, 0].as_slice());
-    drop(truths);
     drop(bytes);
+}
+
+#[test]
+fn null_texts(rt: HostRuntime) {
+    let texts = Utf8Array::<i32>::new_null(rt.alloc(), DataType::Utf8, 2).expect(&rt, "texts");
+    assert!(rt; texts.null_count() == 2);
+    assert!(rt; texts.offsets().as_slice() == [0, 0, 0].as_slice());
     drop(texts);
 }
 
 #[test]
-fn cut_to_nothing_is_the_empty_array(rt: HostRuntime) {
+fn truths_cut_to_nothing_are_the_empty_array(rt: HostRuntime) {
     let truths = BooleanArray::new_null(rt.alloc(), DataType::Boolean, 2).expect(&rt, "truths");
-    let no_truth = BooleanArray::new_empty(rt.alloc(), DataType::Boolean).expect(&rt, "no truth");
-    assert_eq!(rt; truths.len(), 2);
-    assert!(rt; truths.sliced(2, 0) == no_truth);
+    let none = BooleanArray::new_empty(rt.alloc(), DataType::Boolean).expect(&rt, "no truth");
+    assert!(rt; truths.len() == 2);
+    assert!(rt; truths.sliced(2, 0) == none);
+    drop(none);
+}
+
+#[test]
+fn bytes_cut_to_nothing_are_the_empty_array(rt: HostRuntime) {
     let bytes = BinaryArray::<i32>::new_null(rt.alloc(), DataType::Binary, 2).expect(&rt, "bytes");
-    let no_bytes = BinaryArray::<i32>::new_empty(rt.alloc(), DataType::Binary).expect(
-        &rt, "no bytes",
-    );
-    assert_eq!(rt; bytes.len(), 2);
-    assert!(rt; bytes.sliced(2, 0) == no_bytes);
+    let none = BinaryArray::<i32>::new_empty(rt.alloc(), DataType::Binary).expect(&rt, "no bytes");
+    assert!(rt; bytes.len() == 2);
+    assert!(rt; bytes.sliced(2, 0) == none);
+    drop(none);
+}
+
+#[test]
+fn texts_cut_to_nothing_are_the_empty_array(rt: HostRuntime) {
     let texts = Utf8Array::<i64>::new_null(rt.alloc(), DataType::LargeUtf8, 2).expect(&rt, "texts");
-    let no_text = Utf8Array::<i64>::new_empty(rt.alloc(), DataType::LargeUtf8).expect(
-        &rt, "no text",
-    );
-    assert_eq!(rt; texts.len(), 2);
-    assert!(rt; texts.sliced(2, 0) == no_text);
-    drop(no_truth);
-    drop(no_bytes);
-    drop(no_text);
+    let none = Utf8Array::<i64>::new_empty(rt.alloc(), DataType::LargeUtf8).expect(&rt, "no text");
+    assert!(rt; texts.len() == 2);
+    assert!(rt; texts.sliced(2, 0) == none);
+    drop(none);
 }
 
 #[test]
 fn other_types_come_first(rt: HostRuntime) {
     let wrong = Some(Error::OutOfSpec(Spec::WrongType));
     let alloc = rt.alloc();
-    assert_eq!(rt;
-        refusal(PrimitiveArray::<i32>::new_null(alloc, DataType::Float32, 1)),
-        wrong
-    );
-    assert_eq!(rt;
-        refusal(PrimitiveArray::<i64>::new_empty(alloc, DataType::Date32)),
-        wrong
-    );
-    assert_eq!(rt;
-        refusal(BooleanArray::new_null(alloc, DataType::Int8, 1)),
-        wrong
-    );
-    assert_eq!(rt;
-        refusal(BinaryArray::<i32>::new_null(alloc, DataType::Utf8, usize::MAX)),
-        wrong
-    );
-    assert_eq!(rt;
-        refusal(Utf8Array::<i32>::new_empty(alloc, DataType::LargeUtf8)),
-        wrong
-    );
+    assert!(rt; refusal(PrimitiveArray::<i32>::new_null(alloc, DataType::Float32, 1)) == wrong);
+    assert!(rt; refusal(PrimitiveArray::<i64>::new_empty(alloc, DataType::Date32)) == wrong);
+    assert!(rt; refusal(BooleanArray::new_null(alloc, DataType::Int8, 1)) == wrong);
+    assert!(rt; refusal(BinaryArray::<i32>::new_null(alloc, DataType::Utf8, usize::MAX)) == wrong);
+    assert!(rt; refusal(Utf8Array::<i32>::new_empty(alloc, DataType::LargeUtf8)) == wrong);
 }
 
 #[test]
 fn one_offset_more_than_slots(rt: HostRuntime) {
     let long = Some(Error::Overflow);
     let alloc = rt.alloc();
-    assert_eq!(rt;
-        refusal(Utf8Array::<i32>::new_null(alloc, DataType::Utf8, usize::MAX)),
-        long
-    );
-    assert_eq!(rt;
-        refusal(BinaryArray::<i64>::new_null(alloc, DataType::LargeBinary, usize::MAX)),
-        long
+    assert!(rt; refusal(Utf8Array::<i32>::new_null(alloc, DataType::Utf8, usize::MAX)) == long);
+    assert!(rt;
+        refusal(BinaryArray::<i64>::new_null(alloc, DataType::LargeBinary, usize::MAX)) == long
     );
     assert!(rt;
         refusal(Utf8Array::<i64>::new_null(alloc, DataType::LargeUtf8, usize::MAX - 1)) != long

@@ -15,11 +15,11 @@ fn zero_offsets(alloc: Global, length: u8) -> Result<OffsetsBuffer<i64>, Error> 
 fn bits_that_are_0(rt: HostRuntime) {
     let none = Bitmap::new_zeroed(rt.alloc(), 0).expect(&rt, "no bit");
     assert!(rt; none.is_empty());
-    assert_eq!(rt; none.unset_bits(), 0);
+    assert!(rt; none.unset_bits() == 0);
     let bits = Bitmap::new_zeroed(rt.alloc(), 9).expect(&rt, "nine bits");
-    assert_eq!(rt; bits.len(), 9);
-    assert_eq!(rt; bits.unset_bits(), 9);
-    assert_eq!(rt; bits.iter().filter(|bit| *bit).count(), 0);
+    assert!(rt; bits.len() == 9);
+    assert!(rt; bits.unset_bits() == 9);
+    assert!(rt; !bits.get_bit(8));
     drop(none);
     drop(bits);
 }
@@ -27,11 +27,11 @@ fn bits_that_are_0(rt: HostRuntime) {
 #[test]
 fn offsets_that_are_0(rt: HostRuntime) {
     let one = zero_offsets(rt.alloc(), 0).expect(&rt, "one offset");
-    assert_eq!(rt; one.as_slice(), [0].as_slice());
-    assert_eq!(rt; one.len_proxy(), 0);
+    assert!(rt; one.as_slice() == [0].as_slice());
+    assert!(rt; one.len_proxy() == 0);
     let four = zero_offsets(rt.alloc(), 3).expect(&rt, "four offsets");
-    assert_eq!(rt; four.as_slice(), [0, 0, 0, 0].as_slice());
-    assert_eq!(rt; four.len_proxy(), 3);
+    assert!(rt; four.as_slice() == [0, 0, 0, 0].as_slice());
+    assert!(rt; four.len_proxy() == 3);
     drop(one);
     drop(four);
 }
@@ -41,7 +41,7 @@ fn values_that_are_alike(rt: HostRuntime) {
     let none = Buffer::filled(rt.alloc(), 7u8, 0).expect(&rt, "no value");
     assert!(rt; none.is_empty());
     let three = Buffer::filled(rt.alloc(), -1i64, 3).expect(&rt, "three values");
-    assert_eq!(rt; three.as_slice(), [-1, -1, -1].as_slice());
+    assert!(rt; three.as_slice() == [-1, -1, -1].as_slice());
     drop(none);
     drop(three);
 }
@@ -56,15 +56,15 @@ fn too_long_for_memory(rt: HostRuntime) {
 #[test]
 fn zeros_without_memory(rt: HostRuntime) {
     if let Some(bits) = unless_refused(&rt, Bitmap::new_zeroed(rt.alloc(), 70)) {
-        assert_eq!(rt; bits.unset_bits(), 70);
+        assert!(rt; bits.unset_bits() == 70);
         drop(bits);
     }
     if let Some(offsets) = unless_refused(&rt, zero_offsets(rt.alloc(), 2)) {
-        assert_eq!(rt; offsets.last(), 0);
+        assert!(rt; offsets.last() == 0);
         drop(offsets);
     }
     if let Some(values) = unless_refused(&rt, Buffer::filled(rt.alloc(), 5u16, 4)) {
-        assert_eq!(rt; values.len(), 4);
+        assert!(rt; values.len() == 4);
         drop(values);
     }
 }
