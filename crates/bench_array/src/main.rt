@@ -8,6 +8,7 @@ mod comparing;
 mod copies;
 mod cuts;
 mod kinds;
+mod nulls;
 mod rows;
 mod scans;
 
@@ -21,6 +22,7 @@ fn run<R: Clock + Print + AllocGlobal>(rt: &R, measured: bool) -> Result<()> {
     scans::run(rt, measured)?;
     copies::run(rt, measured)?;
     kinds::run(rt, measured)?;
+    nulls::run(rt, measured)?;
     building::run(rt, measured)?;
     comparing::run(rt, measured)
 }

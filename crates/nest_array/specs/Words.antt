@@ -15,6 +15,7 @@ pub use Rattle.nest_model.specs.Cut.{cut_layout}
 pub use Rattle.nest_model.specs.CutOf.{HasValidity, IsCut, RefusesValidity}
 pub use Rattle.nest_model.specs.Fits.{FirstFault, Fits, ValidityFault, ValidityFits}
 pub use Rattle.nest_model.specs.Layout.{Layout, layout_type}
+pub use Rattle.nest_model.specs.MadeNulls.{AcceptsKind, HasNone, HasNulls, RefusesKind, RefusesType}
 pub use Rattle.nest_model.specs.Meaning.{len, run, slot, slots_of}
 pub use Rattle.nest_model.specs.Nullness.{has_keys, is_null_at, null_count}
 pub use Rattle.nest_model.specs.Part.{begin, extent}

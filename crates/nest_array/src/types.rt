@@ -1,10 +1,10 @@
 //! The data types of children.
-ghost use Rattle.std.specs.Prelude.{◌≡◌, ◌↔◌, IsTrue, Some, IfOk, IsOkUnless, MatchOption, alloc_error};
+ghost use Rattle.std.specs.Prelude.{◌≡◌, ◌↔◌, IsSome, IsTrue, Some, IfOk, IsOkUnless, MatchOption, alloc_error};
 ghost use Rattle.nest_memory.specs.TypeOf.{field_of};
-ghost use Rattle.nest_memory.specs.TypeTree.{item_field, key_type, value_type};
+ghost use Rattle.nest_memory.specs.TypeTree.{item_field, key_type, value_type as values_of};
 ghost use Rattle.nest_model.specs.Fits.{IsLogically, is_dictionary};
 ghost use Rattle.nest_array.specs.Types.{default_field};
-ghost use Rattle.nest_array.specs.Words.{Memory, item_type, physical_type, type_of};
+ghost use Rattle.nest_array.specs.Words.{Memory, item_type as items_of, physical_type, type_of};
 
 use nest_memory::datatypes::field::Field;
 use nest_memory::datatypes::physical_type::PhysicalType;
@@ -14,11 +14,33 @@ use std::alloc::Global;
 
 /// Whether lists of this type have items of that type.
 pub(crate) fn has_items(list: &DataType, items: &DataType) -> bool
-    ensures { IsTrue result ↔ (item_type (type_of list.now) ≡ Some (type_of items.now)) }
+    ensures { IsTrue result ↔ (items_of (type_of list.now) ≡ Some (type_of items.now)) }
 {
     match list.item_type() {
         None => false,
         Some(item) => item == items,
+    }
+}
+
+/// The type of the items of lists of this type.
+pub(crate) fn item_type(list: &DataType) -> &DataType
+    requires { IsSome (items_of (type_of list.now)) }
+    ensures { items_of (type_of list.now) ≡ Some (type_of result.now) }
+{
+    match list.item_type() {
+        Some(item) => item,
+        None => unreachable!(),
+    }
+}
+
+/// The type of the values of dictionaries of this type.
+pub(crate) fn value_type(dictionary: &DataType) -> &DataType
+    requires { IsSome (values_of (type_of dictionary.now)) }
+    ensures { values_of (type_of dictionary.now) ≡ Some (type_of result.now) }
+{
+    match dictionary.value_type() {
+        Some(value) => value,
+        None => unreachable!(),
     }
 }
 
@@ -44,7 +66,7 @@ pub(crate) fn has_key_type(dictionary: &DataType, key: IntegerType) -> bool
 
 /// Whether dictionaries of this type have values of that logical type.
 pub(crate) fn has_values(dictionary: &DataType, values: &DataType) -> bool
-    ensures { IsTrue result ↔ IsLogically (value_type (type_of dictionary.now)) (type_of values.now) }
+    ensures { IsTrue result ↔ IsLogically (values_of (type_of dictionary.now)) (type_of values.now) }
 {
     match dictionary.value_type() {
         None => false,

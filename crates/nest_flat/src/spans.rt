@@ -1,10 +1,12 @@
 //! Offsets over bytes: what arrays of bytes and of texts share.
-ghost use Rattle.std.specs.Prelude.{◌≡◌, ◌↔◌, ◌≤◌, ◌<◌, IsTrue, IsUtf8, length};
-ghost use Rattle.nest_flat.specs.Words.{AreOffsets, EachText, begin, cut, extent, last_of, rows};
+ghost use Rattle.std.specs.Prelude.{◌≡◌, ◌+◌, ◌↔◌, ◌≤◌, ◌<◌, ◌^◌, [], IfOk, IsOkUnless, IsTrue, IsUtf8, alloc_error, length, replicate, suc};
+ghost use Rattle.nest_flat.specs.Words.{AreOffsets, EachText, Memory, begin, cut, extent, last_of, rows};
 
 use nest_memory::buffer::Buffer;
+use nest_memory::error::Error;
 use nest_memory::offset::Offset;
-use nest_memory::offsets::OffsetsBuffer;
+use nest_memory::offsets::{Offsets, OffsetsBuffer};
+use std::alloc::Global;
 use std::str;
 
 /// The last offset.
@@ -61,4 +63,17 @@ pub(crate) fn are_texts<O: Offset>(offsets: &OffsetsBuffer<O>, bytes: &Buffer<u8
         }
     }
     true
+}
+
+/// The offsets and the bytes of `length` slots that have none.
+pub(crate) fn no_bytes<O: Offset>(
+    alloc: Global,
+    length: usize,
+) -> Result<(OffsetsBuffer<O>, Buffer<u8>), Error>
+    requires { length + 1 < 2 ^ 64 }
+    ensures ok { IfOk result (λ p. (p.0 ≡ replicate (suc length) 0) × (p.1 ≡ [])) }
+    ensures err { IsOkUnless result (Memory alloc_error) }
+{
+    let mut offsets = Offsets::new_zeroed(alloc, length)?;
+    Ok((offsets.freeze()?, Buffer::new(alloc)?))
 }

@@ -1,11 +1,12 @@
 //! Validities, which may be absent: a bit a slot, 1 where the slot is valid.
 ghost use Rattle.std.specs.Prelude.{◌≡◌, ◌+◌, ◌≤◌, ◌<◌, ◌↔◌, IsTrue, IfOk, IsOkUnless, MatchOption, alloc_error};
-ghost use Rattle.nest_flat.specs.Words.{FailFirst, Memory, Pass, ValidityCovers, ValidityFits, cut_validity, flat_checks, type_of, unset_count, valid_at};
+ghost use Rattle.nest_flat.specs.Words.{FailFirst, Memory, Pass, ValidityCovers, ValidityFits, cut_validity, flat_checks, none_valid, type_of, unset_count, valid_at};
 
 use nest_memory::bitmap::immutable::Bitmap;
 use nest_memory::datatypes::DataType;
 use nest_memory::datatypes::physical_type::PhysicalType;
 use nest_memory::error::{Error, Spec};
+use std::alloc::Global;
 
 /// Whether it has a bit for each of n slots.
 pub fn fits(validity: &Option<Bitmap>, n: usize) -> bool
@@ -57,6 +58,17 @@ pub fn clone(validity: &Option<Bitmap>) -> Result<Option<Bitmap>, Error>
         None => Ok(None),
         Some(bits) => Ok(Some(bits.clone()?)),
     }
+}
+
+/// Of a null array: none of n slots is valid. An empty array, below whose dictionaries lie no values, has no validity.
+pub fn none_valid(alloc: Global, n: usize, values: usize) -> Result<Option<Bitmap>, Error>
+    ensures ok { IfOk result (λ v. v ≡ none_valid values n) }
+    ensures err { IsOkUnless result (Memory alloc_error) }
+{
+    if values == 0 {
+        return Ok(None);
+    }
+    Ok(Some(Bitmap::new_zeroed(alloc, n)?))
 }
 
 /// The first check that fails of a flat array of n slots, of those that every kind ends with: a bit

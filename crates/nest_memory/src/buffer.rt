@@ -1,5 +1,5 @@
 //! A window of a vector that several buffers share.
-ghost use Rattle.std.specs.Prelude.{◌≡◌, ◌+◌, ◌≤◌, ◌<◌, IfOk, IsTrue, ◌↔◌, length, [], slice_get, Some, IsOkUnless, alloc_error};
+ghost use Rattle.std.specs.Prelude.{◌≡◌, ◌+◌, ◌≤◌, ◌<◌, IfOk, IsTrue, ◌↔◌, length, [], slice_get, Some, IsOkUnless, replicate, alloc_error};
 ghost use Rattle.nest_memory.specs.declared.error.Error.TheVariants.{Memory};
 ghost use Rattle.nest_memory.specs.Cut.{cut};
 
@@ -50,6 +50,16 @@ impl<T: Copy> Buffer<T> {
         ensures err { IsOkUnless result (Memory alloc_error) }
     {
         Buffer::from_vec(alloc, Vec::new(alloc))
+    }
+
+    /// `length` times one value, in one request for the values.
+    pub fn filled(alloc: Global, value: T, length: usize) -> Result<Buffer<T>, Error>
+        ensures ok { IfOk result (λ b. b ≡ replicate length value) }
+        ensures err { IsOkUnless result (Memory alloc_error) }
+    {
+        let mut items = Vec::with_capacity(alloc, length)?;
+        items.resize(length, value)?;
+        Buffer::from_vec(alloc, items)
     }
 
     /// The number of values.

@@ -276,6 +276,17 @@ impl<O: Offset> Offsets<O> {
         Ok(Offsets { offsets })
     }
 
+    /// `length` slots of no item each, so one offset 0 more.
+    pub fn new_zeroed(alloc: Global, length: usize) -> Result<Offsets<O>, Error>
+        requires { length + 1 < 2 ^ 64 }
+        ensures ok { IfOk result (λ b. b ≡ replicate (length + 1) 0) }
+        ensures err { IsOkUnless result (Memory alloc_error) }
+    {
+        let mut offsets = Offsets::with_room(alloc, length + 1)?;
+        offsets.extend_constant(length)?;
+        Ok(offsets)
+    }
+
     /// These offsets. `OutOfSpec(Offsets)` where the first isn't 0, or one is below that before it.
     pub fn try_new(offsets: Vec<O>) -> Result<Offsets<O>, Error>
         ensures ok { IfOk result (λ b. b ≡ numbers O.value offsets.items) }

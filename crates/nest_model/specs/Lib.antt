@@ -59,3 +59,5 @@ pub mod BuilderSpellsLaws
 pub mod BuilderJoin
 pub mod BuilderJoinLaws
 pub mod CutOf
+pub mod NullKinds
+pub mod MadeNulls

@@ -65,7 +65,7 @@ positive (suc s) h = omega arith
 same-number : (m n : ℕ) → nat_eq m n ≡ true → m ≡ n
 same-number m n h = grind (arith)
 
-not-above : (m n : ℕ) → nat_lt m n ≡ false → n ≤ m
+pub not-above : (m n : ℕ) → nat_lt m n ≡ false → n ≤ m
 not-above m n h = grind (arith)
 
 below : (m n : ℕ) → nat_lt m n ≡ true → m < n
@@ -106,7 +106,7 @@ zero-last : (n m : ℕ) → last_of (replicate (suc n) 0) ≤ m
 zero-last n m = let e = zero-at (suc n) (length {A = ℕ} (replicate (suc n) 0) - 1) in omega arith
 
 -- flat arrays
-native-null : (k : PrimitiveType) (t : TypeTree) (n d : ℕ) → (0 < n → 0 < d) → physical_type t ≡ physical.Primitive k → null_slot t ≡ slots.null → IsNullArray t n (native_nulls k t n d)
+pub native-null : (k : PrimitiveType) (t : TypeTree) (n d : ℕ) → (0 < n → 0 < d) → physical_type t ≡ physical.Primitive k → null_slot t ≡ slots.null → IsNullArray t n (native_nulls k t n d)
 native-null k t n d h p e =
     let l = length-replicate n (zero_value k) in
     record {
@@ -455,7 +455,7 @@ more-null (field x t b es) fs n c cs r rs =
     more-picks x t b es fs n c cs r rs f (suc k) i j l = rs.picks f k i (omega arith) l
 
 mutual
-  null-array : (t : TypeTree) (n d : ℕ) → (0 < n → 0 < d) → fault_of t n d ≡ None → IsNullArray t n (null_array t n d)
+  pub null-array : (t : TypeTree) (n d : ℕ) → (0 < n → 0 < d) → fault_of t n d ≡ None → IsNullArray t n (null_array t n d)
   null-array types.null n d p h = record { typed = refl; long = refl; nulls = λ i j. refl; parts = tt; fits = (refl, tt); children = tt }
   null-array types.boolean n d p h =
       let l = length-replicate n false in

@@ -30,6 +30,8 @@
 //! `push_bytes`, `push_text` and their freezes in [`builders`]; `push_row`, `tell_row`, `freeze_rows`, and both together in
 //! `push_and_freeze`, in [`rows`].
 //!
+//! Of every data type without a fault there are null and empty arrays: [`empties`].
+//!
 //! # Below and above
 //!
 //! [`memory`] has what all this stands on: buffers, bitmaps and offsets are lists, and data types are trees. What follows from
@@ -45,6 +47,7 @@
 
 pub use promises_arrays as arrays;
 pub use promises_builders as builders;
+pub use promises_empties as empties;
 pub use promises_equality as equality;
 pub use promises_flat as flat;
 pub use promises_memory as memory;

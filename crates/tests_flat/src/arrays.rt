@@ -5,6 +5,7 @@ mod cuts;
 mod iterators;
 mod kinds;
 mod memory;
+mod nulls;
 mod refusals;
 mod same;
 

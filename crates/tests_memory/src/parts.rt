@@ -3,6 +3,7 @@
 mod bitmaps;
 mod growing;
 mod offsets;
+mod zeroed;
 
 use nest_memory::buffer::Buffer;
 use nest_memory::error::Error;

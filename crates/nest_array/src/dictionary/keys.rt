@@ -499,7 +499,7 @@ impl AnyKeys {
 }
 
 // Keys in the variant of their width, or the refusal of them.
-fn wrapped<K: DictionaryKey>(keys: Result<K::Array, Error>) -> Result<AnyKeys, Error>
+pub(super) fn wrapped<K: DictionaryKey>(keys: Result<K::Array, Error>) -> Result<AnyKeys, Error>
     ensures { MatchResult keys
         (λ a. MatchResult result (λ b. keys_layout b ≡ K.layout_of_array a) (λ _. ⊥))
         (λ e. IsErrOf result e) }

@@ -1,6 +1,7 @@
 //! Arrays whose slots are looked up by keys.
 mod copies;
 pub mod keys;
+mod nulls;
 
 ghost use Rattle.std.specs.Prelude.{◌≡◌, ◌+◌, ◌≤◌, ◌<◌, ◌↔◌, pos, true, false, IsTrue, IfOk, IsOkUnless, MatchOption, MatchResult, option_map, alloc_error};
 ghost use Rattle.nest_memory.specs.Rising.{below_zero};

@@ -1,5 +1,6 @@
 //! Arrays of lists of one size.
 mod copies;
+mod nulls;
 
 ghost use Rattle.std.specs.Prelude.{◌≡◌, ◌+◌, ◌*◌, ◌≤◌, ◌<◌, ◌↔◌, IsTrue, IfOk, IsOkUnless, MatchResult, MatchOption, option_map, alloc_error};
 ghost use Rattle.nest_model.specs.Layout as layouts;

@@ -2,6 +2,7 @@
 mod copies;
 mod data_type;
 pub mod large;
+mod nulls;
 pub mod offset;
 pub(crate) mod ranges;
 

@@ -1,9 +1,10 @@
 //! Where the items of each list lie, and which lists are valid: what lists of both widths of offsets and maps have in
 //! common.
-ghost use Rattle.std.specs.Prelude.{◌≡◌, ◌+◌, ◌≤◌, ◌<◌, IfOk, IsOkUnless, MatchOption, alloc_error};
+ghost use Rattle.std.specs.Prelude.{◌≡◌, ◌+◌, ◌≤◌, ◌<◌, ◌^◌, IfOk, IsOkUnless, MatchOption, alloc_error, replicate, suc};
 ghost use Rattle.nest_memory.specs.Physical.{list_of_width};
 ghost use Rattle.nest_model.specs.Array.{AreOffsets};
 ghost use Rattle.nest_model.specs.Layout as layouts;
+ghost use Rattle.nest_model.specs.NullLayout.{none_valid};
 ghost use Rattle.nest_memory.specs.Rising.{last_of};
 ghost use Rattle.nest_model.specs.Part.{rows, cut_validity};
 ghost use Rattle.nest_array.specs.Words.{FirstFault, Fits, Memory, ValidityFits, begin, cut, extent, layout_of, type_of};
@@ -16,7 +17,7 @@ use nest_memory::datatypes::DataType;
 use nest_memory::datatypes::physical_type::PhysicalType;
 use nest_memory::error::{Error, Spec};
 use nest_memory::offset::Offset;
-use nest_memory::offsets::OffsetsBuffer;
+use nest_memory::offsets::{Offsets, OffsetsBuffer};
 use std::alloc::Global;
 
 /// The offsets of some lists and their validity.
@@ -27,6 +28,20 @@ pub(crate) struct Ranges<O: Offset> {
 }
 
 impl<O: Offset> Ranges<O> {
+    /// Of `length` lists without an item, none of which is valid; without `values` there is no validity.
+    pub(crate) fn nulls(alloc: Global, length: usize, values: usize) -> Result<Ranges<O>, Error>
+        requires { length + 1 < 2 ^ 64 }
+        ensures ok { IfOk result (λ r. (r.offsets ≡ replicate (suc length) 0) × (r.validity ≡ none_valid values length)) }
+        ensures err { IsOkUnless result (Memory alloc_error) }
+    {
+        let validity = validity::none_valid(alloc, length, values)?;
+        let mut offsets = Offsets::new_zeroed(alloc, length)?;
+        Ok(Ranges {
+            offsets: offsets.freeze()?,
+            validity,
+        })
+    }
+
     /// How many lists there are.
     pub(crate) fn len(&self) -> usize
         ensures { result ≡ rows self.now.offsets }

@@ -1,5 +1,6 @@
 //! Arrays of maps: lists of pairs of a key and a value.
 mod copies;
+mod nulls;
 
 ghost use Rattle.std.specs.Prelude.{◌≡◌, ◌+◌, ◌≤◌, ◌<◌, ◌↔◌, IsTrue, IfOk, IsOkUnless, MatchOption, MatchResult, option_map, alloc_error};
 ghost use Rattle.nest_model.specs.Array.{AreOffsets};

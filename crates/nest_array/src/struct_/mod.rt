@@ -1,5 +1,6 @@
 //! Arrays of records.
 mod copies;
+mod nulls;
 
 ghost use Rattle.std.specs.Prelude.{◌≡◌, ◌+◌, ◌≤◌, ◌<◌, ◌↔◌, IsTrue, IfOk, IsOkUnless, MatchResult, MatchOption, option_map, length, alloc_error};
 ghost use Rattle.nest_memory.specs.TypeOf.{field_list_of};

@@ -1,6 +1,7 @@
 //! Arrays of unions.
 mod checks;
 mod copies;
+mod nulls;
 mod table;
 
 ghost use Rattle.std.specs.Prelude.{◌≡◌, ◌+◌, ◌≤◌, ◌<◌, ◌↔◌, IfOk, IsOkUnless, IsTrue, MatchResult, Some, alloc_error, get_or, not, option_map, pos};

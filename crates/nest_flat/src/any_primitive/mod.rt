@@ -1,6 +1,7 @@
 //! Arrays of native values of any kind.
 mod equality;
 mod native;
+mod nulls;
 
 ghost use Rattle.std.specs.Prelude.{◌≡◌, ◌+◌, ◌≤◌, ◌<◌, ◌↔◌, IsTrue, IfOk, IsErrOf, IsOkUnless, MatchResult, option_map, alloc_error};
 ghost use Rattle.nest_memory.specs.declared.datatypes.physical_type.PhysicalType.TheVariants as physical;

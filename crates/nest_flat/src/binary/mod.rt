@@ -1,6 +1,7 @@
 //! Arrays of bytes.
 pub mod iterator;
 pub mod mutable;
+mod nulls;
 
 ghost use Rattle.std.specs.Prelude.{◌≡◌, ◌+◌, ◌≤◌, ◌<◌, ◌↔◌, IsTrue, IfOk, IsOkUnless, MatchResult, MatchOption, None, option_map, alloc_error};
 ghost use Rattle.nest_model.specs.Layout as layouts;

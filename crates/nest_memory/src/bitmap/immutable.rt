@@ -1,5 +1,5 @@
 //! A window of bits that several bitmaps share.
-ghost use Rattle.std.specs.Prelude.{◌≡◌, ℕ, ◌+◌, ◌*◌, ◌<◌, ◌≤◌, ◌↔◌, ◌⊎◌, List, [], IfOk, IfErr, IfSome, IsErrOf, IsOkUnless, IsTrue, length, slice_get, Some, count_by, not, vec_len, alloc_error};
+ghost use Rattle.std.specs.Prelude.{◌≡◌, ℕ, ◌+◌, ◌*◌, ◌<◌, ◌≤◌, ◌↔◌, ◌⊎◌, List, [], IfOk, IfErr, IfSome, IsErrOf, IsOkUnless, IsTrue, length, slice_get, Some, count_by, not, false, replicate, vec_len, alloc_error};
 ghost use Rattle.nest_memory.specs.Bits.{bits_from};
 ghost use Rattle.nest_memory.specs.Cut.{cut};
 ghost use Rattle.nest_memory.specs.declared.error.Error.TheVariants.{OutOfSpec, Memory};
@@ -78,6 +78,16 @@ impl Bitmap {
         for bit in bools {
             bitmap.push(*bit)?;
         }
+        bitmap.freeze()
+    }
+
+    /// `length` bits that are 0.
+    pub fn new_zeroed(alloc: Global, length: usize) -> Result<Bitmap, Error>
+        ensures ok { IfOk result (λ b. b ≡ replicate length false) }
+        ensures err { IsOkUnless result (Memory alloc_error) }
+    {
+        let mut bitmap = MutableBitmap::with_capacity(alloc, length)?;
+        bitmap.extend_constant(length, false)?;
         bitmap.freeze()
     }
 

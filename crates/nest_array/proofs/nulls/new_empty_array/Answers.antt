@@ -1,0 +1,8 @@
+use Rattle.std.proofs.lemmas.Result.{MatchResult-weaker}
+use Rattle.nest_memory.specs.TypeOf.{type_of}
+use Rattle.nest_model.specs.MadeNulls.{has-none}
+use Rattle.nest_array.specs.Seen.{layout_of}
+use Rattle.nest_array.proofs.nulls.new_empty_array.Goals as goal
+
+pub returns : goal.returns
+returns c = MatchResult-weaker c.checked.result c.checked.ensures (λ a h. (h.0, has-none (type_of c.args.data_type) (layout_of a) h.0 h.1)) (λ e h. h)

@@ -1,0 +1,8 @@
+use Rattle.std.proofs.lemmas.Result.{MatchResult-weaker}
+use Rattle.nest_memory.specs.TypeOf.{type_of}
+use Rattle.nest_model.specs.MadeNulls.{has-nulls}
+use Rattle.nest_array.specs.Seen.{layout_of}
+use Rattle.nest_array.proofs.nulls.new_null_array.Goals as goal
+
+pub returns : goal.returns
+returns c = MatchResult-weaker c.checked.result c.checked.ensures (λ a h. (h.0, has-nulls (type_of c.args.data_type) c.args.length (layout_of a) h.0 h.1)) (λ e h. h)

@@ -1,0 +1,84 @@
+//! Arrays of lists that are null, and such arrays without a slot.
+ghost use Rattle.std.specs.Prelude.{◌≡◌, ◌<◌, IfOk, IsOkUnless, MatchResult, None, alloc_error};
+ghost use Rattle.nest_memory.specs.declared.datatypes.physical_type.PhysicalType.TheVariants as physical;
+ghost use Rattle.nest_model.specs.Nulls.{empty_fault, fault_of, type_fault};
+ghost use Rattle.nest_model.specs.NullLayout.{null_array as nulls_of};
+ghost use Rattle.nest_array.specs.Words.{AcceptsKind, HasNone, HasNulls, Memory, RefusesKind, physical_type, type_of};
+
+use crate::list::ListArray;
+use crate::list::ranges::Ranges;
+use crate::nulls::{self, Nulls, null_array};
+use crate::types::item_type;
+use nest_memory::datatypes::DataType;
+use nest_memory::datatypes::physical_type::PhysicalType;
+use nest_memory::error::Error;
+use std::alloc::Global;
+
+impl ListArray {
+    /// The array without a slot.
+    ///
+    /// # Errors
+    /// `WrongType` where the physical type isn't `List`, then as `new_empty_array`.
+    pub fn new_empty(alloc: Global, data_type: DataType) -> Result<ListArray, Error>
+        ensures { let t = type_of data_type in MatchResult result
+            (λ a. AcceptsKind physical.List t (empty_fault t) × HasNone t a)
+            (λ e. RefusesKind e physical.List t (empty_fault t)) }
+    {
+        nulls::empty(alloc, data_type)
+    }
+
+    /// The array of `length` null slots.
+    ///
+    /// # Errors
+    /// `WrongType` where the physical type isn't `List`, then as `new_null_array`.
+    pub fn new_null(alloc: Global, data_type: DataType, length: usize) -> Result<ListArray, Error>
+        ensures { let t = type_of data_type in MatchResult result
+            (λ a. AcceptsKind physical.List t (type_fault t length) × HasNulls t length a)
+            (λ e. RefusesKind e physical.List t (type_fault t length)) }
+    {
+        nulls::null(alloc, data_type, length)
+    }
+
+    /// `length` nulls of a type that was looked at; below a dictionary lie `values`.
+    #[cycle(nulls)]
+    pub(crate) fn nulls(
+        alloc: Global,
+        data_type: &DataType,
+        length: usize,
+        values: usize,
+    ) -> Result<ListArray, Error>
+        requires kind { physical_type (type_of data_type.now) ≡ physical.List }
+        requires unrefused { fault_of (type_of data_type.now) length values ≡ None }
+        requires valid { 0 < length → 0 < values }
+        ensures ok { IfOk result (λ a. a ≡ nulls_of (type_of data_type.now) length values) }
+        ensures err { IsOkUnless result (Memory alloc_error) }
+    {
+        let ranges = Ranges::nulls(alloc, length, values)?;
+        let items = null_array(alloc, item_type(data_type), 0, 0)?;
+        match data_type.clone(alloc) {
+            Ok(data_type) => ListArray::of(alloc, data_type, ranges, items),
+            Err(error) => {
+                drop(items);
+                drop(ranges);
+                Err(error)
+            }
+        }
+    }
+}
+
+impl Nulls for ListArray {
+    ghost KIND = { physical.List };
+
+    ghost use Rattle.nest_memory.specs.declared.datatypes.physical_type.PhysicalType.TheVariants as physical;
+
+    const KIND: PhysicalType = PhysicalType::List;
+
+    fn of_nulls(
+        alloc: Global,
+        data_type: &DataType,
+        length: usize,
+        values: usize,
+    ) -> Result<ListArray, Error> {
+        ListArray::nulls(alloc, data_type, length, values)
+    }
+}

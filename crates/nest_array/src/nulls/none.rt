@@ -1,0 +1,73 @@
+//! Arrays of nulls that are null, and such arrays without a slot.
+ghost use Rattle.std.specs.Prelude.{◌≡◌, ◌<◌, IfOk, IsOkUnless, MatchResult, None, alloc_error};
+ghost use Rattle.nest_memory.specs.declared.datatypes.physical_type.PhysicalType.TheVariants as physical;
+ghost use Rattle.nest_model.specs.Nulls.{empty_fault, fault_of, type_fault};
+ghost use Rattle.nest_model.specs.NullLayout.{null_array as nulls_of};
+ghost use Rattle.nest_array.specs.Words.{AcceptsKind, HasNone, HasNulls, Memory, RefusesKind, physical_type, type_of};
+
+use crate::null::NullArray;
+use crate::nulls::{self, Nulls};
+use nest_memory::datatypes::DataType;
+use nest_memory::datatypes::physical_type::PhysicalType;
+use nest_memory::error::Error;
+use std::alloc::Global;
+
+impl NullArray {
+    /// The array without a slot.
+    ///
+    /// # Errors
+    /// `WrongType` where the physical type isn't `Null`, then as `new_empty_array`.
+    pub fn new_empty(alloc: Global, data_type: DataType) -> Result<NullArray, Error>
+        ensures { let t = type_of data_type in MatchResult result
+            (λ a. AcceptsKind physical.Null t (empty_fault t) × HasNone t a)
+            (λ e. RefusesKind e physical.Null t (empty_fault t)) }
+    {
+        nulls::empty(alloc, data_type)
+    }
+
+    /// The array of `length` null slots.
+    ///
+    /// # Errors
+    /// `WrongType` where the physical type isn't `Null`, then as `new_null_array`.
+    pub fn new_null(alloc: Global, data_type: DataType, length: usize) -> Result<NullArray, Error>
+        ensures { let t = type_of data_type in MatchResult result
+            (λ a. AcceptsKind physical.Null t (type_fault t length) × HasNulls t length a)
+            (λ e. RefusesKind e physical.Null t (type_fault t length)) }
+    {
+        nulls::null(alloc, data_type, length)
+    }
+
+    /// `length` nulls of a type that was looked at; below a dictionary lie `values`.
+    pub(crate) fn nulls(
+        alloc: Global,
+        data_type: &DataType,
+        length: usize,
+        values: usize,
+    ) -> Result<NullArray, Error>
+        requires kind { physical_type (type_of data_type.now) ≡ physical.Null }
+        requires unrefused { fault_of (type_of data_type.now) length values ≡ None }
+        requires valid { 0 < length → 0 < values }
+        ensures ok { IfOk result (λ a. a ≡ nulls_of (type_of data_type.now) length values) }
+        ensures err { IsOkUnless result (Memory alloc_error) }
+    {
+        let _values = values;
+        Ok(NullArray::new(data_type.clone(alloc)?, length))
+    }
+}
+
+impl Nulls for NullArray {
+    ghost KIND = { physical.Null };
+
+    ghost use Rattle.nest_memory.specs.declared.datatypes.physical_type.PhysicalType.TheVariants as physical;
+
+    const KIND: PhysicalType = PhysicalType::Null;
+
+    fn of_nulls(
+        alloc: Global,
+        data_type: &DataType,
+        length: usize,
+        values: usize,
+    ) -> Result<NullArray, Error> {
+        NullArray::nulls(alloc, data_type, length, values)
+    }
+}
