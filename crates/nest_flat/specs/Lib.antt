@@ -7,6 +7,7 @@ pub mod FlatParts
 pub mod Growth
 pub mod NullCounts
 pub mod NullSlots
+pub mod Plain
 pub mod SameFlat
 pub mod SameRuns
 pub mod Words

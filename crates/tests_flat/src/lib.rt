@@ -8,6 +8,7 @@
 //! | Slots, and what lies under a null, of each kind | `arrays::kinds::slots_of_numbers`, `arrays::kinds::slots_of_truths`, `arrays::kinds::slots_of_bytes`, `arrays::kinds::slots_of_texts` |
 //! | Raw values in blocks: of 0, 1, 16 and 17 values, at other places, under nulls | `arrays::blocks` |
 //! | A native value of each kind is of that kind alone, and comes back | `natives` |
+//! | What a value of each type is as a plain one, which are equal, and that equal ones hash alike | `plain` |
 //! | A builder has no validity before its first null | `no_nulls::natives_without_nulls`, `no_nulls::truths_without_nulls`, `no_nulls::bytes_without_nulls`, `no_nulls::texts_without_nulls` |
 //! | What was pushed is frozen and read back | `growth::pushed_numbers_are_frozen`, `bytes_growth::texts_are_frozen_and_read_back` |
 //! | Any one request for memory refused: a clone leaves its array, a push its builder | `arrays::memory::refused_clone_of_numbers`, `growth::refused_items_change_nothing`, `bytes_growth::refused_texts_change_nothing` |
@@ -23,3 +24,5 @@ mod growth;
 mod natives;
 #[cfg(test)]
 mod no_nulls;
+#[cfg(test)]
+mod plain;
