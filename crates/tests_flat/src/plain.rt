@@ -66,7 +66,10 @@ fn equal_values_hash_alike(rt: HostRuntime) -> Result<(), std::test::Fail> {
     let mut text = String::new(rt.alloc());
     text.push_str("a")?;
     text.push_str("b")?;
-    assert_eq!(rt; hash_of(&Plain::Text(text.as_str())), hash_of(&Plain::Text("ab")));
+    assert_eq!(rt;
+        hash_of(&Plain::Text(text.as_str())),
+        hash_of(&Plain::Text("ab"))
+    );
     assert_eq!(rt; hash_of(&7u64.as_plain()), hash_of(&7u64.as_plain()));
     assert!(rt; hash_of(&7u64.as_plain()) != hash_of(&8u64.as_plain()));
     Ok(())
