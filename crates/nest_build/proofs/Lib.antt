@@ -1,3 +1,5 @@
+mod FlatTrees
+mod Nulls
 pub mod Pushed
 pub mod Refused
 pub mod Rows

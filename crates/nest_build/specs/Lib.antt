@@ -1,5 +1,7 @@
 pub mod ChildRow
+pub mod FlatTree
 pub mod Items
 pub mod Rows
 pub mod Seen
+pub mod Told
 pub mod Words

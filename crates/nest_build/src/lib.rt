@@ -1,4 +1,8 @@
 //! Builders of nested arrays in the Arrow format.
 #![tactic(auto)]
 
+pub mod array;
+mod boxed;
+pub mod flat;
 pub mod list;
+pub mod push;
