@@ -1,5 +1,5 @@
 //! Pushing items of one type: arrow2's `TryPush`, `TryExtend` and `TryExtendFromSelf`.
-ghost use Rattle.std.specs.Prelude.{◌≡◌, ◌<◌, ◌⊎◌, false, true, None, Some, OnOk, OnErr, IfErr, IsErrOf, replicate, alloc_error};
+ghost use Rattle.std.specs.Prelude.{◌≡◌, ◌<◌, ◌⊎◌, false, true, OnOk, OnErr, IfErr, replicate, alloc_error};
 ghost use Rattle.nest_model.specs.BuilderItem.{null as null_item};
 ghost use Rattle.nest_build.specs.Words.{AcceptedAll, CanRead, FailFirst, IsWhole, Joined, Memory, Overflow, Pass, Read, Refused, RefusedSome, Took, TookAll, join_checks, nulls_pass};
 
@@ -44,6 +44,21 @@ pub trait TryExtend<A>: MutableArray {
         ensures ok { OnOk result (TookAll I.into_iter_gives I.IntoIter.next_gives reads_each items (Self.model self.old) (Self.model self.new)) }
         ensures err { OnErr result (Self.model self.new ≡ Self.model self.old) }
         ensures cause { IfErr result (λ e. RefusedSome I.into_iter_gives I.IntoIter.next_gives reads_each items (Self.model self.old) e) };
+}
+
+/// A builder that takes all rows of another one of its type, or none.
+pub trait TryExtendFromSelf: MutableArray {
+    /// Adds the other's rows, at each level.
+    ///
+    /// # Errors
+    /// `ItemType` where the data types differ; then `Overflow` where a level would pass its limit; `Memory`.
+    fn try_extend_from_self(&mut self, other: &Self) -> Result<(), Error>
+        requires whole { IsWhole (Self.model self.old) }
+        requires other_whole { IsWhole (Self.model other.now) }
+        ensures joined { OnOk result (Joined (Self.model other.now) (Self.model self.old) (Self.model self.new)) }
+        ensures unrefused { OnOk result (Pass (join_checks (Self.model self.old) (Self.model other.now))) }
+        ensures err { OnErr result (Self.model self.new ≡ Self.model self.old) }
+        ensures cause { IfErr result (λ e. (e ≡ Memory alloc_error) ⊎ FailFirst e (join_checks (Self.model self.old) (Self.model other.now))) };
 }
 
 /// Pushes each item, and takes all of them back where one is refused.
