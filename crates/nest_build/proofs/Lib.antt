@@ -1,4 +1,6 @@
+mod FixedBytesLaws
 mod FlatTrees
+mod NullTrees
 mod Nulls
 pub mod Pushed
 pub mod Refused

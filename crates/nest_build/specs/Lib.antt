@@ -1,4 +1,5 @@
 pub mod ChildRow
+pub mod FixedBytes
 pub mod FlatTree
 pub mod Items
 pub mod Rows

@@ -5,4 +5,5 @@ pub mod array;
 mod boxed;
 pub mod flat;
 pub mod list;
+pub mod null;
 pub mod push;
