@@ -1,11 +1,13 @@
 -- Byte strings of one size that stand behind others, and their cuts.
-use Rattle.std.specs.Prelude.{◌≢◌, Option, Some, None, is_some, if◌then◌else◌}
-use Rattle.std.proofs.Common.{◌≡◌, ℕ, zero, suc, ◌+◌, ◌*◌, ◌/◌, ◌%◌, ◌<◌, ◌≤◌, Bool, true, false, List, [], ◌∷◌, ◌++◌, length, take, drop, replicate, get_or, refl, ap, sym, ◌∙◌, subst, inl, inr, arith}
+use Rattle.std.specs.Prelude.{Option, Some, None, is_some, if◌then◌else◌}
+use Rattle.std.specs.Borrow.{Bor}
+use Rattle.std.specs.Option.{option_copied}
+use Rattle.std.proofs.Common.{◌≡◌, ℕ, zero, suc, ◌+◌, ◌-◌, ◌*◌, ◌/◌, ◌%◌, ◌<◌, ◌≤◌, Bool, true, false, List, [], ◌∷◌, ◌++◌, length, take, drop, replicate, get_or, refl, ap, sym, ◌∙◌, subst, inl, inr, arith}
 use Rattle.std.proofs.lemmas.List.{length-append, length-replicate, length-drop, get_or-replicate, get_or_append_left, get_or-append-add, drop-append-le, take-append-le, drop-drop, take_all}
 use Rattle.std.proofs.lemmas.Bool.Decides.{eqb_tells}
 use Rattle.std.proofs.lemmas.Nat.{div-add-mod'}
-use Rattle.std.proofs.Math.Seq.{drop-append_seam, take-length}
-use Rattle.std.proofs.Math.Nat.{add-mul, mul-div_cancel, div-mul-le_self}
+use Rattle.std.proofs.Math.Seq.{drop-append_seam}
+use Rattle.std.proofs.Math.Nat.{add-mul, mul-div_cancel}
 use Rattle.nest_memory.specs.Cut.{cut}
 use Rattle.nest_memory.specs.TypeTree.{TypeTree, size_of}
 use Rattle.nest_memory.specs.Physical.{physical_type}
@@ -16,6 +18,8 @@ use Rattle.nest_model.specs.Slot.{Slot}
 use Rattle.nest_model.specs.Layout.{Layout, fixed_size_binary, layout_type}
 use Rattle.nest_model.specs.Cut.{cut_layout}
 use Rattle.nest_model.specs.Meaning.{run, len, slot, slots_of}
+use Rattle.nest_model.specs.Reads.{slot-place}
+use Rattle.nest_model.specs.FitsLaws.{top-fits-cut}
 use Rattle.nest_model.specs.Runs.{run-ext, product-end, product-exact}
 use Rattle.nest_model.specs.Fits.{ValidityFits}
 use Rattle.nest_model.specs.Array.{TopFits}
@@ -112,9 +116,19 @@ module _ (t : TypeTree) (bs cs : List ℕ) (n m : ℕ) (sized : 0 < size_of t) (
           rw (v, o, cut-right bs cs (i * size_of t) (size_of t)) refl
 
   both-fits : (va vb : Validity) → physical_type t ≡ physical.FixedSizeBinary → ValidityFits va n → ValidityFits vb m → TopFits (fixed_size_binary t (bs ++ cs) (joined_validity va n vb m))
-  both-fits va vb e h g =
-      (tt, (e, (sized, (ap (λ x. x % size_of t) both-length ∙ product-exact (n + m) (size_of t),
-      (subst (ValidityFits (joined_validity va n vb m)) (sym (counted (length (bs ++ cs)) (n + m) (size_of t) sized both-length)) (fits-joined va vb n m h g), tt)))))
+  both-fits va vb e h g = (
+    tt,
+    (
+      e,
+      (
+        sized,
+        (
+          ap (λ x. x % size_of t) both-length ∙ product-exact (n + m) (size_of t),
+          (subst (ValidityFits (joined_validity va n vb m)) (sym (counted (length (bs ++ cs)) (n + m) (size_of t) sized both-length)) (fits-joined va vb n m h g), tt),
+        ),
+      ),
+    ),
+  )
 
 -- one slot
 one-slot : (t : TypeTree) (xs : List ℕ) (b : Bool) → 0 < size_of t → length xs ≡ size_of t
@@ -124,9 +138,12 @@ one-slot t xs true p e =
     rw (counted (length xs) 1 (size_of t) p (omega (arith, e)), z, take_all (size_of t) xs (omega (arith, e))) refl
 one-slot t xs false p e = rw (counted (length xs) 1 (size_of t) p (omega (arith, e))) refl
 
+pub sized-equal : (size : ℕ) (xs : List ℕ) → ¬ IsOtherSize size (Some xs) → length xs ≡ size
+sized-equal size xs h = elim (eqb_tells (length xs) size) as (λ _. length xs ≡ size) [ inl e ↦ e.1 | inr e ↦ absurd (h e.1) ]
+
 sized-length : (size : ℕ) (x : Option (List ℕ)) → ¬ IsOtherSize size x → length (sized_bytes size x) ≡ size
 sized-length size None h = length-replicate size 0
-sized-length size (Some xs) h = elim (eqb_tells (length xs) size) as (λ _. length xs ≡ size) [ inl e ↦ e.1 | inr e ↦ absurd (h e.1) ]
+sized-length size (Some xs) h = sized-equal size xs h
 
 abbrev mask : Option (List ℕ) → Validity
 mask x = if is_some x then None else Some (false ∷ [])
@@ -187,3 +204,68 @@ module _ (t : TypeTree) (bs : List ℕ) (va : Validity) (a : Layout) (e : fixed_
 
     pub joined-type : layout_type (joined_bytes a b) ≡ layout_type a
     joined-type = rw (← e, ← d) refl
+
+-- the parts of joined builders, by what each call says of its own
+pub appended-parts : (t u : TypeTree) (bs cs ws ys : List ℕ) (va vb wa : Validity) (a b : Layout) (n m : ℕ) → fixed_size_binary t bs va ≡ a → fixed_size_binary u cs vb ≡ b → ws ≡ bs ++ ys → ys ≡ cs
+    → wa ≡ joined_validity va n vb m → n ≡ len a → m ≡ len b → fixed_size_binary t ws wa ≡ joined_bytes (fixed_size_binary t bs va) (fixed_size_binary u cs vb)
+appended-parts t u bs cs ws ys va vb wa a b n m e d w y v k l =
+    let p : n ≡ length bs / size_of t = k ∙ sym (ap len e) in
+    let q : m ≡ length cs / size_of u = l ∙ sym (ap len d) in
+    let x : ws ≡ bs ++ cs = w ∙ ap (λ zs. bs ++ zs) y in
+    let z : wa ≡ joined_validity va (length bs / size_of t) vb (length cs / size_of u) = v ∙ (λ i. joined_validity va (p i) vb (q i)) in
+    λ i. fixed_size_binary t (x i) (z i)
+
+same-types : (t u : TypeTree) (bs cs : List ℕ) (va vb : Validity) (a b : Layout) → fixed_size_binary t bs va ≡ a → fixed_size_binary u cs vb ≡ b → layout_type a ≡ layout_type b → t ≡ u
+same-types t u bs cs va vb a b e d h = ap layout_type e ∙ h ∙ sym (ap layout_type d)
+
+pub appended-fits : (t u : TypeTree) (bs cs : List ℕ) (va vb : Validity) (a b : Layout) → fixed_size_binary t bs va ≡ a → fixed_size_binary u cs vb ≡ b → TopFits (fixed_size_binary t bs va) → TopFits (fixed_size_binary u cs vb) → layout_type a ≡ layout_type b
+    → TopFits (joined_bytes (fixed_size_binary t bs va) (fixed_size_binary u cs vb))
+appended-fits t u bs cs va vb a b e d f g h = joined-fits t bs va a e f cs vb u b d g (same-types t u bs cs va vb a b e d h)
+
+pub appended-slots : (t u : TypeTree) (bs cs : List ℕ) (va vb : Validity) (a b : Layout) → fixed_size_binary t bs va ≡ a → fixed_size_binary u cs vb ≡ b → TopFits (fixed_size_binary t bs va) → TopFits (fixed_size_binary u cs vb) → layout_type a ≡ layout_type b
+    → slots_of (joined_bytes (fixed_size_binary t bs va) (fixed_size_binary u cs vb)) ≡ slots_of a ++ slots_of b
+appended-slots t u bs cs va vb a b e d f g h =
+    ap slots_of (λ i. joined_bytes (e i) (d i)) ∙ joined-slots t bs va a e f cs vb u b d g (same-types t u bs cs va vb a b e d h)
+
+-- the same of a slot more
+pub added-parts : (t : TypeTree) (bs ws : List ℕ) (va wa : Validity) (a : Layout) (n s : ℕ) (x : Option (List ℕ)) → fixed_size_binary t bs va ≡ a → s ≡ size_of t → ws ≡ bs ++ sized_bytes s x
+    → wa ≡ pushed_validity va n (is_some x) → n ≡ len a → fixed_size_binary t ws wa ≡ pushed_bytes (fixed_size_binary t bs va) x
+added-parts t bs ws va wa a n s x e z w v k =
+    let p : n ≡ length bs / size_of t = k ∙ sym (ap len e) in
+    let y : ws ≡ bs ++ sized_bytes (size_of t) x = w ∙ ap (λ m. bs ++ sized_bytes m x) z in
+    let u : wa ≡ pushed_validity va (length bs / size_of t) (is_some x) = v ∙ ap (λ m. pushed_validity va m (is_some x)) p in
+    λ i. fixed_size_binary t (y i) (u i)
+
+pub sized-item : (t : TypeTree) (bs : List ℕ) (va : Validity) (a : Layout) (x : Option (List ℕ)) → fixed_size_binary t bs va ≡ a → ¬ IsOtherSize (size_of (layout_type a)) x → length (sized_bytes (size_of t) x) ≡ size_of t
+sized-item t bs va a x e h = sized-length (size_of t) x (subst (λ b. ¬ IsOtherSize (size_of (layout_type b)) x) (sym e) h)
+
+pub added-slots : (t : TypeTree) (bs : List ℕ) (va : Validity) (a : Layout) (x : Option (List ℕ)) → fixed_size_binary t bs va ≡ a → TopFits (fixed_size_binary t bs va) → ¬ IsOtherSize (size_of (layout_type a)) x
+    → slots_of (pushed_bytes (fixed_size_binary t bs va) x) ≡ slots_of a ++ optional slots.bytes x ∷ []
+added-slots t bs va a x e f h = ap (λ b. slots_of (pushed_bytes b x)) e ∙ pushed-slots t bs va a e f x (sized-item t bs va a x e h)
+
+pub added-fits : (t : TypeTree) (bs : List ℕ) (va : Validity) (a : Layout) (x : Option (List ℕ)) → fixed_size_binary t bs va ≡ a → TopFits (fixed_size_binary t bs va) → ¬ IsOtherSize (size_of (layout_type a)) x
+    → TopFits (pushed_bytes (fixed_size_binary t bs va) x)
+added-fits t bs va a x e f h = pushed-fits t bs va a e f x (sized-item t bs va a x e h)
+
+-- the first slots
+pub cut-parts : (t : TypeTree) (bs ws : List ℕ) (va wa : Validity) (a : Layout) (n s : ℕ) → fixed_size_binary t bs va ≡ a → s ≡ size_of t → ws ≡ take (n * s) bs → wa ≡ cut_validity va 0 n → fixed_size_binary t ws wa ≡ cut_layout a 0 n
+cut-parts t bs ws va wa a n s e z w v =
+    let o : 0 ≡ 0 * size_of t = omega arith in
+    (λ i. fixed_size_binary t (w i) (v i)) ∙ (λ i. fixed_size_binary t (cut bs (o i) (n * z i)) (cut_validity va 0 n)) ∙ ap (λ b. cut_layout b 0 n) e
+
+pub cut-fits : (t : TypeTree) (bs : List ℕ) (va : Validity) (a : Layout) (n : ℕ) → fixed_size_binary t bs va ≡ a → TopFits (fixed_size_binary t bs va) → n ≤ len a → TopFits (cut_layout a 0 n)
+cut-fits t bs va a n e f l = top-fits-cut a 0 n (subst TopFits e f) (omega (arith, l))
+
+-- its bytes
+pub bytes-counted : (t : TypeTree) (bs : List ℕ) (va : Validity) (a : Layout) → fixed_size_binary t bs va ≡ a → TopFits (fixed_size_binary t bs va) → length bs ≡ len a * size_of (layout_type a)
+bytes-counted t bs va a e f = whole t bs va a e f ∙ ap (λ b. len b * size_of (layout_type b)) e
+
+-- the last slot
+pub last-slot : (a : Layout) (n : ℕ) (s : Slot) → n ≡ len a → 0 < n → s ≡ slot a (n - 1) → s ≡ get_or (slots_of a) (len a - 1) slots.null
+last-slot a n s e p h =
+    let q : n - 1 ≡ len a - 1 = ap (λ m. m - 1) e in
+    h ∙ ap (slot a) q ∙ sym (slot-place a (len a - 1) slots.null (omega (arith, e, p)))
+
+pub copied-some : (x : Option (Bor (List ℕ))) → is_some (option_copied x) ≡ is_some x
+copied-some None = refl
+copied-some (Some y) = refl

@@ -1,6 +1,6 @@
 -- Builders of flat arrays as trees of one level.
-use Rattle.std.specs.Prelude.{◌⊎◌, ◌≢◌, ◌↔◌, ℤ, Option, Some, None, not, IsTrue, Result, Ok, Err, OnOk, IfErr, IfOk, alloc_error, option_map, nat_eq, slice_get, map, IsErrOf}
-use Rattle.std.proofs.Common.{◌≡◌, ℕ, suc, ◌+◌, ◌<◌, ◌≤◌, Bool, true, false, List, [], ◌∷◌, ◌++◌, length, get_or, take, refl, sym, ap, subst, ◌∙◌, inl, inr, arith}
+use Rattle.std.specs.Prelude.{◌⊎◌, ◌≢◌, ◌↔◌, ℤ, Option, Some, None, not, IsTrue, Result, Ok, Err, OnOk, IfErr, alloc_error, option_map, nat_eq, slice_get, map, IsErrOf}
+use Rattle.std.proofs.Common.{◌≡◌, ℕ, suc, ◌+◌, ◌<◌, ◌≤◌, Bool, true, false, List, [], ◌∷◌, ◌++◌, length, get_or, refl, sym, ap, subst, ◌∙◌, inl, inr, arith}
 use Rattle.std.proofs.lemmas.List.{length-append, length-map, get_or-map}
 use Rattle.std.proofs.lemmas.Bool.{le-leb}
 use Rattle.std.proofs.lemmas.Bool.Decides.{eqb_tells}
@@ -27,15 +27,15 @@ use Rattle.nest_model.specs.Array.{TopFits}
 use Rattle.nest_model.specs.Facts.{binary-facts, text-facts, fixed_size_binary-facts, fixed_size_list-facts, list-facts, map-facts, struct-facts}
 use Rattle.nest_model.specs.Checks.{refuse_if, largest_length, is_past, Pass, FailFirst}
 use Rattle.nest_model.specs.DecideType.{decide_type}
-use Rattle.nest_model.specs.BuilderTree.{BuilderTree, flat, builder_len}
+use Rattle.nest_model.specs.BuilderTree.{flat, builder_len}
 use Rattle.nest_model.specs.BuilderItem as items
 use Rattle.nest_model.specs.BuilderItem.{PlainValue, Holds, native_number, slot_of_value, takes}
 use Rattle.nest_model.specs.BuilderAppend.{Accepted}
 use Rattle.nest_model.specs.BuilderAppendLaws.{flat_took, flat_took_null}
 use Rattle.nest_model.specs.BuilderRefusals.{asked_item, asked_refusal, item_refusal, plain_refusal, value_refusal}
-use Rattle.nest_model.specs.BuilderRefusalLaws.{within, same_number, other_number}
+use Rattle.nest_model.specs.BuilderRefusalLaws.{within, same_number}
 use Rattle.nest_model.specs.BuilderRowChecks.{join_checks, join_passes}
-use Rattle.nest_model.specs.BuilderReading.{Read, whole, ReadsValue, Took, Refused}
+use Rattle.nest_model.specs.BuilderReading.{whole, ReadsValue, Took, Refused}
 use Rattle.nest_build.specs.FlatTree.{flat_tree}
 use Rattle.nest_build.specs.Told.{own_slot, TellsNulls}
 
@@ -196,7 +196,7 @@ null-holds a i v r l e f =
     let k : valid_at (validity_of a) i ≡ false = sym e ∙ f in
     (λ t. absurd (never (sym f ∙ t)), λ h. absurd (no-value v (sym h.1 ∙ slot-place a i slots.null l ∙ slot-invalid a i k)))
 
-value-holds : (a : Layout) (i : ℕ) (v : PlainValue) (s : Slot) (r : Bool) → i < len a → takes (flat_tree a) v ≡ true → slot a i ≡ s → (IsTrue r ↔ (s ≡ slot_of_value v)) → IsTrue r ↔ Holds (flat_tree a) i v
+pub value-holds : (a : Layout) (i : ℕ) (v : PlainValue) (s : Slot) (r : Bool) → i < len a → takes (flat_tree a) v ≡ true → slot a i ≡ s → (IsTrue r ↔ (s ≡ slot_of_value v)) → IsTrue r ↔ Holds (flat_tree a) i v
 value-holds a i v s r l t e k =
     (λ h. (t, slot-place a i slots.null l ∙ e ∙ k.0 h), λ h. k.1 (sym e ∙ sym (slot-place a i slots.null l) ∙ h.1))
 

@@ -1,4 +1,5 @@
 mod FixedBytesLaws
+mod FixedTrees
 mod FlatTrees
 mod NullTrees
 mod Nulls

@@ -1,13 +1,12 @@
 -- Builders of nulls as trees of one level.
-use Rattle.std.specs.Prelude.{◌⊎◌, ◌≢◌, ◌↔◌, Option, Some, None, IsTrue, alloc_error}
-use Rattle.std.proofs.Common.{◌≡◌, ℕ, zero, suc, ◌+◌, ◌<◌, ◌≤◌, Bool, true, false, List, [], ◌∷◌, ◌++◌, length, take, replicate, refl, sym, ap, ◌∙◌, subst, inl, inr, arith}
+use Rattle.std.specs.Prelude.{◌≢◌, ◌↔◌, Some, None, IsTrue}
+use Rattle.std.proofs.Common.{◌≡◌, ℕ, zero, suc, ◌+◌, ◌<◌, ◌≤◌, true, false, [], ◌∷◌, ◌++◌, length, take, replicate, refl, sym, ap, ◌∙◌, subst, arith}
 use Rattle.std.proofs.lemmas.Bool.{le-leb}
 use Rattle.std.proofs.lemmas.List.{replicate_more, take-replicate, length-replicate}
 use Rattle.nest_memory.specs.TypeTree.{TypeTree}
 use Rattle.nest_memory.specs.Physical.{physical_type}
 use Rattle.nest_memory.specs.declared.datatypes.physical_type.PhysicalType.TheVariants as physical
-use Rattle.nest_memory.specs.declared.error.Error.{Error}
-use Rattle.nest_memory.specs.declared.error.Error.TheVariants.{Memory, Overflow}
+use Rattle.nest_memory.specs.declared.error.Error.TheVariants.{Overflow}
 use Rattle.nest_model.specs.Slot as slots
 use Rattle.nest_model.specs.Slot.{Slot}
 use Rattle.nest_model.specs.Layout.{Layout, null, layout_type}
@@ -21,7 +20,7 @@ use Rattle.nest_model.specs.BuilderItem.{PlainValue, takes}
 use Rattle.nest_model.specs.BuilderWhole.{cut_builder}
 use Rattle.nest_model.specs.BuilderAppend.{Accepted}
 use Rattle.nest_model.specs.BuilderAppendLaws.{flat_took_null}
-use Rattle.nest_model.specs.BuilderRefusals.{item_refusal, bytes_pass}
+use Rattle.nest_model.specs.BuilderRefusals.{item_refusal}
 use Rattle.nest_model.specs.BuilderRefusalLaws.{within}
 use Rattle.nest_build.specs.FlatTree.{flat_tree}
 use Rattle.nest_build.specs.Told.{own_slot}

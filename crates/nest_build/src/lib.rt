@@ -3,6 +3,7 @@
 
 pub mod array;
 mod boxed;
+pub mod fixed_size_binary;
 pub mod flat;
 pub mod list;
 pub mod null;

@@ -1,0 +1,8 @@
+//! Arrays of byte strings of one size that are built row by row.
+mod builder;
+pub mod iterator;
+mod makers;
+pub mod mutable;
+
+pub use iterator::{MutableFixedSizeBinaryIter, MutableFixedSizeBinaryValuesIter};
+pub use mutable::MutableFixedSizeBinaryArray;
