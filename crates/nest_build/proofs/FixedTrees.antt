@@ -1,6 +1,6 @@
 -- Builders of byte strings of one size as trees of one level.
-use Rattle.std.specs.Prelude.{◌⊎◌, ◌↔◌, Option, Some, None, IsTrue, option_map, alloc_error}
-use Rattle.std.proofs.Common.{◌≡◌, ℕ, ◌+◌, ◌*◌, ◌<◌, ◌≤◌, Bool, true, List, [], ◌∷◌, ◌++◌, length, refl, sym, ap, subst, ◌∙◌, inl, inr}
+use Rattle.std.specs.Prelude.{◌⊎◌, ◌↔◌, Option, Some, None, IsTrue, option_map, alloc_error, not, map, is_some, ◌||◌, count_by}
+use Rattle.std.proofs.Common.{◌≡◌, ℕ, ◌+◌, ◌*◌, ◌<◌, ◌≤◌, Bool, true, false, List, [], ◌∷◌, ◌++◌, length, refl, sym, ap, subst, ◌∙◌, inl, inr, suc, take, get_or, arith}
 use Rattle.std.proofs.lemmas.List.{length-append}
 use Rattle.nest_memory.specs.TypeTree.{size_of}
 use Rattle.nest_memory.specs.Physical.{physical_type}
@@ -9,6 +9,11 @@ use Rattle.nest_memory.specs.declared.error.Error.{Error}
 use Rattle.nest_memory.specs.declared.error.Error.TheVariants.{Memory, InvalidArgumentError}
 use Rattle.nest_memory.specs.declared.error.Argument.TheVariants.{ItemSize}
 use Rattle.nest_flat.specs.FlatParts.{optional}
+use Rattle.nest_flat.specs.NullSlots.{NullsByValidity}
+use Rattle.nest_model.specs.Fits.{ValidityFits}
+use Rattle.nest_model.specs.Nullness.{is_null_at, null_count}
+use Rattle.nest_model.specs.NullnessLaws.{null_count-bits, null_count-none}
+use Rattle.std.proofs.Math.Seq.{take-suc}
 use Rattle.nest_model.specs.Part.{valid_at}
 use Rattle.nest_model.specs.Slot as slots
 use Rattle.nest_model.specs.Slot.{Slot}
@@ -25,9 +30,9 @@ use Rattle.nest_model.specs.BuilderAppendLaws.{flat_took, flat_took_null}
 use Rattle.nest_model.specs.BuilderRefusals.{asked_item, asked_refusal}
 use Rattle.nest_model.specs.BuilderRefusalLaws.{within, same_number, other_number}
 use Rattle.nest_model.specs.BuilderRowChecks.{join_checks}
-use Rattle.nest_build.specs.FixedBytes.{IsOtherSize}
+use Rattle.nest_build.specs.FixedBytes.{IsOtherSize, has_null}
 use Rattle.nest_build.specs.FlatTree.{flat_tree}
-use Rattle.nest_build.proofs.FlatTrees.{value-holds}
+use Rattle.nest_build.proofs.FlatTrees.{flat-bits, value-holds}
 use Rattle.nest_build.proofs.FixedBytesLaws.{sized-equal}
 
 pub fixed-physical : (a : Layout) → TopFits a → a ≡ fixed_size_binary (layout_type a) (bytes_of a) (validity_of a) → physical_type (layout_type a) ≡ physical.FixedSizeBinary
@@ -81,3 +86,31 @@ pub fixed-holds : (a : Layout) (i : ℕ) (v : PlainValue) (xs ys : List ℕ) (r 
 fixed-holds a i v xs ys r f e l w k g n =
     subst (λ u. IsTrue r ↔ Holds (flat_tree a) i u) (sym w)
     (value-holds a i (items.bytes ys) (slots.bytes xs) r l (rw (fixed-physical a f e) refl) (g ∙ rw k refl) (bytes-same r xs ys n))
+
+-- builders of other lengths differ
+pub other-lengths : (a b : Layout) (n m : ℕ) → n ≡ len a → m ≡ len b → (n ≡ m → ⊥) → IsTrue false ↔ (slots_of a ≡ slots_of b)
+other-lengths a b n m p q h =
+    (λ t. cc, λ e. absurd (h (p ∙ sym (slots-length a) ∙ ap length e ∙ slots-length b ∙ sym q)))
+
+-- its nulls
+pub fixed-no_nulls : (a : Layout) → a ≡ fixed_size_binary (layout_type a) (bytes_of a) (validity_of a) → None ≡ validity_of a → 0 ≡ null_count a
+fixed-no_nulls a e h = sym (null_count-none a (ap (λ b. is_null_at b 0) e ∙ ap (λ v. not (valid_at v 0)) (sym h)) (sym h))
+
+pub fixed-nulls : (a : Layout) (bits : List Bool) → TopFits a → a ≡ fixed_size_binary (layout_type a) (bytes_of a) (validity_of a) → Some bits ≡ validity_of a → count_by not bits ≡ null_count a
+fixed-nulls a bits f e h = sym (null_count-bits a bits (sym h) (subst (λ v. ValidityFits v (len a)) (sym h) (flat-bits a f (subst NullsByValidity (sym e) tt))))
+
+-- one item more
+pub taken-more : {A : Type 0} (xs : List A) (i : ℕ) (x : A) → i < length xs → x ≡ get_or xs i x → take (i + 1) xs ≡ take i xs ++ x ∷ []
+taken-more xs i x h e =
+    let k : i + 1 ≡ suc i = omega arith in
+    ap (λ n. take n xs) k ∙ take-suc xs i x h ∙ ap (λ y. take i xs ++ y ∷ []) (sym e)
+
+pub map-push : {A B : Type 0} (f : A → B) (xs : List A) (x : A) → map f (xs ++ x ∷ []) ≡ map f xs ++ f x ∷ []
+map-push f [] x = refl
+map-push f (y ∷ xs) x = ap (λ zs. f y ∷ zs) (map-push f xs x)
+
+pub has_null-push : {A : Type 0} (xs : List (Option A)) (x : Option A) → has_null (xs ++ x ∷ []) ≡ (has_null xs || not (is_some x))
+has_null-push [] None = refl
+has_null-push [] (Some y) = refl
+has_null-push (None ∷ xs) x = refl
+has_null-push (Some y ∷ xs) x = has_null-push xs x
