@@ -1,7 +1,6 @@
-pub mod ChildRow
+pub mod Children
 pub mod FlatTree
-pub mod Items
+pub mod Lists
 pub mod Rows
-pub mod Seen
 pub mod Told
 pub mod Words

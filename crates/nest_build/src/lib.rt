@@ -3,6 +3,8 @@
 
 pub mod array;
 mod boxed;
+mod child;
+pub mod fixed_size_list;
 pub mod flat;
 pub mod list;
 pub mod push;
