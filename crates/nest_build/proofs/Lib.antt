@@ -1,6 +1,7 @@
+mod FixedLists
 mod FlatTrees
+mod Lists
+mod Nulled
 mod Nulls
-pub mod Pushed
-pub mod Refused
-pub mod Rows
-pub mod Spelled
+mod Rows
+mod Spelled
