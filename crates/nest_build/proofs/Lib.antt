@@ -5,3 +5,4 @@ mod Nulled
 mod Nulls
 mod Rows
 mod Spelled
+mod Tried

@@ -20,7 +20,7 @@ pub use Rattle.nest_model.specs.BuilderFreeze.{SpellsBits, offsets_from, row_bit
 pub use Rattle.nest_model.specs.BuilderItem.{Holds}
 pub use Rattle.nest_model.specs.BuilderJoin.{Joined, moved}
 pub use Rattle.nest_model.specs.BuilderLevels.{own_slots, rows_of_items, rows_of_size}
-pub use Rattle.nest_model.specs.BuilderReading.{Read, ReadsList, ReadsValue, Refused, RefusedSome, Took, TookAll}
+pub use Rattle.nest_model.specs.BuilderReading.{Read, TookEach, ReadsList, ReadsValue, Refused, RefusedSome, Took, TookAll}
 pub use Rattle.nest_model.specs.BuilderRefusals.{asked_item, asked_refusal, item_refusal, nulls_pass, plain_refusal}
 pub use Rattle.nest_model.specs.BuilderRow.{RisesFrom, end_from, told_row}
 pub use Rattle.nest_model.specs.BuilderRowChecks.{HasWholeChildren, join_checks, lengths_checks, row_checks}

@@ -8,3 +8,4 @@ pub mod fixed_size_list;
 pub mod flat;
 pub mod list;
 pub mod push;
+pub mod tried;

@@ -1,11 +1,26 @@
 //! Pushed rows by their arrays. Values with a data type are let go by `drop`, which keeps the proofs short.
 
 use nest_array::{AnyArray, ListArray};
+use nest_build::array::MutableArray;
 use nest_build::list::MutableListArray;
+use nest_build::push::{TryExtend, TryExtendFromSelf, TryPush};
+use nest_build::tried::push_all;
+use nest_flat::any_native::AnyNative;
 use nest_flat::any_primitive::AnyPrimitive;
-use nest_memory::error::{Argument, Error};
+use nest_flat::plain::Plain;
+use nest_flat::primitive::mutable::MutablePrimitiveArray;
+use nest_memory::bitmap::mutable::MutableBitmap;
+use nest_memory::datatypes::DataType;
+use nest_memory::error::{Argument, Error, Spec};
 use std::alloc::{AllocError, Global};
 use std::test::Fail;
+
+/// Lists of whole numbers.
+type Lists = MutableListArray<i32, MutablePrimitiveArray<i64>>;
+
+fn no_lists(alloc: Global) -> Result<Lists, Error> {
+    MutableListArray::new(alloc, MutablePrimitiveArray::new(alloc))
+}
 
 const ONE_TO_FIVE: [Option<i64>; 5] = [Some(1), Some(2), Some(3), Some(4), Some(5)];
 
@@ -52,11 +67,11 @@ fn text_of(alloc: Global, array: Result<ListArray, Error>) -> Result<String, Err
     }
 }
 
-fn push_rows(rows: &mut MutableListArray) -> Result<(), Error> {
+fn push_rows(rows: &mut Lists) -> Result<(), Error> {
     let rows_told = [Some([Some(1), None].as_slice()), None, Some([].as_slice())];
     for row in rows_told {
         if rows.is_whole() {
-            rows.try_push(row)?;
+            rows.try_push(row.map(|items| items.iter().copied()))?;
         }
     }
     Ok(())
@@ -64,7 +79,7 @@ fn push_rows(rows: &mut MutableListArray) -> Result<(), Error> {
 
 /// The array of the rows [1,null], null, [].
 fn pushed(alloc: Global) -> Result<ListArray, Error> {
-    let mut rows = MutableListArray::new(alloc)?;
+    let mut rows = no_lists(alloc)?;
     if let Err(error) = push_rows(&mut rows) {
         drop(rows);
         return Err(error);
@@ -103,8 +118,8 @@ fn refusal(array: Result<ListArray, Error>) -> Option<Error> {
 }
 
 /// The items of a builder wait until their row is told.
-fn wait_and_tell(rows: &mut MutableListArray) -> Result<bool, Error> {
-    rows.mut_values().try_push(Some(7))?;
+fn wait_and_tell(rows: &mut Lists) -> Result<bool, Error> {
+    TryPush::try_push(rows.mut_values(), Some(7i64))?;
     let waits = !rows.is_whole();
     let unfinished = Some(Error::InvalidArgumentError(Argument::Unfinished));
     let refused = refusal(rows.freeze()) == unfinished;
@@ -114,7 +129,7 @@ fn wait_and_tell(rows: &mut MutableListArray) -> Result<bool, Error> {
 
 #[test]
 fn items_wait_for_their_row(rt: HostRuntime) -> Result<(), Fail> {
-    let mut rows = MutableListArray::new(rt.alloc())?;
+    let mut rows = no_lists(rt.alloc())?;
     assert!(rt; wait_and_tell(&mut rows) == Ok(true));
     let array = rows.freeze();
     assert!(rt; rows.is_whole());
@@ -126,7 +141,7 @@ fn items_wait_for_their_row(rt: HostRuntime) -> Result<(), Fail> {
 // Holds where any one request for memory is refused: a refused row changes nothing, and a freeze empties the builder.
 #[test]
 fn refused_rows_change_nothing(rt: HostRuntime) {
-    let Ok(mut rows) = MutableListArray::new(rt.alloc()) else {
+    let Ok(mut rows) = no_lists(rt.alloc()) else {
         return;
     };
     let mut accepted = 0usize;
@@ -137,7 +152,7 @@ fn refused_rows_change_nothing(rt: HostRuntime) {
         } else {
             Some(ONE_TO_FIVE.as_slice())
         };
-        match rows.try_push(row) {
+        match rows.try_push(row.map(|items| items.iter().copied())) {
             Ok(()) => accepted = accepted.saturating_add(1),
             Err(error) => assert!(rt; error == Error::Memory(AllocError)),
         }

@@ -83,7 +83,7 @@ impl<O: ListWidth, M: MutableArray> MutableListArray<O, M> {
         ensures empty { IfOk result (λ b. builder_len (M.model values) ≡ 0) }
         ensures cause { IfErr result (λ e. (e ≡ Memory alloc_error) ⊎ ((e ≡ InvalidArgumentError ChildNotEmpty) × (builder_len (M.model values) ≢ 0))) }
     {
-        let mut lists = MutableListArray::new(alloc, values)?;
+        let mut lists: MutableListArray<O, M> = MutableListArray::new(alloc, values)?;
         lists.rows.reserve(capacity)?;
         Ok(lists)
     }
@@ -129,7 +129,7 @@ impl<O: ListWidth, M: MutableArray> MutableListArray<O, M> {
             Ok(data_type) => data_type,
             Err(error) => return Err(error),
         };
-        let mut lists = MutableListArray::over(alloc, data_type, values)?;
+        let mut lists: MutableListArray<O, M> = MutableListArray::over(alloc, data_type, values)?;
         lists.rows.reserve(capacity)?;
         Ok(lists)
     }
