@@ -13,6 +13,8 @@
 #![tactic(auto)]
 
 #[cfg(test)]
+mod fixed_size_lists;
+#[cfg(test)]
 mod flat;
 #[cfg(test)]
 mod lists;

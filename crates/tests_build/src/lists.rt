@@ -3,13 +3,11 @@
 use nest_array::{AnyArray, ListArray};
 use nest_build::array::MutableArray;
 use nest_build::list::MutableListArray;
-use nest_build::push::{TryExtend, TryExtendFromSelf, TryPush};
-use nest_build::tried::push_all;
+use nest_build::push::{TryExtend, TryPush};
 use nest_flat::any_native::AnyNative;
 use nest_flat::any_primitive::AnyPrimitive;
 use nest_flat::plain::Plain;
 use nest_flat::primitive::mutable::MutablePrimitiveArray;
-use nest_memory::bitmap::mutable::MutableBitmap;
 use nest_memory::datatypes::DataType;
 use nest_memory::error::{Argument, Error, Spec};
 use std::alloc::{AllocError, Global};
@@ -164,4 +162,224 @@ fn refused_rows_change_nothing(rt: HostRuntime) {
     assert!(rt; rows.len() == 0);
     assert!(rt; rows.is_whole());
     drop(rows);
+}
+
+/// Tells a row of the items that wait.
+fn tell(rows: &mut Lists) -> Result<(), Error> {
+    rows.known();
+    rows.try_push_valid()
+}
+
+/// The numbers from 1 to 3 wait.
+fn three_waiting(alloc: Global) -> Result<Lists, Error> {
+    let mut rows = no_lists(alloc)?;
+    let items = [Some(1i64), Some(2), Some(3)];
+    match TryExtend::try_extend(rows.mut_values(), items.iter().copied()) {
+        Ok(()) => Ok(rows),
+        Err(error) => {
+            drop(rows);
+            Err(error)
+        }
+    }
+}
+
+fn tell_lengths(rows: &mut Lists, lengths: &[Option<usize>]) -> Result<(), Error> {
+    rows.known();
+    rows.try_extend_from_lengths(lengths)
+}
+
+#[test]
+fn rows_by_their_lengths(rt: HostRuntime) -> Result<(), Fail> {
+    let mut rows = three_waiting(rt.alloc())?;
+    let too_few = tell_lengths(&mut rows, [Some(2)].as_slice());
+    assert!(rt; too_few == Err(Error::InvalidArgumentError(Argument::LengthsSum)));
+    assert!(rt; rows.len() == 0);
+    assert!(rt; rows.validity().is_none());
+    assert!(rt; tell_lengths(&mut rows, [Some(2), None, Some(1)].as_slice()) == Ok(()));
+    assert!(rt; rows.validity().is_some());
+    let array = rows.freeze();
+    drop(rows);
+    assert!(rt; text_of(rt.alloc(), array)?.as_str() == "[ 1 2 ] null [ 3 ] ");
+    Ok(())
+}
+
+/// What a maker refused.
+fn not_made(made: Result<Lists, Error>) -> Option<Error> {
+    match made {
+        Err(error) => Some(error),
+        Ok(rows) => {
+            drop(rows);
+            None
+        }
+    }
+}
+
+#[test]
+fn a_child_with_rows_makes_no_lists(rt: HostRuntime) -> Result<(), Fail> {
+    let alloc = rt.alloc();
+    let mut child = MutablePrimitiveArray::<i64>::new(alloc);
+    TryPush::try_push(&mut child, Some(1i64))?;
+    let not_empty = Some(Error::InvalidArgumentError(Argument::ChildNotEmpty));
+    assert!(rt; not_made(MutableListArray::new(alloc, child)) == not_empty);
+    Ok(())
+}
+
+#[test]
+fn lists_of_a_data_type(rt: HostRuntime) -> Result<(), Fail> {
+    let alloc = rt.alloc();
+    let child = MutablePrimitiveArray::new(alloc);
+    let wrong = MutableListArray::new_from(alloc, child, DataType::Int64, 2);
+    assert!(rt; not_made(wrong) == Some(Error::OutOfSpec(Spec::WrongType)));
+    let texts = ListArray::default_datatype(alloc, DataType::Utf8)?;
+    let child = MutablePrimitiveArray::new(alloc);
+    let wrong = MutableListArray::new_from(alloc, child, texts, 2);
+    assert!(rt; not_made(wrong) == Some(Error::OutOfSpec(Spec::ChildType)));
+    let numbers = ListArray::default_datatype(alloc, DataType::Int64)?;
+    let child = MutablePrimitiveArray::new(alloc);
+    assert!(rt; not_made(MutableListArray::new_from(alloc, child, numbers, 2)) == None);
+    let child = MutablePrimitiveArray::new(alloc);
+    assert!(rt; not_made(MutableListArray::new_with_field(alloc, child, "x", false)) == None);
+    let child = MutablePrimitiveArray::new(alloc);
+    assert!(rt; not_made(MutableListArray::with_capacity(alloc, child, 3)) == None);
+    let child = MutablePrimitiveArray::new(alloc);
+    assert!(rt; not_made(MutableListArray::new_with_capacity(alloc, child, 3)) == None);
+    Ok(())
+}
+
+fn push_each(rows: &mut Lists, items: &[Option<&[Option<i64>]>]) -> Result<(), Error> {
+    for item in items {
+        if rows.is_whole() {
+            rows.try_push(item.map(|items| items.iter().copied()))?;
+        }
+    }
+    Ok(())
+}
+
+/// Lists of whatever the boxed child takes.
+type BoxedLists = MutableListArray<i64, Box<dyn MutableArray>>;
+
+fn boxed_lists(alloc: Global) -> Result<BoxedLists, Error> {
+    let child: Box<dyn MutableArray> = Box::new(alloc, MutablePrimitiveArray::<i64>::new(alloc))?;
+    MutableListArray::new(alloc, child)
+}
+
+fn push_below(rows: &mut BoxedLists, value: Option<Plain<'_>>) -> Result<(), Error> {
+    let child = rows.mut_values();
+    if !child.is_whole() {
+        return Err(Error::InvalidArgumentError(Argument::Unfinished));
+    }
+    child.try_push_plain(value)
+}
+
+fn tell_boxed(rows: &mut BoxedLists) -> Result<(), Error> {
+    if !rows.values().is_whole() {
+        return Err(Error::InvalidArgumentError(Argument::Unfinished));
+    }
+    rows.known();
+    rows.try_push_valid()
+}
+
+#[test]
+fn a_boxed_child_takes_the_items(rt: HostRuntime) -> Result<(), Fail> {
+    let mut rows = boxed_lists(rt.alloc())?;
+    let other_kind = Err(Error::InvalidArgumentError(Argument::ItemType));
+    let seven = Plain::Native(AnyNative::Int64(7));
+    assert!(rt; push_below(&mut rows, Some(seven)) == Ok(()));
+    assert!(rt; push_below(&mut rows, Some(Plain::Text("x"))) == other_kind);
+    assert!(rt; push_below(&mut rows, None) == Ok(()));
+    assert!(rt; !rows.is_whole());
+    assert!(rt; tell_boxed(&mut rows) == Ok(()));
+    assert!(rt; rows.is_whole());
+    if rows.is_whole() {
+        assert!(rt; rows.try_push_plain(Some(seven)) == other_kind);
+    }
+    if rows.len() == 1 {
+        assert!(rt; rows.is_valid(0));
+        assert!(rt; !rows.holds(0, &seven));
+    }
+    let array = rows.into_box()?;
+    assert!(rt; array.len() == 1);
+    drop(array);
+    Ok(())
+}
+
+/// Rows of a builder over another boxed one, also after a freeze.
+fn lists_of_boxed_lists(alloc: Global) -> Result<MutableListArray<i32, Box<dyn MutableArray>>, Error> {
+    let inner = boxed_lists(alloc)?;
+    let child: Box<dyn MutableArray> = match Box::new(alloc, inner) {
+        Ok(child) => child,
+        Err(error) => return Err(error.into()),
+    };
+    MutableListArray::new(alloc, child)
+}
+
+fn tell_outer(rows: &mut MutableListArray<i32, Box<dyn MutableArray>>) -> Result<(), Error> {
+    let child = rows.mut_values();
+    if !child.is_whole() {
+        return Err(Error::InvalidArgumentError(Argument::Unfinished));
+    }
+    child.push_null()?;
+    if !rows.values().is_whole() {
+        return Err(Error::InvalidArgumentError(Argument::Unfinished));
+    }
+    rows.known();
+    rows.try_push_valid()
+}
+
+#[test]
+fn a_list_over_a_boxed_list_is_filled_again(rt: HostRuntime) -> Result<(), Fail> {
+    let mut rows = lists_of_boxed_lists(rt.alloc())?;
+    assert!(rt; tell_outer(&mut rows) == Ok(()));
+    assert!(rt; tell_outer(&mut rows) == Ok(()));
+    let first = rows.as_arc(rt.alloc())?;
+    assert!(rt; first.len() == 2);
+    drop(first);
+    assert!(rt; rows.is_empty());
+    assert!(rt; tell_outer(&mut rows) == Ok(()));
+    let second = rows.into_arc(rt.alloc())?;
+    assert!(rt; second.len() == 1);
+    drop(second);
+    Ok(())
+}
+
+#[test]
+fn a_child_of_another_type_makes_no_row(rt: HostRuntime) -> Result<(), Fail> {
+    let mut rows = boxed_lists(rt.alloc())?;
+    let mut other: Box<dyn MutableArray> =
+        Box::new(rt.alloc(), MutablePrimitiveArray::<i32>::new(rt.alloc()))?;
+    std::mem::swap(rows.mut_values(), &mut other);
+    assert!(rt; !rows.is_whole());
+    assert!(rt; tell_boxed(&mut rows) == Err(Error::InvalidArgumentError(Argument::Unfinished)));
+    std::mem::swap(rows.mut_values(), &mut other);
+    drop(other);
+    assert!(rt; rows.is_whole());
+    assert!(rt; tell_boxed(&mut rows) == Ok(()));
+    drop(rows);
+    Ok(())
+}
+
+/// Cuts, room, and a null.
+fn keep_first(rows: &mut Lists) -> Result<(), Error> {
+    rows.reserve(4)?;
+    if rows.is_whole() {
+        rows.push_null()?;
+    }
+    if rows.is_whole() && rows.len() == 3 {
+        rows.truncate(1);
+    }
+    rows.shrink_to_fit()
+}
+
+#[test]
+fn rows_are_cut_with_their_items(rt: HostRuntime) -> Result<(), Fail> {
+    let mut rows = no_lists(rt.alloc())?;
+    let two = [Some([Some(1)].as_slice()), Some([Some(2), Some(3)].as_slice())];
+    push_each(&mut rows, two.as_slice())?;
+    keep_first(&mut rows)?;
+    assert!(rt; rows.is_whole());
+    assert!(rt; rows.values().len() == 1);
+    let array = rows.freeze();
+    drop(rows);
+    assert!(rt; text_of(rt.alloc(), array)?.as_str() == "[ 1 ] ");
+    Ok(())
 }
