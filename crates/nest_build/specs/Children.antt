@@ -1,6 +1,6 @@
 -- The child of a builder of lists, and whether a row of its items can be told.
-use Rattle.std.specs.Prelude.{◌≤◌}
-use Rattle.nest_model.specs.BuilderRow.{end_from}
+use Rattle.std.specs.Prelude.{◌≡◌, ℕ, List as Seq}
+use Rattle.nest_model.specs.BuilderFreeze.{offsets_from}
 use Rattle.nest_model.specs.BuilderRowChecks.{CoversRows}
 use Rattle.nest_model.specs.BuilderTree.{BuilderTree, flat, list, fixed_size_list, dictionary, struct}
 
@@ -14,3 +14,8 @@ list_child t = t
 abbrev pub ListCovers : BuilderTree → Type 0
 ListCovers (list large t rows c) = CoversRows t rows c
 ListCovers t = ⊥
+
+-- its rows end at these offsets, which begin at 0
+abbrev pub IsListBy : Seq ℕ → BuilderTree → Type 0
+IsListBy os (list large t rows c) = offsets_from 0 rows ≡ os
+IsListBy os t = ⊥

@@ -2,8 +2,8 @@
 pub use Rattle.nest_array.specs.Seen.{layout_of}
 pub use Rattle.nest_array.specs.Types.{default_field}
 pub use Rattle.nest_build.specs.FlatTree.{flat_tree}
-pub use Rattle.nest_build.specs.Children.{ListCovers, list_child}
-pub use Rattle.nest_build.specs.Rows.{Spells, bits_told, rows_told}
+pub use Rattle.nest_build.specs.Children.{IsListBy, ListCovers, list_child}
+pub use Rattle.nest_build.specs.Rows.{Spells, bits_told, rows_told, told_rows_checks}
 pub use Rattle.nest_build.specs.Told.{IsOfOtherKind, TellsNulls, own_slot, reserve_passes}
 pub use Rattle.nest_flat.specs.Plain.{plain_value, plain_values}
 pub use Rattle.nest_memory.specs.Physical.{physical_type}

@@ -8,8 +8,10 @@ use nest_flat::any_native::AnyNative;
 use nest_flat::any_primitive::AnyPrimitive;
 use nest_flat::plain::Plain;
 use nest_flat::primitive::mutable::MutablePrimitiveArray;
+use nest_memory::bitmap::mutable::MutableBitmap;
 use nest_memory::datatypes::DataType;
 use nest_memory::error::{Argument, Error, Spec};
+use nest_memory::offsets::Offsets;
 use std::alloc::{AllocError, Global};
 use std::test::Fail;
 
@@ -381,5 +383,32 @@ fn rows_are_cut_with_their_items(rt: HostRuntime) -> Result<(), Fail> {
     let array = rows.freeze();
     drop(rows);
     assert!(rt; text_of(rt.alloc(), array)?.as_str() == "[ 1 ] ");
+    Ok(())
+}
+
+/// Lists by these offsets over the numbers from 1 to 3.
+fn by_offsets(alloc: Global, ends: &[usize], bits: usize) -> Result<Lists, Error> {
+    let mut offsets = Offsets::new(alloc)?;
+    offsets.try_extend_from_lengths(ends)?;
+    let mut validity = MutableBitmap::new(alloc);
+    validity.extend_constant(bits, true)?;
+    let mut items = MutablePrimitiveArray::new(alloc);
+    items.try_extend([Some(1i64), Some(2), Some(3)].as_slice().iter().copied())?;
+    MutableListArray::new_from_mutable(alloc, items, offsets, Some(validity))
+}
+
+#[test]
+fn lists_by_offsets(rt: HostRuntime) -> Result<(), Fail> {
+    let alloc = rt.alloc();
+    let short = by_offsets(alloc, [2].as_slice(), 1);
+    assert!(rt; not_made(short) == Some(Error::InvalidArgumentError(Argument::LengthsSum)));
+    let long = by_offsets(alloc, [2, 1].as_slice(), 3);
+    assert!(rt; not_made(long) == Some(Error::OutOfSpec(Spec::ValidityLength)));
+    let mut rows = by_offsets(alloc, [2, 1].as_slice(), 2)?;
+    assert!(rt; rows.is_whole());
+    assert!(rt; rows.offsets().len_proxy() == 2);
+    let array = rows.freeze();
+    drop(rows);
+    assert!(rt; text_of(alloc, array)?.as_str() == "[ 1 2 ] [ 3 ] ");
     Ok(())
 }

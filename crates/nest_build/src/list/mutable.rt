@@ -4,7 +4,7 @@ ghost use Rattle.std.specs.Borrow.{sem, Lends};
 ghost use Rattle.nest_memory.specs.TypeTree.{field};
 ghost use Rattle.nest_model.specs.BuilderTree as builders;
 ghost use Rattle.nest_build.specs.Lists.{list_type, new_list_checks};
-ghost use Rattle.nest_build.specs.Words.{CanReadList, ChildNotEmpty, FailFirst, HasWholeChildren, InvalidArgumentError, IsWhole, ListCovers, Memory, Pass, ReadsList, RisesFrom, Told, ToldLengths, Unfinished, builder_len, builder_type, default_field, emptied, layout_of, layout_type, items_told, lengths_checks, list_child, own_slots, row_checks, slots_of, type_of};
+ghost use Rattle.nest_build.specs.Words.{CanReadList, ChildNotEmpty, FailFirst, HasWholeChildren, InvalidArgumentError, IsListBy, IsWhole, ListCovers, Memory, Pass, ReadsList, RisesFrom, Told, ToldLengths, Unfinished, builder_len, builder_type, default_field, emptied, layout_of, layout_type, items_told, lengths_checks, list_child, own_slots, row_checks, rows_told, slots_of, told_rows_checks, type_of};
 
 use crate::array::{MutableArray, shared};
 use crate::child::{frozen_parts, has_items};
@@ -134,6 +134,36 @@ impl<O: ListWidth, M: MutableArray> MutableListArray<O, M> {
         Ok(lists)
     }
 
+    /// The rows of such offsets and bits over the child's items, which are named "item" and nullable.
+    ///
+    /// # Errors
+    /// `LengthsSum` where the last offset isn't the number of items, then `ValidityLength` where there isn't a bit for each
+    /// row; `Memory`.
+    pub fn new_from_mutable(
+        alloc: Global,
+        values: M,
+        offsets: <O::Rows as FrozenRows>::Offsets,
+        validity: Option<MutableBitmap>,
+    ) -> Result<MutableListArray<O, M>, Error>
+        requires { IsWhole (M.model values) }
+        ensures ok { IfOk result (λ b. ⟦<MutableListArray<O, M> as MutableArray>⟧.model b ≡ builders.list O.IS_LARGE (list_type O.IS_LARGE (default_field (builder_type (M.model values)))) (rows_told (O.Rows.offsets_seen offsets) validity) (M.model values)) }
+        ensures passed { IfOk result (λ b. Pass (told_rows_checks (O.Rows.offsets_seen offsets) validity (builder_len (M.model values)))) }
+        ensures cause { IfErr result (λ e. (e ≡ Memory alloc_error) ⊎ FailFirst e (told_rows_checks (O.Rows.offsets_seen offsets) validity (builder_len (M.model values)))) }
+    {
+        let rows = match O::Rows::try_of(alloc, offsets, validity, values.len()) {
+            Ok(rows) => rows,
+            Err(error) => return Err(error),
+        };
+        let items = values.data_type().clone(alloc)?;
+        let items = Field::new(alloc, "item", items, true)?;
+        Ok(MutableListArray {
+            data_type: ListType::of_field(alloc, items)?,
+            rows,
+            values,
+            alloc,
+        })
+    }
+
     // No row over a child.
     fn over(
         alloc: Global,
@@ -149,6 +179,13 @@ impl<O: ListWidth, M: MutableArray> MutableListArray<O, M> {
             values,
             alloc,
         })
+    }
+
+    /// The offsets of the rows, one more than rows.
+    pub fn offsets(&self) -> &<O::Rows as FrozenRows>::Offsets
+        ensures { IsListBy (O.Rows.offsets_seen result.now) (⟦<MutableListArray<O, M> as MutableArray>⟧.model self.now) }
+    {
+        self.rows.offsets()
     }
 
     /// The child.

@@ -1,12 +1,11 @@
 //! The rows of a builder of lists, without their items.
-ghost use Rattle.std.specs.Prelude.{◌≡◌, ◌+◌, ◌≤◌, ◌<◌, ◌⊎◌, ◌++◌, ◌∷◌, [], true, take, get_or, length, OnOk, OnErr, IfOk, IfErr, IsOkUnless, option_map, alloc_error};
-ghost use Rattle.nest_model.specs.Part.{rows};
-ghost use Rattle.nest_build.specs.Words.{Memory, Overflow, RisesFrom, Spells, SpellsBits, ValidityFits, end_from, items_told, largest_length, largest_offset, moved, offsets_from, row_bits, rows_of_lengths, rows_told, told_row};
+ghost use Rattle.std.specs.Prelude.{◌≡◌, ◌+◌, ◌≤◌, ◌<◌, ◌⊎◌, ◌++◌, ◌∷◌, [], true, take, get_or, length, OnOk, OnErr, IfOk, IfErr, IsOkUnless, IsTrue, MatchResult, ◌↔◌, option_map, alloc_error};
+ghost use Rattle.nest_build.specs.Words.{FailFirst, Memory, Overflow, Pass, RisesFrom, Spells, SpellsBits, ValidityFits, end_from, items_told, largest_length, largest_offset, moved, offsets_from, row_bits, rows_of_lengths, rows_told, told_row, told_rows_checks};
 
 use nest_flat::growth::validity;
 use nest_memory::bitmap::immutable::Bitmap;
 use nest_memory::bitmap::mutable::MutableBitmap;
-use nest_memory::error::Error;
+use nest_memory::error::{Argument, Error, Spec};
 use nest_memory::offset::Offset;
 use nest_memory::offsets::{Offsets, OffsetsBuffer};
 use std::alloc::Global;
@@ -50,20 +49,31 @@ impl<O: Offset> ListRows<O> {
         })
     }
 
-    /// The rows of such offsets and bits.
-    pub(crate) fn of(
+    /// The rows of such offsets and bits, over so many items.
+    ///
+    /// # Errors
+    /// `LengthsSum` where the last offset isn't the number of items, then `ValidityLength` where there isn't a bit for each
+    /// row.
+    pub fn try_of(
         alloc: Global,
         offsets: Offsets<O>,
         validity: Option<MutableBitmap>,
-    ) -> ListRows<O>
-        requires { ValidityFits validity (rows offsets) }
-        ensures { result ≡ rows_told offsets validity }
+        items: usize,
+    ) -> Result<ListRows<O>, Error>
+        ensures { let checks = told_rows_checks offsets validity items in
+            MatchResult result (λ rows. Pass checks × (rows ≡ rows_told offsets validity)) (λ e. FailFirst e checks) }
     {
-        ListRows {
+        if offsets.last() != items {
+            return Err(Error::InvalidArgumentError(Argument::LengthsSum));
+        }
+        if !has_bits(&validity, offsets.len_proxy()) {
+            return Err(Error::OutOfSpec(Spec::ValidityLength));
+        }
+        Ok(ListRows {
             offsets,
             validity,
             alloc,
-        }
+        })
     }
 
     /// How many rows there are.
@@ -253,5 +263,15 @@ impl<O: Offset> ListRows<O> {
         let offsets = self.offsets.freeze();
         let validity = validity::freeze(&mut self.validity);
         Ok((offsets?, validity?))
+    }
+}
+
+/// Whether there is a bit for each of so many rows, or no validity.
+fn has_bits(validity: &Option<MutableBitmap>, rows: usize) -> bool
+    ensures { IsTrue result ↔ ValidityFits validity.now rows }
+{
+    match validity {
+        None => true,
+        Some(bits) => bits.len() == rows,
     }
 }

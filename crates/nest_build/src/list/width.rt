@@ -1,16 +1,17 @@
 //! What builders of lists ask of their rows, by either width of offsets.
-ghost use Rattle.std.specs.Prelude.{◌≡◌, ◌+◌, ◌≤◌, ◌<◌, ◌⊎◌, ◌++◌, ◌∷◌, [], Bool, List as Seq, true, Some, take, get_or, length, OnOk, OnErr, IfOk, IfErr, IsOkUnless, option_map, alloc_error};
+ghost use Rattle.std.specs.Prelude.{◌≡◌, ◌+◌, ◌≤◌, ◌<◌, ◌⊎◌, ◌++◌, ◌∷◌, [], Bool, ℕ, List as Seq, true, Some, MatchResult, take, get_or, length, OnOk, OnErr, IfOk, IfErr, IsOkUnless, option_map, alloc_error};
 ghost use Rattle.nest_memory.specs.Physical.{list_of_width};
 ghost use Rattle.nest_model.specs.BuilderRow.{Row};
-ghost use Rattle.nest_build.specs.Words.{Memory, Overflow, RisesFrom, SpellsBits, end_from, item_type, items_told, largest_length, largest_offset, layout_of, layout_type, len, moved, physical_type, row_bits, rows_of_items, rows_of_lengths, slots_of, told_row, type_of};
+ghost use Rattle.nest_build.specs.Words.{FailFirst, Memory, Overflow, Pass, RisesFrom, SpellsBits, end_from, item_type, items_told, largest_length, largest_offset, layout_of, layout_type, len, moved, offsets_from, physical_type, row_bits, rows_of_items, rows_of_lengths, rows_told, slots_of, told_row, told_rows_checks, type_of};
 
 use crate::list::rows::ListRows;
-use nest_array::array::{Array, Variant};
+use nest_array::array::Variant;
 use nest_array::{AnyArray, LargeListArray, ListArray, ListOffset};
 use nest_memory::bitmap::mutable::MutableBitmap;
 use nest_memory::datatypes::DataType;
 use nest_memory::error::Error;
 use nest_memory::offset::Offset;
+use nest_memory::offsets::Offsets;
 use std::alloc::Global;
 
 /// The rows of a builder of lists. `ListRows` are such; callers needn't name it.
@@ -42,7 +43,8 @@ pub trait ToldRows: Drop {
     /// Where the last row ends.
     fn last(&self) -> usize
         ensures value { result ≡ end_from 0 (told self.now) }
-        ensures rising { RisesFrom 0 (told self.now) };
+        ensures rising { RisesFrom 0 (told self.now) }
+        ensures fits { result ≤ largest_offset large };
 
     /// Adds a row that ends there.
     fn push(&mut self, valid: bool, end: usize) -> Result<(), Error>
@@ -144,6 +146,25 @@ pub trait FrozenRows: ToldRows {
     /// The array of lists by such offsets.
     type List: Variant;
 
+    /// `Offsets` of the width.
+    type Offsets;
+
+    ghost offsets_seen: { Self.Offsets → Seq ℕ };
+
+    /// The rows of such offsets and bits, over so many items.
+    fn try_of(
+        alloc: Global,
+        offsets: Self::Offsets,
+        validity: Option<MutableBitmap>,
+        items: usize,
+    ) -> Result<Self, Error>
+        ensures { let checks = told_rows_checks (offsets_seen offsets) validity items in
+            MatchResult result (λ rows. Pass checks × (Self.told rows ≡ rows_told (offsets_seen offsets) validity)) (λ e. FailFirst e checks) };
+
+    /// The offsets of the rows.
+    fn offsets(&self) -> &Self::Offsets
+        ensures { offsets_from 0 (Self.told self.now) ≡ offsets_seen result.now };
+
     /// The array of the rows over their items. No row and no validity is left, also after `Memory`.
     fn freeze_over(
         &mut self,
@@ -162,6 +183,23 @@ pub trait FrozenRows: ToldRows {
 
 impl FrozenRows for ListRows<i32> {
     type List = ListArray;
+
+    type Offsets = Offsets<i32>;
+
+    ghost offsets_seen = { λ os. os };
+
+    fn try_of(
+        alloc: Global,
+        offsets: Offsets<i32>,
+        validity: Option<MutableBitmap>,
+        items: usize,
+    ) -> Result<ListRows<i32>, Error> {
+        ListRows::try_of(alloc, offsets, validity, items)
+    }
+
+    fn offsets(&self) -> &Offsets<i32> {
+        self.offsets()
+    }
 
     fn freeze_over(
         &mut self,
@@ -182,6 +220,23 @@ impl FrozenRows for ListRows<i32> {
 
 impl FrozenRows for ListRows<i64> {
     type List = LargeListArray;
+
+    type Offsets = Offsets<i64>;
+
+    ghost offsets_seen = { λ os. os };
+
+    fn try_of(
+        alloc: Global,
+        offsets: Offsets<i64>,
+        validity: Option<MutableBitmap>,
+        items: usize,
+    ) -> Result<ListRows<i64>, Error> {
+        ListRows::try_of(alloc, offsets, validity, items)
+    }
+
+    fn offsets(&self) -> &Offsets<i64> {
+        self.offsets()
+    }
 
     fn freeze_over(
         &mut self,
