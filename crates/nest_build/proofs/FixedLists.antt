@@ -3,7 +3,7 @@ use Rattle.std.specs.Prelude.{◌⊎◌, ◌≢◌, ◌||◌, Option, Some, None
 use Rattle.std.proofs.Common.{◌≡◌, ℕ, zero, suc, ◌+◌, ◌-◌, ◌*◌, ◌<◌, ◌≤◌, Bool, true, false, List, [], ◌∷◌, ◌++◌, length, replicate, get_or, refl, sym, ap, subst, ◌∙◌, inl, inr, arith}
 use Rattle.std.proofs.lemmas.Bool.{lt-ltb}
 use Rattle.std.proofs.lemmas.List.{length-append, length-replicate}
-use Rattle.std.proofs.Math.Nat.{add-mul}
+use Rattle.std.proofs.Math.Nat.{add-mul, mul-suc}
 use Rattle.nest_memory.specs.TypeTree.{TypeTree, item_type, size_of}
 use Rattle.nest_memory.specs.Cut.{cut}
 use Rattle.nest_memory.specs.declared.error.Error.{Error}
@@ -15,7 +15,7 @@ use Rattle.nest_model.specs.BuilderTree.{BuilderTree, fixed_size_list, builder_l
 use Rattle.nest_model.specs.BuilderLevels.{rows_of_size, valid_or_null}
 use Rattle.nest_model.specs.BuilderWhole.{IsWhole}
 use Rattle.nest_model.specs.BuilderItem as items
-use Rattle.nest_model.specs.BuilderItem.{seal_items}
+use Rattle.nest_model.specs.BuilderItem.{Item, seal_items}
 use Rattle.nest_model.specs.BuilderAppend.{Accepted, AcceptedAll, Told}
 use Rattle.nest_model.specs.BuilderAppendLaws.{len-accepted_all, fixed_size_list_took, fixed_size_list_took_null}
 use Rattle.nest_model.specs.BuilderJoin.{Joined}
@@ -34,10 +34,10 @@ item_refused becomes steps reads item u k bits c e h (inl m) = inl m
 item_refused becomes steps reads item u k bits c e h (inr q) = rw h (inr (begun q.0 q.1, inr (q.0, q.1, q.2, refl), q.3))
 
 -- as many items as a row has
-counted : (c d : BuilderTree) (m n : ℕ) (xs : List _) → AcceptedAll xs c d → m ≡ builder_len c → n ≡ builder_len d → n - m ≡ length xs
+pub counted : (c d : BuilderTree) (m n : ℕ) (xs : List Item) → AcceptedAll xs c d → m ≡ builder_len c → n ≡ builder_len d → n - m ≡ length xs
 counted c d m n xs a e f = omega (arith, len-accepted_all xs c d a, e, f)
 
-filled : (k : TypeTree) (bits : List Bool) (c d : BuilderTree) (xs : List _) (n : ℕ) → AcceptedAll xs c d → length xs ≡ size_of k → n ≡ builder_len d → n ≤ largest_length → IsWhole (fixed_size_list k bits c)
+filled : (k : TypeTree) (bits : List Bool) (c d : BuilderTree) (xs : List Item) (n : ℕ) → AcceptedAll xs c d → length xs ≡ size_of k → n ≡ builder_len d → n ≤ largest_length → IsWhole (fixed_size_list k bits c)
     → (length bits + 1) * size_of k ≤ largest_length
 filled k bits c d xs n a l e t v =
     let g = len-accepted_all xs c d a in
@@ -56,15 +56,18 @@ row_took becomes steps reads item u k bits new c d m n size h q e f z w x l t v 
     let count : length q.0 ≡ size_of k = sym (counted c d m n q.0 q.2 e f) ∙ w ∙ z in
     rw h (items.list_of (seal_items q.0), inl (q.0, q.1, refl), fixed_size_list_took k bits new c d q.0 count x v q.2, fixed_none k bits c q.0 q.3 count l (filled k bits c d q.0 n q.2 count f t v))
 
--- so many rows are more than a length can be: then the child had no place for their items
-pub never_past : (k : TypeTree) (bits : List Bool) (c : BuilderTree) (n size : ℕ) → size ≡ size_of k → 0 < size → n ≡ builder_len c → n ≤ largest_length → builder_len c ≡ (length bits + 1) * size_of k → largest_length < length bits + 1 → ⊥
-never_past k bits c n size z s e l h p =
-    let m = mul-above (length bits + 1) size s in
-    omega (arith, e, l, h, p, m, ap (λ x. (length bits + 1) * x) z)
-  where
-    mul-above : (a b : ℕ) → 0 < b → a ≤ a * b
-    mul-above a zero g = absurd (omega arith)
-    mul-above a (suc b) g = let w : a * suc b ≡ a + a * b = omega arith in omega (arith, w)
+-- as many rows as have their items are never more than a length can be
+mul-above : (a b : ℕ) → 0 < b → a ≤ a * b
+mul-above a zero g = absurd (omega arith)
+mul-above a (suc b) g = omega (arith, mul-suc a b)
+
+pub rows_below : (k : TypeTree) (bits : List Bool) (size n : ℕ) → size ≡ size_of k → 0 < size → (length bits + 1) * size_of k ≤ n → length bits + 1 ≤ n
+rows_below k bits size n z s l = omega (arith, l, mul-above (length bits + 1) (size_of k) (omega (arith, z, s)))
+
+pub memory_alone : (k : TypeTree) (bits : List Bool) (c d : BuilderTree) (xs : List Item) (n size : ℕ) (e : Error) → AcceptedAll xs c d → length xs ≡ size_of k → size ≡ size_of k → 0 < size → n ≡ builder_len d → n ≤ largest_length
+    → IsWhole (fixed_size_list k bits c) → (e ≡ Memory alloc_error) ⊎ ((e ≡ Overflow) × (largest_length < length bits + 1)) → e ≡ Memory alloc_error
+memory_alone k bits c d xs n size e a x z s l t v (inl m) = m
+memory_alone k bits c d xs n size e a x z s l t v (inr p) = absurd (omega (arith, p.1, rows_below k bits size largest_length z s (filled k bits c d xs n a x l t v)))
 
 -- a null row
 pub null_took : (k : TypeTree) (bits new : List Bool) (c d : BuilderTree) (size : ℕ) → size ≡ size_of k → new ≡ bits ++ false ∷ [] → AcceptedAll (replicate size items.null) c d → IsWhole (fixed_size_list k bits c)
@@ -94,6 +97,15 @@ null_refused k bits c size e z (inr p) =
 -- a told row
 pub row_told : (k : TypeTree) (bits new : List Bool) (c : BuilderTree) → new ≡ bits ++ true ∷ [] → IsWhole c → item_type k ≡ Some (builder_type c) → builder_len c ≡ (length bits + 1) * size_of k → Told true (fixed_size_list k bits c) (fixed_size_list k new c)
 row_told k bits new c f w t n = fixed_size_list_told true k bits new c f (w, t, n)
+
+pub told_pass : (k : TypeTree) (bits : List Bool) (c : BuilderTree) → item_type k ≡ Some (builder_type c) → builder_len c ≡ (length bits + 1) * size_of k → Pass (row_checks (fixed_size_list k bits c))
+told_pass k bits c t n = ((t, omega (arith, n)), (omega (arith, n), tt))
+
+pub unfinished : (k : TypeTree) (bits : List Bool) (c : BuilderTree) → (item_type k ≡ Some (builder_type c) → (length bits + 1) * size_of k ≤ builder_len c → ⊥) → FailFirst (InvalidArgumentError Unfinished) (row_checks (fixed_size_list k bits c))
+unfinished k bits c h = λ q. h q.0 q.1
+
+pub too_many : (k : TypeTree) (bits : List Bool) (c : BuilderTree) → item_type k ≡ Some (builder_type c) → (length bits + 1) * size_of k < builder_len c → FailFirst (InvalidArgumentError ItemSize) (row_checks (fixed_size_list k bits c))
+too_many k bits c t l = ((t, omega (arith, l)), λ q. omega (arith, l, q))
 
 -- the slots of rows
 pub size-slot : (s n i : ℕ) (bits : List Bool) (xs : List Slot) → i < length bits → (y : Slots) × (get_or (rows_of_size s n bits xs) i slots.null ≡ valid_or_null (get_or bits i true) (slots.list y))

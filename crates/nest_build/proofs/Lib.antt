@@ -5,4 +5,4 @@ mod Nulled
 mod Nulls
 mod Rows
 mod Spelled
-mod Tried
+mod Trials

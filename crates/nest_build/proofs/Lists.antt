@@ -1,13 +1,20 @@
 -- What the calls of a builder of lists come to.
 use Rattle.std.specs.Prelude.{◌⊎◌, ◌≢◌, ◌↔◌, ltb, leb, ◌||◌, Option, Some, None, alloc_error}
 use Rattle.std.proofs.Common.{◌≡◌, ℕ, zero, suc, ◌+◌, ◌-◌, ◌<◌, ◌≤◌, Bool, true, false, List, [], ◌∷◌, ◌++◌, length, get_or, take, refl, sym, ap, ◌∙◌, inl, inr, arith}
+use Rattle.std.specs.Option.{unwrap_or}
 use Rattle.std.proofs.lemmas.Bool.{lt-ltb}
+use Rattle.std.proofs.lemmas.List.{take_more}
+use Rattle.nest_build.proofs.Rows.{told-append}
 use Rattle.nest_memory.specs.TypeTree.{TypeTree, item_type}
 use Rattle.nest_memory.specs.Cut.{cut}
 use Rattle.nest_memory.specs.Rising.{largest_offset}
 use Rattle.nest_memory.specs.declared.error.Error.{Error}
 use Rattle.nest_memory.specs.declared.error.Error.TheVariants.{Memory, Overflow, InvalidArgumentError}
 use Rattle.nest_memory.specs.declared.error.Argument.TheVariants.{ItemType, LengthsSum, Unfinished}
+use Rattle.nest_model.specs.Layout.{Layout}
+use Rattle.nest_model.specs.Meaning.{len, slots_of}
+use Rattle.nest_model.specs.Reads.{slots-length}
+use Rattle.nest_model.specs.BuilderLevelLaws.{own-length}
 use Rattle.nest_model.specs.Slot as slots
 use Rattle.nest_model.specs.Slot.{Slot, Slots, seal}
 use Rattle.nest_model.specs.BuilderRow.{Row, told_row, end_from}
@@ -154,12 +161,24 @@ rows_join_refused large wide k m rows more c d e h w (inr p) =
     = ap (λ b. (is_past (length rows + length more) || b) || join_passes c d) past ∙ or-over (is_past (length rows + length more)) (join_passes c d) in
     rw p.0 (inr (h, λ q. let u : true ≡ false = sym all ∙ q in cc))
 
-pub rows_joined : (large wide : Bool) (k m : TypeTree) (rows more new : List Row) (c d e : BuilderTree) → k ≡ m → new ≡ rows ++ moved (end_from 0 rows) more → IsWhole (list large k rows c) → IsWhole (list large m more d)
+pub rows_joined : (large : Bool) (k m : TypeTree) (rows more new : List Row) (c d e : BuilderTree) → k ≡ m → new ≡ rows ++ moved (end_from 0 rows) more → IsWhole (list large k rows c) → IsWhole (list large m more d)
     → Joined d c e → Joined (list large m more d) (list large k rows c) (list large k new e)
-rows_joined large wide k m rows more new c d e h f w v j =
+rows_joined large k m rows more new c d e h f w v j =
     rw (← h) (list_joined large k rows more new c d e f w (rw h v) (joined_type c d e j) j)
 
 pub join_unrefused : (large wide : Bool) (k m : TypeTree) (rows more : List Row) (c d : BuilderTree) → k ≡ m → wide ≡ large → (length rows + length more ≤ largest_length) × (end_from 0 rows + end_from 0 more ≤ largest_offset wide)
     → Pass (join_checks c d) → Pass (join_checks (list large k rows c) (list large m more d))
 join_unrefused large wide k m rows more c d h w l p =
     (h, (rw (within (length rows + length more) l.0, below (suc (largest_offset large)) (end_from 0 rows + end_from 0 more) (omega (arith, l.1, ap largest_offset w)), p.1.0) refl, tt))
+
+-- a frozen child has as many slots as it had rows
+pub child_count : (a : Layout) (c : BuilderTree) → slots_of a ≡ own_slots c → len a ≡ builder_len c
+child_count a c e = sym (slots-length a) ∙ ap length e ∙ own-length c
+
+-- the items of one length, and of one length more
+pub told-one : (x : Option ℕ) → items_told (x ∷ []) ≡ unwrap_or x 0
+told-one None = refl
+told-one (Some n) = omega arith
+
+pub told-next : (i : ℕ) (ns : List (Option ℕ)) → i < length ns → items_told (take (i + 1) ns) ≡ items_told (take i ns) + unwrap_or (get_or ns i None) 0
+told-next i ns l = ap items_told (take_more ns i None l) ∙ told-append (take i ns) (get_or ns i None ∷ []) ∙ ap (λ n. items_told (take i ns) + n) (told-one (get_or ns i None))

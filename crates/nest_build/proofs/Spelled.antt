@@ -2,14 +2,15 @@
 use Rattle.std.specs.Prelude.{Some, None, if◌then◌else◌}
 use Rattle.std.proofs.Common.{◌≡◌, ℕ, zero, suc, ◌+◌, ◌-◌, ◌<◌, ◌≤◌, Bool, true, false, List, [], ◌∷◌, length, map, drop, get_or, refl, ap, sym, ◌∙◌, subst, arith}
 use Rattle.std.proofs.lemmas.List.{get_or-map}
-use Rattle.nest_memory.specs.TypeTree.{TypeTree}
+use Rattle.nest_memory.specs.TypeTree.{TypeTree, item_type}
+use Rattle.nest_memory.specs.Physical.{physical_type, list_of_width}
 use Rattle.nest_memory.specs.Cut.{cut}
 use Rattle.nest_memory.specs.Rising.{last_of}
 use Rattle.nest_model.specs.Part.{Validity, valid_at, rows, begin, extent}
-use Rattle.nest_model.specs.Fits.{ValidityFits}
+use Rattle.nest_model.specs.Fits.{Fits, ValidityFits}
 use Rattle.nest_model.specs.Slot as slots
 use Rattle.nest_model.specs.Slot.{Slot, seal}
-use Rattle.nest_model.specs.Layout.{Layout}
+use Rattle.nest_model.specs.Layout.{Layout, layout_type}
 use Rattle.nest_model.specs.Meaning.{run, len, slot, slots_of}
 use Rattle.nest_model.specs.Reads.{items-cut, extent-fits}
 use Rattle.nest_model.specs.BuilderRow.{Row, told_row, end_from}
@@ -95,3 +96,11 @@ module _ (large : Bool) (os : List ℕ) (va : Validity) (rs : List Row) (s : Spe
 
   pub spelled-end : end_from 0 rs ≡ last_of os
   spelled-end = told-end os va rs s.told s.offsets.0 s.first s.fits
+
+-- the parts of the array fit
+pub spelled-fits : (large : Bool) (t : TypeTree) (os : List ℕ) (c : Layout) (va : Validity) (rs : List Row) → Spells os va rs → physical_type t ≡ list_of_width large → item_type t ≡ Some (layout_type c) → end_from 0 rs ≤ len c
+    → Fits (layouts.list large t os c va)
+spelled-fits large t os c va rs s p i l = (omega (arith, l, spelled-end large os va rs s), (s.fits, (p, (i, tt))))
+
+pub spelled-slots : (large : Bool) (t : TypeTree) (os : List ℕ) (c : Layout) (va : Validity) (rs : List Row) → Spells os va rs → end_from 0 rs ≤ len c → slots_of (layouts.list large t os c va) ≡ rows_of_items 0 rs (slots_of c)
+spelled-slots large t os c va rs s l = spelled large os va rs s t c (omega (arith, l, spelled-end large os va rs s))

@@ -18,6 +18,13 @@ pub(crate) fn has_items(lists: &DataType, items: &DataType) -> bool
     }
 }
 
+/// Whether two data types are the same.
+pub(crate) fn same_types(a: &DataType, b: &DataType) -> bool
+    ensures { IsTrue result ↔ (type_of a.now ≡ type_of b.now) }
+{
+    *a == *b
+}
+
 /// The data type of a builder and the array of its child, which has no row then, also after `Memory`.
 pub(crate) fn frozen_parts<M: MutableArray>(
     alloc: Global,

@@ -9,7 +9,7 @@ ghost use Rattle.nest_build.specs.Lists.{new_fixed_checks};
 ghost use Rattle.nest_build.specs.Words.{CanReadList, ChildNotEmpty, FailFirst, HasWholeChildren, InvalidArgumentError, IsWhole, Memory, OutOfSpec, Pass, ReadsList, Told, Unfinished, ZeroSize, builder_len, builder_type, default_field, emptied, item_type, layout_of, layout_type, len, list_child, own_slots, physical_type, row_checks, rows_of_size, size_of, slots_of, type_of};
 
 use crate::array::{MutableArray, shared};
-use crate::child::{frozen_parts, has_items};
+use crate::child::{frozen_parts, has_items, same_types};
 use crate::fixed_size_list::data_type::FixedType;
 use crate::fixed_size_list::rows::FixedRows;
 use crate::push::{TryExtend, TryExtendFromSelf, TryPush, extend_by_push, extend_nulls};
@@ -33,6 +33,8 @@ pub struct MutableFixedSizeListArray<M> {
 }
 
 impl<M: MutableArray> MutableFixedSizeListArray<M> {
+    ghost use Rattle.nest_build.specs.contracts.fixed_size_list.mutable.MutableFixedSizeListArray.{the_row};
+
     /// No row, over an empty child: lists of so many items, which are named "item" and nullable.
     ///
     /// # Errors
@@ -343,7 +345,8 @@ impl<M: TryExtend<Option<T>>, I: IntoIterator<Item = Option<T>>, T> TryPush<Opti
                     return Err(refusal);
                 }
                 let end = self.values.len();
-                if end - len != self.data_type.size() {
+                let size = self.data_type.size();
+                if end - len != size {
                     self.values.truncate(len);
                     return Err(Error::InvalidArgumentError(Argument::ItemSize));
                 }
@@ -373,7 +376,7 @@ impl<M: TryExtend<Option<T>>, I: IntoIterator<Item = Option<T>>, T> TryExtend<Op
 
 impl<M: TryExtendFromSelf> TryExtendFromSelf for MutableFixedSizeListArray<M> {
     fn try_extend_from_self(&mut self, other: &MutableFixedSizeListArray<M>) -> Result<(), Error> {
-        if self.data_type.get() != other.data_type.get() {
+        if !same_types(self.data_type.get(), other.data_type.get()) {
             return Err(Error::InvalidArgumentError(Argument::ItemType));
         }
         let len = self.values.len();

@@ -7,7 +7,7 @@ ghost use Rattle.nest_build.specs.Lists.{list_type, new_list_checks};
 ghost use Rattle.nest_build.specs.Words.{CanReadList, ChildNotEmpty, FailFirst, HasWholeChildren, InvalidArgumentError, IsListBy, IsWhole, ListCovers, Memory, Pass, ReadsList, RisesFrom, Told, ToldLengths, Unfinished, builder_len, builder_type, default_field, emptied, layout_of, layout_type, items_told, lengths_checks, list_child, own_slots, row_checks, rows_told, slots_of, told_rows_checks, type_of};
 
 use crate::array::{MutableArray, shared};
-use crate::child::{frozen_parts, has_items};
+use crate::child::{frozen_parts, has_items, same_types};
 use crate::list::data_type::ListType;
 use crate::list::width::{FrozenRows, ListWidth, ToldRows};
 use crate::push::{TryExtend, TryExtendFromSelf, TryPush, extend_by_push};
@@ -32,6 +32,8 @@ pub struct MutableListArray<O: ListWidth, M> {
 }
 
 impl<O: ListWidth, M: MutableArray> MutableListArray<O, M> {
+    ghost use Rattle.nest_build.specs.contracts.list.mutable.MutableListArray.{the_row};
+
     /// No row, over an empty child: lists whose items are named "item" and nullable.
     ///
     /// # Errors
@@ -197,7 +199,7 @@ impl<O: ListWidth, M: MutableArray> MutableListArray<O, M> {
 
     /// The child, into which the items of a row may be pushed before the row is told.
     pub fn mut_values(&mut self) -> &mut M
-        ensures* writes_back { sem 𝓛 (Lends (the_row O.row M.row) M.row self.entry result (λ v. record self.entry.now { values = v })) }
+        ensures* writes_back { sem 𝓛 (Lends (the_row O.row M.row O.Rows.row O.Buffer.row O.List.row O.Rows.List.row O.Rows.Offsets.row O.Offset) M.row self.entry result (λ v. record self.entry.now { values = v })) }
         ensures value { result.now ≡ self.old.values }
     {
         &mut self.values
@@ -254,7 +256,7 @@ impl<O: ListWidth, M: MutableArray> MutableListArray<O, M> {
 
     // Whether the child is of the items' type, and not shorter than the rows.
     fn covers_rows(&self) -> bool
-        ensures covers { IsTrue result ↔ ListCovers (⟦<MutableListArray<O, M> as MutableArray>⟧.model self.now) }
+        ensures { IsTrue result ↔ ListCovers (⟦<MutableListArray<O, M> as MutableArray>⟧.model self.now) }
     {
         let end = self.rows.last();
         has_items(self.data_type.get(), self.values.data_type()) && end <= self.values.len()
@@ -442,7 +444,7 @@ impl<O: ListWidth, M: TryExtend<Option<T>>, I: IntoIterator<Item = Option<T>>, T
 
 impl<O: ListWidth, M: TryExtendFromSelf> TryExtendFromSelf for MutableListArray<O, M> {
     fn try_extend_from_self(&mut self, other: &MutableListArray<O, M>) -> Result<(), Error> {
-        if self.data_type.get() != other.data_type.get() {
+        if !same_types(self.data_type.get(), other.data_type.get()) {
             return Err(Error::InvalidArgumentError(Argument::ItemType));
         }
         let len = self.values.len();

@@ -2,7 +2,7 @@ use Rattle.std.proofs.Common.{◌≡◌, ◌<◌, [], ◌∷◌, ◌++◌, lengt
 use Rattle.std.proofs.iter.Next.{Yields-more}
 use Rattle.std.specs.Vec.Iter.{into_iter_items, into_iter_steps}
 use Rattle.nest_model.specs.BuilderReadingLaws.{took_none, tried}
-use Rattle.nest_build.proofs.Tried.{taken_front, room-left, length-last}
+use Rattle.nest_build.proofs.Trials.{taken_front, room-left, length-last}
 use Rattle.nest_build.proofs.tried.push_all.Goals as goal
 
 pub try_push-requires-clause-whole : goal.try_push-requires-clause-whole
