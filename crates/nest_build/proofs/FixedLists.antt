@@ -26,6 +26,21 @@ use Rattle.nest_model.specs.BuilderRefusals.{item_refusal, nulls_pass}
 use Rattle.nest_model.specs.BuilderRefusalLaws.{within, fixed_none, fixed_size, null_past}
 use Rattle.nest_model.specs.BuilderReading.{Read, whole, begun, ReadsList, Took, Refused, TookAll, RefusedSome}
 use Rattle.nest_model.specs.Checks.{Pass, FailFirst, is_past, largest_length}
+use Rattle.nest_model.specs.BuilderLevels.{own_slots}
+use Rattle.nest_model.specs.BuilderLevelLaws.{own-length, len-grown}
+use Rattle.std.proofs.Common.{◌/◌, ◌%◌}
+use Rattle.std.proofs.Math.Nat.{mul-div_cancel, mul-mod_left}
+use Rattle.nest_memory.specs.Physical.{physical_type}
+use Rattle.nest_memory.specs.declared.datatypes.physical_type.PhysicalType.TheVariants as physical
+use Rattle.nest_model.specs.Part.{Validity}
+use Rattle.nest_model.specs.Fits.{Fits, ValidityFits}
+use Rattle.nest_model.specs.Layout as layouts
+use Rattle.nest_model.specs.Layout.{Layout, layout_type}
+use Rattle.nest_model.specs.Meaning.{len, slots_of}
+use Rattle.nest_model.specs.Reads.{slots-length}
+use Rattle.nest_model.specs.BuilderTree.{flat}
+use Rattle.nest_model.specs.BuilderFreeze.{SpellsBits}
+use Rattle.nest_model.specs.BuilderFreezeLaws.{fixed_size_list-frozen}
 use Rattle.nest_build.proofs.Lists.{row_refused, fails-below, joined_type}
 
 pub item_refused : {U T A : Type 0} (becomes : U → T → Type 0) (steps : T → Option A → T → Type 0) (reads : A → Read → Type 0) (item : Option U) (u : U) (k : TypeTree) (bits : List Bool) (c : BuilderTree) (e : Error)
@@ -129,3 +144,35 @@ pub rows_joined : (k m : TypeTree) (bits more new : List Bool) (c d e : BuilderT
     → Joined d c e → Joined (fixed_size_list m more d) (fixed_size_list k bits c) (fixed_size_list k new e)
 rows_joined k m bits more new c d e h f w v j =
     rw (← h) (fixed_size_list_joined k bits more new c d e f w (rw h v) (joined_type c d e j) j)
+
+-- as many items as both had
+joined_size : (k m : TypeTree) (bits more : List Bool) (c d e : BuilderTree) (n : ℕ) → k ≡ m → Joined d c e → n ≡ builder_len e → n ≤ largest_length → IsWhole (fixed_size_list k bits c) → IsWhole (fixed_size_list m more d)
+    → (length bits + length more) * size_of k ≤ largest_length
+joined_size k m bits more c d e n h j f l w v =
+    let g = len-grown (own_slots d) c e j.last in
+    let z = ap (λ t. length more * size_of t) h in
+    omega (arith, g, own-length d, w.2, v.2, f, l, z, add-mul (length bits) (length more) (size_of k))
+
+pub join_alone : (k m : TypeTree) (bits more : List Bool) (c d e : BuilderTree) (n size : ℕ) (x : Error) → k ≡ m → size ≡ size_of k → 0 < size → Joined d c e → n ≡ builder_len e → n ≤ largest_length → IsWhole (fixed_size_list k bits c) → IsWhole (fixed_size_list m more d)
+    → (x ≡ Memory alloc_error) ⊎ ((x ≡ Overflow) × (largest_length < length bits + length more)) → x ≡ Memory alloc_error
+join_alone k m bits more c d e n size x h z s j f l w v (inl q) = q
+join_alone k m bits more c d e n size x h z s j f l w v (inr p) =
+    absurd (omega (arith, p.1, joined_size k m bits more c d e n h j f l w v, mul-above (length bits + length more) (size_of k) (omega (arith, z, s))))
+
+pub join_unrefused : (k m : TypeTree) (bits more : List Bool) (c d e : BuilderTree) (n : ℕ) → k ≡ m → Joined d c e → n ≡ builder_len e → n ≤ largest_length → IsWhole (fixed_size_list k bits c) → IsWhole (fixed_size_list m more d)
+    → length bits + length more ≤ largest_length → Pass (join_checks c d) → Pass (join_checks (fixed_size_list k bits c) (fixed_size_list m more d))
+join_unrefused k m bits more c d e n h j f l w v r p =
+    (h, (rw (within (length bits + length more) r, within ((length bits + length more) * size_of k) (joined_size k m bits more c d e n h j f l w v), p.1.0) refl, tt))
+
+-- the array of the rows
+pub rows-fit : (t : TypeTree) (bits : List Bool) (a : Layout) (va : Validity) (n : ℕ) → physical_type t ≡ physical.FixedSizeList → 0 < size_of t → item_type t ≡ Some (layout_type a) → len a ≡ length bits * size_of t → n ≡ length bits → ValidityFits va n
+    → Fits (layouts.fixed_size_list t a va)
+rows-fit t bits a va n p s i l e v =
+    let count : len a / size_of t ≡ length bits = ap (λ m. m / size_of t) l ∙ mul-div_cancel (length bits) s in
+    let rest : len a % size_of t ≡ 0 = ap (λ m. m % size_of t) l ∙ mul-mod_left (length bits) (size_of t) in
+    (p, (s, (i, (rest, (subst (ValidityFits va) (e ∙ sym count) v, tt)))))
+
+pub rows-frozen : (t : TypeTree) (bits : List Bool) (a : Layout) (va : Validity) → 0 < size_of t → item_type t ≡ Some (layout_type a) → len a ≡ length bits * size_of t → SpellsBits va bits
+    → slots_of (layouts.fixed_size_list t a va) ≡ rows_of_size 0 (size_of t) bits (slots_of a)
+rows-frozen t bits a va s i l v =
+    fixed_size_list-frozen t bits (flat (layout_type a) (slots_of a)) a va s (tt, i, slots-length a ∙ l) refl v

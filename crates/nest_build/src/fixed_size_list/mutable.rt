@@ -380,6 +380,7 @@ impl<M: TryExtendFromSelf> TryExtendFromSelf for MutableFixedSizeListArray<M> {
             return Err(Error::InvalidArgumentError(Argument::ItemType));
         }
         let len = self.values.len();
+        let _size = self.data_type.size();
         if let Err(refusal) = self.values.try_extend_from_self(&other.values) {
             return Err(refusal);
         }
