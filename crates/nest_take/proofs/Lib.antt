@@ -1,0 +1,3 @@
+pub mod At
+pub mod Pieces
+pub mod Rows

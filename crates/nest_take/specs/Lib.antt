@@ -1,0 +1,4 @@
+pub mod Limits
+pub mod Places
+pub mod Taken
+pub mod Words
