@@ -1,3 +1,5 @@
 pub mod At
+pub mod Flats
 pub mod Pieces
 pub mod Rows
+pub mod SpanRows

@@ -1,18 +1,23 @@
 -- Pieces of a list one after another, and where each lies.
 use Rattle.std.specs.Prelude.{List, [], ◌∷◌, ◌++◌, map, length, get_or}
+use Rattle.std.specs.Prelude.{if◌then◌else◌}
 use Rattle.std.specs.List.{All, flat_map, range_with_len, sum_by}
-use Rattle.std.proofs.Common.{◌≡◌, ℕ, zero, suc, ◌+◌, ◌-◌, ◌*◌, ◌<◌, ◌≤◌, take, drop, refl, ap, sym, ◌∙◌, subst, arith, length-append}
+use Rattle.std.proofs.Common.{◌≡◌, ℕ, Bool, true, false, sum, zero, suc, ◌+◌, ◌-◌, ◌*◌, ◌<◌, ◌≤◌, take, drop, refl, ap, sym, ◌∙◌, subst, arith, length-append}
 use Rattle.std.proofs.lemmas.List.{length-map, take-append-le, drop-append-le}
 use Rattle.std.proofs.lemmas.List.Elements.{All-nil, All-cons, All-append}
 use Rattle.std.proofs.lemmas.List.FromFn.{length-range_with_len}
-use Rattle.std.proofs.lemmas.List.Sums.{sum_by-cons, sum_by_more}
+use Rattle.std.proofs.lemmas.List.Sums.{sum-map, sum_by-cons, sum_by_more}
 use Rattle.nest_memory.specs.Cut.{cut}
-use Rattle.nest_memory.specs.Rising.{ends_from, last_of}
+use Rattle.nest_memory.specs.Rising.{ends_from, last_of, largest_offset}
 use Rattle.nest_model.specs.Chosen.{chosen}
 use Rattle.nest_model.specs.ChosenLaws.{chosen-range, chosen-append}
-use Rattle.nest_model.specs.Part.{begin, extent, rows}
+use Rattle.nest_model.specs.Part.{Validity, valid_at, begin, extent, rows}
+use Rattle.nest_model.specs.Array.{AreOffsets}
+use Rattle.nest_model.specs.Reads.{extent-fits}
+use Rattle.nest_model.specs.Runs.{length-cut}
 use Rattle.nest_model.specs.Slot.{Slot}
-use Rattle.nest_take.specs.Places.{AreBelow}
+use Rattle.nest_take.specs.Places.{AreBelow, count_at, items_at}
+use Rattle.nest_take.specs.Limits.{PassesOffsets}
 
 -- what holds of each place holds of the first one, and of each after it
 pub first-place : (P : ℕ → Type 0) (i : ℕ) (is : List ℕ) → All P (i ∷ is) → P i
@@ -129,3 +134,51 @@ range_more b (suc n) =
     let e : b + 1 + n ≡ b + suc n = omega arith in
     let f : suc n + 1 ≡ suc (n + 1) = omega arith in
     ap (range_with_len b) f ∙ ap (◌∷◌ b) (range_more (b + 1) n ∙ ap (λ z. range_with_len (b + 1) n ++ z ∷ []) e)
+
+-- lengths whose sum passes the largest offset
+pub passes-offsets : (large : Bool) (m : ℕ) (os : List ℕ) (va : Validity) (is ls es : List ℕ) → m ≡ largest_offset large → es ≡ 0 ∷ []
+    → ls ≡ map (count_at os va) is → m < last_of es + sum ls → PassesOffsets large os va is
+passes-offsets large m os va is ls es e f g h =
+    let a = ap last_of f in
+    let b = ap sum g in
+    omega (arith, sum-map (count_at os va) is)
+
+-- rows between offsets that end within m items have their items there
+count-le : (b : Bool) (n : ℕ) → (if b then n else 0) ≤ n
+count-le true n = omega arith
+count-le false n = omega arith
+
+pub count-valid : (os : List ℕ) (va : Validity) (i : ℕ) → valid_at va i ≡ true → count_at os va i ≡ extent os i
+count-valid os va i h = ap (λ b. if b then extent os i else 0) h
+
+pub rows-within : (os : List ℕ) (va : Validity) (m : ℕ) (is : List ℕ) → AreOffsets os → last_of os ≤ m → AreBelow is (rows os)
+    → All (λ i. begin os i + count_at os va i ≤ m) is
+rows-within os va m is h l b j d k =
+    let i = get_or is j d in
+    let a = extent-fits os m i h l (b j d k) in
+    let c = count-le (valid_at va i) (extent os i) in
+    omega arith
+
+-- the items of the row at place j, among the items of the taken rows
+pub row-items : {A : Type 0} (xs : List A) (os : List ℕ) (va : Validity) (is : List ℕ) (j : ℕ) → All (λ i. begin os i + count_at os va i ≤ length xs) is → j < length is
+    → cut (items_at xs os va is) (begin (ends (count_at os va) is) j) (extent (ends (count_at os va) is) j) ≡ cut xs (begin os (get_or is j 0)) (count_at os va (get_or is j 0))
+row-items xs os va is j h k =
+    let n = count_at os va in
+    let f = λ (i : ℕ). cut xs (begin os i) (n i) in
+    ap (λ b. cut (items_at xs os va is) b (extent (ends n is) j)) (piece-begin n is j (omega arith))
+    ∙ ap (cut (items_at xs os va is) (sum_by n (take j is))) (piece-extent n is j k)
+    ∙ piece-cut f n is j (λ p d l. length-cut xs (begin os (get_or is p d)) (n (get_or is p d)) (h p d l)) k
+
+-- as many items as their counts say
+pub items-length : {A : Type 0} (xs : List A) (os : List ℕ) (va : Validity) (is : List ℕ) → All (λ i. begin os i + count_at os va i ≤ length xs) is
+    → length (items_at xs os va is) ≡ sum_by (count_at os va) is
+items-length xs os va is h =
+    let n = count_at os va in
+    pieces-length (λ i. cut xs (begin os i) (n i)) n is (λ p d l. length-cut xs (begin os (get_or is p d)) (n (get_or is p d)) (h p d l))
+
+-- the same offsets and validity give the same
+pub ends-same : (os ns : List ℕ) (va v : Validity) (is : List ℕ) → os ≡ ns → va ≡ v → ends (count_at os va) is ≡ ends (count_at ns v) is
+ends-same os ns va v is e f = ap (λ z. ends (count_at z va) is) e ∙ ap (λ z. ends (count_at ns z) is) f
+
+pub items-same : {A : Type 0} (xs ys : List A) (os ns : List ℕ) (va v : Validity) (is : List ℕ) → xs ≡ ys → os ≡ ns → va ≡ v → items_at xs os va is ≡ items_at ys ns v is
+items-same xs ys os ns va v is e f g = ap (λ z. items_at z os va is) e ∙ ap (λ z. items_at ys z va is) f ∙ ap (λ z. items_at ys ns z is) g

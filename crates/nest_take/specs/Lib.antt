@@ -1,4 +1,5 @@
 pub mod Limits
 pub mod Places
 pub mod Taken
+pub mod TakenKeys
 pub mod Words

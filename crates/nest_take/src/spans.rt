@@ -93,8 +93,10 @@ pub(crate) fn offsets_at<O: Offset>(
     let lengths = lengths(alloc, offsets, validity, places)?;
     let mut ends = Offsets::new(alloc)?;
     ends.reserve(lengths.len())?;
-    ends.try_extend_from_lengths(&lengths)?;
-    ends.freeze()
+    match ends.try_extend_from_lengths(&lengths) {
+        Ok(()) => ends.freeze(),
+        Err(error) => Err(error),
+    }
 }
 
 /// The places of the items of the rows at some places, `count` in all.
@@ -169,6 +171,36 @@ pub(crate) fn take<O: Offset>(
     Ok(Spans {
         offsets: offsets_at(alloc, offsets, validity, places)?,
         bytes: bytes_at(alloc, offsets, validity, bytes, places, count)?,
+        validity: places::validity_at(alloc, validity, places)?,
+    })
+}
+
+/// Offsets, the places of the items between them, and a validity.
+#[derive(Drop)]
+pub(crate) struct Rows<O: Offset> {
+    pub(crate) offsets: OffsetsBuffer<O>,
+    pub(crate) items: Vec<usize>,
+    pub(crate) validity: Option<Bitmap>,
+}
+
+/// The rows at some places, of items that lie in another array.
+pub(crate) fn rows<O: Offset>(
+    alloc: Global,
+    offsets: &OffsetsBuffer<O>,
+    validity: Option<&Bitmap>,
+    places: &[usize],
+) -> Result<Rows<O>, Error>
+    requires within { AreBelow places.now (rows offsets.now) }
+    requires bits { ReachesBits (option_map (λ b. b.now) validity) places.now }
+    ensures offsets { IfOk result (λ s. s.offsets ≡ 0 ∷ ends_from 0 (map (count_at offsets.now (option_map (λ b. b.now) validity.entry)) places.now)) }
+    ensures items { IfOk result (λ s. s.items.items ≡ item_places offsets.now (option_map (λ b. b.now) validity.entry) places.now) }
+    ensures validity { IfOk result (λ s. s.validity ≡ taken_validity (option_map (λ b. b.now) validity.entry) places.now) }
+    ensures err { IfErr result (λ e. (e ≡ Memory alloc_error) ⊎ ((e ≡ Overflow) × PassesOffsets O.IS_LARGE offsets.now (option_map (λ b. b.now) validity.entry) places.now)) }
+{
+    let count = count(offsets, validity, places)?;
+    Ok(Rows {
+        offsets: offsets_at(alloc, offsets, validity, places)?,
+        items: items(alloc, offsets, validity, places, count)?,
         validity: places::validity_at(alloc, validity, places)?,
     })
 }
