@@ -24,7 +24,7 @@ pub(crate) fn take_lists(alloc: Global, array: &ListArray, places: &[usize]) -> 
 {
     array.known();
     array.offsets().known();
-    let rows = spans::rows(alloc, array.offsets(), array.validity(), places)?;
+    let rows = spans::take_rows(alloc, array.offsets(), array.validity(), places)?;
     rows.offsets.known();
     match take(alloc, array.values(), &rows.items) {
         Ok(values) => lists_of(alloc, array.data_type(), rows.offsets, values, rows.validity),
@@ -68,7 +68,7 @@ pub(crate) fn take_large_lists(alloc: Global, array: &LargeListArray, places: &[
 {
     array.known();
     array.offsets().known();
-    let rows = spans::rows(alloc, array.offsets(), array.validity(), places)?;
+    let rows = spans::take_rows(alloc, array.offsets(), array.validity(), places)?;
     rows.offsets.known();
     match take(alloc, array.values(), &rows.items) {
         Ok(values) => large_lists_of(alloc, array.data_type(), rows.offsets, values, rows.validity),

@@ -24,7 +24,7 @@ pub(crate) fn take_maps(alloc: Global, array: &MapArray, places: &[usize]) -> Re
 {
     array.known();
     array.offsets().known();
-    let rows = spans::rows(alloc, array.offsets(), array.validity(), places)?;
+    let rows = spans::take_rows(alloc, array.offsets(), array.validity(), places)?;
     rows.offsets.known();
     match take(alloc, array.field(), &rows.items) {
         Ok(values) => maps_of(alloc, array.data_type(), rows.offsets, values, rows.validity),

@@ -184,7 +184,7 @@ pub(crate) struct Rows<O: Offset> {
 }
 
 /// The rows at some places, of items that lie in another array.
-pub(crate) fn rows<O: Offset>(
+pub(crate) fn take_rows<O: Offset>(
     alloc: Global,
     offsets: &OffsetsBuffer<O>,
     validity: Option<&Bitmap>,
