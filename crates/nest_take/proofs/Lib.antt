@@ -1,5 +1,6 @@
 pub mod At
 pub mod Flats
+pub mod Looked
 pub mod Nested
 pub mod Pieces
 pub mod Rows

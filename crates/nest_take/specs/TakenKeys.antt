@@ -1,6 +1,6 @@
 -- The keys of a dictionary at some places (of this project).
 use Rattle.std.specs.Prelude.{◌≡◌, ◌<◌, ℕ, ℤ, pos, List, [], map, get_or, length, if◌then◌else◌}
-use Rattle.nest_model.specs.Accessors.{validity_of, key_at, key_type_of, whole}
+use Rattle.nest_model.specs.Accessors.{validity_of, key_at, key_type_of, raw_keys, whole}
 use Rattle.nest_model.specs.Layout.{Layout, layout_type}
 use Rattle.nest_model.specs.Meaning.{len}
 use Rattle.nest_model.specs.Part.{valid_at}
@@ -24,4 +24,5 @@ pub record AreKeysAt (ks : Layout) (is : List ℕ) (new : Layout) : Type 0 where
   pub same_width : key_type_of new ≡ key_type_of ks
   pub validity : validity_of new ≡ taken_validity (validity_of ks) is
   pub count : len new ≡ length is
+  pub raw_count : length (raw_keys new) ≡ length is
   pub raw : (j : ℕ) → j < length is → key_at new j ≡ raw_at ks (get_or is j 0)
