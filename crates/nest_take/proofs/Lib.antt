@@ -1,4 +1,5 @@
 pub mod At
+pub mod Children
 pub mod Flats
 pub mod Looked
 pub mod Nested

@@ -7,6 +7,7 @@ mod boolean;
 mod dictionary;
 mod fixed_size_binary;
 mod fixed_size_list;
+pub mod laws;
 mod list;
 mod map;
 mod mask;

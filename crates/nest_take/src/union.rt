@@ -1,5 +1,5 @@
 //! Picks.
-ghost use Rattle.std.specs.Prelude.{◌≡◌, ◌⊎◌, ◌<◌, ◌≤◌, IfErr, IfOk, IsOkUnless, None, Some, alloc_error, get_or, length, map, option_map, pos};
+ghost use Rattle.std.specs.Prelude.{◌≡◌, ◌⊎◌, ◌<◌, ◌≤◌, ℕ, IfErr, IfOk, IsOkUnless, None, Some, alloc_error, get_or, length, map, option_map, pos};
 ghost use Rattle.nest_memory.specs.TypeTree.{ids_of};
 ghost use Rattle.nest_model.specs.Accessors.{children_of, start_of, types_of, union_offsets_of};
 ghost use Rattle.nest_model.specs.Fits.{Fits};
