@@ -39,23 +39,22 @@ keyed-core t ks c new is h b g =
     let f = dictionary-facts t ks c h in
     let va = validity_of ks in
     let range : KeysInRange new (len c) = λ some.
-      let i = some.0 in
-      let l : i < length is = let a = g.count in let z = some.1 in omega arith in
-      let v : valid_at va (get_or is i 0) ≡ true = sym (ap (λ z. valid_at z i) g.validity ∙ at-valid va is i l) ∙ some.2 in
-      let p = names-place (key_at ks (get_or is i 0)) (len c) (f.in_range (get_or is i 0) (b i 0 l) v) in
-      All-from_get_or (λ z. Names z (len c)) (raw_keys new) (pos 0)
-      (λ j k.
-      let m : j < length is = let a = g.raw_count in omega arith in
-      subst (λ z. Names z (len c)) (sym (g.raw j m)) (raw-names (valid_at va (get_or is j 0)) (key_at ks (get_or is j 0)) (len c) (omega arith) (f.in_range (get_or is j 0) (b j 0 m))))
-    in
-    (
+    let i = some.0 in
+    let l : i < length is = let a = g.count in let z = some.1 in omega arith in
+    let v : valid_at va (get_or is i 0) ≡ true = sym (ap (λ z. valid_at z i) g.validity ∙ at-valid va is i l) ∙ some.2 in
+    let p = names-place (key_at ks (get_or is i 0)) (len c) (f.in_range (get_or is i 0) (b i 0 l) v) in
+    All-from_get_or (λ z. Names z (len c)) (raw_keys new) (pos 0)
+    (λ j k.
+    let m : j < length is = let a = g.raw_count in omega arith in
+    subst (λ z. Names z (len c)) (sym (g.raw j m)) (raw-names (valid_at va (get_or is j 0)) (key_at ks (get_or is j 0)) (len c) (omega arith) (f.in_range (get_or is j 0) (b j 0 m))))
+    in (
       (f.typed, (f.key_typed ∙ sym g.same_width, (f.value_typed, (range, tt)))),
       taken (dictionary t ks c) (dictionary t new c) is b g.count
-      (λ j k.
-      let i = get_or is j 0 in
-      mask-same va (validity_of new) is j (slot c (place (key_at new j))) (slot c (place (key_at ks i))) g.validity k
-      (λ v. ap (λ z. slot c (place z)) (g.raw j k ∙ raw-valid ks i v)))
-      refl,
+          (λ j k.
+          let i = get_or is j 0 in
+          mask-same va (validity_of new) is j (slot c (place (key_at new j))) (slot c (place (key_at ks i))) g.validity k
+          (λ v. ap (λ z. slot c (place z)) (g.raw j k ∙ raw-valid ks i v)))
+          refl,
     )
 
 pub keyed-taken : (a : Layout) (u : TypeTree) (ks c d new : Layout) (is : List ℕ) → TopFits a → a ≡ dictionary (layout_type a) ks c → AreBelow is (len a)
@@ -114,23 +113,22 @@ sparse-core t ks xs cs ds start is h b p g =
     let n = each-count cs ds ps g in
     let l = at-length ks is xs p in
     let m : EachMeansField (ids_of t) xs (count_layouts ds) =
-      All-from_get_or (λ z. MeansField (field_named (ids_of t) z) (count_layouts ds)) xs (pos 0)
-      (λ j k.
-      let q : j < length is = omega arith in
-      let w = All-get_or (λ z. MeansField (field_named (ids_of t) z) (count_layouts cs)) ks (get_or is j 0) (pos 0) (b j 0 q) f.each_means in
-      subst (λ z. MeansField (field_named (ids_of t) z) (count_layouts ds)) (sym (at-get ks is xs j (pos 0) p q)) (subst (MeansField (field_named (ids_of t) (get_or ks (get_or is j 0) (pos 0)))) (sym n) w))
+    All-from_get_or (λ z. MeansField (field_named (ids_of t) z) (count_layouts ds)) xs (pos 0)
+    (λ j k.
+    let q : j < length is = omega arith in
+    let w = All-get_or (λ z. MeansField (field_named (ids_of t) z) (count_layouts cs)) ks (get_or is j 0) (pos 0) (b j 0 q) f.each_means in
+    subst (λ z. MeansField (field_named (ids_of t) z) (count_layouts ds)) (sym (at-get ks is xs j (pos 0) p q)) (subst (MeansField (field_named (ids_of t) (get_or ks (get_or is j 0) (pos 0)))) (sym n) w))
     in
     let e = length-map is (λ i. start + i) in
     let fits : Fits (union t xs ds None 0) =
-      (f.typed, (n ∙ f.as_many, (let a = f.at_most in omega arith, (each-type (fields_of t) cs ds ps f.each_type g, (tt, (f.mode, (subst (IdsCount (ids_of t)) (sym n) f.ids, (f.ids_in_range, (m, (len-covers ds (length ps) (0 + length xs) (each-len cs ds ps g) (omega arith), tt))))))))))
-    in
-    (
+    (f.typed, (n ∙ f.as_many, (let a = f.at_most in omega arith, (each-type (fields_of t) cs ds ps f.each_type g, (tt, (f.mode, (subst (IdsCount (ids_of t)) (sym n) f.ids, (f.ids_in_range, (m, (len-covers ds (length ps) (0 + length xs) (each-len cs ds ps g) (omega arith), tt))))))))))
+    in (
       fits,
       taken (union t ks cs None start) (union t xs ds None 0) is b l
-      (λ j k.
-      ap (λ z. of_field (field_named (ids_of t) z) (λ q. picked q ds q (0 + j))) (at-get ks is xs j (pos 0) p k)
-      ∙ field-same (field_named (ids_of t) (get_or ks (get_or is j 0) (pos 0))) cs ds start is j r g k)
-      refl,
+          (λ j k.
+          ap (λ z. of_field (field_named (ids_of t) z) (λ q. picked q ds q (0 + j))) (at-get ks is xs j (pos 0) p k)
+          ∙ field-same (field_named (ids_of t) (get_or ks (get_or is j 0) (pos 0))) cs ds start is j r g k)
+          refl,
     )
 
 pub sparse-taken : (a : Layout) (u : TypeTree) (ks xs : List ℤ) (cs ds : Layouts) (os : Option (List ℤ)) (start : ℕ) (is ps : List ℕ) → TopFits a → a ≡ union (layout_type a) ks cs os start → os ≡ None → AreBelow is (len a)

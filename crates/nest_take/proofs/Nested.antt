@@ -87,17 +87,16 @@ list-core large t os c d va is h b o g =
     let w = rows-in c os va is f.rising f.within b in
     let es = ends (count_at os va) is in
     let v = taken_validity va is in
-    let fits : Fits (list_at large t os d va is) = (items-count c d os va is w g, (validity-rows os va is, (f.typed, (f.items ∙ ap Some (sym g.same_type), tt)))) in
-    (
+    let fits : Fits (list_at large t os d va is) = (items-count c d os va is w g, (validity-rows os va is, (f.typed, (f.items ∙ ap Some (sym g.same_type), tt)))) in (
       fits,
       taken (list large t os c va) (list_at large t os d va is) is b (ends-rows (count_at os va) is)
-      (λ j k.
-      let i = get_or is j 0 in
-      let r : j < rows es = omega (arith, ends-rows (count_at os va) is) in
-      list-slot large t es d v j (o, fits) r
-      ∙ mask-same va v is j _ _ refl k (row-same c d os va is j w g k)
-      ∙ sym (list-slot large t os c va i h (b j 0 k)))
-      refl,
+          (λ j k.
+          let i = get_or is j 0 in
+          let r : j < rows es = omega (arith, ends-rows (count_at os va) is) in
+          list-slot large t es d v j (o, fits) r
+          ∙ mask-same va v is j _ _ refl k (row-same c d os va is j w g k)
+          ∙ sym (list-slot large t os c va i h (b j 0 k)))
+          refl,
     )
 
 pub list-taken : (large : Bool) (a : Layout) (u : TypeTree) (os es : List ℕ) (c d : Layout) (va v : Validity) (is ps : List ℕ) → TopFits a → a ≡ list large (layout_type a) os c va → AreBelow is (len a)
@@ -120,17 +119,16 @@ map-core t os c d va is h b o g =
     let w = rows-in c os va is f.rising f.within b in
     let es = ends (count_at os va) is in
     let v = taken_validity va is in
-    let fits : Fits (map_at t os d va is) = (items-count c d os va is w g, (f.typed, (f.pairs, (f.entries ∙ ap Some (sym g.same_type), (validity-rows os va is, tt))))) in
-    (
+    let fits : Fits (map_at t os d va is) = (items-count c d os va is w g, (f.typed, (f.pairs, (f.entries ∙ ap Some (sym g.same_type), (validity-rows os va is, tt))))) in (
       fits,
       taken (map t os c va) (map_at t os d va is) is b (ends-rows (count_at os va) is)
-      (λ j k.
-      let i = get_or is j 0 in
-      let r : j < rows es = omega (arith, ends-rows (count_at os va) is) in
-      map-slot t es d v j (o, fits) r
-      ∙ mask-same va v is j _ _ refl k (row-same c d os va is j w g k)
-      ∙ sym (map-slot t os c va i h (b j 0 k)))
-      refl,
+          (λ j k.
+          let i = get_or is j 0 in
+          let r : j < rows es = omega (arith, ends-rows (count_at os va) is) in
+          map-slot t es d v j (o, fits) r
+          ∙ mask-same va v is j _ _ refl k (row-same c d os va is j w g k)
+          ∙ sym (map-slot t os c va i h (b j 0 k)))
+          refl,
     )
 
 pub map-taken : (a : Layout) (u : TypeTree) (os es : List ℕ) (c d : Layout) (va v : Validity) (is ps : List ℕ) → TopFits a → a ≡ map (layout_type a) os c va → AreBelow is (len a)
@@ -174,18 +172,17 @@ sized-core t c d va is h b g =
     let n : len d / s ≡ length is = ap (λ z. z / s) l ∙ mul-div_cancel (length is) f.sized in
     let m : len d % s ≡ 0 = ap (λ z. z % s) l ∙ product-exact (length is) s in
     let v = taken_validity va is in
-    let fits : Fits (sized_at t d va is) = (f.typed, (f.sized, (f.items ∙ ap Some (sym g.same_type), (m, (subst (ValidityFits v) (sym n) (taken-fits va is), tt))))) in
-    (
+    let fits : Fits (sized_at t d va is) = (f.typed, (f.sized, (f.items ∙ ap Some (sym g.same_type), (m, (subst (ValidityFits v) (sym n) (taken-fits va is), tt))))) in (
       fits,
       taken (fixed_size_list t c va) (sized_at t d va is) is b n
-      (λ j k.
-      let i = get_or is j 0 in
-      let r : j < len (fixed_size_list t d v) = omega arith in
-      fixed_size_list-slot t d v j r
-      ∙ mask-same va v is j (slots.list (seal (cut (slots_of d) (j * s) s))) (slots.list (seal (cut (slots_of c) (i * s) s))) refl k
-      (λ _. ap (λ ss. slots.list (seal (cut ss (j * s) s))) es ∙ ap (λ ss. slots.list (seal ss)) (block-cut (λ p. cut (slots_of c) (p * s) s) s is j bl k))
-      ∙ sym (fixed_size_list-slot t c va i (b j 0 k)))
-      refl,
+          (λ j k.
+          let i = get_or is j 0 in
+          let r : j < len (fixed_size_list t d v) = omega arith in
+          fixed_size_list-slot t d v j r
+          ∙ mask-same va v is j (slots.list (seal (cut (slots_of d) (j * s) s))) (slots.list (seal (cut (slots_of c) (i * s) s))) refl k
+          (λ _. ap (λ ss. slots.list (seal (cut ss (j * s) s))) es ∙ ap (λ ss. slots.list (seal ss)) (block-cut (λ p. cut (slots_of c) (p * s) s) s is j bl k))
+          ∙ sym (fixed_size_list-slot t c va i (b j 0 k)))
+          refl,
     )
 
 pub sized-taken : (a : Layout) (u : TypeTree) (s : ℕ) (c d : Layout) (va v : Validity) (is ps : List ℕ) → TopFits a → a ≡ fixed_size_list (layout_type a) c va → AreBelow is (len a)
@@ -213,15 +210,14 @@ fixed-core t bs va is h b =
     let n : length (blocks_at bs s is) / s ≡ length is = ap (λ z. z / s) l ∙ mul-div_cancel (length is) f.sized in
     let m : length (blocks_at bs s is) % s ≡ 0 = ap (λ z. z % s) l ∙ product-exact (length is) s in
     let v = taken_validity va is in
-    let fits : Fits (fixed_at t bs va is) = (f.typed, (f.sized, (m, (subst (ValidityFits v) (sym n) (taken-fits va is), tt)))) in
-    (
+    let fits : Fits (fixed_at t bs va is) = (f.typed, (f.sized, (m, (subst (ValidityFits v) (sym n) (taken-fits va is), tt)))) in (
       fits,
       taken (fixed_size_binary t bs va) (fixed_at t bs va is) is b n
-      (λ j k.
-      let i = get_or is j 0 in
-      mask-same va v is j (slots.bytes (cut (blocks_at bs s is) (j * s) s)) (slots.bytes (cut bs (i * s) s)) refl k
-      (λ _. ap slots.bytes (block-cut (λ p. cut bs (p * s) s) s is j bl k)))
-      refl,
+          (λ j k.
+          let i = get_or is j 0 in
+          mask-same va v is j (slots.bytes (cut (blocks_at bs s is) (j * s) s)) (slots.bytes (cut bs (i * s) s)) refl k
+          (λ _. ap slots.bytes (block-cut (λ p. cut bs (p * s) s) s is j bl k)))
+          refl,
     )
 
 pub fixed-taken : (a : Layout) (u : TypeTree) (s : ℕ) (bs cs : List ℕ) (va v : Validity) (is : List ℕ) → TopFits a → a ≡ fixed_size_binary (layout_type a) bs va → AreBelow is (len a)
@@ -283,13 +279,12 @@ record-core t cs ds va is h b g =
     let l = each-len cs ds is g in
     let q : first_len ds ≡ length is = first-of ds (length is) l (let a = f.as_many in let c = f.some_field in omega arith) in
     let v = taken_validity va is in
-    let fits : Fits (record_at t ds va is) = (f.typed, (f.some_field, (n ∙ f.as_many, (each-type (fields_of t) cs ds is f.each_type g, (subst (EachLen ds) (sym q) l, (subst (ValidityFits v) (sym q) (taken-fits va is), tt)))))) in
-    (
+    let fits : Fits (record_at t ds va is) = (f.typed, (f.some_field, (n ∙ f.as_many, (each-type (fields_of t) cs ds is f.each_type g, (subst (EachLen ds) (sym q) l, (subst (ValidityFits v) (sym q) (taken-fits va is), tt)))))) in (
       fits,
       taken (struct t cs va) (record_at t ds va is) is b q
-      (λ j k. mask-same va v is j (slots.record_of (each ds j)) (slots.record_of (each cs (get_or is j 0))) refl k
-      (λ _. ap slots.record_of (each-same cs ds is j (each-reaches cs (first_len cs) is f.each_len b) g k)))
-      refl,
+          (λ j k. mask-same va v is j (slots.record_of (each ds j)) (slots.record_of (each cs (get_or is j 0))) refl k
+          (λ _. ap slots.record_of (each-same cs ds is j (each-reaches cs (first_len cs) is f.each_len b) g k)))
+          refl,
     )
 
 pub record-taken : (a : Layout) (u : TypeTree) (cs ds : Layouts) (va v : Validity) (is : List ℕ) → TopFits a → a ≡ struct (layout_type a) cs va → AreBelow is (len a)

@@ -37,15 +37,14 @@ binary-core large t os bs va is h b =
     let n = count_at os va in
     let w = rows-within os va (length bs) is f.rising f.within b in
     let l = items-length bs os va is w in
-    let e = ends-last n is in
-    (
+    let e = ends-last n is in (
       (omega arith, (validity-rows os va is, (f.typed, tt))),
       taken (binary large t os bs va) (binary_at large t os bs va is) is b (ends-rows n is)
-      (λ j k.
-      let i = get_or is j 0 in
-      mask-same va (taken_validity va is) is j (slots.bytes (cut (items_at bs os va is) (begin (ends n is) j) (extent (ends n is) j))) (slots.bytes (cut bs (begin os i) (extent os i))) refl k
-      (λ v. ap slots.bytes (row-items bs os va is j w k ∙ ap (cut bs (begin os i)) (count-valid os va i v))))
-      refl,
+          (λ j k.
+          let i = get_or is j 0 in
+          mask-same va (taken_validity va is) is j (slots.bytes (cut (items_at bs os va is) (begin (ends n is) j) (extent (ends n is) j))) (slots.bytes (cut bs (begin os i) (extent os i))) refl k
+          (λ v. ap slots.bytes (row-items bs os va is j w k ∙ ap (cut bs (begin os i)) (count-valid os va i v))))
+          refl,
     )
 
 pub binary-taken : (large : Bool) (a : Layout) (t u : TypeTree) (os bs es cs : List ℕ) (va v : Validity) (is : List ℕ) → TopFits a → a ≡ binary large t os bs va → AreBelow is (len a)
@@ -69,24 +68,23 @@ text-core large t os bs va is h b =
     let n = count_at os va in
     let w = rows-within os va (length bs) is f.rising f.within b in
     let l = items-length bs os va is w in
-    let e = ends-last n is in
-    (
+    let e = ends-last n is in (
       (
         omega arith,
         (
           λ j k.
-          let i = get_or is j 0 in
-          let m : j < length is = omega (arith, ends-rows n is) in
-          subst IsUtf8 (sym (row-items bs os va is j w m)) (some-text (valid_at va i) bs (begin os i) (extent os i) (f.texts i (b j 0 m))),
+              let i = get_or is j 0 in
+              let m : j < length is = omega (arith, ends-rows n is) in
+              subst IsUtf8 (sym (row-items bs os va is j w m)) (some-text (valid_at va i) bs (begin os i) (extent os i) (f.texts i (b j 0 m))),
           (validity-rows os va is, (f.typed, tt)),
         ),
       ),
       taken (text large t os bs va) (text_at large t os bs va is) is b (ends-rows n is)
-      (λ j k.
-      let i = get_or is j 0 in
-      mask-same va (taken_validity va is) is j (slots.text (cut (items_at bs os va is) (begin (ends n is) j) (extent (ends n is) j))) (slots.text (cut bs (begin os i) (extent os i))) refl k
-      (λ v. ap slots.text (row-items bs os va is j w k ∙ ap (cut bs (begin os i)) (count-valid os va i v))))
-      refl,
+          (λ j k.
+          let i = get_or is j 0 in
+          mask-same va (taken_validity va is) is j (slots.text (cut (items_at bs os va is) (begin (ends n is) j) (extent (ends n is) j))) (slots.text (cut bs (begin os i) (extent os i))) refl k
+          (λ v. ap slots.text (row-items bs os va is j w k ∙ ap (cut bs (begin os i)) (count-valid os va i v))))
+          refl,
     )
 
 pub text-taken : (large : Bool) (a : Layout) (t u : TypeTree) (os bs es cs : List ℕ) (va v : Validity) (is : List ℕ) → TopFits a → a ≡ text large t os bs va → AreBelow is (len a)

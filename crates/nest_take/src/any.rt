@@ -85,7 +85,11 @@ fn take_bytes(alloc: Global, array: &BinaryArray<i32>, places: &[usize]) -> Resu
 }
 
 #[inline(never)]
-fn take_large_bytes(alloc: Global, array: &BinaryArray<i64>, places: &[usize]) -> Result<AnyArray, Error>
+fn take_large_bytes(
+    alloc: Global,
+    array: &BinaryArray<i64>,
+    places: &[usize],
+) -> Result<AnyArray, Error>
     requires { AreBelow places.now (len array.now) }
     ensures ok { IfOk result (λ a. IsTaken array.now places.now (layout_of a)) }
     ensures err { IfErr result (λ e. RefusesTake e array.now places.now) }
@@ -109,7 +113,11 @@ fn take_texts(alloc: Global, array: &Utf8Array<i32>, places: &[usize]) -> Result
 }
 
 #[inline(never)]
-fn take_large_texts(alloc: Global, array: &Utf8Array<i64>, places: &[usize]) -> Result<AnyArray, Error>
+fn take_large_texts(
+    alloc: Global,
+    array: &Utf8Array<i64>,
+    places: &[usize],
+) -> Result<AnyArray, Error>
     requires { AreBelow places.now (len array.now) }
     ensures ok { IfOk result (λ a. IsTaken array.now places.now (layout_of a)) }
     ensures err { IfErr result (λ e. RefusesTake e array.now places.now) }

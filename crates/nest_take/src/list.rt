@@ -17,7 +17,11 @@ use std::alloc::Global;
 /// The slots at some places. A null row takes no item.
 #[cycle(take)]
 #[inline(never)]
-pub(crate) fn take_lists(alloc: Global, array: &ListArray, places: &[usize]) -> Result<AnyArray, Error>
+pub(crate) fn take_lists(
+    alloc: Global,
+    array: &ListArray,
+    places: &[usize],
+) -> Result<AnyArray, Error>
     requires { AreBelow places.now (len array.now) }
     ensures ok { IfOk result (λ a. IsTaken array.now places.now (layout_of a)) }
     ensures err { IfErr result (λ e. RefusesTake e array.now places.now) }
@@ -27,7 +31,13 @@ pub(crate) fn take_lists(alloc: Global, array: &ListArray, places: &[usize]) -> 
     let rows = spans::take_rows(alloc, array.offsets(), array.validity(), places)?;
     rows.offsets.known();
     match take(alloc, array.values(), &rows.items) {
-        Ok(values) => lists_of(alloc, array.data_type(), rows.offsets, values, rows.validity),
+        Ok(values) => lists_of(
+            alloc,
+            array.data_type(),
+            rows.offsets,
+            values,
+            rows.validity,
+        ),
         Err(error) => Err(error),
     }
 }
@@ -61,7 +71,11 @@ fn lists_of(
 /// The slots at some places. A null row takes no item.
 #[cycle(take)]
 #[inline(never)]
-pub(crate) fn take_large_lists(alloc: Global, array: &LargeListArray, places: &[usize]) -> Result<AnyArray, Error>
+pub(crate) fn take_large_lists(
+    alloc: Global,
+    array: &LargeListArray,
+    places: &[usize],
+) -> Result<AnyArray, Error>
     requires { AreBelow places.now (len array.now) }
     ensures ok { IfOk result (λ a. IsTaken array.now places.now (layout_of a)) }
     ensures err { IfErr result (λ e. RefusesTake e array.now places.now) }
@@ -71,7 +85,13 @@ pub(crate) fn take_large_lists(alloc: Global, array: &LargeListArray, places: &[
     let rows = spans::take_rows(alloc, array.offsets(), array.validity(), places)?;
     rows.offsets.known();
     match take(alloc, array.values(), &rows.items) {
-        Ok(values) => large_lists_of(alloc, array.data_type(), rows.offsets, values, rows.validity),
+        Ok(values) => large_lists_of(
+            alloc,
+            array.data_type(),
+            rows.offsets,
+            values,
+            rows.validity,
+        ),
         Err(error) => Err(error),
     }
 }

@@ -17,7 +17,11 @@ use std::alloc::Global;
 /// The slots at some places. A null row takes no item.
 #[cycle(take)]
 #[inline(never)]
-pub(crate) fn take_maps(alloc: Global, array: &MapArray, places: &[usize]) -> Result<AnyArray, Error>
+pub(crate) fn take_maps(
+    alloc: Global,
+    array: &MapArray,
+    places: &[usize],
+) -> Result<AnyArray, Error>
     requires { AreBelow places.now (len array.now) }
     ensures ok { IfOk result (λ a. IsTaken array.now places.now (layout_of a)) }
     ensures err { IfErr result (λ e. RefusesTake e array.now places.now) }
@@ -27,7 +31,13 @@ pub(crate) fn take_maps(alloc: Global, array: &MapArray, places: &[usize]) -> Re
     let rows = spans::take_rows(alloc, array.offsets(), array.validity(), places)?;
     rows.offsets.known();
     match take(alloc, array.field(), &rows.items) {
-        Ok(values) => maps_of(alloc, array.data_type(), rows.offsets, values, rows.validity),
+        Ok(values) => maps_of(
+            alloc,
+            array.data_type(),
+            rows.offsets,
+            values,
+            rows.validity,
+        ),
         Err(error) => Err(error),
     }
 }

@@ -55,11 +55,7 @@ fn take_sparse(alloc: Global, array: &UnionArray, places: &[usize]) -> Result<An
 }
 
 /// Where in their fields the slots at some places lie.
-fn slots_in_fields(
-    alloc: Global,
-    array: &UnionArray,
-    places: &[usize],
-) -> Result<Vec<usize>, Error>
+fn slots_in_fields(alloc: Global, array: &UnionArray, places: &[usize]) -> Result<Vec<usize>, Error>
     requires { AreBelow places.now (len array.now) }
     ensures ok { IfOk result (λ v. v.items ≡ map (union_place (union_offsets_of array.now) (start_of array.now)) places.now) }
     ensures err { IsOkUnless result (Memory alloc_error) }

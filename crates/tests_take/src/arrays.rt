@@ -84,11 +84,7 @@ pub fn numbers(alloc: Global, items: &[i32], bits: Option<&[bool]>) -> Made {
 }
 
 /// Truths, as a mask.
-pub fn mask(
-    alloc: Global,
-    items: &[bool],
-    bits: Option<&[bool]>,
-) -> Result<BooleanArray, Error> {
+pub fn mask(alloc: Global, items: &[bool], bits: Option<&[bool]>) -> Result<BooleanArray, Error> {
     match both(Bitmap::from_bools(alloc, items), validity(alloc, bits)) {
         Ok((values, validity)) => BooleanArray::try_new(DataType::Boolean, values, validity),
         Err(error) => Err(error),
@@ -178,9 +174,7 @@ pub fn maps(alloc: Global, entries: Made, offsets: &[i32], bits: Option<&[bool]>
     let data_type = map_type(alloc, &entries);
     match both(both(data_type, entries), ranges(alloc, offsets, bits)) {
         Ok(((data_type, entries), (offsets, validity))) => {
-            MapArray::try_new(alloc, data_type, offsets, entries, validity).map(
-                |maps| maps.boxed(),
-            )
+            MapArray::try_new(alloc, data_type, offsets, entries, validity).map(|maps| maps.boxed())
         }
         Err(error) => Err(error),
     }

@@ -20,7 +20,11 @@ fn more_items_than_an_offset_names(rt: HostRuntime) {
 #[test]
 fn more_items_than_a_length(rt: HostRuntime) {
     let alloc = rt.alloc();
-    let found = taken(alloc, sized(alloc, nulls(usize::MAX), usize::MAX, None), &[0, 0]);
+    let found = taken(
+        alloc,
+        sized(alloc, nulls(usize::MAX), usize::MAX, None),
+        &[0, 0],
+    );
     assert!(rt; refusal(found) == Some(Error::Overflow));
 }
 
