@@ -108,6 +108,11 @@ pub fn run<R: Clock + Print + AllocGlobal>(rt: &R, measured: bool) -> Result<()>
     println!(rt; "nulls of a type")?;
     tell_kind(rt, "  numbers", Kind::Numbers, measured)?;
     tell_kind(rt, "  texts", Kind::Texts, measured)?;
-    tell_kind(rt, "  records of a number and a text", Kind::Records, measured)?;
+    tell_kind(
+        rt,
+        "  records of a number and a text",
+        Kind::Records,
+        measured,
+    )?;
     tell_kind(rt, "  lists of numbers", Kind::Lists, measured)
 }

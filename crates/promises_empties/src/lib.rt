@@ -7,8 +7,8 @@ ghost use Rattle.nest_memory.specs.declared.datatypes.physical_type.PhysicalType
 ghost use Rattle.promises_empties.specs.Words.{AcceptsKind, HasNone, HasNulls, Memory, RefusesDictionary, RefusesKind, RefusesType, binary_of_width, empty_fault, is_dictionary, layout_of, physical_type, text_of_width, type_fault, type_of};
 
 use nest_array::{
-    AnyArray, DictionaryArray, FixedSizeBinaryArray, FixedSizeListArray, LargeListArray, ListArray, MapArray,
-    NullArray, StructArray, UnionArray, new_empty_array, new_null_array,
+    AnyArray, DictionaryArray, FixedSizeBinaryArray, FixedSizeListArray, LargeListArray, ListArray,
+    MapArray, NullArray, StructArray, UnionArray, new_empty_array, new_null_array,
 };
 use nest_flat::binary::BinaryArray;
 use nest_flat::boolean::BooleanArray;

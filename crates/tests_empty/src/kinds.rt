@@ -26,7 +26,9 @@ fn other_kinds_come_first(rt: HostRuntime) {
     assert!(rt; refused(NullArray::new_empty(alloc, DataType::Boolean)) == WRONG);
     assert!(rt; refused(FixedSizeBinaryArray::new_null(alloc, DataType::Binary, 1)) == WRONG);
     assert!(rt; refused(FixedSizeBinaryArray::new_empty(alloc, DataType::Utf8)) == WRONG);
-    assert!(rt; refused(FixedSizeListArray::new_null(alloc, DataType::FixedSizeBinary(0), 1)) == WRONG);
+    assert!(rt;
+        refused(FixedSizeListArray::new_null(alloc, DataType::FixedSizeBinary(0), 1)) == WRONG
+    );
     assert!(rt; refused(FixedSizeListArray::new_empty(alloc, DataType::Null)) == WRONG);
     assert!(rt; refused(ListArray::new_null(alloc, DataType::Float32, usize::MAX)) == WRONG);
     assert!(rt; refused(ListArray::new_empty(alloc, DataType::Null)) == WRONG);

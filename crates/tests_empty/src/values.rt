@@ -1,5 +1,7 @@
 //! What null and empty arrays hold.
-use crate::types::{extension, large_list, list, map, none, nulls, records, refusal, sized, two, union};
+use crate::types::{
+    extension, large_list, list, map, none, nulls, records, refusal, sized, two, union,
+};
 use nest_array::equal::equal_counted;
 use nest_array::{AnyArray, Steps};
 use nest_memory::datatypes::{DataType, UnionMode};

@@ -222,9 +222,9 @@ nulls::null_fields-returns-clause-ok t c =
 
 pub nulls::null_array-nulls-requires-in-Dictionary : goal.nulls::null_array-nulls-requires-in-Dictionary
 nulls::null_array-nulls-requires-in-Dictionary t c = (
-      omega arith,
-      (dictionary-kind (type_of c.args.data_type.now) _ (sym c.to_physical_type.ensures ∙ c.in-Dictionary.is), (c.requires.unrefused, c.requires.valid)),
-    )
+  omega arith,
+  (dictionary-kind (type_of c.args.data_type.now) _ (sym c.to_physical_type.ensures ∙ c.in-Dictionary.is), (c.requires.unrefused, c.requires.valid)),
+)
 
 pub dictionary::DictionaryArray::nulls-unreachable-requires : goal.dictionary::DictionaryArray::nulls-unreachable-requires
 dictionary::DictionaryArray::nulls-unreachable-requires t c = dictionary-key (type_of c.args.data_type.now) c.requires.kind (sym c.key_type.ensures ∙ c.in_default.is)
