@@ -1,6 +1,9 @@
+mod FixedBytesLaws
 mod FixedLists
+mod FixedTrees
 mod FlatTrees
 mod Lists
+mod NullTrees
 mod Nulled
 mod Nulls
 mod Rows

@@ -1,4 +1,5 @@
 pub mod Children
+pub mod FixedBytes
 pub mod FlatTree
 pub mod Lists
 pub mod Rows

@@ -4,8 +4,10 @@
 pub mod array;
 mod boxed;
 mod child;
+pub mod fixed_size_binary;
 pub mod fixed_size_list;
 pub mod flat;
 pub mod list;
+pub mod null;
 pub mod push;
 pub mod tried;

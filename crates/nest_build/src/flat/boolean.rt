@@ -1,16 +1,30 @@
 //! The builder of booleans.
-ghost use Rattle.std.specs.Prelude.{⊤};
+ghost use Rattle.std.specs.Prelude.{◌≡◌, ◌⊎◌, None, Some, OnOk, OnErr, IfErr, option_map, alloc_error};
 ghost use Rattle.nest_model.specs.BuilderItem as items;
-ghost use Rattle.nest_build.specs.Words.{ReadsValue};
+ghost use Rattle.nest_build.specs.Words.{Accepted, Memory, Overflow, asked_item, asked_refusal, flat_tree};
 
-use crate::flat::{FlatBuilder, push_value};
-use crate::push::{TryExtend, TryPush, extend_by_push};
+use crate::flat::{FlatBuilder, TakesValue};
 use nest_array::AnyArray;
 use nest_flat::boolean::mutable::MutableBooleanArray;
 use nest_flat::plain::Plain;
 use nest_memory::bitmap::mutable::MutableBitmap;
 use nest_memory::datatypes::DataType;
 use nest_memory::error::{Argument, Error};
+
+/// Adds a boolean, or a null. `Overflow` where the length would pass a `usize`.
+fn push_truth(values: &mut MutableBooleanArray, item: Option<bool>) -> Result<(), Error>
+    ensures accepted { OnOk result (Accepted (asked_item (option_map items.truth item)) (flat_tree values.old) (flat_tree values.new)) }
+    ensures unrefused { OnOk result (asked_refusal (option_map items.truth item) (flat_tree values.old) ≡ None) }
+    ensures err { OnErr result (values.new ≡ values.old) }
+    ensures cause { IfErr result (λ e. (e ≡ Memory alloc_error) ⊎ ((e ≡ Overflow) × (asked_refusal (option_map items.truth item) (flat_tree values.old) ≡ Some e))) }
+{
+    values.known();
+    if let Err(error) = values.try_push(item) {
+        return Err(error);
+    }
+    let _len = values.len();
+    Ok(())
+}
 
 impl FlatBuilder for MutableBooleanArray {
     ghost parts = { λ b. b };
@@ -46,10 +60,19 @@ impl FlatBuilder for MutableBooleanArray {
     fn push_plain(&mut self, value: Option<Plain<'_>>) -> Result<(), Error> {
         self.known();
         match value {
-            None => self.try_push(None),
-            Some(Plain::Boolean(truth)) => self.try_push(Some(truth)),
+            None => push_truth(self, None),
+            Some(Plain::Boolean(truth)) => push_truth(self, Some(truth)),
             Some(_) => Err(Error::InvalidArgumentError(Argument::ItemType)),
         }
+    }
+
+    fn join(&mut self, other: &MutableBooleanArray) -> Result<(), Error> {
+        self.known();
+        if let Err(error) = self.try_extend_from_self(other) {
+            return Err(error);
+        }
+        let _len = self.len();
+        Ok(())
     }
 
     fn cut(&mut self, n: usize) {
@@ -73,22 +96,4 @@ impl FlatBuilder for MutableBooleanArray {
     }
 }
 
-impl TryPush<Option<bool>> for MutableBooleanArray {
-    ghost can_push = { λ _. ⊤ };
-
-    ghost reads = { ReadsValue items.truth };
-
-    fn try_push(&mut self, item: Option<bool>) -> Result<(), Error> {
-        push_value(self, item)
-    }
-}
-
-impl TryExtend<Option<bool>> for MutableBooleanArray {
-    ghost can_extend = { λ _. ⊤ };
-
-    ghost reads_each = { ReadsValue items.truth };
-
-    fn try_extend<I: IntoIterator<Item = Option<bool>>>(&mut self, items: I) -> Result<(), Error> {
-        extend_by_push(self, items)
-    }
-}
+impl TakesValue<bool> for MutableBooleanArray {}

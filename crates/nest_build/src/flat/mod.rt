@@ -2,12 +2,13 @@
 mod boolean;
 mod primitive;
 
-ghost use Rattle.std.specs.Prelude.{◌≡◌, ◌≤◌, ◌<◌, ◌↔◌, ◌⊎◌, [], true, false, IsTrue, OnOk, OnErr, IfOk, IfErr, IsErrOf, IsOkUnless, None, Some, take, option_map, alloc_error};
+ghost use Rattle.std.specs.Prelude.{◌≡◌, ◌≤◌, ◌<◌, ◌↔◌, ◌⊎◌, ⊤, [], true, false, IsTrue, OnOk, OnErr, IfOk, IfErr, IsErrOf, IsOkUnless, None, Some, take, option_map, alloc_error};
 ghost use Rattle.nest_model.specs.BuilderTree as builders;
 ghost use Rattle.nest_flat.specs.NullSlots.{NullsByValidity};
-ghost use Rattle.nest_build.specs.Words.{Accepted, Holds, InvalidArgumentError, IsOfOtherKind, ItemType, Layout, Memory, Overflow, Refused, TopFits, Took, ReadsValue, asked_item, asked_refusal, flat_tree, layout_of, layout_type, len, plain_value, plain_values, reserve_passes, slots_of, type_of, valid_at, validity_of};
+ghost use Rattle.nest_build.specs.Words.{Accepted, FailFirst, Holds, InvalidArgumentError, IsOfOtherKind, ItemType, Joined, Layout, Memory, Overflow, Pass, ReadsValue, Refused, TopFits, Took, asked_item, asked_refusal, flat_tree, join_checks, layout_of, layout_type, len, plain_value, plain_values, reserve_passes, slots_of, type_of, valid_at, validity_of};
 
 use crate::array::{MutableArray, shared};
+use crate::push::{TryExtend, TryExtendFromSelf, TryPush, extend_by_push};
 use nest_array::AnyArray;
 use nest_flat::plain::{AsPlain, Plain};
 use nest_memory::bitmap::mutable::MutableBitmap;
@@ -53,6 +54,13 @@ pub trait FlatBuilder: Drop {
         ensures kind { IsErrOf result (InvalidArgumentError ItemType) ↔ IsOfOtherKind (plain_values value.entry) (flat_tree (parts self.old)) }
         ensures cause { IfErr result (λ e. (e ≡ Memory alloc_error) ⊎ (asked_refusal (plain_values value.entry) (flat_tree (parts self.old)) ≡ Some e)) };
 
+    /// Adds the slots of another builder, all of them or none.
+    fn join(&mut self, other: &Self) -> Result<(), Error>
+        ensures joined { OnOk result (Joined (flat_tree (parts other.now)) (flat_tree (parts self.old)) (flat_tree (parts self.new))) }
+        ensures unrefused { OnOk result (Pass (join_checks (flat_tree (parts self.old)) (flat_tree (parts other.now)))) }
+        ensures err { OnErr result (parts self.new ≡ parts self.old) }
+        ensures cause { IfErr result (λ e. (e ≡ Memory alloc_error) ⊎ FailFirst e (join_checks (flat_tree (parts self.old)) (flat_tree (parts other.now)))) };
+
     /// Keeps the first n slots.
     fn cut(&mut self, n: usize)
         requires { n ≤ len (parts self.old) }
@@ -74,6 +82,9 @@ pub trait FlatBuilder: Drop {
         ensures emptied { flat_tree (parts self.new) ≡ builders.flat (layout_type (parts self.old)) [] }
         ensures memory { IsOkUnless result (Memory alloc_error) };
 }
+
+/// A builder of a flat array whose items are values of this type.
+pub trait TakesValue<A: AsPlain> {}
 
 impl<B: FlatBuilder> MutableArray for B {
     ghost model = { λ b. flat_tree (B.parts b) };
@@ -151,5 +162,31 @@ fn push_value<A: AsPlain + Drop, B: FlatBuilder>(
     match item {
         None => builder.push_plain(None),
         Some(value) => builder.push_plain(Some(value.as_plain())),
+    }
+}
+
+impl<A: AsPlain + Drop, B: FlatBuilder + TakesValue<A>> TryPush<Option<A>> for B {
+    ghost can_push = { λ _. ⊤ };
+
+    ghost reads = { ReadsValue A.value };
+
+    fn try_push(&mut self, item: Option<A>) -> Result<(), Error> {
+        push_value(self, item)
+    }
+}
+
+impl<A: AsPlain + Drop, B: FlatBuilder + TakesValue<A>> TryExtend<Option<A>> for B {
+    ghost can_extend = { λ _. ⊤ };
+
+    ghost reads_each = { ReadsValue A.value };
+
+    fn try_extend<I: IntoIterator<Item = Option<A>>>(&mut self, items: I) -> Result<(), Error> {
+        extend_by_push(self, items)
+    }
+}
+
+impl<B: FlatBuilder> TryExtendFromSelf for B {
+    fn try_extend_from_self(&mut self, other: &B) -> Result<(), Error> {
+        self.join(other)
     }
 }

@@ -1,10 +1,9 @@
 //! The builder of native values.
-ghost use Rattle.std.specs.Prelude.{◌≡◌, ⊤, None, OnOk, OnErr, IfSome, IsOkUnless, alloc_error};
+ghost use Rattle.std.specs.Prelude.{◌≡◌, None, OnOk, OnErr, IsOkUnless, option_map, alloc_error};
 ghost use Rattle.nest_model.specs.BuilderItem as items;
-ghost use Rattle.nest_build.specs.Words.{Accepted, Memory, ReadsValue, flat_tree, item_refusal, plain_refusal, value_item};
+ghost use Rattle.nest_build.specs.Words.{Accepted, Memory, asked_item, asked_refusal, flat_tree};
 
-use crate::flat::{FlatBuilder, push_value};
-use crate::push::{TryExtend, TryPush, extend_by_push};
+use crate::flat::{FlatBuilder, TakesValue};
 use nest_array::AnyArray;
 use nest_array::array::Variant;
 use nest_flat::any_primitive::Native;
@@ -20,8 +19,8 @@ fn push_native<T: Native>(
     values: &mut MutablePrimitiveArray<T>,
     item: Option<T>,
 ) -> Result<(), Error>
-    ensures accepted { OnOk result (Accepted (value_item (λ x. items.native T.PRIMITIVE (T.numbers x)) item) (flat_tree values.old) (flat_tree values.new)) }
-    ensures unrefused { OnOk result (item_refusal (value_item (λ x. items.native T.PRIMITIVE (T.numbers x)) item) (flat_tree values.old) ≡ None) }
+    ensures accepted { OnOk result (Accepted (asked_item (option_map (λ x. items.native T.PRIMITIVE (T.numbers x)) item)) (flat_tree values.old) (flat_tree values.new)) }
+    ensures unrefused { OnOk result (asked_refusal (option_map (λ x. items.native T.PRIMITIVE (T.numbers x)) item) (flat_tree values.old) ≡ None) }
     ensures err { OnErr result (values.new ≡ values.old) }
     ensures memory { IsOkUnless result (Memory alloc_error) }
 {
@@ -80,6 +79,15 @@ where
         }
     }
 
+    fn join(&mut self, other: &MutablePrimitiveArray<T>) -> Result<(), Error> {
+        self.known();
+        if let Err(error) = self.try_extend_from_self(other) {
+            return Err(error);
+        }
+        let _len = self.len();
+        Ok(())
+    }
+
     fn cut(&mut self, n: usize) {
         self.truncate(n);
     }
@@ -101,28 +109,4 @@ where
     }
 }
 
-impl<T: Native> TryPush<Option<T>> for MutablePrimitiveArray<T>
-where
-    PrimitiveArray<T>: Variant,
-{
-    ghost can_push = { λ _. ⊤ };
-
-    ghost reads = { ReadsValue (λ x. items.native T.PRIMITIVE (T.numbers x)) };
-
-    fn try_push(&mut self, item: Option<T>) -> Result<(), Error> {
-        push_value(self, item)
-    }
-}
-
-impl<T: Native> TryExtend<Option<T>> for MutablePrimitiveArray<T>
-where
-    PrimitiveArray<T>: Variant,
-{
-    ghost can_extend = { λ _. ⊤ };
-
-    ghost reads_each = { ReadsValue (λ x. items.native T.PRIMITIVE (T.numbers x)) };
-
-    fn try_extend<I: IntoIterator<Item = Option<T>>>(&mut self, items: I) -> Result<(), Error> {
-        extend_by_push(self, items)
-    }
-}
+impl<T: Native> TakesValue<T> for MutablePrimitiveArray<T> {}

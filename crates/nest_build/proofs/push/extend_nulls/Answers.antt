@@ -3,7 +3,7 @@ use Rattle.std.proofs.lemmas.List.{replicate_more}
 use Rattle.nest_model.specs.BuilderItem as items
 use Rattle.nest_model.specs.BuilderAppend.{AcceptedAll}
 use Rattle.nest_model.specs.BuilderRefusals.{nulls_pass}
-use Rattle.nest_model.specs.BuilderAppendLaws.{accepted_none, accepted_more, len-accepted_all}
+use Rattle.nest_model.specs.BuilderAppendLaws.{accepted_none, accepted_more}
 use Rattle.nest_build.proofs.Nulls.{null-fits_more, null-refused}
 use Rattle.nest_build.proofs.push.extend_nulls.Goals as goal
 
