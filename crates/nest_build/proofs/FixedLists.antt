@@ -72,7 +72,7 @@ row_took becomes steps reads item u k bits new c d m n size h q e f z w x l t v 
     rw h (items.list_of (seal_items q.0), inl (q.0, q.1, refl), fixed_size_list_took k bits new c d q.0 count x v q.2, fixed_none k bits c q.0 q.3 count l (filled k bits c d q.0 n q.2 count f t v))
 
 -- as many rows as have their items are never more than a length can be
-mul-above : (a b : ℕ) → 0 < b → a ≤ a * b
+pub mul-above : (a b : ℕ) → 0 < b → a ≤ a * b
 mul-above a zero g = absurd (omega arith)
 mul-above a (suc b) g = omega (arith, mul-suc a b)
 

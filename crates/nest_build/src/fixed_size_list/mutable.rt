@@ -1,12 +1,12 @@
 //! The builder of arrays of lists of one size, over any builder of their items.
-ghost use Rattle.std.specs.Prelude.{◌≡◌, ◌≢◌, ◌<◌, ◌⊎◌, ◌↔◌, [], true, OnOk, OnErr, IfOk, IfErr, IsErrOf, IsOkUnless, ◌*◌, Some, length, alloc_error};
+ghost use Rattle.std.specs.Prelude.{◌≡◌, ◌≢◌, ◌<◌, ◌⊎◌, ◌↔◌, [], true, OnOk, OnErr, IfOk, IfErr, IsErrOf, IsOkUnless, MatchOption, ◌+◌, ◌*◌, Some, length, alloc_error};
 ghost use Rattle.std.specs.Borrow.{sem, Lends};
 ghost use Rattle.nest_memory.specs.TypeTree as types;
 ghost use Rattle.nest_memory.specs.TypeTree.{field};
 ghost use Rattle.nest_memory.specs.declared.datatypes.physical_type.PhysicalType.TheVariants as physical;
 ghost use Rattle.nest_model.specs.BuilderTree as builders;
 ghost use Rattle.nest_build.specs.Lists.{new_fixed_checks};
-ghost use Rattle.nest_build.specs.Words.{CanReadList, ChildNotEmpty, FailFirst, HasWholeChildren, InvalidArgumentError, IsWhole, Memory, OutOfSpec, Pass, ReadsList, Told, Unfinished, ZeroSize, builder_len, builder_type, default_field, emptied, item_type, layout_of, layout_type, len, list_child, own_slots, physical_type, row_checks, rows_of_size, size_of, slots_of, type_of};
+ghost use Rattle.nest_build.specs.Words.{CanReadList, ChildNotEmpty, FailFirst, HasWholeChildren, InvalidArgumentError, IsWhole, Memory, OutOfSpec, Pass, ReadsList, Told, Unfinished, ZeroSize, builder_len, builder_type, default_field, emptied, item_type, largest_length, layout_of, layout_type, len, list_child, own_slots, physical_type, row_checks, rows_of_size, size_of, slots_of, type_of};
 
 use crate::array::{MutableArray, shared};
 use crate::child::{frozen_parts, has_items, same_types};
@@ -154,10 +154,7 @@ impl<M: MutableArray> MutableFixedSizeListArray<M> {
     {
         let items = self.values.len();
         let typed = has_items(self.data_type.get(), self.values.data_type());
-        let Some(rows) = self.rows.len().checked_add(1) else {
-            return Err(Error::InvalidArgumentError(Argument::Unfinished));
-        };
-        let Some(end) = rows.checked_mul(self.data_type.size()) else {
+        let Some(end) = self.end_of_next() else {
             return Err(Error::InvalidArgumentError(Argument::Unfinished));
         };
         if !typed || items < end {
@@ -167,6 +164,19 @@ impl<M: MutableArray> MutableFixedSizeListArray<M> {
             return Err(Error::InvalidArgumentError(Argument::ItemSize));
         }
         self.rows.push(true)
+    }
+
+    // How many items the rows and one more have; `None` where no length can be so much.
+    fn end_of_next(&self) -> Option<usize>
+        ensures { MatchOption result
+            (λ n. n ≡ (length self.now.rows + 1) * size_of self.now.data_type)
+            (largest_length < (length self.now.rows + 1) * size_of self.now.data_type) }
+    {
+        let size = self.data_type.size();
+        match self.rows.len().checked_add(1) {
+            Some(rows) => rows.checked_mul(size),
+            None => None,
+        }
     }
 
     /// As `try_push_valid`.
@@ -260,12 +270,14 @@ impl<M: MutableArray> MutableArray for MutableFixedSizeListArray<M> {
     }
 
     fn is_whole(&self) -> bool {
-        match self.rows.len().checked_mul(self.data_type.size()) {
+        let items = self.values.len();
+        let size = self.data_type.size();
+        match self.rows.len().checked_mul(size) {
             None => false,
-            Some(items) => {
+            Some(end) => {
                 self.values.is_whole()
                     && has_items(self.data_type.get(), self.values.data_type())
-                    && self.values.len() == items
+                    && items == end
             }
         }
     }

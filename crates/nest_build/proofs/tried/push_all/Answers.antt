@@ -1,4 +1,4 @@
-use Rattle.std.proofs.Common.{◌≡◌, ◌<◌, [], ◌∷◌, ◌++◌, length, arith, sym, ◌∙◌}
+use Rattle.std.proofs.Common.{◌≡◌, ◌<◌, [], ◌∷◌, ◌++◌, length, arith, refl, sym, ◌∙◌}
 use Rattle.std.proofs.iter.Next.{Yields-more}
 use Rattle.std.specs.Vec.Iter.{into_iter_items, into_iter_steps}
 use Rattle.nest_model.specs.BuilderReadingLaws.{took_none, tried}
@@ -21,3 +21,8 @@ loop-item-preserved g c =
     let fits = c.push.ensures.succeeds (omega (arith, c.loop-item.marks.ok.0, c.loop-item.invariant.0, c.loop-item.invariant.1, room)) in
     let marked = rw fits at c.push.ensures.items in
     (length-last _ _ c.loop-item.yielded _ c.in-Some.item marked c.loop-item.invariant.0, omega (arith, c.push.ensures.capacity, c.loop-item.invariant.1), rw (marked, c.is_ok-accepted.ensures.value) next)
+
+pub loop-item-init : goal.loop-item-init
+loop-item-init g c =
+    let none = took_none g.B.TryPush.reads (g.B.MutableArray.model c.args.builder.now) c.requires.whole in
+    rw c.in_ok-marks.ensures.items (refl, omega (arith, c.in_ok-marks.ensures.capacity, c.len.ensures), none)
