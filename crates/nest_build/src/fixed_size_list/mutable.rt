@@ -168,9 +168,9 @@ impl<M: MutableArray> MutableFixedSizeListArray<M> {
 
     // How many items the rows and one more have; `None` where no length can be so much.
     fn end_of_next(&self) -> Option<usize>
-        ensures { MatchOption result
-            (λ n. n ≡ (length self.now.rows + 1) * size_of self.now.data_type)
-            (largest_length < (length self.now.rows + 1) * size_of self.now.data_type) }
+        ensures { let end = (length self.now.rows + 1) * size_of self.now.data_type in MatchOption result
+            (largest_length < end)
+            (λ n. n ≡ end) }
     {
         let size = self.data_type.size();
         match self.rows.len().checked_add(1) {

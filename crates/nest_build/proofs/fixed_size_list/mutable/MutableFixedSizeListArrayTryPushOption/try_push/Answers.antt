@@ -24,7 +24,8 @@ returns-in-Ok-clause-ok g c =
 pub returns-in-Err-push-clause-cause : goal.returns-in-Err-push-clause-cause
 returns-in-Err-push-clause-cause g c =
     let q = c.in_default.ensures.ok in
-    inl (memory_alone _ _ _ _ q.0 c.len-end.result c.size-size.result _ q.2 (sym (counted _ _ c.len-len.result c.len-end.result q.0 q.2 c.len-len.ensures c.len-end.ensures) ∙ c.if-end-len.false ∙ c.size-size.ensures.value) c.size-size.ensures.value c.size-size.ensures.some c.len-end.ensures (omega (arith, c.len-end.type_inv)) c.requires.whole c.in-Err-push.ensures.cause)
+    let b = c.args.self.now in
+    inl (memory_alone b.data_type b.rows (g.M.MutableArray.model b.values) _ q.0 c.len-end.result c.size-size.result _ q.2 (sym (counted _ _ c.len-len.result c.len-end.result q.0 q.2 c.len-len.ensures c.len-end.ensures) ∙ c.if-end-len.false ∙ c.size-size.ensures.value) c.size-size.ensures.value c.size-size.ensures.some c.len-end.ensures (omega (arith, c.len-end.type_inv)) c.requires.whole c.in-Err-push.ensures.cause)
 
 pub returns-in-Err-clause-cause : goal.returns-in-Err-clause-cause
 returns-in-Err-clause-cause g c =
