@@ -84,6 +84,11 @@ pub memory_alone : (k : TypeTree) (bits : List Bool) (c d : BuilderTree) (xs : L
 memory_alone k bits c d xs n size e a x z s l t v (inl m) = m
 memory_alone k bits c d xs n size e a x z s l t v (inr p) = absurd (omega (arith, p.1, rows_below k bits size largest_length z s (filled k bits c d xs n a x l t v)))
 
+-- a row whose items are there is refused for want of memory alone
+pub told_memory : (k : TypeTree) (bits : List Bool) (n : ℕ) (e : Error) → 0 < size_of k → n ≤ largest_length → n ≡ (length bits + 1) * size_of k → (e ≡ Memory alloc_error) ⊎ ((e ≡ Overflow) × (largest_length < length bits + 1)) → e ≡ Memory alloc_error
+told_memory k bits n e s t f (inl m) = m
+told_memory k bits n e s t f (inr p) = absurd (let l = mul-above (length bits + 1) (size_of k) s in omega (arith, p.1, t, f, l))
+
 -- a null row
 pub null_took : (k : TypeTree) (bits new : List Bool) (c d : BuilderTree) (size : ℕ) → size ≡ size_of k → new ≡ bits ++ false ∷ [] → AcceptedAll (replicate size items.null) c d → IsWhole (fixed_size_list k bits c)
     → Accepted items.null (fixed_size_list k bits c) (fixed_size_list k new d)

@@ -154,6 +154,7 @@ impl<M: MutableArray> MutableFixedSizeListArray<M> {
     {
         let items = self.values.len();
         let typed = has_items(self.data_type.get(), self.values.data_type());
+        let _size = self.data_type.size();
         let Some(end) = self.end_of_next() else {
             return Err(Error::InvalidArgumentError(Argument::Unfinished));
         };
