@@ -1,4 +1,11 @@
-pub mod Pushed
-pub mod Refused
-pub mod Rows
-pub mod Spelled
+mod FixedBytesLaws
+mod FixedLists
+mod FixedTrees
+mod FlatTrees
+mod Lists
+mod NullTrees
+mod Nulled
+mod Nulls
+mod Rows
+mod Spelled
+mod Trials

@@ -1,15 +1,23 @@
 -- Rows of lists by their offsets and bits.
-use Rattle.std.specs.Prelude.{Some, None, slice_index}
-use Rattle.std.proofs.Common.{◌≡◌, ℕ, zero, suc, ◌+◌, ◌<◌, Bool, true, false, List, [], ◌∷◌, ◌++◌, length, map, replicate, drop, take, get_or, refl, ap, sym, ◌∙◌, subst, arith, length-drop, inl, inr, ◌≤◌}
-use Rattle.std.proofs.lemmas.List.{drop-append-le, length-map}
+use Rattle.std.specs.Prelude.{Option, Some, None, slice_index, ◌⊎◌, Result, Err, IsErrOf, alloc_error}
+use Rattle.std.proofs.Common.{append_assoc, ◌≡◌, ℕ, zero, suc, ◌+◌, ◌<◌, Bool, true, false, List, [], ◌∷◌, ◌++◌, length, map, replicate, drop, take, get_or, refl, ap, sym, ◌∙◌, subst, arith, length-drop, inl, inr, ◌≤◌}
+use Rattle.std.proofs.lemmas.List.{drop-append-le, length-map, length-append}
 use Rattle.std.proofs.lemmas.Bool.{cases_lt}
 use Rattle.std.proofs.Math.Seq.{take-append_seam}
-use Rattle.nest_memory.specs.Rising.{NeverFalls, last_of}
-use Rattle.nest_model.specs.Part.{Validity, rows}
+use Rattle.nest_memory.specs.Rising.{NeverFalls, last_of, joined, largest_offset}
+use Rattle.nest_model.specs.Part.{Validity, rows, cut_validity}
 use Rattle.nest_model.specs.Fits.{ValidityFits}
 use Rattle.nest_model.specs.BuilderRow.{Row, told_row, end_from, RisesFrom}
-use Rattle.nest_flat.specs.Growth.{pushed_validity}
-use Rattle.nest_build.specs.Rows.{zip_rows, rows_ending, rows_told}
+use Rattle.nest_memory.specs.declared.error.Error.{Error}
+use Rattle.nest_memory.specs.declared.error.Error.TheVariants.{Memory, Overflow}
+use Rattle.nest_model.specs.BuilderRowLaws.{end_from-append}
+use Rattle.nest_model.specs.BuilderToldLaws.{end_from-lengths}
+use Rattle.nest_model.specs.BuilderAppend.{rows_of_lengths, items_told}
+use Rattle.nest_model.specs.BuilderFreeze.{SpellsBits, offsets_from, row_bits}
+use Rattle.nest_model.specs.BuilderJoin.{moved}
+use Rattle.nest_flat.specs.FlatParts.{ValidityCovers}
+use Rattle.nest_flat.specs.Growth.{pushed_validity, joined_validity}
+use Rattle.nest_build.specs.Rows.{zip_rows, rows_ending, rows_told, bits_told}
 
 -- where rows end
 abbrev ends : List Row → List ℕ
@@ -112,3 +120,239 @@ not_past a b h = elim (cases_lt b a) [
   | inl lt ↦ absurd (h lt)
   | inr ge ↦ ge
 ]
+
+-- the first rows
+drop-take : (os : List ℕ) (n : ℕ) → drop 1 (take (suc n) os) ≡ take n (drop 1 os)
+drop-take [] zero = refl
+drop-take [] (suc n) = refl
+drop-take (o ∷ os) n = refl
+
+zip-take : (n : ℕ) (bits : List Bool) (es : List ℕ) → zip_rows (take n bits) (take n es) ≡ take n (zip_rows bits es)
+zip-take zero bits es = refl
+zip-take (suc n) [] es = refl
+zip-take (suc n) (b ∷ bits) [] = refl
+zip-take (suc n) (b ∷ bits) (e ∷ es) = ap (λ rs. told_row b e ∷ rs) (zip-take n bits es)
+
+map-take : (n : ℕ) (es : List ℕ) → map (told_row true) (take n es) ≡ take n (map (told_row true) es)
+map-take zero es = refl
+map-take (suc n) [] = refl
+map-take (suc n) (e ∷ es) = ap (λ rs. told_row true e ∷ rs) (map-take n es)
+
+ending-take : (va : Validity) (n : ℕ) (es : List ℕ) → rows_ending (cut_validity va 0 n) (take n es) ≡ take n (rows_ending va es)
+ending-take None n es = map-take n es
+ending-take (Some bits) n es = zip-take n bits es
+
+pub told-cut : (os ps : List ℕ) (va wa : Validity) (rs : List Row) (n : ℕ) → rows_told os va ≡ rs → ps ≡ take (n + 1) os → wa ≡ cut_validity va 0 n → rows_told ps wa ≡ take n rs
+told-cut os ps va wa rs n e p w =
+    let m : n + 1 ≡ suc n = omega arith in
+    ap (λ qs. rows_told qs wa) (p ∙ ap (λ k. take k os) m)
+    ∙ ap (λ ws. rows_told (take (suc n) os) ws) w
+    ∙ ap (rows_ending (cut_validity va 0 n)) (drop-take os n)
+    ∙ ending-take va n (drop 1 os)
+    ∙ ap (take n) e
+
+pub covers : (va : Validity) (m n : ℕ) → ValidityFits va m → n ≤ m → ValidityCovers va n
+covers None m n h l = tt
+covers (Some bits) m n h l = omega (arith, h, l)
+
+-- no row at all
+pub told-none : (os ps : List ℕ) → 0 < length os → ps ≡ take (0 + 1) os → rows_told ps None ≡ []
+told-none [] ps h e = absurd (omega arith)
+told-none (o ∷ os) ps h e = ap (λ qs. rows_told qs None) e
+
+-- the bits of rows
+valid-all : (es : List ℕ) (i : ℕ) → get_or (row_bits (map (told_row true) es)) i true ≡ true
+valid-all [] i = refl
+valid-all (e ∷ es) zero = refl
+valid-all (e ∷ es) (suc i) = valid-all es i
+
+zip-bits : (bits : List Bool) (es : List ℕ) → length bits ≡ length es → row_bits (zip_rows bits es) ≡ bits
+zip-bits [] [] h = refl
+zip-bits [] (e ∷ es) h = absurd (omega arith)
+zip-bits (b ∷ bits) [] h = absurd (omega arith)
+zip-bits (b ∷ bits) (e ∷ es) h = ap (λ bs. b ∷ bs) (zip-bits bits es (omega arith))
+
+pub told-bits : (os : List ℕ) (va : Validity) (rs : List Row) → rows_told os va ≡ rs → ValidityFits va (rows os) → SpellsBits va (row_bits rs)
+told-bits os None rs e h = λ i l. ap (λ qs. get_or (row_bits qs) i true) (sym e) ∙ valid-all (drop 1 os) i
+told-bits os (Some bits) rs e h = sym (ap row_bits (sym e) ∙ zip-bits bits (drop 1 os) (h ∙ sym (tail-count os)))
+
+-- the offsets of rows
+offsets-ends : (s : ℕ) (rs : List Row) → offsets_from s rs ≡ s ∷ ends rs
+offsets-ends s [] = refl
+offsets-ends s (r ∷ rs) = ap (λ xs. s ∷ xs) (offsets-ends r.end rs)
+
+pub told-offsets : (os : List ℕ) (va : Validity) (rs : List Row) → rows_told os va ≡ rs → 0 < length os → slice_index os 0 ≡ 0 → ValidityFits va (rows os) → offsets_from 0 rs ≡ os
+told-offsets os va rs e h k v = offsets-ends 0 rs ∙ ap (λ xs. 0 ∷ xs) (ap ends (sym e) ∙ told-ends os va v) ∙ sym (first-rest os h k)
+
+-- rows by their lengths, one more
+pub lengths-more : (s : ℕ) (ns : List (Option ℕ)) (x : Option ℕ) → rows_of_lengths s (ns ++ x ∷ []) ≡ rows_of_lengths s ns ++ rows_of_lengths (s + items_told ns) (x ∷ [])
+lengths-more s [] x = let z : s ≡ s + 0 = omega arith in ap (λ o. rows_of_lengths o (x ∷ [])) z
+lengths-more s (None ∷ ns) x = ap (λ rs. told_row false s ∷ rs) (lengths-more s ns x)
+lengths-more s (Some n ∷ ns) x =
+    let z : s + n + items_told ns ≡ s + (n + items_told ns) = omega arith in
+    ap (λ rs. told_row true (s + n) ∷ rs) (lengths-more (s + n) ns x ∙ ap (λ o. rows_of_lengths (s + n) ns ++ rows_of_lengths o (x ∷ [])) z)
+
+pub lengths-count : (s : ℕ) (ns : List (Option ℕ)) → length (rows_of_lengths s ns) ≡ length ns
+lengths-count s [] = refl
+lengths-count s (None ∷ ns) = ap suc (lengths-count s ns)
+lengths-count s (Some n ∷ ns) = ap suc (lengths-count (s + n) ns)
+
+pub told-append : (ms ns : List (Option ℕ)) → items_told (ms ++ ns) ≡ items_told ms + items_told ns
+told-append [] ns = omega arith
+told-append (None ∷ ms) ns = told-append ms ns
+told-append (Some m ∷ ms) ns = omega (arith, told-append ms ns)
+
+pub told-first : (i : ℕ) (ns : List (Option ℕ)) → i < length ns → items_told (take i ns) + items_told (get_or ns i None ∷ []) ≤ items_told ns
+told-first i [] l = absurd (omega arith)
+told-first zero (None ∷ ns) l = omega arith
+told-first zero (Some n ∷ ns) l = omega arith
+told-first (suc i) (None ∷ ns) l = told-first i ns (omega arith)
+told-first (suc i) (Some n ∷ ns) l = omega (arith, told-first i ns (omega arith))
+
+-- rows behind others
+zip-append : (cs bs : List Bool) (es fs : List ℕ) → length cs ≡ length es → zip_rows (cs ++ bs) (es ++ fs) ≡ zip_rows cs es ++ zip_rows bs fs
+zip-append [] bs [] fs h = refl
+zip-append [] bs (e ∷ es) fs h = absurd (omega arith)
+zip-append (a ∷ cs) bs [] fs h = absurd (omega arith)
+zip-append (a ∷ cs) bs (e ∷ es) fs h = ap (λ rs. told_row a e ∷ rs) (zip-append cs bs es fs (omega arith))
+
+valid-append : (es fs : List ℕ) → map (told_row true) (es ++ fs) ≡ map (told_row true) es ++ map (told_row true) fs
+valid-append [] fs = refl
+valid-append (e ∷ es) fs = ap (λ rs. told_row true e ∷ rs) (valid-append es fs)
+
+zip-moved : (s : ℕ) (bs : List Bool) (es : List ℕ) → zip_rows bs (map (λ n. s + n) es) ≡ moved s (zip_rows bs es)
+zip-moved s [] es = refl
+zip-moved s (b ∷ bs) [] = refl
+zip-moved s (b ∷ bs) (e ∷ es) = ap (λ rs. told_row b (s + e) ∷ rs) (zip-moved s bs es)
+
+valid-moved : (s : ℕ) (es : List ℕ) → map (told_row true) (map (λ n. s + n) es) ≡ moved s (map (told_row true) es)
+valid-moved s [] = refl
+valid-moved s (e ∷ es) = ap (λ rs. told_row true (s + e) ∷ rs) (valid-moved s es)
+
+moved-count : (s : ℕ) (es : List ℕ) → length (map (λ n. s + n) es) ≡ length es
+moved-count s es = length-map es (λ n. s + n)
+
+ending-joined : (va vb : Validity) (es fs : List ℕ) (s : ℕ) → ValidityFits va (length es) → ValidityFits vb (length fs)
+    → rows_ending (joined_validity va (length es) vb (length fs)) (es ++ map (λ n. s + n) fs) ≡ rows_ending va es ++ moved s (rows_ending vb fs)
+ending-joined None None es fs s h k = valid-append es (map (λ n. s + n) fs) ∙ ap (λ rs. map (told_row true) es ++ rs) (valid-moved s fs)
+ending-joined None (Some bs) es fs s h k =
+    zip-append (replicate (length es) true) bs es (map (λ n. s + n) fs) (replicated (length es))
+    ∙ ap (λ rs. rs ++ zip_rows bs (map (λ n. s + n) fs)) (zip-valid es)
+    ∙ ap (λ rs. map (told_row true) es ++ rs) (zip-moved s bs fs)
+ending-joined (Some cs) None es fs s h k =
+    zip-append cs (replicate (length fs) true) es (map (λ n. s + n) fs) h
+    ∙ ap (λ rs. zip_rows cs es ++ rs) (zip-moved s (replicate (length fs) true) fs ∙ ap (moved s) (zip-valid fs))
+ending-joined (Some cs) (Some bs) es fs s h k =
+    zip-append cs bs es (map (λ n. s + n) fs) h ∙ ap (λ rs. zip_rows cs es ++ rs) (zip-moved s bs fs)
+
+pub told-joined : (os ps qs : List ℕ) (va vb wa : Validity) (rs more : List Row) (n m s : ℕ) → rows_told os va ≡ rs → rows_told ps vb ≡ more → qs ≡ joined os ps → wa ≡ joined_validity va n vb m
+    → n ≡ rows os → m ≡ rows ps → s ≡ last_of os → 0 < length os → ValidityFits va (rows os) → ValidityFits vb (rows ps) → rows_told qs wa ≡ rs ++ moved s more
+told-joined os ps qs va vb wa rs more n m s e f q w k j x l v u =
+    let c = tail-count os in
+    let d = tail-count ps in
+    let p : n ≡ length (drop 1 os) = k ∙ sym c in
+    let o : m ≡ length (drop 1 ps) = j ∙ sym d in
+    let mine = map (λ y. last_of os + y) (drop 1 ps) in
+    ap (λ z. rows_told z wa) q
+    ∙ ap (λ z. rows_told (joined os ps) z) (w ∙ (λ i. joined_validity va (p i) vb (o i)))
+    ∙ ap (rows_ending (joined_validity va (length (drop 1 os)) vb (length (drop 1 ps)))) (drop-append-le 1 os mine (omega arith))
+    ∙ ending-joined va vb (drop 1 os) (drop 1 ps) (last_of os) (subst (ValidityFits va) (sym c) v) (subst (ValidityFits vb) (sym d) u)
+    ∙ (λ i. e i ++ moved (sym x i) (f i))
+
+-- lists of one size
+pub bits-count : (n : ℕ) (va : Validity) → ValidityFits va n → length (bits_told n va) ≡ n
+bits-count n None h = replicated n
+bits-count n (Some bits) h = h
+
+true-more : (n : ℕ) → replicate (n + 1) true ≡ replicate n true ++ true ∷ []
+true-more n = let e : n + 1 ≡ suc n = omega arith in ap (λ m. replicate m true) e ∙ turn n
+  where
+    turn : (m : ℕ) → replicate (suc m) true ≡ replicate m true ++ true ∷ []
+    turn zero = refl
+    turn (suc m) = ap (λ bs. true ∷ bs) (turn m)
+
+pub bits-push : (n : ℕ) (va : Validity) (b : Bool) → bits_told (n + 1) (pushed_validity va n b) ≡ bits_told n va ++ b ∷ []
+bits-push n None true = true-more n
+bits-push n None false = refl
+bits-push n (Some bits) b = refl
+
+true-take : (m n : ℕ) → m ≤ n → replicate m true ≡ take m (replicate n true)
+true-take zero n h = refl
+true-take (suc m) zero h = absurd (omega arith)
+true-take (suc m) (suc n) h = ap (λ bs. true ∷ bs) (true-take m n (omega arith))
+
+pub bits-take : (m n : ℕ) (va : Validity) → m ≤ n → bits_told m (cut_validity va 0 m) ≡ take m (bits_told n va)
+bits-take m n None h = true-take m n h
+bits-take m n (Some bits) h = refl
+
+true-both : (m n : ℕ) → replicate (m + n) true ≡ replicate m true ++ replicate n true
+true-both zero n = let e : zero + n ≡ n = omega arith in ap (λ k. replicate k true) e
+true-both (suc m) n = let e : suc m + n ≡ suc (m + n) = omega arith in ap (λ k. replicate k true) e ∙ ap (λ bs. true ∷ bs) (true-both m n)
+
+pub bits-joined : (n m : ℕ) (va vb : Validity) → bits_told (n + m) (joined_validity va n vb m) ≡ bits_told n va ++ bits_told m vb
+bits-joined n m None None = true-both n m
+bits-joined n m None (Some bs) = refl
+bits-joined n m (Some cs) None = refl
+bits-joined n m (Some cs) (Some bs) = refl
+
+true-all : (n i : ℕ) → get_or (replicate n true) i true ≡ true
+true-all zero i = refl
+true-all (suc n) zero = refl
+true-all (suc n) (suc i) = true-all n i
+
+pub bits-spelled : (n : ℕ) (va : Validity) (bits : List Bool) → bits_told n va ≡ bits → SpellsBits va bits
+bits-spelled n None bits e = λ i l. ap (λ bs. get_or bs i true) (sym e) ∙ true-all n i
+bits-spelled n (Some vs) bits e = e
+
+pub fixed-joined : (n m k : ℕ) (va vb wa : Validity) (xs ys : List Bool) → bits_told n va ≡ xs → bits_told m vb ≡ ys → k ≡ n + m → wa ≡ joined_validity va n vb m → bits_told k wa ≡ xs ++ ys
+fixed-joined n m k va vb wa xs ys e f q w = (λ i. bits_told (q i) (w i)) ∙ bits-joined n m va vb ∙ (λ i. e i ++ f i)
+
+pub fixed-cut : (m n : ℕ) (va wa : Validity) (xs : List Bool) → bits_told n va ≡ xs → ValidityFits va n → m ≤ length xs → wa ≡ cut_validity va 0 m → bits_told m wa ≡ take m xs
+fixed-cut m n va wa xs e v l w =
+    let c = bits-count n va v in
+    ap (bits_told m) w ∙ bits-take m n va (omega (arith, c, ap length e)) ∙ ap (take m) e
+
+-- a bound by the largest offset of a width
+pub by-width : (n largest : ℕ) (large : Bool) → largest ≡ largest_offset large → n ≤ largest → n ≤ largest_offset large
+by-width n largest large e l = omega (arith, e, l)
+
+pub by-width-past : (n largest : ℕ) (large : Bool) → largest ≡ largest_offset large → largest < n → largest_offset large < n
+by-width-past n largest large e l = omega (arith, e, l)
+
+-- joined rows
+pub rows-joined : (os ps : List ℕ) → 0 < length os → rows (joined os ps) ≡ rows os + rows ps
+rows-joined os ps h =
+    let m = map (λ n. last_of os + n) (drop 1 ps) in
+    omega (arith, length-append os m, length-map (drop 1 ps) (λ n. last_of os + n), tail-count ps)
+
+pub joined-fits : (va vb : Validity) (n m k : ℕ) → ValidityFits va n → ValidityFits vb m → k ≡ n + m → ValidityFits (joined_validity va n vb m) k
+joined-fits None None n m k h j e = tt
+joined-fits None (Some bs) n m k h j e = omega (arith, length-append (replicate n true) bs, replicated n, j, e)
+joined-fits (Some bits) None n m k h j e = omega (arith, length-append bits (replicate m true), replicated m, h, e)
+joined-fits (Some bits) (Some bs) n m k h j e = omega (arith, length-append bits bs, h, j, e)
+
+-- rows that were told by their lengths so far
+pub so-far-end : (rs now : List Row) (ns : List (Option ℕ)) → now ≡ rs ++ rows_of_lengths (end_from 0 rs) ns → end_from 0 now ≡ end_from 0 rs + items_told ns
+so-far-end rs now ns e = ap (end_from 0) e ∙ end_from-append 0 rs (rows_of_lengths (end_from 0 rs) ns) ∙ end_from-lengths (end_from 0 rs) ns
+
+pub so-far-more : (rs now new : List Row) (ns ms : List (Option ℕ)) (x : Option ℕ) → now ≡ rs ++ rows_of_lengths (end_from 0 rs) ns → new ≡ now ++ rows_of_lengths (end_from 0 now) (x ∷ []) → ms ≡ ns ++ x ∷ []
+    → new ≡ rs ++ rows_of_lengths (end_from 0 rs) ms
+so-far-more rs now new ns ms x e f g =
+    f
+    ∙ (λ i. e i ++ rows_of_lengths (so-far-end rs now ns e i) (x ∷ []))
+    ∙ append_assoc rs (rows_of_lengths (end_from 0 rs) ns) (rows_of_lengths (end_from 0 rs + items_told ns) (x ∷ []))
+    ∙ ap (λ qs. rs ++ qs) (sym (lengths-more (end_from 0 rs) ns x))
+    ∙ ap (λ qs. rs ++ rows_of_lengths (end_from 0 rs) qs) (sym g)
+
+pub so-far-back : (rs now new : List Row) (ns : List (Option ℕ)) (n : ℕ) → now ≡ rs ++ rows_of_lengths (end_from 0 rs) ns → n ≡ length rs → new ≡ take n now → new ≡ rs
+so-far-back rs now new ns n e f g = g ∙ (λ i. take (f i) (e i)) ∙ take-append_seam rs (rows_of_lengths (end_from 0 rs) ns)
+
+pub so-far-past : (rs now : List Row) (ns : List (Option ℕ)) (k largest : ℕ) (e : Error) → now ≡ rs ++ rows_of_lengths (end_from 0 rs) (take k ns) → k < length ns
+    → (e ≡ Memory alloc_error) ⊎ ((e ≡ Overflow) × (largest < end_from 0 now + items_told (get_or ns k None ∷ [])))
+    → (e ≡ Memory alloc_error) ⊎ ((e ≡ Overflow) × (largest < end_from 0 rs + items_told ns))
+so-far-past rs now ns k largest e f l (inl m) = inl m
+so-far-past rs now ns k largest e f l (inr p) = inr (p.0, omega (arith, p.1, so-far-end rs now (take k ns) f, told-first k ns l))
+
+-- a call that answered this error
+pub err-of : {T : Type 0} (r : Result T Error) (x e : Error) → r ≡ Err x → x ≡ e → IsErrOf r e
+err-of r x e h k = rw h (ap Err k)

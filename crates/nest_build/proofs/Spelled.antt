@@ -2,14 +2,15 @@
 use Rattle.std.specs.Prelude.{Some, None, if◌then◌else◌}
 use Rattle.std.proofs.Common.{◌≡◌, ℕ, zero, suc, ◌+◌, ◌-◌, ◌<◌, ◌≤◌, Bool, true, false, List, [], ◌∷◌, length, map, drop, get_or, refl, ap, sym, ◌∙◌, subst, arith}
 use Rattle.std.proofs.lemmas.List.{get_or-map}
-use Rattle.nest_memory.specs.TypeTree.{TypeTree}
+use Rattle.nest_memory.specs.TypeTree.{TypeTree, item_type}
+use Rattle.nest_memory.specs.Physical.{physical_type, list_of_width}
 use Rattle.nest_memory.specs.Cut.{cut}
 use Rattle.nest_memory.specs.Rising.{last_of}
 use Rattle.nest_model.specs.Part.{Validity, valid_at, rows, begin, extent}
-use Rattle.nest_model.specs.Fits.{ValidityFits}
+use Rattle.nest_model.specs.Fits.{Fits, ValidityFits}
 use Rattle.nest_model.specs.Slot as slots
 use Rattle.nest_model.specs.Slot.{Slot, seal}
-use Rattle.nest_model.specs.Layout.{Layout}
+use Rattle.nest_model.specs.Layout.{Layout, layout_type}
 use Rattle.nest_model.specs.Meaning.{run, len, slot, slots_of}
 use Rattle.nest_model.specs.Reads.{items-cut, extent-fits}
 use Rattle.nest_model.specs.BuilderRow.{Row, told_row, end_from}
@@ -50,7 +51,7 @@ valid-ending : (va : Validity) (es : List ℕ) (i : ℕ) → ValidityFits va (le
 valid-ending None es i h k = ap (λ (r : Row). r.valid) (get_or-map (told_row true) es i 0 (told_row true 0) k)
 valid-ending (Some bits) es i h k = valid-zip bits es i h k
 
-module _ (os : List ℕ) (va : Validity) (rs : List Row) (s : Spells os va rs) where
+module _ (large : Bool) (os : List ℕ) (va : Validity) (rs : List Row) (s : Spells os va rs) where
   count : length rs ≡ rows os
   count = told-count os va rs s.told s.fits
 
@@ -76,7 +77,7 @@ module _ (os : List ℕ) (va : Validity) (rs : List Row) (s : Spells os va rs) w
   where-valid true c x y e h = rw (← e) h
   where-valid false c x y e h = rw (← e) refl
 
-  row-slot : (t : TypeTree) (c : Layout) (i : ℕ) → last_of os ≤ len c → i < length rs → slot (layouts.list false t os c va) i ≡ row_at 0 rs (slots_of c) i
+  row-slot : (t : TypeTree) (c : Layout) (i : ℕ) → last_of os ≤ len c → i < length rs → slot (layouts.list large t os c va) i ≡ row_at 0 rs (slots_of c) i
   row-slot t c i l k =
       let n : i < rows os = omega (arith, count) in
       let p = starts i in
@@ -88,10 +89,18 @@ module _ (os : List ℕ) (va : Validity) (rs : List Row) (s : Spells os va rs) w
       (valids i k) (ap (λ ss. slots.list (seal ss)) (cuts ∙ same))
 
   -- so the array's slots are those of the rows
-  pub spelled : (t : TypeTree) (c : Layout) → last_of os ≤ len c → slots_of (layouts.list false t os c va) ≡ rows_of_items 0 rs (slots_of c)
+  pub spelled : (t : TypeTree) (c : Layout) → last_of os ≤ len c → slots_of (layouts.list large t os c va) ≡ rows_of_items 0 rs (slots_of c)
   spelled t c l =
-      ap (run (slot (layouts.list false t os c va)) 0) (sym count)
-      ∙ sym (by-places (slot (layouts.list false t os c va)) (slots_of c) 0 0 rs (λ i k. ap (slot (layouts.list false t os c va)) (let z : 0 + i ≡ i = omega arith in z) ∙ row-slot t c i l k))
+      ap (run (slot (layouts.list large t os c va)) 0) (sym count)
+      ∙ sym (by-places (slot (layouts.list large t os c va)) (slots_of c) 0 0 rs (λ i k. ap (slot (layouts.list large t os c va)) (let z : 0 + i ≡ i = omega arith in z) ∙ row-slot t c i l k))
 
   pub spelled-end : end_from 0 rs ≡ last_of os
   spelled-end = told-end os va rs s.told s.offsets.0 s.first s.fits
+
+-- the parts of the array fit
+pub spelled-fits : (large : Bool) (t : TypeTree) (os : List ℕ) (c : Layout) (va : Validity) (rs : List Row) → Spells os va rs → physical_type t ≡ list_of_width large → item_type t ≡ Some (layout_type c) → end_from 0 rs ≤ len c
+    → Fits (layouts.list large t os c va)
+spelled-fits large t os c va rs s p i l = (omega (arith, l, spelled-end large os va rs s), (s.fits, (p, (i, tt))))
+
+pub spelled-slots : (large : Bool) (t : TypeTree) (os : List ℕ) (c : Layout) (va : Validity) (rs : List Row) → Spells os va rs → end_from 0 rs ≤ len c → slots_of (layouts.list large t os c va) ≡ rows_of_items 0 rs (slots_of c)
+spelled-slots large t os c va rs s l = spelled large os va rs s t c (omega (arith, l, spelled-end large os va rs s))

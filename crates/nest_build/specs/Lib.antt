@@ -1,5 +1,7 @@
-pub mod ChildRow
-pub mod Items
+pub mod Children
+pub mod FixedBytes
+pub mod FlatTree
+pub mod Lists
 pub mod Rows
-pub mod Seen
+pub mod Told
 pub mod Words

@@ -1,4 +1,13 @@
 //! Builders of nested arrays in the Arrow format.
 #![tactic(auto)]
 
+pub mod array;
+mod boxed;
+mod child;
+pub mod fixed_size_binary;
+pub mod fixed_size_list;
+pub mod flat;
 pub mod list;
+pub mod null;
+pub mod push;
+pub mod tried;

@@ -7,10 +7,22 @@
 //! | Numbers of 64 bits from 1 to 5 by the offsets 0, 2, 2, 3, 5, and by 0, 2 and 0, 6 | `rows::four_lists_of_five_numbers`, `rows::offsets_within_and_past_the_numbers` |
 //! | Items wait until their row is told, and a builder with waiting items is not frozen | `lists::items_wait_for_their_row` |
 //! | A builder has no validity before its first null, its child neither | `rows::no_validity_before_the_first_null` |
+//! | A boxed builder of numbers takes 7 and a null, refuses a text and a number of another kind, and is frozen and filled again | `flat::a_boxed_builder_takes_its_kind`, `flat::a_boxed_builder_is_shared_and_cut` |
+//! | Items are pushed at their own type, one by one and by an iterator, also an empty one | `flat::items_of_its_type_are_pushed` |
+//! | A full builder of nulls refuses one more; nulls are pushed, cut and frozen; no value is taken | `nulls` |
+//! | Byte strings of one size: all items or none, popped, read from both ends, joined; parts and room are checked | `fixed_size_binaries` |
 //! | Any one request for memory refused: no row is added, and a freeze empties | `lists::refused_rows_change_nothing` |
 #![tactic(auto)]
 
 #[cfg(test)]
+mod fixed_size_binaries;
+#[cfg(test)]
+mod fixed_size_lists;
+#[cfg(test)]
+mod flat;
+#[cfg(test)]
 mod lists;
+#[cfg(test)]
+mod nulls;
 #[cfg(test)]
 mod rows;

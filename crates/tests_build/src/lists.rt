@@ -1,11 +1,26 @@
 //! Pushed rows by their arrays. Values with a data type are let go by `drop`, which keeps the proofs short.
 
 use nest_array::{AnyArray, ListArray};
+use nest_build::array::MutableArray;
 use nest_build::list::MutableListArray;
+use nest_build::push::{TryExtend, TryExtendFromSelf, TryPush};
+use nest_flat::any_native::AnyNative;
 use nest_flat::any_primitive::AnyPrimitive;
-use nest_memory::error::{Argument, Error};
+use nest_flat::plain::Plain;
+use nest_flat::primitive::mutable::MutablePrimitiveArray;
+use nest_memory::bitmap::mutable::MutableBitmap;
+use nest_memory::datatypes::DataType;
+use nest_memory::error::{Argument, Error, Spec};
+use nest_memory::offsets::Offsets;
 use std::alloc::{AllocError, Global};
 use std::test::Fail;
+
+/// Lists of whole numbers.
+type Lists = MutableListArray<i32, MutablePrimitiveArray<i64>>;
+
+fn no_lists(alloc: Global) -> Result<Lists, Error> {
+    MutableListArray::new(alloc, MutablePrimitiveArray::new(alloc))
+}
 
 const ONE_TO_FIVE: [Option<i64>; 5] = [Some(1), Some(2), Some(3), Some(4), Some(5)];
 
@@ -52,11 +67,11 @@ fn text_of(alloc: Global, array: Result<ListArray, Error>) -> Result<String, Err
     }
 }
 
-fn push_rows(rows: &mut MutableListArray) -> Result<(), Error> {
+fn push_rows(rows: &mut Lists) -> Result<(), Error> {
     let rows_told = [Some([Some(1), None].as_slice()), None, Some([].as_slice())];
     for row in rows_told {
         if rows.is_whole() {
-            rows.try_push(row)?;
+            rows.try_push(row.map(|items| items.iter().copied()))?;
         }
     }
     Ok(())
@@ -64,7 +79,7 @@ fn push_rows(rows: &mut MutableListArray) -> Result<(), Error> {
 
 /// The array of the rows [1,null], null, [].
 fn pushed(alloc: Global) -> Result<ListArray, Error> {
-    let mut rows = MutableListArray::new(alloc)?;
+    let mut rows = no_lists(alloc)?;
     if let Err(error) = push_rows(&mut rows) {
         drop(rows);
         return Err(error);
@@ -103,8 +118,8 @@ fn refusal(array: Result<ListArray, Error>) -> Option<Error> {
 }
 
 /// The items of a builder wait until their row is told.
-fn wait_and_tell(rows: &mut MutableListArray) -> Result<bool, Error> {
-    rows.mut_values().try_push(Some(7))?;
+fn wait_and_tell(rows: &mut Lists) -> Result<bool, Error> {
+    TryPush::try_push(rows.mut_values(), Some(7i64))?;
     let waits = !rows.is_whole();
     let unfinished = Some(Error::InvalidArgumentError(Argument::Unfinished));
     let refused = refusal(rows.freeze()) == unfinished;
@@ -114,7 +129,7 @@ fn wait_and_tell(rows: &mut MutableListArray) -> Result<bool, Error> {
 
 #[test]
 fn items_wait_for_their_row(rt: HostRuntime) -> Result<(), Fail> {
-    let mut rows = MutableListArray::new(rt.alloc())?;
+    let mut rows = no_lists(rt.alloc())?;
     assert!(rt; wait_and_tell(&mut rows) == Ok(true));
     let array = rows.freeze();
     assert!(rt; rows.is_whole());
@@ -126,7 +141,7 @@ fn items_wait_for_their_row(rt: HostRuntime) -> Result<(), Fail> {
 // Holds where any one request for memory is refused: a refused row changes nothing, and a freeze empties the builder.
 #[test]
 fn refused_rows_change_nothing(rt: HostRuntime) {
-    let Ok(mut rows) = MutableListArray::new(rt.alloc()) else {
+    let Ok(mut rows) = no_lists(rt.alloc()) else {
         return;
     };
     let mut accepted = 0usize;
@@ -137,7 +152,7 @@ fn refused_rows_change_nothing(rt: HostRuntime) {
         } else {
             Some(ONE_TO_FIVE.as_slice())
         };
-        match rows.try_push(row) {
+        match rows.try_push(row.map(|items| items.iter().copied())) {
             Ok(()) => accepted = accepted.saturating_add(1),
             Err(error) => assert!(rt; error == Error::Memory(AllocError)),
         }
@@ -149,4 +164,303 @@ fn refused_rows_change_nothing(rt: HostRuntime) {
     assert!(rt; rows.len() == 0);
     assert!(rt; rows.is_whole());
     drop(rows);
+}
+
+/// Tells a row of the items that wait.
+fn tell(rows: &mut Lists) -> Result<(), Error> {
+    rows.known();
+    rows.try_push_valid()
+}
+
+/// The numbers from 1 to 3 wait.
+fn three_waiting(alloc: Global) -> Result<Lists, Error> {
+    let mut rows = no_lists(alloc)?;
+    let items = [Some(1i64), Some(2), Some(3)];
+    match TryExtend::try_extend(rows.mut_values(), items.iter().copied()) {
+        Ok(()) => Ok(rows),
+        Err(error) => {
+            drop(rows);
+            Err(error)
+        }
+    }
+}
+
+fn tell_lengths(rows: &mut Lists, lengths: &[Option<usize>]) -> Result<(), Error> {
+    rows.known();
+    rows.try_extend_from_lengths(lengths)
+}
+
+#[test]
+fn rows_by_their_lengths(rt: HostRuntime) -> Result<(), Fail> {
+    let mut rows = three_waiting(rt.alloc())?;
+    let too_few = tell_lengths(&mut rows, [Some(2)].as_slice());
+    assert!(rt; too_few == Err(Error::InvalidArgumentError(Argument::LengthsSum)));
+    assert!(rt; rows.len() == 0);
+    assert!(rt; rows.validity().is_none());
+    assert!(rt; tell_lengths(&mut rows, [Some(2), None, Some(1)].as_slice()) == Ok(()));
+    assert!(rt; rows.validity().is_some());
+    let array = rows.freeze();
+    drop(rows);
+    assert!(rt; text_of(rt.alloc(), array)?.as_str() == "[ 1 2 ] null [ 3 ] ");
+    Ok(())
+}
+
+/// What a maker refused.
+fn not_made(made: Result<Lists, Error>) -> Option<Error> {
+    match made {
+        Err(error) => Some(error),
+        Ok(rows) => {
+            drop(rows);
+            None
+        }
+    }
+}
+
+#[test]
+fn a_child_with_rows_makes_no_lists(rt: HostRuntime) -> Result<(), Fail> {
+    let alloc = rt.alloc();
+    let mut child = MutablePrimitiveArray::<i64>::new(alloc);
+    TryPush::try_push(&mut child, Some(1i64))?;
+    let not_empty = Some(Error::InvalidArgumentError(Argument::ChildNotEmpty));
+    assert!(rt; not_made(MutableListArray::new(alloc, child)) == not_empty);
+    Ok(())
+}
+
+#[test]
+fn lists_of_a_data_type(rt: HostRuntime) -> Result<(), Fail> {
+    let alloc = rt.alloc();
+    let child = MutablePrimitiveArray::new(alloc);
+    let wrong = MutableListArray::new_from(alloc, child, DataType::Int64, 2);
+    assert!(rt; not_made(wrong) == Some(Error::OutOfSpec(Spec::WrongType)));
+    let texts = ListArray::default_datatype(alloc, DataType::Utf8)?;
+    let child = MutablePrimitiveArray::new(alloc);
+    let wrong = MutableListArray::new_from(alloc, child, texts, 2);
+    assert!(rt; not_made(wrong) == Some(Error::OutOfSpec(Spec::ChildType)));
+    let numbers = ListArray::default_datatype(alloc, DataType::Int64)?;
+    let child = MutablePrimitiveArray::new(alloc);
+    assert!(rt; not_made(MutableListArray::new_from(alloc, child, numbers, 2)) == None);
+    let child = MutablePrimitiveArray::new(alloc);
+    assert!(rt; not_made(MutableListArray::new_with_field(alloc, child, "x", false)) == None);
+    let child = MutablePrimitiveArray::new(alloc);
+    assert!(rt; not_made(MutableListArray::with_capacity(alloc, child, 3)) == None);
+    let child = MutablePrimitiveArray::new(alloc);
+    assert!(rt; not_made(MutableListArray::new_with_capacity(alloc, child, 3)) == None);
+    Ok(())
+}
+
+fn push_each(rows: &mut Lists, items: &[Option<&[Option<i64>]>]) -> Result<(), Error> {
+    for item in items {
+        if rows.is_whole() {
+            rows.try_push(item.map(|items| items.iter().copied()))?;
+        }
+    }
+    Ok(())
+}
+
+/// Lists of whatever the boxed child takes.
+type BoxedLists = MutableListArray<i64, Box<dyn MutableArray>>;
+
+fn boxed_lists(alloc: Global) -> Result<BoxedLists, Error> {
+    let child: Box<dyn MutableArray> = Box::new(alloc, MutablePrimitiveArray::<i64>::new(alloc))?;
+    MutableListArray::new(alloc, child)
+}
+
+fn push_below(rows: &mut BoxedLists, value: Option<Plain<'_>>) -> Result<(), Error> {
+    let child = rows.mut_values();
+    if !child.is_whole() {
+        return Err(Error::InvalidArgumentError(Argument::Unfinished));
+    }
+    child.try_push_plain(value)
+}
+
+fn tell_boxed(rows: &mut BoxedLists) -> Result<(), Error> {
+    if !rows.values().is_whole() {
+        return Err(Error::InvalidArgumentError(Argument::Unfinished));
+    }
+    rows.known();
+    rows.try_push_valid()
+}
+
+#[test]
+fn a_boxed_child_takes_the_items(rt: HostRuntime) -> Result<(), Fail> {
+    let mut rows = boxed_lists(rt.alloc())?;
+    let other_kind = Err(Error::InvalidArgumentError(Argument::ItemType));
+    let seven = Plain::Native(AnyNative::Int64(7));
+    assert!(rt; push_below(&mut rows, Some(seven)) == Ok(()));
+    assert!(rt; push_below(&mut rows, Some(Plain::Text("x"))) == other_kind);
+    assert!(rt; push_below(&mut rows, None) == Ok(()));
+    assert!(rt; !rows.is_whole());
+    assert!(rt; tell_boxed(&mut rows) == Ok(()));
+    assert!(rt; rows.is_whole());
+    if rows.is_whole() {
+        assert!(rt; rows.try_push_plain(Some(seven)) == other_kind);
+    }
+    if rows.len() == 1 {
+        assert!(rt; rows.is_valid(0));
+        assert!(rt; !rows.holds(0, &seven));
+    }
+    let array = rows.into_box()?;
+    assert!(rt; array.len() == 1);
+    drop(array);
+    Ok(())
+}
+
+/// Rows of a builder over another boxed one, also after a freeze.
+fn lists_of_boxed_lists(alloc: Global) -> Result<MutableListArray<i32, Box<dyn MutableArray>>, Error> {
+    let inner = boxed_lists(alloc)?;
+    let child: Box<dyn MutableArray> = match Box::new(alloc, inner) {
+        Ok(child) => child,
+        Err(error) => return Err(error.into()),
+    };
+    MutableListArray::new(alloc, child)
+}
+
+fn tell_outer(rows: &mut MutableListArray<i32, Box<dyn MutableArray>>) -> Result<(), Error> {
+    let child = rows.mut_values();
+    if !child.is_whole() {
+        return Err(Error::InvalidArgumentError(Argument::Unfinished));
+    }
+    child.push_null()?;
+    if !rows.values().is_whole() {
+        return Err(Error::InvalidArgumentError(Argument::Unfinished));
+    }
+    rows.known();
+    rows.try_push_valid()
+}
+
+#[test]
+fn a_list_over_a_boxed_list_is_filled_again(rt: HostRuntime) -> Result<(), Fail> {
+    let mut rows = lists_of_boxed_lists(rt.alloc())?;
+    assert!(rt; tell_outer(&mut rows) == Ok(()));
+    assert!(rt; tell_outer(&mut rows) == Ok(()));
+    let first = rows.as_arc(rt.alloc())?;
+    assert!(rt; first.len() == 2);
+    drop(first);
+    assert!(rt; rows.is_empty());
+    assert!(rt; tell_outer(&mut rows) == Ok(()));
+    let second = rows.into_arc(rt.alloc())?;
+    assert!(rt; second.len() == 1);
+    drop(second);
+    Ok(())
+}
+
+#[test]
+fn a_child_of_another_type_makes_no_row(rt: HostRuntime) -> Result<(), Fail> {
+    let mut rows = boxed_lists(rt.alloc())?;
+    let mut other: Box<dyn MutableArray> =
+        Box::new(rt.alloc(), MutablePrimitiveArray::<i32>::new(rt.alloc()))?;
+    std::mem::swap(rows.mut_values(), &mut other);
+    assert!(rt; !rows.is_whole());
+    assert!(rt; tell_boxed(&mut rows) == Err(Error::InvalidArgumentError(Argument::Unfinished)));
+    std::mem::swap(rows.mut_values(), &mut other);
+    drop(other);
+    assert!(rt; rows.is_whole());
+    assert!(rt; tell_boxed(&mut rows) == Ok(()));
+    drop(rows);
+    Ok(())
+}
+
+/// Cuts, room, and a null.
+fn keep_first(rows: &mut Lists) -> Result<(), Error> {
+    rows.reserve(4)?;
+    if rows.is_whole() {
+        rows.push_null()?;
+    }
+    if rows.is_whole() && rows.len() == 3 {
+        rows.truncate(1);
+    }
+    rows.shrink_to_fit()
+}
+
+#[test]
+fn rows_are_cut_with_their_items(rt: HostRuntime) -> Result<(), Fail> {
+    let mut rows = no_lists(rt.alloc())?;
+    let two = [Some([Some(1)].as_slice()), Some([Some(2), Some(3)].as_slice())];
+    push_each(&mut rows, two.as_slice())?;
+    keep_first(&mut rows)?;
+    assert!(rt; rows.is_whole());
+    assert!(rt; rows.values().len() == 1);
+    let array = rows.freeze();
+    drop(rows);
+    assert!(rt; text_of(rt.alloc(), array)?.as_str() == "[ 1 ] ");
+    Ok(())
+}
+
+/// Lists by these offsets over the numbers from 1 to 3.
+fn by_offsets(alloc: Global, ends: &[usize], bits: usize) -> Result<Lists, Error> {
+    let mut offsets = Offsets::new(alloc)?;
+    offsets.try_extend_from_lengths(ends)?;
+    let mut validity = MutableBitmap::new(alloc);
+    validity.extend_constant(bits, true)?;
+    let mut items = MutablePrimitiveArray::new(alloc);
+    items.try_extend([Some(1i64), Some(2), Some(3)].as_slice().iter().copied())?;
+    MutableListArray::new_from_mutable(alloc, items, offsets, Some(validity))
+}
+
+#[test]
+fn lists_by_offsets(rt: HostRuntime) -> Result<(), Fail> {
+    let alloc = rt.alloc();
+    let short = by_offsets(alloc, [2].as_slice(), 1);
+    assert!(rt; not_made(short) == Some(Error::InvalidArgumentError(Argument::LengthsSum)));
+    let long = by_offsets(alloc, [2, 1].as_slice(), 3);
+    assert!(rt; not_made(long) == Some(Error::OutOfSpec(Spec::ValidityLength)));
+    let mut rows = by_offsets(alloc, [2, 1].as_slice(), 2)?;
+    assert!(rt; rows.is_whole());
+    assert!(rt; rows.offsets().len_proxy() == 2);
+    let array = rows.freeze();
+    drop(rows);
+    assert!(rt; text_of(alloc, array)?.as_str() == "[ 1 2 ] [ 3 ] ");
+    Ok(())
+}
+/// Adds another builder's rows where both are whole.
+fn join(rows: &mut Lists, other: &Lists) -> Result<(), Error> {
+    if !rows.is_whole() || !other.is_whole() {
+        return Err(Error::InvalidArgumentError(Argument::Unfinished));
+    }
+    rows.try_extend_from_self(other)
+}
+
+/// The rows [1], [2,3], and those of another builder, null and [4].
+fn joined(alloc: Global) -> Result<ListArray, Error> {
+    let mut rows = no_lists(alloc)?;
+    let mut other = match no_lists(alloc) {
+        Ok(other) => other,
+        Err(error) => {
+            drop(rows);
+            return Err(error);
+        }
+    };
+    let first = [Some([Some(1)].as_slice()), Some([Some(2), Some(3)].as_slice())];
+    let second = [None, Some([Some(4)].as_slice())];
+    let done = push_each(&mut rows, first.as_slice());
+    let more = push_each(&mut other, second.as_slice());
+    let both = join(&mut rows, &other);
+    drop(other);
+    let array = rows.freeze();
+    drop(rows);
+    if done.is_err() || more.is_err() || both.is_err() {
+        drop(array);
+        return Err(Error::Overflow);
+    }
+    array
+}
+
+#[test]
+fn rows_of_another_builder_are_joined(rt: HostRuntime) -> Result<(), Fail> {
+    let text = text_of(rt.alloc(), joined(rt.alloc()))?;
+    assert!(rt; text.as_str() == "[ 1 ] [ 2 3 ] null [ 4 ] ");
+    Ok(())
+}
+
+#[test]
+fn rows_of_another_type_are_not_joined(rt: HostRuntime) -> Result<(), Fail> {
+    let alloc = rt.alloc();
+    let mut rows = no_lists(alloc)?;
+    let child = MutablePrimitiveArray::new(alloc);
+    let other: Lists = MutableListArray::new_with_field(alloc, child, "x", true)?;
+    assert!(rt; join(&mut rows, &other) == Err(Error::InvalidArgumentError(Argument::ItemType)));
+    assert!(rt; rows.len() == 0);
+    drop(other);
+    drop(rows);
+    Ok(())
 }

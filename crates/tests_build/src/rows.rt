@@ -1,8 +1,11 @@
 //! Lists of whole numbers by worked rows: what is frozen is compared with arrays that were made of their parts.
 use nest_array::{AnyArray, ListArray};
+use nest_build::array::MutableArray;
 use nest_build::list::MutableListArray;
+use nest_build::push::TryPush;
 use nest_flat::any_primitive::{AnyPrimitive, Native};
 use nest_flat::primitive::PrimitiveArray;
+use nest_flat::primitive::mutable::MutablePrimitiveArray;
 use nest_memory::bitmap::immutable::Bitmap;
 use nest_memory::buffer::Buffer;
 use nest_memory::datatypes::DataType;
@@ -63,10 +66,17 @@ fn lists(
     }
 }
 
-fn push_rows(rows: &mut MutableListArray, items: &[Option<&[Option<i64>]>]) -> Result<(), Error> {
+/// Lists of whole numbers.
+type Lists = MutableListArray<i32, MutablePrimitiveArray<i64>>;
+
+fn no_lists(alloc: Global) -> Result<Lists, Error> {
+    MutableListArray::new(alloc, MutablePrimitiveArray::new(alloc))
+}
+
+fn push_rows(rows: &mut Lists, items: &[Option<&[Option<i64>]>]) -> Result<(), Error> {
     for item in items {
         if rows.is_whole() {
-            rows.try_push(*item)?;
+            rows.try_push(item.map(|items| items.iter().copied()))?;
         }
     }
     Ok(())
@@ -74,7 +84,7 @@ fn push_rows(rows: &mut MutableListArray, items: &[Option<&[Option<i64>]>]) -> R
 
 /// The array of the rows that were pushed.
 fn pushed(alloc: Global, items: &[Option<&[Option<i64>]>]) -> Result<ListArray, Error> {
-    match MutableListArray::new(alloc) {
+    match no_lists(alloc) {
         Err(error) => Err(error),
         Ok(mut rows) => {
             let done = push_rows(&mut rows, items);

@@ -1,7 +1,10 @@
 //! The builder of arrays of lists.
 
+mod data_type;
 mod mutable;
-mod rows;
+pub mod rows;
+pub mod width;
 
 pub use mutable::MutableListArray;
 pub use rows::ListRows;
+pub use width::ListWidth;

@@ -1,281 +1,460 @@
-//! The builder of arrays of lists.
-ghost use Rattle.std.specs.Prelude.{◌≡◌, ◌+◌, ◌≤◌, ◌<◌, ◌⊎◌, ◌↔◌, ◌++◌, ◌∷◌, [], false, true, map, IsTrue, OnOk, OnErr, IfOk, IfErr, IsErrOf, IsOkUnless, alloc_error, length, Some, None};
+//! The builder of arrays of lists, over any builder of their items.
+ghost use Rattle.std.specs.Prelude.{◌≡◌, ◌≢◌, ◌<◌, ◌⊎◌, ◌↔◌, [], true, OnOk, OnErr, IfOk, IfErr, IsErrOf, IsOkUnless, IsTrue, ◌+◌, alloc_error};
 ghost use Rattle.std.specs.Borrow.{sem, Lends};
-ghost use Rattle.std.specs.Option.{option_copied};
-ghost use Rattle.nest_memory.specs.declared.datatypes.physical_type.PhysicalType.TheVariants as physical;
-ghost use Rattle.nest_memory.specs.TypeTree as types;
+ghost use Rattle.nest_memory.specs.TypeTree.{field};
 ghost use Rattle.nest_model.specs.BuilderTree as builders;
-ghost use Rattle.nest_model.specs.BuilderItem.{null as null_item};
-ghost use Rattle.nest_build.specs.Words.{Accepted, FailFirst, InvalidArgumentError, IsReady, IsWhole, Memory, Overflow, Pass, RisesFrom, Unfinished, builder_len, builder_type, default_list_type, emptied, item_refusal, item_slot, item_type, largest_offset, layout_type, own_slots, pending_slot, physical_type, row_checks, row_item, row_len, row_slot, slots_of, told, type_of};
+ghost use Rattle.nest_build.specs.Lists.{list_type, new_list_checks};
+ghost use Rattle.nest_build.specs.Words.{CanReadList, ChildNotEmpty, FailFirst, HasWholeChildren, InvalidArgumentError, IsListBy, IsWhole, ListCovers, Memory, Pass, ReadsList, RisesFrom, Told, ToldLengths, Unfinished, builder_len, builder_type, default_field, emptied, layout_of, layout_type, items_told, lengths_checks, list_child, own_slots, row_checks, rows_told, slots_of, told_rows_checks, type_of};
 
-use crate::list::rows::ListRows;
-use nest_array::{AnyArray, ListArray};
-use nest_flat::any_primitive::AnyPrimitive;
-use nest_flat::primitive::mutable::MutablePrimitiveArray;
+use crate::array::{MutableArray, shared};
+use crate::child::{frozen_parts, has_items, same_types};
+use crate::list::data_type::ListType;
+use crate::list::width::{FrozenRows, ListWidth, ToldRows};
+use crate::push::{TryExtend, TryExtendFromSelf, TryPush, extend_by_push};
+use nest_array::AnyArray;
+use nest_array::array::Variant;
+use nest_flat::plain::Plain;
+use nest_memory::bitmap::mutable::MutableBitmap;
 use nest_memory::datatypes::DataType;
 use nest_memory::datatypes::field::Field;
 use nest_memory::error::{Argument, Error};
 use std::alloc::Global;
-use std::marker::Model;
+use std::rc::Rc;
 
-/// The largest offset of 32 bits.
-const LARGEST_OFFSET: usize = 2147483647;
-
-/// A data type of lists.
+/// Lists that are pushed one after another, over a builder of their items: arrow2's `MutableListArray`. Items that are
+/// pushed into the child wait there until a row of them is told.
 #[derive(Drop)]
-struct ListType {
-    data_type: DataType,
-}
-
-impl Model for ListType {
-    ghost use Rattle.std.specs.Prelude.{◌≡◌};
-    ghost use Rattle.nest_memory.specs.TypeTree.{TypeTree};
-    ghost use Rattle.nest_memory.specs.TypeCode.{coded_type};
-    ghost use Rattle.nest_memory.specs.TypeOf.{type_of};
-    ghost use Rattle.nest_memory.specs.Physical.{physical_type};
-    ghost use Rattle.nest_memory.specs.declared.datatypes.physical_type.PhysicalType.TheVariants as physical;
-
-    ghost Value = { TypeTree };
-
-    ghost coded = { coded_type };
-
-    ghost view = { λ a. type_of a.data_type };
-
-    ghost invariant = { λ a. physical_type (type_of a.data_type) ≡ physical.List };
-}
-
-impl ListType {
-    /// Of lists whose items have this type, are named "item" and nullable.
-    fn of_items(alloc: Global, items: DataType) -> Result<ListType, Error>
-        ensures ok { IfOk result (λ t. t ≡ default_list_type (type_of items)) }
-        ensures memory { IsOkUnless result (Memory alloc_error) }
-    {
-        let field = Field::new(alloc, "item", items, true)?;
-        Ok(ListType {
-            data_type: DataType::List(Box::new(alloc, field)?),
-        })
-    }
-
-    fn get(&self) -> &DataType
-        ensures value { type_of result.now ≡ self.now }
-        ensures lists { physical_type self.now ≡ physical.List }
-    {
-        &self.data_type
-    }
-
-    /// Whether the items of such lists have this type.
-    fn has_items(&self, items: &DataType) -> bool
-        ensures { IsTrue result ↔ (item_type self.now ≡ Some (type_of items.now)) }
-    {
-        match self.data_type.item_type() {
-            None => false,
-            Some(item) => item == items,
-        }
-    }
-}
-
-/// Adds all items or none.
-fn extend(values: &mut MutablePrimitiveArray<i64>, items: &[Option<i64>]) -> Result<(), Error>
-    ensures ok { OnOk result (slots_of values.new ≡ slots_of values.old ++ map item_slot items.now) }
-    ensures err { OnErr result (values.new ≡ values.old) }
-    ensures same_type { layout_type values.new ≡ layout_type values.old }
-    ensures memory { IsOkUnless result (Memory alloc_error) }
-{
-    values.try_extend(items.iter().copied())
-}
-
-/// Lists of whole numbers that are pushed one after another, by offsets of 32 bits. Items that are pushed into its
-/// child wait there until a row of them is told.
-#[derive(Drop)]
-pub struct MutableListArray {
-    data_type: ListType,
-    rows: ListRows,
-    values: MutablePrimitiveArray<i64>,
+pub struct MutableListArray<O: ListWidth, M> {
+    data_type: ListType<O>,
+    rows: O::Rows,
+    values: M,
     alloc: Global,
 }
 
-impl MutableListArray {
-    ghost use Rattle.nest_build.specs.Seen.{tree_of, child_seen, item_count, with_child};
+impl<O: ListWidth, M: MutableArray> MutableListArray<O, M> {
     ghost use Rattle.nest_build.specs.contracts.list.mutable.MutableListArray.{the_row};
-    ghost use Rattle.nest_build.specs.ChildRow.{child_row};
 
-    /// An empty builder of lists whose items are named "item" and nullable.
-    pub fn new(alloc: Global) -> Result<MutableListArray, Error>
-        ensures ok { IfOk result (λ b. tree_of b ≡ builders.list false (default_list_type types.int64) [] (builders.flat types.int64 [])) }
-        ensures memory { IsOkUnless result (Memory alloc_error) }
+    /// No row, over an empty child: lists whose items are named "item" and nullable.
+    ///
+    /// # Errors
+    /// `ChildNotEmpty` where the child has rows, `Memory`.
+    pub fn new(alloc: Global, values: M) -> Result<MutableListArray<O, M>, Error>
+        requires { IsWhole (M.model values) }
+        ensures ok { IfOk result (λ b. ⟦<MutableListArray<O, M> as MutableArray>⟧.model b ≡ builders.list O.IS_LARGE (list_type O.IS_LARGE (default_field (builder_type (M.model values)))) [] (M.model values)) }
+        ensures empty { IfOk result (λ b. builder_len (M.model values) ≡ 0) }
+        ensures cause { IfErr result (λ e. (e ≡ Memory alloc_error) ⊎ ((e ≡ InvalidArgumentError ChildNotEmpty) × (builder_len (M.model values) ≢ 0))) }
     {
+        MutableListArray::new_with_field(alloc, values, "item", true)
+    }
+
+    /// The same, whose items have that name and may be null or not.
+    ///
+    /// # Errors
+    /// As `new`.
+    pub fn new_with_field(
+        alloc: Global,
+        values: M,
+        name: &str,
+        nullable: bool,
+    ) -> Result<MutableListArray<O, M>, Error>
+        requires { IsWhole (M.model values) }
+        ensures ok { IfOk result (λ b. ⟦<MutableListArray<O, M> as MutableArray>⟧.model b ≡ builders.list O.IS_LARGE (list_type O.IS_LARGE (field name.now (builder_type (M.model values)) nullable [])) [] (M.model values)) }
+        ensures empty { IfOk result (λ b. builder_len (M.model values) ≡ 0) }
+        ensures cause { IfErr result (λ e. (e ≡ Memory alloc_error) ⊎ ((e ≡ InvalidArgumentError ChildNotEmpty) × (builder_len (M.model values) ≢ 0))) }
+    {
+        if !values.is_empty() {
+            return Err(Error::InvalidArgumentError(Argument::ChildNotEmpty));
+        }
+        let items = values.data_type().clone(alloc)?;
+        let items = Field::new(alloc, name, items, nullable)?;
+        let data_type = ListType::of_field(alloc, items)?;
+        MutableListArray::over(alloc, data_type, values)
+    }
+
+    /// As `new`, with room for so many rows.
+    ///
+    /// # Errors
+    /// As `new`.
+    pub fn with_capacity(
+        alloc: Global,
+        values: M,
+        capacity: usize,
+    ) -> Result<MutableListArray<O, M>, Error>
+        requires { IsWhole (M.model values) }
+        ensures ok { IfOk result (λ b. ⟦<MutableListArray<O, M> as MutableArray>⟧.model b ≡ builders.list O.IS_LARGE (list_type O.IS_LARGE (default_field (builder_type (M.model values)))) [] (M.model values)) }
+        ensures empty { IfOk result (λ b. builder_len (M.model values) ≡ 0) }
+        ensures cause { IfErr result (λ e. (e ≡ Memory alloc_error) ⊎ ((e ≡ InvalidArgumentError ChildNotEmpty) × (builder_len (M.model values) ≢ 0))) }
+    {
+        let mut lists: MutableListArray<O, M> = MutableListArray::new(alloc, values)?;
+        lists.rows.reserve(capacity)?;
+        Ok(lists)
+    }
+
+    /// As `with_capacity`.
+    ///
+    /// # Errors
+    /// As `new`.
+    pub fn new_with_capacity(
+        alloc: Global,
+        values: M,
+        capacity: usize,
+    ) -> Result<MutableListArray<O, M>, Error>
+        requires { IsWhole (M.model values) }
+        ensures ok { IfOk result (λ b. ⟦<MutableListArray<O, M> as MutableArray>⟧.model b ≡ builders.list O.IS_LARGE (list_type O.IS_LARGE (default_field (builder_type (M.model values)))) [] (M.model values)) }
+        ensures empty { IfOk result (λ b. builder_len (M.model values) ≡ 0) }
+        ensures cause { IfErr result (λ e. (e ≡ Memory alloc_error) ⊎ ((e ≡ InvalidArgumentError ChildNotEmpty) × (builder_len (M.model values) ≢ 0))) }
+    {
+        MutableListArray::with_capacity(alloc, values, capacity)
+    }
+
+    /// No row of that data type, over an empty child, with room for so many rows.
+    ///
+    /// # Errors
+    /// `ChildNotEmpty` where the child has rows, `WrongType` where the physical type isn't that of lists by such offsets,
+    /// `ChildType` where the child is of another type than its field: the first of these; `Memory`.
+    pub fn new_from(
+        alloc: Global,
+        values: M,
+        data_type: DataType,
+        capacity: usize,
+    ) -> Result<MutableListArray<O, M>, Error>
+        requires { IsWhole (M.model values) }
+        ensures ok { IfOk result (λ b. ⟦<MutableListArray<O, M> as MutableArray>⟧.model b ≡ builders.list O.IS_LARGE (type_of data_type) [] (M.model values)) }
+        ensures passed { IfOk result (λ b. Pass (new_list_checks O.IS_LARGE (type_of data_type) (M.model values))) }
+        ensures cause { IfErr result (λ e. (e ≡ Memory alloc_error) ⊎ FailFirst e (new_list_checks O.IS_LARGE (type_of data_type) (M.model values))) }
+    {
+        if !values.is_empty() {
+            drop(data_type);
+            return Err(Error::InvalidArgumentError(Argument::ChildNotEmpty));
+        }
+        let data_type = match ListType::of_type(data_type, values.data_type()) {
+            Ok(data_type) => data_type,
+            Err(error) => return Err(error),
+        };
+        let mut lists: MutableListArray<O, M> = MutableListArray::over(alloc, data_type, values)?;
+        lists.rows.reserve(capacity)?;
+        Ok(lists)
+    }
+
+    /// The rows of such offsets and bits over the child's items, which are named "item" and nullable.
+    ///
+    /// # Errors
+    /// `LengthsSum` where the last offset isn't the number of items, then `ValidityLength` where there isn't a bit for each
+    /// row; `Memory`.
+    pub fn new_from_mutable(
+        alloc: Global,
+        values: M,
+        offsets: <O::Rows as FrozenRows>::Offsets,
+        validity: Option<MutableBitmap>,
+    ) -> Result<MutableListArray<O, M>, Error>
+        requires { IsWhole (M.model values) }
+        ensures ok { IfOk result (λ b. ⟦<MutableListArray<O, M> as MutableArray>⟧.model b ≡ builders.list O.IS_LARGE (list_type O.IS_LARGE (default_field (builder_type (M.model values)))) (rows_told (O.Rows.offsets_seen offsets) validity) (M.model values)) }
+        ensures passed { IfOk result (λ b. Pass (told_rows_checks (O.Rows.offsets_seen offsets) validity (builder_len (M.model values)))) }
+        ensures cause { IfErr result (λ e. (e ≡ Memory alloc_error) ⊎ FailFirst e (told_rows_checks (O.Rows.offsets_seen offsets) validity (builder_len (M.model values)))) }
+    {
+        let rows = match O::Rows::try_of(alloc, offsets, validity, values.len()) {
+            Ok(rows) => rows,
+            Err(error) => return Err(error),
+        };
+        let items = values.data_type().clone(alloc)?;
+        let items = Field::new(alloc, "item", items, true)?;
         Ok(MutableListArray {
-            data_type: ListType::of_items(alloc, DataType::Int64)?,
-            rows: ListRows::new(alloc)?,
-            values: MutablePrimitiveArray::new(alloc),
+            data_type: ListType::of_field(alloc, items)?,
+            rows,
+            values,
             alloc,
         })
     }
 
-    /// How many rows were told.
-    pub fn len(&self) -> usize
-        ensures { result ≡ builder_len (tree_of self.now) }
+    // No row over a child.
+    fn over(
+        alloc: Global,
+        data_type: ListType<O>,
+        values: M,
+    ) -> Result<MutableListArray<O, M>, Error>
+        ensures ok { IfOk result (λ b. ⟦<MutableListArray<O, M> as MutableArray>⟧.model b ≡ builders.list O.IS_LARGE data_type [] (M.model values)) }
+        ensures memory { IsOkUnless result (Memory alloc_error) }
     {
-        self.rows.len()
+        Ok(MutableListArray {
+            data_type,
+            rows: O::Rows::new(alloc)?,
+            values,
+            alloc,
+        })
     }
 
-    pub fn data_type(&self) -> &DataType
-        ensures { type_of result.now ≡ builder_type (tree_of self.now) }
+    /// The offsets of the rows, one more than rows.
+    pub fn offsets(&self) -> &<O::Rows as FrozenRows>::Offsets
+        ensures { IsListBy (O.Rows.offsets_seen result.now) (⟦<MutableListArray<O, M> as MutableArray>⟧.model self.now) }
     {
-        self.data_type.get()
+        self.rows.offsets()
     }
 
-    /// Whether the child's items are just those of the rows.
-    pub fn is_whole(&self) -> bool
-        ensures { IsTrue result ↔ IsWhole (tree_of self.now) }
+    /// The child.
+    pub fn values(&self) -> &M
+        ensures { M.model result.now ≡ list_child (⟦<MutableListArray<O, M> as MutableArray>⟧.model self.now) }
     {
-        let end = self.rows.last();
-        self.values.len() == end && self.data_type.has_items(self.values.data_type())
+        &self.values
     }
 
     /// The child, into which the items of a row may be pushed before the row is told.
-    pub fn mut_values(&mut self) -> &mut MutablePrimitiveArray<i64>
-        ensures* writes_back { sem 𝓛 (Lends the_row child_row self.entry result (with_child self.entry.now)) }
-        ensures value { result.now ≡ child_seen self.old }
+    pub fn mut_values(&mut self) -> &mut M
+        ensures* writes_back { sem 𝓛 (Lends (the_row O.row M.row O.Rows.row O.Buffer.row O.List.row O.Rows.List.row O.Rows.Offsets.row O.Offset) M.row self.entry result (λ v. record self.entry.now { values = v })) }
+        ensures value { result.now ≡ self.old.values }
     {
         &mut self.values
     }
 
-    /// Adds a row: null, or the list of the items.
-    ///
-    /// # Errors
-    /// `Overflow` where there are more than 2^31 - 1 items then, `Memory`. No slot is added at any level then.
-    pub fn try_push(&mut self, row: Option<&[Option<i64>]>) -> Result<(), Error>
-        requires { IsWhole (tree_of self.old) }
-        ensures accepted { OnOk result (Accepted (row_item (option_copied row.entry)) (tree_of self.old) (tree_of self.new)) }
-        ensures fits { OnOk result (item_refusal (row_item (option_copied row.entry)) (tree_of self.old) ≡ None) }
-        ensures own { OnOk result (own_slots (tree_of self.new) ≡ own_slots (tree_of self.old) ++ row_slot (option_copied row.entry) ∷ []) }
-        ensures items { OnOk result (item_count self.new ≡ item_count self.old + row_len (option_copied row.entry)) }
-        ensures err { OnErr result (tree_of self.new ≡ tree_of self.old) }
-        ensures refused { IfErr result (λ e. (e ≡ Memory alloc_error) ⊎ (item_refusal (row_item (option_copied row.entry)) (tree_of self.old) ≡ Some e)) }
-        ensures overflow { IsErrOf result Overflow ↔ (largest_offset false < item_count self.old + row_len (option_copied row.entry)) }
-        ensures errors { IfErr result (λ e. (e ≡ Overflow) ⊎ (e ≡ Memory alloc_error)) }
+    /// What holds of every such builder: its offsets never fall.
+    pub fn known(&self)
+        ensures { IsWhole (list_child (⟦<MutableListArray<O, M> as MutableArray>⟧.model self.now)) → HasWholeChildren (⟦<MutableListArray<O, M> as MutableArray>⟧.model self.now) }
     {
-        match row {
-            None => self.push_null(),
-            Some(items) => self.push_items(items),
-        }
-    }
-
-    fn push_null(&mut self) -> Result<(), Error>
-        requires { IsWhole (tree_of self.old) }
-        ensures accepted { OnOk result (Accepted null_item (tree_of self.old) (tree_of self.new)) }
-        ensures fits { OnOk result (item_refusal null_item (tree_of self.old) ≡ None) }
-        ensures items { OnOk result (item_count self.new ≡ item_count self.old) }
-        ensures err { OnErr result (tree_of self.new ≡ tree_of self.old) }
-        ensures within { item_count self.old ≤ largest_offset false }
-        ensures memory { IsOkUnless result (Memory alloc_error) }
-    {
-        let end = self.rows.last();
-        self.rows.push(false, end)
-    }
-
-    fn push_items(&mut self, items: &[Option<i64>]) -> Result<(), Error>
-        requires { IsWhole (tree_of self.old) }
-        ensures accepted { OnOk result (Accepted (row_item (Some items.now)) (tree_of self.old) (tree_of self.new)) }
-        ensures fits { OnOk result (item_refusal (row_item (Some items.now)) (tree_of self.old) ≡ None) }
-        ensures items { OnOk result (item_count self.new ≡ item_count self.old + length items.now) }
-        ensures err { OnErr result (tree_of self.new ≡ tree_of self.old) }
-        ensures refused { IfErr result (λ e. (e ≡ Memory alloc_error) ⊎ (item_refusal (row_item (Some items.now)) (tree_of self.old) ≡ Some e)) }
-        ensures overflow { IsErrOf result Overflow ↔ (largest_offset false < item_count self.old + length items.now) }
-        ensures errors { IfErr result (λ e. (e ≡ Overflow) ⊎ (e ≡ Memory alloc_error)) }
-    {
-        self.values.known();
-        let end = self.values.len().saturating_add(items.len());
-        if end > LARGEST_OFFSET {
-            return Err(Error::Overflow);
-        }
-        self.push_within(items, end)
-    }
-
-    fn push_within(&mut self, items: &[Option<i64>], end: usize) -> Result<(), Error>
-        requires whole { IsWhole (tree_of self.old) }
-        requires ends { end ≡ item_count self.old + length items.now }
-        requires within { end ≤ largest_offset false }
-        ensures accepted { OnOk result (Accepted (row_item (Some items.now)) (tree_of self.old) (tree_of self.new)) }
-        ensures fits { OnOk result (item_refusal (row_item (Some items.now)) (tree_of self.old) ≡ None) }
-        ensures items { OnOk result (item_count self.new ≡ end) }
-        ensures err { OnErr result (tree_of self.new ≡ tree_of self.old) }
-        ensures memory { IsOkUnless result (Memory alloc_error) }
-    {
-        self.values.known();
-        let len = self.values.len();
-        extend(&mut self.values, items)?;
-        if let Err(error) = self.rows.push(true, end) {
-            self.values.truncate(len);
-            return Err(error);
-        }
-        Ok(())
+        let _last = self.rows.last();
     }
 
     /// Tells a row of the items that wait in the child.
     ///
     /// # Errors
-    /// `Unfinished` where the child ends before the rows do, or has another type; then `Overflow` where the child has
-    /// more than 2^31 - 1 items; `Memory`. No row is added then, and the items go on waiting.
+    /// `Unfinished` where the child has fewer items than the rows, or is of another type; then `Overflow` where it has
+    /// more than an offset can be; `Memory`. No row is added then, and the items go on waiting.
     pub fn try_push_valid(&mut self) -> Result<(), Error>
-        ensures ok { OnOk result (tree_of self.new ≡ told true (tree_of self.old)) }
-        ensures own { OnOk result (own_slots (tree_of self.new) ≡ own_slots (tree_of self.old) ++ pending_slot true (tree_of self.old) ∷ []) }
-        ensures passed { OnOk result (Pass (row_checks (tree_of self.old))) }
-        ensures err { OnErr result (tree_of self.new ≡ tree_of self.old) }
-        ensures refused { IfErr result (λ e. (e ≡ Memory alloc_error) ⊎ FailFirst e (row_checks (tree_of self.old))) }
-        ensures unfinished { IsErrOf result (InvalidArgumentError Unfinished) ↔ ¬ IsReady (tree_of self.old) }
-        ensures overflow { IsErrOf result Overflow ↔ IsReady (tree_of self.old) × (largest_offset false < item_count self.old) }
-        ensures errors { IfErr result (λ e. (e ≡ InvalidArgumentError Unfinished) ⊎ ((e ≡ Overflow) ⊎ (e ≡ Memory alloc_error))) }
+        requires { HasWholeChildren (⟦<MutableListArray<O, M> as MutableArray>⟧.model self.old) }
+        ensures ok { OnOk result (Told true (⟦<MutableListArray<O, M> as MutableArray>⟧.model self.old) (⟦<MutableListArray<O, M> as MutableArray>⟧.model self.new)) }
+        ensures passed { OnOk result (Pass (row_checks (⟦<MutableListArray<O, M> as MutableArray>⟧.model self.old))) }
+        ensures err { OnErr result (⟦<MutableListArray<O, M> as MutableArray>⟧.model self.new ≡ ⟦<MutableListArray<O, M> as MutableArray>⟧.model self.old) }
+        ensures cause { IfErr result (λ e. (e ≡ Memory alloc_error) ⊎ FailFirst e (row_checks (⟦<MutableListArray<O, M> as MutableArray>⟧.model self.old))) }
     {
-        if !self.is_ready() {
+        if !self.covers_rows() {
             return Err(Error::InvalidArgumentError(Argument::Unfinished));
         }
         let end = self.values.len();
         self.rows.push(true, end)
     }
 
-    /// Whether the items that wait in the child make a row.
-    fn is_ready(&self) -> bool
-        ensures ready { IsTrue result ↔ IsReady (tree_of self.now) }
-        ensures rising { RisesFrom 0 self.now.rows }
-    {
-        let end = self.rows.last();
-        self.values.len() >= end && self.data_type.has_items(self.values.data_type())
-    }
-
-    /// The array of the rows. The builder is empty then, also after want of memory.
+    /// Tells rows of these lengths of the items that wait in the child, a null row of no item for each `None`; all of
+    /// them or none.
     ///
     /// # Errors
-    /// `Unfinished` where the builder isn't whole; then nothing changes. `Memory`.
-    pub fn freeze(&mut self) -> Result<ListArray, Error>
-        ensures slots { IfOk result (λ a. slots_of a ≡ own_slots (tree_of self.old)) }
-        ensures same_type { IfOk result (λ a. layout_type a ≡ builder_type (tree_of self.old)) }
-        ensures unfinished { IsErrOf result (InvalidArgumentError Unfinished) ↔ ¬ IsWhole (tree_of self.old) }
-        ensures unchanged { ¬ IsWhole (tree_of self.old) → tree_of self.new ≡ tree_of self.old }
-        ensures emptied { IsWhole (tree_of self.old) → tree_of self.new ≡ emptied (tree_of self.old) }
+    /// `Unfinished` as `try_push_valid`; then `LengthsSum` where they don't end where the items do; then `Overflow` where
+    /// the child has more items than an offset can be; `Memory`. The items go on waiting then.
+    pub fn try_extend_from_lengths(&mut self, lengths: &[Option<usize>]) -> Result<(), Error>
+        requires { HasWholeChildren (⟦<MutableListArray<O, M> as MutableArray>⟧.model self.old) }
+        ensures ok { OnOk result (ToldLengths lengths.now (⟦<MutableListArray<O, M> as MutableArray>⟧.model self.old) (⟦<MutableListArray<O, M> as MutableArray>⟧.model self.new)) }
+        ensures passed { OnOk result (Pass (lengths_checks lengths.now (⟦<MutableListArray<O, M> as MutableArray>⟧.model self.old))) }
+        ensures err { OnErr result (⟦<MutableListArray<O, M> as MutableArray>⟧.model self.new ≡ ⟦<MutableListArray<O, M> as MutableArray>⟧.model self.old) }
+        ensures cause { IfErr result (λ e. (e ≡ Memory alloc_error) ⊎ FailFirst e (lengths_checks lengths.now (⟦<MutableListArray<O, M> as MutableArray>⟧.model self.old))) }
+    {
+        if !self.covers_rows() {
+            return Err(Error::InvalidArgumentError(Argument::Unfinished));
+        }
+        let end = self.values.len();
+        if !end_there(lengths, self.rows.last(), end) {
+            return Err(Error::InvalidArgumentError(Argument::LengthsSum));
+        }
+        self.rows.extend_from_lengths(lengths)
+    }
+
+    // Whether the child is of the items' type, and not shorter than the rows.
+    fn covers_rows(&self) -> bool
+        ensures { IsTrue result ↔ ListCovers (⟦<MutableListArray<O, M> as MutableArray>⟧.model self.now) }
+    {
+        let end = self.rows.last();
+        has_items(self.data_type.get(), self.values.data_type()) && end <= self.values.len()
+    }
+
+    /// The array of the rows. The builder keeps its data type and has no row at any level and no validity then, also
+    /// after `Memory`.
+    ///
+    /// # Errors
+    /// `Unfinished` where it isn't whole; then nothing changes. `Memory`.
+    pub fn freeze(&mut self) -> Result<<O::Rows as FrozenRows>::List, Error>
+        ensures slots { IfOk result (λ a. slots_of (O.Rows.List.parts a) ≡ own_slots (⟦<MutableListArray<O, M> as MutableArray>⟧.model self.old)) }
+        ensures same_type { IfOk result (λ a. layout_type (O.Rows.List.parts a) ≡ builder_type (⟦<MutableListArray<O, M> as MutableArray>⟧.model self.old)) }
+        ensures unfinished { IsErrOf result (InvalidArgumentError Unfinished) ↔ ¬ IsWhole (⟦<MutableListArray<O, M> as MutableArray>⟧.model self.old) }
+        ensures unchanged { ¬ IsWhole (⟦<MutableListArray<O, M> as MutableArray>⟧.model self.old) → ⟦<MutableListArray<O, M> as MutableArray>⟧.model self.new ≡ ⟦<MutableListArray<O, M> as MutableArray>⟧.model self.old }
+        ensures emptied { IsWhole (⟦<MutableListArray<O, M> as MutableArray>⟧.model self.old) → ⟦<MutableListArray<O, M> as MutableArray>⟧.model self.new ≡ emptied (⟦<MutableListArray<O, M> as MutableArray>⟧.model self.old) }
         ensures errors { IfErr result (λ e. (e ≡ InvalidArgumentError Unfinished) ⊎ (e ≡ Memory alloc_error)) }
     {
         if !self.is_whole() {
             return Err(Error::InvalidArgumentError(Argument::Unfinished));
         }
-        let values = self.values.freeze();
-        let rows = self.rows.freeze();
-        let values = values?;
-        let (offsets, validity) = match rows {
-            Ok(rows) => rows,
+        match frozen_parts(self.alloc, self.data_type.get(), &mut self.values) {
+            Ok((data_type, values)) => self.rows.freeze_over(self.alloc, data_type, values),
             Err(error) => {
-                drop(values);
-                return Err(error);
+                self.rows.clear();
+                Err(error)
             }
+        }
+    }
+
+    /// The array of the rows.
+    ///
+    /// # Errors
+    /// `Unfinished` where the builder isn't whole, `Memory`. The builder is dropped.
+    pub fn into_box(self) -> Result<AnyArray, Error>
+        ensures slots { IfOk result (λ a. slots_of (layout_of a) ≡ own_slots (⟦<MutableListArray<O, M> as MutableArray>⟧.model self)) }
+        ensures same_type { IfOk result (λ a. layout_type (layout_of a) ≡ builder_type (⟦<MutableListArray<O, M> as MutableArray>⟧.model self)) }
+        ensures unfinished { IsErrOf result (InvalidArgumentError Unfinished) ↔ ¬ IsWhole (⟦<MutableListArray<O, M> as MutableArray>⟧.model self) }
+        ensures errors { IfErr result (λ e. (e ≡ InvalidArgumentError Unfinished) ⊎ (e ≡ Memory alloc_error)) }
+    {
+        let mut lists = self;
+        lists.as_box()
+    }
+
+    /// The same array, owned by what shares it.
+    ///
+    /// # Errors
+    /// As `into_box`.
+    pub fn into_arc(self, alloc: Global) -> Result<Rc<AnyArray>, Error>
+        ensures slots { IfOk result (λ r. slots_of (layout_of r.value) ≡ own_slots (⟦<MutableListArray<O, M> as MutableArray>⟧.model self)) }
+        ensures same_type { IfOk result (λ r. layout_type (layout_of r.value) ≡ builder_type (⟦<MutableListArray<O, M> as MutableArray>⟧.model self)) }
+        ensures unfinished { IsErrOf result (InvalidArgumentError Unfinished) ↔ ¬ IsWhole (⟦<MutableListArray<O, M> as MutableArray>⟧.model self) }
+        ensures errors { IfErr result (λ e. (e ≡ InvalidArgumentError Unfinished) ⊎ (e ≡ Memory alloc_error)) }
+    {
+        let mut lists = self;
+        lists.as_arc(alloc)
+    }
+}
+
+/// Whether so many items from a place on, none for each `None`, end at another.
+fn end_there(lengths: &[Option<usize>], from: usize, to: usize) -> bool
+    ensures { IsTrue result ↔ (from + items_told lengths.now ≡ to) }
+{
+    let mut end = from;
+    for items in lengths {
+        let Some(next) = end.checked_add(items.unwrap_or(0)) else {
+            return false;
         };
-        match self.data_type.get().clone(self.alloc) {
-            Ok(data_type) => {
-                let values = AnyArray::Primitive(AnyPrimitive::Int64(values));
-                ListArray::new(self.alloc, data_type, offsets, values, validity)
+        end = next;
+    }
+    end == to
+}
+
+impl<O: ListWidth, M: MutableArray> MutableArray for MutableListArray<O, M> {
+    ghost model = { λ b. builders.list O.IS_LARGE b.data_type (O.Rows.told b.rows) (M.model b.values) };
+
+    fn data_type(&self) -> &DataType {
+        self.data_type.get()
+    }
+
+    fn len(&self) -> usize {
+        self.rows.len()
+    }
+
+    fn is_empty(&self) -> bool {
+        self.rows.len() == 0
+    }
+
+    fn validity(&self) -> Option<&MutableBitmap> {
+        self.rows.validity()
+    }
+
+    fn is_valid(&self, i: usize) -> bool {
+        self.rows.is_valid(i)
+    }
+
+    fn is_whole(&self) -> bool {
+        self.values.is_whole()
+            && has_items(self.data_type.get(), self.values.data_type())
+            && self.values.len() == self.rows.last()
+    }
+
+    fn holds(&self, _i: usize, _value: &Plain<'_>) -> bool {
+        false
+    }
+
+    fn push_null(&mut self) -> Result<(), Error> {
+        let end = self.rows.last();
+        self.rows.push(false, end)
+    }
+
+    fn try_push_plain(&mut self, value: Option<Plain<'_>>) -> Result<(), Error> {
+        match value {
+            None => self.push_null(),
+            Some(_) => Err(Error::InvalidArgumentError(Argument::ItemType)),
+        }
+    }
+
+    fn truncate(&mut self, n: usize) {
+        self.rows.truncate(n);
+        let end = self.rows.last();
+        self.values.truncate(end)
+    }
+
+    fn reserve(&mut self, additional: usize) -> Result<(), Error> {
+        self.rows.reserve(additional)
+    }
+
+    fn shrink_to_fit(&mut self) -> Result<(), Error> {
+        self.rows.shrink_to_fit();
+        self.values.shrink_to_fit()
+    }
+
+    fn as_box(&mut self) -> Result<AnyArray, Error> {
+        match self.freeze() {
+            Ok(lists) => Ok(lists.into_any()),
+            Err(error) => Err(error),
+        }
+    }
+
+    fn as_arc(&mut self, alloc: Global) -> Result<Rc<AnyArray>, Error> {
+        shared(self.as_box(), alloc)
+    }
+}
+
+impl<O: ListWidth, M: TryExtend<Option<T>>, I: IntoIterator<Item = Option<T>>, T> TryPush<Option<I>>
+    for MutableListArray<O, M>
+{
+    ghost can_push = { CanReadList I.into_iter_gives I.IntoIter.can_next I.IntoIter.remaining I.IntoIter.next_gives M.can_extend };
+
+    ghost reads = { ReadsList I.into_iter_gives I.IntoIter.next_gives M.reads_each };
+
+    fn try_push(&mut self, item: Option<I>) -> Result<(), Error> {
+        match item {
+            None => self.push_null(),
+            Some(items) => {
+                let len = self.values.len();
+                if let Err(refusal) = self.values.try_extend(items) {
+                    return Err(refusal);
+                }
+                let end = self.values.len();
+                match self.rows.push(true, end) {
+                    Ok(()) => Ok(()),
+                    Err(error) => {
+                        self.values.truncate(len);
+                        Err(error)
+                    }
+                }
             }
+        }
+    }
+}
+
+impl<O: ListWidth, M: TryExtend<Option<T>>, I: IntoIterator<Item = Option<T>>, T>
+    TryExtend<Option<I>> for MutableListArray<O, M>
+{
+    ghost can_extend = { CanReadList I.into_iter_gives I.IntoIter.can_next I.IntoIter.remaining I.IntoIter.next_gives M.can_extend };
+
+    ghost reads_each = { ReadsList I.into_iter_gives I.IntoIter.next_gives M.reads_each };
+
+    fn try_extend<U: IntoIterator<Item = Option<I>>>(&mut self, items: U) -> Result<(), Error> {
+        extend_by_push(self, items)
+    }
+}
+
+impl<O: ListWidth, M: TryExtendFromSelf> TryExtendFromSelf for MutableListArray<O, M> {
+    fn try_extend_from_self(&mut self, other: &MutableListArray<O, M>) -> Result<(), Error> {
+        if !same_types(self.data_type.get(), other.data_type.get()) {
+            return Err(Error::InvalidArgumentError(Argument::ItemType));
+        }
+        let len = self.values.len();
+        if let Err(refusal) = self.values.try_extend_from_self(&other.values) {
+            return Err(refusal);
+        }
+        match self.rows.append(&other.rows) {
+            Ok(()) => Ok(()),
             Err(error) => {
-                drop(values);
+                self.values.truncate(len);
                 Err(error)
             }
         }

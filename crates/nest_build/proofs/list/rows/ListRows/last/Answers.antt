@@ -1,14 +1,25 @@
-use Rattle.std.proofs.Common.{sym, ◌∙◌}
-use Rattle.nest_build.proofs.Rows.{told-end, told-rises}
+use Rattle.std.proofs.Common.{◌≡◌, ◌≤◌, length, sym, ◌∙◌, arith}
+use Rattle.nest_model.specs.Checks.{largest_length}
+use Rattle.nest_build.proofs.Rows.{told-end, told-rises, told-count, by-width}
 use Rattle.nest_build.proofs.list.rows.ListRows.last.Goals as goal
 
 pub returns-clause-value : goal.returns-clause-value
-returns-clause-value c =
+returns-clause-value g c =
     let a = c.self.inside in
     c.last.ensures
     ∙ sym (told-end a.offsets a.validity c.args.self.now c.self.view_is c.known.ensures.some c.known.ensures.first c.self.invariant)
 
 pub returns-clause-rising : goal.returns-clause-rising
-returns-clause-rising c =
+returns-clause-rising g c =
     let a = c.self.inside in
     told-rises a.offsets a.validity c.args.self.now c.self.view_is c.known.ensures.some c.known.ensures.first c.self.invariant c.known.ensures.rising
+
+pub returns-clause-fits : goal.returns-clause-fits
+returns-clause-fits g c = by-width c.last.result g.O.Offset.largest g.O.Offset.IS_LARGE g.met.O.Offset.largest_is (omega (arith, c.last.ensures, c.known.ensures.fits))
+
+pub returns-clause-room : goal.returns-clause-room
+returns-clause-room g c =
+    let a = c.self.inside in
+    let e = told-count a.offsets a.validity c.args.self.now c.self.view_is c.self.invariant in
+    let room = c.known.ensures.room in
+    omega arith

@@ -2,17 +2,17 @@ use Rattle.std.proofs.Common.{◌≡◌, ◌+◌, ◌-◌, ◌≤◌, length, ar
 use Rattle.nest_memory.specs.Rising.{last_of}
 use Rattle.nest_model.specs.Part.{rows}
 use Rattle.nest_model.specs.Checks.{largest_length}
-use Rattle.nest_build.proofs.Rows.{told-end, told-push, told-count, not_past}
+use Rattle.nest_build.proofs.Rows.{told-end, told-push, told-count, not_past, by-width}
 use Rattle.nest_build.proofs.list.rows.ListRows.push.Goals as goal
 
 pub overflow_sub-end : goal.overflow_sub-end
-overflow_sub-end c =
+overflow_sub-end g c =
     let a = c.self.inside in
     let e = told-end a.offsets a.validity c.args.self.now c.self.view_is c.known.ensures.some c.known.ensures.first c.self.invariant in
     omega arith
 
 pub returns-clause-ok : goal.returns-clause-ok
-returns-clause-ok c =
+returns-clause-ok g c =
     let a = c.self.inside in
     let e = told-end a.offsets a.validity c.args.self.now c.self.view_is c.known.ensures.some c.known.ensures.first c.self.invariant in
     let n : c.len_proxy-len.result ≡ rows a.offsets = omega arith in
@@ -21,12 +21,12 @@ returns-clause-ok c =
     c.self.view_is c.in_ok-try_push_usize.ensures.ok c.in_default.ensures.ok n x c.known.ensures.some c.self.invariant
 
 pub returns-clause-within : goal.returns-clause-within
-returns-clause-within c =
+returns-clause-within g c =
     let a = c.self.inside in
     let e = told-end a.offsets a.validity c.args.self.now c.self.view_is c.known.ensures.some c.known.ensures.first c.self.invariant in
     let n = told-count a.offsets a.validity c.args.self.now c.self.view_is c.self.invariant in
     let room = c.known.ensures.room in
     let x : last_of a.offsets + (c.args.end - c.last-last.result) ≡ c.args.end = omega arith in
     let count : length c.args.self.now + 1 ≤ largest_length = omega arith in
-    let small = not_past (last_of a.offsets + (c.args.end - c.last-last.result)) 2147483647 (λ p. let q = c.in_ok-try_push_usize.ensures.overflow.1 p in cc) in
-    (count, omega (arith, x, small))
+    let small = not_past (last_of a.offsets + (c.args.end - c.last-last.result)) g.O.Offset.largest (λ p. let q = c.in_ok-try_push_usize.ensures.overflow.1 p in cc) in
+    (count, by-width c.args.end g.O.Offset.largest g.O.Offset.IS_LARGE g.met.O.Offset.largest_is (omega (arith, x, small)))

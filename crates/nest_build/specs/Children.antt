@@ -1,0 +1,21 @@
+-- The child of a builder of lists, and whether a row of its items can be told.
+use Rattle.std.specs.Prelude.{◌≡◌, ℕ, List as Seq}
+use Rattle.nest_model.specs.BuilderFreeze.{offsets_from}
+use Rattle.nest_model.specs.BuilderRowChecks.{CoversRows}
+use Rattle.nest_model.specs.BuilderTree.{BuilderTree, flat, list, fixed_size_list, dictionary, struct}
+
+-- the child; a builder of another kind stands for itself
+abbrev pub list_child : BuilderTree → BuilderTree
+list_child (list large t rows c) = c
+list_child (fixed_size_list t bits c) = c
+list_child t = t
+
+-- the child is of the items' type, and not shorter than the rows
+abbrev pub ListCovers : BuilderTree → Type 0
+ListCovers (list large t rows c) = CoversRows t rows c
+ListCovers t = ⊥
+
+-- its rows end at these offsets, which begin at 0
+abbrev pub IsListBy : Seq ℕ → BuilderTree → Type 0
+IsListBy os (list large t rows c) = offsets_from 0 rows ≡ os
+IsListBy os t = ⊥

@@ -1,0 +1,9 @@
+-- A builder of a flat array as the tree of its one level, and the values of one native type.
+use Rattle.std.specs.Prelude.{ℤ, List}
+use Rattle.nest_model.specs.Layout.{Layout, layout_type}
+use Rattle.nest_model.specs.Meaning.{slots_of}
+use Rattle.nest_model.specs.BuilderTree as builders
+use Rattle.nest_model.specs.BuilderTree.{BuilderTree}
+
+abbrev pub flat_tree : Layout → BuilderTree
+flat_tree a = builders.flat (layout_type a) (slots_of a)

@@ -1,0 +1,35 @@
+-- The data types of builders of lists, and why no builder is made.
+use Rattle.std.specs.Prelude.{◌≡◌, ℕ, ◌<◌, Bool, true, codes, [], length, Some, if◌then◌else◌}
+use Rattle.nest_memory.specs.TypeTree as types
+use Rattle.nest_memory.specs.TypeTree.{TypeTree, FieldTree, item_type, size_of}
+use Rattle.nest_memory.specs.Physical.{list_of_width, physical_type}
+use Rattle.nest_memory.specs.declared.datatypes.physical_type.PhysicalType.TheVariants as physical
+use Rattle.nest_memory.specs.declared.error.Argument.TheVariants.{ChildNotEmpty}
+use Rattle.nest_memory.specs.declared.error.Error.TheVariants.{InvalidArgumentError, OutOfSpec}
+use Rattle.nest_memory.specs.declared.error.Spec.TheVariants.{ChildType, WrongType, ZeroSize}
+use Rattle.nest_model.specs.Checks.{Checks, done, check}
+use Rattle.nest_model.specs.BuilderTree.{BuilderTree, builder_len, builder_type}
+
+-- lists of such items, by offsets of 64 bits or of 32
+abbrev pub list_type : Bool → FieldTree → TypeTree
+list_type large f = if large then types.large_list f else types.list f
+
+-- a data type isn't one of such lists, or its lists have items of another type
+abbrev pub list_type_checks : Bool → TypeTree → TypeTree → Checks
+list_type_checks large t items =
+    check (OutOfSpec WrongType) (physical_type t ≡ list_of_width large)
+    (check (OutOfSpec ChildType) (item_type t ≡ Some items) done)
+
+-- Why no builder of lists is made over a child: it has rows, or the data type is none for it.
+abbrev pub new_list_checks : Bool → TypeTree → BuilderTree → Checks
+new_list_checks large t c = check (InvalidArgumentError ChildNotEmpty) (builder_len c ≡ 0) (list_type_checks large t (builder_type c))
+
+-- the same of lists of one size
+abbrev pub fixed_type_checks : ℕ → TypeTree → TypeTree → Checks
+fixed_type_checks size t items =
+    check (OutOfSpec WrongType) ((physical_type t ≡ physical.FixedSizeList) × (size_of t ≡ size))
+    (check (OutOfSpec ZeroSize) (0 < size)
+    (check (OutOfSpec ChildType) (item_type t ≡ Some items) done))
+
+abbrev pub new_fixed_checks : ℕ → TypeTree → BuilderTree → Checks
+new_fixed_checks size t c = check (InvalidArgumentError ChildNotEmpty) (builder_len c ≡ 0) (fixed_type_checks size t (builder_type c))

@@ -1,0 +1,158 @@
+//! Builders of byte strings of one size from parts and from items.
+ghost use Rattle.std.specs.Prelude.{◌≡◌, ◌*◌, ◌<◌, ◌↔◌, ◌⊎◌, ◌++◌, ◌∷◌, ◌||◌, [], false, not, is_some, IfOk, IfErr, IsErrOf, OnOk, IsOkUnless, IsTrue, MatchResult, MatchOption, None, length, map, alloc_error};
+ghost use Rattle.nest_memory.specs.TypeTree as types;
+ghost use Rattle.nest_model.specs.Layout as layouts;
+ghost use Rattle.nest_model.specs.Slot as slots;
+ghost use Rattle.nest_build.specs.Words.{FirstFault, Fits, IsPast, Memory, Overflow, ValidityFits, has_null, is_masked, layout_type, optional, size_of, slots_of, type_of};
+
+use crate::fixed_size_binary::MutableFixedSizeBinaryArray;
+use nest_memory::bitmap::mutable::MutableBitmap;
+use nest_memory::datatypes::DataType;
+use nest_memory::datatypes::physical_type::PhysicalType;
+use nest_memory::error::{Error, Spec};
+use std::alloc::Global;
+
+/// Whether a validity has a bit for each of n slots.
+fn has_bits(validity: &Option<MutableBitmap>, n: usize) -> bool
+    ensures { IsTrue result ↔ ValidityFits validity.now n }
+{
+    match validity {
+        None => true,
+        Some(bits) => bits.len() == n,
+    }
+}
+
+/// The first check of a builder's parts that fails.
+fn fault(data_type: &DataType, values: &Vec<u8>, validity: &Option<MutableBitmap>) -> Option<Error>
+    ensures { let parts = layouts.fixed_size_binary (type_of data_type.now) values.now.items validity.now in
+        MatchOption result (Fits parts) (λ e. FirstFault e parts) }
+{
+    if data_type.to_physical_type() != PhysicalType::FixedSizeBinary {
+        return Some(Error::OutOfSpec(Spec::WrongType));
+    }
+    let size = data_type.size().unwrap_or(0);
+    if size == 0 {
+        return Some(Error::OutOfSpec(Spec::ZeroSize));
+    }
+    if values.len() % size != 0 {
+        return Some(Error::OutOfSpec(Spec::NotMultiple));
+    }
+    if !has_bits(validity, values.len() / size) {
+        return Some(Error::OutOfSpec(Spec::ValidityLength));
+    }
+    None
+}
+
+/// The bytes of a row.
+fn bytes_of_row<const N: usize>(row: &[u8; N]) -> &[u8]
+    ensures bytes { result.now ≡ row.now }
+    ensures count { length result.now ≡ N }
+{
+    row.as_slice()
+}
+
+/// Adds a slot: the row, or null.
+fn push_row<const N: usize>(
+    builder: &mut MutableFixedSizeBinaryArray,
+    item: &Option<[u8; N]>,
+) -> Result<(), Error>
+    requires { size_of (layout_type builder.old) ≡ N }
+    ensures slots { OnOk result (slots_of builder.new ≡ slots_of builder.old ++ optional slots.bytes item.now ∷ []) }
+    ensures masked { OnOk result (is_masked builder.new ≡ (is_masked builder.old || not (is_some item.now))) }
+    ensures same_type { layout_type builder.new ≡ layout_type builder.old }
+    ensures memory { IsOkUnless result (Memory alloc_error) }
+{
+    builder.known();
+    match item {
+        None => builder.push(None),
+        Some(row) => builder.push(Some(bytes_of_row(row))),
+    }
+}
+
+/// Adds a slot for each item, until one finds no memory.
+fn push_rows<const N: usize>(
+    builder: &mut MutableFixedSizeBinaryArray,
+    items: &[Option<[u8; N]>],
+) -> Result<(), Error>
+    requires sized { size_of (layout_type builder.old) ≡ N }
+    requires empty { slots_of builder.old ≡ [] }
+    requires bare { is_masked builder.old ≡ false }
+    ensures slots { OnOk result (slots_of builder.new ≡ map (optional slots.bytes) items.now) }
+    ensures masked { OnOk result (is_masked builder.new ≡ has_null items.now) }
+    ensures same_type { layout_type builder.new ≡ layout_type builder.old }
+    ensures memory { IsOkUnless result (Memory alloc_error) }
+{
+    for item in items {
+        push_row(builder, item)?;
+    }
+    Ok(())
+}
+
+impl MutableFixedSizeBinaryArray {
+    /// The builder of these parts.
+    ///
+    /// # Errors
+    /// `WrongType` where the physical type isn't `FixedSizeBinary`, `ZeroSize` where its size is 0, `NotMultiple` where the
+    /// number of bytes is no multiple of it, `ValidityLength` where the validity has another length: the first of these.
+    pub fn try_new(
+        data_type: DataType,
+        values: Vec<u8>,
+        validity: Option<MutableBitmap>,
+    ) -> Result<MutableFixedSizeBinaryArray, Error>
+        ensures { let parts = layouts.fixed_size_binary (type_of data_type) values.items validity in
+            MatchResult result (λ b. Fits parts × (b ≡ parts)) (λ e. FirstFault e parts) }
+    {
+        if let Some(error) = fault(&data_type, &values, &validity) {
+            return Err(error);
+        }
+        Ok(MutableFixedSizeBinaryArray::of_parts(data_type, values, validity))
+    }
+
+    /// No slot, of the type of byte strings of this size, with room for so many of them.
+    ///
+    /// # Errors
+    /// `Overflow` where they have more bytes than a `usize` counts; `Memory`.
+    pub fn with_capacity(
+        alloc: Global,
+        size: usize,
+        capacity: usize,
+    ) -> Result<MutableFixedSizeBinaryArray, Error>
+        requires { 0 < size }
+        ensures ok { IfOk result (λ b. b ≡ layouts.fixed_size_binary (types.fixed_size_binary size) [] None) }
+        ensures overflow { IsErrOf result Overflow ↔ IsPast (capacity * size) }
+        ensures errors { IfErr result (λ e. (e ≡ Overflow) ⊎ (e ≡ Memory alloc_error)) }
+    {
+        let mut builder = MutableFixedSizeBinaryArray::new(alloc, size);
+        match builder.reserve(capacity) {
+            Ok(()) => Ok(builder),
+            Err(error) => {
+                drop(builder);
+                Err(error)
+            }
+        }
+    }
+
+    /// The builder of these items, of the type of byte strings of their size. It has a validity where one is null.
+    ///
+    /// # Errors
+    /// `Memory`.
+    pub fn from<const N: usize>(
+        alloc: Global,
+        items: &[Option<[u8; N]>],
+    ) -> Result<MutableFixedSizeBinaryArray, Error>
+        requires { 0 < N }
+        ensures slots { IfOk result (λ b. slots_of b ≡ map (optional slots.bytes) items.now) }
+        ensures typed { IfOk result (λ b. layout_type b ≡ types.fixed_size_binary N) }
+        ensures masked { IfOk result (λ b. is_masked b ≡ has_null items.now) }
+        ensures memory { IsOkUnless result (Memory alloc_error) }
+    {
+        let mut builder = MutableFixedSizeBinaryArray::new(alloc, N);
+        match push_rows(&mut builder, items) {
+            Ok(()) => Ok(builder),
+            Err(error) => {
+                drop(builder);
+                Err(error)
+            }
+        }
+    }
+}

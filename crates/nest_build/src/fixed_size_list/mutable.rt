@@ -1,0 +1,409 @@
+//! The builder of arrays of lists of one size, over any builder of their items.
+ghost use Rattle.std.specs.Prelude.{◌≡◌, ◌≢◌, ◌<◌, ◌⊎◌, ◌↔◌, [], true, OnOk, OnErr, IfOk, IfErr, IsErrOf, IsOkUnless, MatchOption, ◌+◌, ◌*◌, Some, length, alloc_error};
+ghost use Rattle.std.specs.Borrow.{sem, Lends};
+ghost use Rattle.nest_memory.specs.TypeTree as types;
+ghost use Rattle.nest_memory.specs.TypeTree.{field};
+ghost use Rattle.nest_memory.specs.declared.datatypes.physical_type.PhysicalType.TheVariants as physical;
+ghost use Rattle.nest_model.specs.BuilderTree as builders;
+ghost use Rattle.nest_build.specs.Lists.{new_fixed_checks};
+ghost use Rattle.nest_build.specs.Words.{CanReadList, ChildNotEmpty, FailFirst, HasWholeChildren, InvalidArgumentError, IsWhole, Memory, OutOfSpec, Pass, ReadsList, Told, Unfinished, ZeroSize, builder_len, builder_type, default_field, emptied, item_type, largest_length, layout_of, layout_type, len, list_child, own_slots, physical_type, row_checks, rows_of_size, size_of, slots_of, type_of};
+
+use crate::array::{MutableArray, shared};
+use crate::child::{frozen_parts, has_items, same_types};
+use crate::fixed_size_list::data_type::FixedType;
+use crate::fixed_size_list::rows::FixedRows;
+use crate::push::{TryExtend, TryExtendFromSelf, TryPush, extend_by_push, extend_nulls};
+use nest_array::{AnyArray, FixedSizeListArray};
+use nest_flat::plain::Plain;
+use nest_memory::bitmap::mutable::MutableBitmap;
+use nest_memory::datatypes::DataType;
+use nest_memory::datatypes::field::Field;
+use nest_memory::error::{Argument, Error};
+use std::alloc::Global;
+use std::rc::Rc;
+
+/// Lists of one size that are pushed one after another, over a builder of their items: arrow2's
+/// `MutableFixedSizeListArray`. Items that are pushed into the child wait there until a row of them is told.
+#[derive(Drop)]
+pub struct MutableFixedSizeListArray<M> {
+    data_type: FixedType,
+    rows: FixedRows,
+    values: M,
+    alloc: Global,
+}
+
+impl<M: MutableArray> MutableFixedSizeListArray<M> {
+    ghost use Rattle.nest_build.specs.contracts.fixed_size_list.mutable.MutableFixedSizeListArray.{the_row};
+
+    /// No row, over an empty child: lists of so many items, which are named "item" and nullable.
+    ///
+    /// # Errors
+    /// `ChildNotEmpty` where the child has rows, then `ZeroSize`; `Memory`.
+    pub fn new(
+        alloc: Global,
+        values: M,
+        size: usize,
+    ) -> Result<MutableFixedSizeListArray<M>, Error>
+        requires { IsWhole (M.model values) }
+        ensures ok { IfOk result (λ b. ⟦<MutableFixedSizeListArray<M> as MutableArray>⟧.model b ≡ builders.fixed_size_list (types.fixed_size_list (default_field (builder_type (M.model values))) size) [] (M.model values)) }
+        ensures passed { IfOk result (λ b. (builder_len (M.model values) ≡ 0) × (0 < size)) }
+        ensures cause { IfErr result (λ e. (e ≡ Memory alloc_error) ⊎ (((e ≡ InvalidArgumentError ChildNotEmpty) × (builder_len (M.model values) ≢ 0)) ⊎ ((e ≡ OutOfSpec ZeroSize) × (builder_len (M.model values) ≡ 0) × (size ≡ 0)))) }
+    {
+        MutableFixedSizeListArray::new_with_field(alloc, values, "item", true, size)
+    }
+
+    /// The same, whose items have that name and may be null or not.
+    ///
+    /// # Errors
+    /// As `new`.
+    pub fn new_with_field(
+        alloc: Global,
+        values: M,
+        name: &str,
+        nullable: bool,
+        size: usize,
+    ) -> Result<MutableFixedSizeListArray<M>, Error>
+        requires { IsWhole (M.model values) }
+        ensures ok { IfOk result (λ b. ⟦<MutableFixedSizeListArray<M> as MutableArray>⟧.model b ≡ builders.fixed_size_list (types.fixed_size_list (field name.now (builder_type (M.model values)) nullable []) size) [] (M.model values)) }
+        ensures passed { IfOk result (λ b. (builder_len (M.model values) ≡ 0) × (0 < size)) }
+        ensures cause { IfErr result (λ e. (e ≡ Memory alloc_error) ⊎ (((e ≡ InvalidArgumentError ChildNotEmpty) × (builder_len (M.model values) ≢ 0)) ⊎ ((e ≡ OutOfSpec ZeroSize) × (builder_len (M.model values) ≡ 0) × (size ≡ 0)))) }
+    {
+        if !values.is_empty() {
+            return Err(Error::InvalidArgumentError(Argument::ChildNotEmpty));
+        }
+        let items = values.data_type().clone(alloc)?;
+        let items = Field::new(alloc, name, items, nullable)?;
+        match FixedType::of_field(alloc, items, size) {
+            Ok(data_type) => Ok(MutableFixedSizeListArray::over(alloc, data_type, values)),
+            Err(error) => Err(error),
+        }
+    }
+
+    /// No row of that data type, over an empty child.
+    ///
+    /// # Errors
+    /// `ChildNotEmpty` where the child has rows, `WrongType` where the physical type isn't that of lists of so many items,
+    /// `ZeroSize`, `ChildType` where the child is of another type than its field: the first of these.
+    pub fn new_from(
+        alloc: Global,
+        values: M,
+        data_type: DataType,
+        size: usize,
+    ) -> Result<MutableFixedSizeListArray<M>, Error>
+        requires { IsWhole (M.model values) }
+        ensures ok { IfOk result (λ b. ⟦<MutableFixedSizeListArray<M> as MutableArray>⟧.model b ≡ builders.fixed_size_list (type_of data_type) [] (M.model values)) }
+        ensures passed { IfOk result (λ b. Pass (new_fixed_checks size (type_of data_type) (M.model values))) }
+        ensures cause { IfErr result (λ e. FailFirst e (new_fixed_checks size (type_of data_type) (M.model values))) }
+    {
+        if !values.is_empty() {
+            drop(data_type);
+            return Err(Error::InvalidArgumentError(Argument::ChildNotEmpty));
+        }
+        match FixedType::of_type(data_type, values.data_type(), size) {
+            Ok(data_type) => Ok(MutableFixedSizeListArray::over(alloc, data_type, values)),
+            Err(error) => Err(error),
+        }
+    }
+
+    // No row over a child.
+    fn over(alloc: Global, data_type: FixedType, values: M) -> MutableFixedSizeListArray<M>
+        ensures { ⟦<MutableFixedSizeListArray<M> as MutableArray>⟧.model result ≡ builders.fixed_size_list data_type [] (M.model values) }
+    {
+        MutableFixedSizeListArray {
+            data_type,
+            rows: FixedRows::new(alloc),
+            values,
+            alloc,
+        }
+    }
+
+    /// How many items each row has.
+    pub fn size(&self) -> usize
+        ensures value { result ≡ size_of (builder_type (⟦<MutableFixedSizeListArray<M> as MutableArray>⟧.model self.now)) }
+        ensures some { 0 < result }
+    {
+        self.data_type.size()
+    }
+
+    /// The child.
+    pub fn values(&self) -> &M
+        ensures { M.model result.now ≡ list_child (⟦<MutableFixedSizeListArray<M> as MutableArray>⟧.model self.now) }
+    {
+        &self.values
+    }
+
+    /// The child, into which the items of a row may be pushed before the row is told.
+    pub fn mut_values(&mut self) -> &mut M
+        ensures* writes_back { sem 𝓛 (Lends (the_row M.row) M.row self.entry result (λ v. record self.entry.now { values = v })) }
+        ensures value { result.now ≡ self.old.values }
+    {
+        &mut self.values
+    }
+
+    /// Tells a row of the items that wait in the child.
+    ///
+    /// # Errors
+    /// `Unfinished` where the child is of another type, or fewer items wait than a row has; then `ItemSize` where more do;
+    /// `Memory`. No row is added then, and the items go on waiting.
+    pub fn try_push_valid(&mut self) -> Result<(), Error>
+        requires { HasWholeChildren (⟦<MutableFixedSizeListArray<M> as MutableArray>⟧.model self.old) }
+        ensures ok { OnOk result (Told true (⟦<MutableFixedSizeListArray<M> as MutableArray>⟧.model self.old) (⟦<MutableFixedSizeListArray<M> as MutableArray>⟧.model self.new)) }
+        ensures passed { OnOk result (Pass (row_checks (⟦<MutableFixedSizeListArray<M> as MutableArray>⟧.model self.old))) }
+        ensures err { OnErr result (⟦<MutableFixedSizeListArray<M> as MutableArray>⟧.model self.new ≡ ⟦<MutableFixedSizeListArray<M> as MutableArray>⟧.model self.old) }
+        ensures cause { IfErr result (λ e. (e ≡ Memory alloc_error) ⊎ FailFirst e (row_checks (⟦<MutableFixedSizeListArray<M> as MutableArray>⟧.model self.old))) }
+    {
+        let items = self.values.len();
+        let typed = has_items(self.data_type.get(), self.values.data_type());
+        let _size = self.data_type.size();
+        let Some(end) = self.end_of_next() else {
+            return Err(Error::InvalidArgumentError(Argument::Unfinished));
+        };
+        if !typed || items < end {
+            return Err(Error::InvalidArgumentError(Argument::Unfinished));
+        }
+        if items > end {
+            return Err(Error::InvalidArgumentError(Argument::ItemSize));
+        }
+        self.rows.push(true)
+    }
+
+    // How many items the rows and one more have; `None` where no length can be so much.
+    fn end_of_next(&self) -> Option<usize>
+        ensures { let end = (length self.now.rows + 1) * size_of self.now.data_type in MatchOption result
+            (largest_length < end)
+            (λ n. n ≡ end) }
+    {
+        let size = self.data_type.size();
+        match self.rows.len().checked_add(1) {
+            Some(rows) => rows.checked_mul(size),
+            None => None,
+        }
+    }
+
+    /// As `try_push_valid`.
+    ///
+    /// # Errors
+    /// As `try_push_valid`.
+    pub fn push_valid(&mut self) -> Result<(), Error>
+        requires { HasWholeChildren (⟦<MutableFixedSizeListArray<M> as MutableArray>⟧.model self.old) }
+        ensures ok { OnOk result (Told true (⟦<MutableFixedSizeListArray<M> as MutableArray>⟧.model self.old) (⟦<MutableFixedSizeListArray<M> as MutableArray>⟧.model self.new)) }
+        ensures passed { OnOk result (Pass (row_checks (⟦<MutableFixedSizeListArray<M> as MutableArray>⟧.model self.old))) }
+        ensures err { OnErr result (⟦<MutableFixedSizeListArray<M> as MutableArray>⟧.model self.new ≡ ⟦<MutableFixedSizeListArray<M> as MutableArray>⟧.model self.old) }
+        ensures cause { IfErr result (λ e. (e ≡ Memory alloc_error) ⊎ FailFirst e (row_checks (⟦<MutableFixedSizeListArray<M> as MutableArray>⟧.model self.old))) }
+    {
+        self.try_push_valid()
+    }
+
+    /// The array of the rows. The builder keeps its data type and has no row at any level and no validity then, also
+    /// after `Memory`.
+    ///
+    /// # Errors
+    /// `Unfinished` where it isn't whole; then nothing changes. `Memory`.
+    pub fn freeze(&mut self) -> Result<FixedSizeListArray, Error>
+        ensures slots { IfOk result (λ a. slots_of a ≡ own_slots (⟦<MutableFixedSizeListArray<M> as MutableArray>⟧.model self.old)) }
+        ensures same_type { IfOk result (λ a. layout_type a ≡ builder_type (⟦<MutableFixedSizeListArray<M> as MutableArray>⟧.model self.old)) }
+        ensures unfinished { IsErrOf result (InvalidArgumentError Unfinished) ↔ ¬ IsWhole (⟦<MutableFixedSizeListArray<M> as MutableArray>⟧.model self.old) }
+        ensures unchanged { ¬ IsWhole (⟦<MutableFixedSizeListArray<M> as MutableArray>⟧.model self.old) → ⟦<MutableFixedSizeListArray<M> as MutableArray>⟧.model self.new ≡ ⟦<MutableFixedSizeListArray<M> as MutableArray>⟧.model self.old }
+        ensures emptied { IsWhole (⟦<MutableFixedSizeListArray<M> as MutableArray>⟧.model self.old) → ⟦<MutableFixedSizeListArray<M> as MutableArray>⟧.model self.new ≡ emptied (⟦<MutableFixedSizeListArray<M> as MutableArray>⟧.model self.old) }
+        ensures errors { IfErr result (λ e. (e ≡ InvalidArgumentError Unfinished) ⊎ (e ≡ Memory alloc_error)) }
+    {
+        if !self.is_whole() {
+            return Err(Error::InvalidArgumentError(Argument::Unfinished));
+        }
+        let _size = self.data_type.size();
+        match frozen_parts(self.alloc, self.data_type.get(), &mut self.values) {
+            Ok((data_type, values)) => freeze_over(self.alloc, data_type, &mut self.rows, values),
+            Err(error) => {
+                self.rows.clear();
+                Err(error)
+            }
+        }
+    }
+}
+
+/// The array of rows over their items. No row and no validity is left, also after `Memory`.
+fn freeze_over(
+    alloc: Global,
+    data_type: DataType,
+    rows: &mut FixedRows,
+    values: AnyArray,
+) -> Result<FixedSizeListArray, Error>
+    requires lists { physical_type (type_of data_type) ≡ physical.FixedSizeList }
+    requires some { 0 < size_of (type_of data_type) }
+    requires items { item_type (type_of data_type) ≡ Some (layout_type (layout_of values)) }
+    requires covers { len (layout_of values) ≡ length rows.old * size_of (type_of data_type) }
+    ensures slots { IfOk result (λ a. slots_of a ≡ rows_of_size 0 (size_of (type_of data_type)) rows.old (slots_of (layout_of values))) }
+    ensures same_type { IfOk result (λ a. layout_type a ≡ type_of data_type) }
+    ensures emptied { rows.new ≡ [] }
+    ensures memory { IsOkUnless result (Memory alloc_error) }
+{
+    match rows.freeze() {
+        Ok((_rows, validity)) => FixedSizeListArray::new(alloc, data_type, values, validity),
+        Err(error) => {
+            drop(values);
+            drop(data_type);
+            Err(error)
+        }
+    }
+}
+
+impl<M: MutableArray> MutableArray for MutableFixedSizeListArray<M> {
+    ghost model = { λ b. builders.fixed_size_list b.data_type b.rows (M.model b.values) };
+
+    fn data_type(&self) -> &DataType {
+        self.data_type.get()
+    }
+
+    fn len(&self) -> usize {
+        self.rows.len()
+    }
+
+    fn is_empty(&self) -> bool {
+        self.rows.len() == 0
+    }
+
+    fn validity(&self) -> Option<&MutableBitmap> {
+        self.rows.validity()
+    }
+
+    fn is_valid(&self, i: usize) -> bool {
+        self.rows.is_valid(i)
+    }
+
+    fn is_whole(&self) -> bool {
+        let items = self.values.len();
+        let size = self.data_type.size();
+        match self.rows.len().checked_mul(size) {
+            None => false,
+            Some(end) => {
+                self.values.is_whole()
+                    && has_items(self.data_type.get(), self.values.data_type())
+                    && items == end
+            }
+        }
+    }
+
+    fn holds(&self, _i: usize, _value: &Plain<'_>) -> bool {
+        false
+    }
+
+    fn push_null(&mut self) -> Result<(), Error> {
+        let len = self.values.len();
+        if let Err(refusal) = extend_nulls(&mut self.values, self.data_type.size()) {
+            return Err(refusal);
+        }
+        let _end = self.values.len();
+        match self.rows.push(false) {
+            Ok(()) => Ok(()),
+            Err(error) => {
+                self.values.truncate(len);
+                Err(error)
+            }
+        }
+    }
+
+    fn try_push_plain(&mut self, value: Option<Plain<'_>>) -> Result<(), Error> {
+        match value {
+            None => self.push_null(),
+            Some(_) => Err(Error::InvalidArgumentError(Argument::ItemType)),
+        }
+    }
+
+    fn truncate(&mut self, n: usize) {
+        let _items = self.values.len();
+        self.values.truncate(n * self.data_type.size());
+        self.rows.truncate(n)
+    }
+
+    fn reserve(&mut self, additional: usize) -> Result<(), Error> {
+        let Some(items) = additional.checked_mul(self.data_type.size()) else {
+            return Err(Error::Overflow);
+        };
+        if let Err(refusal) = self.values.reserve(items) {
+            return Err(refusal);
+        }
+        self.rows.reserve(additional)
+    }
+
+    fn shrink_to_fit(&mut self) -> Result<(), Error> {
+        self.rows.shrink_to_fit();
+        self.values.shrink_to_fit()
+    }
+
+    fn as_box(&mut self) -> Result<AnyArray, Error> {
+        match self.freeze() {
+            Ok(lists) => Ok(lists.boxed()),
+            Err(error) => Err(error),
+        }
+    }
+
+    fn as_arc(&mut self, alloc: Global) -> Result<Rc<AnyArray>, Error> {
+        shared(self.as_box(), alloc)
+    }
+}
+
+impl<M: TryExtend<Option<T>>, I: IntoIterator<Item = Option<T>>, T> TryPush<Option<I>>
+    for MutableFixedSizeListArray<M>
+{
+    ghost can_push = { CanReadList I.into_iter_gives I.IntoIter.can_next I.IntoIter.remaining I.IntoIter.next_gives M.can_extend };
+
+    ghost reads = { ReadsList I.into_iter_gives I.IntoIter.next_gives M.reads_each };
+
+    fn try_push(&mut self, item: Option<I>) -> Result<(), Error> {
+        match item {
+            None => self.push_null(),
+            Some(items) => {
+                let len = self.values.len();
+                if let Err(refusal) = self.values.try_extend(items) {
+                    return Err(refusal);
+                }
+                let end = self.values.len();
+                let size = self.data_type.size();
+                if end - len != size {
+                    self.values.truncate(len);
+                    return Err(Error::InvalidArgumentError(Argument::ItemSize));
+                }
+                match self.rows.push(true) {
+                    Ok(()) => Ok(()),
+                    Err(error) => {
+                        self.values.truncate(len);
+                        Err(error)
+                    }
+                }
+            }
+        }
+    }
+}
+
+impl<M: TryExtend<Option<T>>, I: IntoIterator<Item = Option<T>>, T> TryExtend<Option<I>>
+    for MutableFixedSizeListArray<M>
+{
+    ghost can_extend = { CanReadList I.into_iter_gives I.IntoIter.can_next I.IntoIter.remaining I.IntoIter.next_gives M.can_extend };
+
+    ghost reads_each = { ReadsList I.into_iter_gives I.IntoIter.next_gives M.reads_each };
+
+    fn try_extend<U: IntoIterator<Item = Option<I>>>(&mut self, items: U) -> Result<(), Error> {
+        extend_by_push(self, items)
+    }
+}
+
+impl<M: TryExtendFromSelf> TryExtendFromSelf for MutableFixedSizeListArray<M> {
+    fn try_extend_from_self(&mut self, other: &MutableFixedSizeListArray<M>) -> Result<(), Error> {
+        if !same_types(self.data_type.get(), other.data_type.get()) {
+            return Err(Error::InvalidArgumentError(Argument::ItemType));
+        }
+        let len = self.values.len();
+        let _size = self.data_type.size();
+        if let Err(refusal) = self.values.try_extend_from_self(&other.values) {
+            return Err(refusal);
+        }
+        let _end = self.values.len();
+        match self.rows.append(&other.rows) {
+            Ok(()) => Ok(()),
+            Err(error) => {
+                self.values.truncate(len);
+                Err(error)
+            }
+        }
+    }
+}

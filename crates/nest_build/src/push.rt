@@ -1,0 +1,107 @@
+//! Pushing items of one type: arrow2's `TryPush`, `TryExtend` and `TryExtendFromSelf`.
+ghost use Rattle.std.specs.Prelude.{◌≡◌, ◌<◌, ◌⊎◌, false, true, OnOk, OnErr, IfErr, replicate, alloc_error};
+ghost use Rattle.nest_model.specs.BuilderItem.{null as null_item};
+ghost use Rattle.nest_build.specs.Words.{AcceptedAll, CanRead, FailFirst, IsWhole, Joined, Memory, Overflow, Pass, Read, Refused, RefusedSome, Took, TookAll, join_checks, nulls_pass};
+
+use crate::array::MutableArray;
+use nest_memory::error::Error;
+
+/// A builder that takes items of one type.
+pub trait TryPush<A>: MutableArray {
+    /// Which items may be read: an iterator may be called and ends.
+    ghost can_push: { A → Type 0 };
+
+    /// What a push reads of an item: all of it, or a beginning.
+    ghost reads: { A → Read → Type 0 };
+
+    /// Adds a row: what the item spells.
+    ///
+    /// # Errors
+    /// The first check that fails, here or at a level below: `ItemType`, `ItemSize`, `Overflow`. `Memory`.
+    fn try_push(&mut self, item: A) -> Result<(), Error>
+        requires whole { IsWhole (Self.model self.old) }
+        requires can { can_push item }
+        ensures ok { OnOk result (Took reads item (Self.model self.old) (Self.model self.new)) }
+        ensures err { OnErr result (Self.model self.new ≡ Self.model self.old) }
+        ensures cause { IfErr result (λ e. Refused reads item (Self.model self.old) e) };
+}
+
+/// A builder that takes all items or none.
+pub trait TryExtend<A>: MutableArray {
+    /// Which items may be read.
+    ghost can_extend: { A → Type 0 };
+
+    /// What is read of an item: all of it, or a beginning.
+    ghost reads_each: { A → Read → Type 0 };
+
+    /// Adds a row for each item, all of them or none.
+    ///
+    /// # Errors
+    /// Those of the first item that is refused, as `try_push` answers them.
+    fn try_extend<I: IntoIterator<Item = A>>(&mut self, items: I) -> Result<(), Error>
+        requires whole { IsWhole (Self.model self.old) }
+        requires can { CanRead I.into_iter_gives I.IntoIter.can_next I.IntoIter.remaining I.IntoIter.next_gives can_extend items }
+        ensures ok { OnOk result (TookAll I.into_iter_gives I.IntoIter.next_gives reads_each items (Self.model self.old) (Self.model self.new)) }
+        ensures err { OnErr result (Self.model self.new ≡ Self.model self.old) }
+        ensures cause { IfErr result (λ e. RefusedSome I.into_iter_gives I.IntoIter.next_gives reads_each items (Self.model self.old) e) };
+}
+
+/// A builder that takes all rows of another one of its type, or none.
+pub trait TryExtendFromSelf: MutableArray {
+    /// Adds the other's rows, at each level.
+    ///
+    /// # Errors
+    /// `ItemType` where the data types differ; then `Overflow` where a level would pass its limit; `Memory`.
+    fn try_extend_from_self(&mut self, other: &Self) -> Result<(), Error>
+        requires whole { IsWhole (Self.model self.old) }
+        requires other_whole { IsWhole (Self.model other.now) }
+        ensures joined { OnOk result (Joined (Self.model other.now) (Self.model self.old) (Self.model self.new)) }
+        ensures unrefused { OnOk result (Pass (join_checks (Self.model self.old) (Self.model other.now))) }
+        ensures err { OnErr result (Self.model self.new ≡ Self.model self.old) }
+        ensures cause { IfErr result (λ e. (e ≡ Memory alloc_error) ⊎ FailFirst e (join_checks (Self.model self.old) (Self.model other.now))) };
+}
+
+/// Pushes each item, and takes all of them back where one is refused.
+pub fn extend_by_push<A, B: TryPush<A>, I: IntoIterator<Item = A>>(
+    builder: &mut B,
+    items: I,
+) -> Result<(), Error>
+    requires whole { IsWhole (B.model builder.old) }
+    requires can { CanRead I.into_iter_gives I.IntoIter.can_next I.IntoIter.remaining I.IntoIter.next_gives B.can_push items }
+    ensures ok { OnOk result (TookAll I.into_iter_gives I.IntoIter.next_gives B.reads items (B.model builder.old) (B.model builder.new)) }
+    ensures err { OnErr result (B.model builder.new ≡ B.model builder.old) }
+    ensures cause { IfErr result (λ e. RefusedSome I.into_iter_gives I.IntoIter.next_gives B.reads items (B.model builder.old) e) }
+{
+    let len = builder.len();
+    for item in items {
+        match builder.try_push(item) {
+            Ok(()) => {}
+            Err(error) => {
+                builder.truncate(len);
+                return Err(error);
+            }
+        }
+    }
+    Ok(())
+}
+
+/// Pushes n nulls, and takes all of them back where one is refused.
+pub fn extend_nulls<B: MutableArray>(builder: &mut B, n: usize) -> Result<(), Error>
+    requires whole { IsWhole (B.model builder.old) }
+    requires some { 0 < n }
+    ensures ok { OnOk result (AcceptedAll (replicate n null_item) (B.model builder.old) (B.model builder.new) × (nulls_pass n (B.model builder.old) ≡ false)) }
+    ensures err { OnErr result (B.model builder.new ≡ B.model builder.old) }
+    ensures cause { IfErr result (λ e. (e ≡ Memory alloc_error) ⊎ ((e ≡ Overflow) × (nulls_pass n (B.model builder.old) ≡ true))) }
+{
+    let len = builder.len();
+    for _i in 0..n {
+        match builder.push_null() {
+            Ok(()) => {}
+            Err(error) => {
+                builder.truncate(len);
+                return Err(error);
+            }
+        }
+    }
+    Ok(())
+}
