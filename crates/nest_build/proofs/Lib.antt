@@ -7,5 +7,6 @@ mod NullTrees
 mod Nulled
 mod Nulls
 mod Rows
+mod Slices
 mod Spelled
 mod Trials

@@ -3,6 +3,7 @@
 mod data_type;
 mod mutable;
 pub mod rows;
+mod slices;
 pub mod width;
 
 pub use mutable::MutableListArray;

@@ -1,0 +1,87 @@
+-- Which rows of numbers a builder of lists refuses.
+use Rattle.std.specs.Prelude.{Option, Some, None, ltb, ◌||◌, if◌then◌else◌}
+use Rattle.std.proofs.Common.{◌≡◌, ℕ, ◌+◌, ◌<◌, ◌≤◌, Bool, false, true, List, [], ◌∷◌, ◌++◌, length, map, refl, ap, sym, ◌∙◌, inl, inr, arith, length-append}
+use Rattle.std.proofs.lemmas.Bool.{cases_lt, lt-ltb}
+use Rattle.std.proofs.lemmas.List.{length-map}
+use Rattle.nest_memory.specs.Physical.{physical_type}
+use Rattle.nest_memory.specs.Rising.{largest_offset}
+use Rattle.nest_memory.specs.TypeTree.{TypeTree}
+use Rattle.nest_memory.specs.declared.datatypes.physical_type.PhysicalType.TheVariants as physical
+use Rattle.nest_memory.specs.declared.datatypes.physical_type.PrimitiveType.{PrimitiveType}
+use Rattle.nest_memory.specs.declared.error.Error.TheVariants.{Overflow}
+use Rattle.nest_model.specs.BuilderAppend.{appended, items_appended}
+use Rattle.nest_model.specs.BuilderItem as items
+use Rattle.nest_model.specs.BuilderItem.{PlainValue, Item, seal_items, holds_kind}
+use Rattle.nest_model.specs.BuilderRefusals.{item_refusal, items_refusal}
+use Rattle.nest_model.specs.BuilderRefusalLaws.{within}
+use Rattle.nest_model.specs.BuilderRow.{Row}
+use Rattle.nest_model.specs.BuilderSpells.{value_item}
+use Rattle.nest_model.specs.BuilderTree.{BuilderTree, flat, list, builder_len}
+use Rattle.nest_model.specs.Checks.{first_of, refuse_if, is_past, largest_length}
+use Rattle.nest_model.specs.Slot as slots
+use Rattle.nest_model.specs.Slot.{Slot}
+use Rattle.nest_build.specs.Slices.{row_item}
+
+past : (n : ℕ) → largest_length < n → is_past n ≡ true
+past n h = lt-ltb largest_length n h
+
+offsets-within : (large : Bool) → largest_offset large ≤ largest_length
+offsets-within false = omega arith
+offsets-within true = omega arith
+
+module _ {A : Type 0} (value : A → PlainValue) (p : PrimitiveType) (kind : (x : A) → holds_kind (physical.Primitive p) (value x) ≡ true) (u : TypeTree) (is : physical_type u ≡ physical.Primitive p) where
+  one_none : (ss : List Slot) (x : Option A) → length ss + 1 ≤ largest_length → item_refusal (value_item value x) (flat u ss) ≡ None
+  one_none ss None l = rw (is, within (length ss + 1) l) refl
+  one_none ss (Some z) l = rw (is, kind z, within (length ss + 1) l) refl
+
+  one_past : (ss : List Slot) (x : Option A) → largest_length < length ss + 1 → item_refusal (value_item value x) (flat u ss) ≡ Some Overflow
+  one_past ss None l = rw (is, past (length ss + 1) l) refl
+  one_past ss (Some z) l = rw (is, kind z, past (length ss + 1) l) refl
+
+  -- a slot more
+  one_more : (ss : List Slot) (x : Option A) → (s : Slot) × (appended (value_item value x) (flat u ss) ≡ flat u (ss ++ s ∷ []))
+  one_more ss None = (slots.null, refl)
+  one_more ss (Some z) = (_, refl)
+
+  all_more : (xs : List (Option A)) (ss : List Slot) → (more : List Slot) × (items_appended (seal_items (map (value_item value) xs)) (flat u ss) ≡ flat u more) × (length more ≡ length ss + length xs)
+  all_more [] ss = (ss, refl, omega arith)
+  all_more (x ∷ xs) ss =
+      let one = one_more ss x in
+      let rest = all_more xs (ss ++ one.0 ∷ []) in
+      (rest.0, ap (items_appended (seal_items (map (value_item value) xs))) one.1 ∙ rest.1, omega (arith, rest.2, length-append ss (one.0 ∷ [])))
+
+  all_none : (xs : List (Option A)) (ss : List Slot) → length ss + length xs ≤ largest_length → items_refusal (seal_items (map (value_item value) xs)) (flat u ss) ≡ None
+  all_none [] ss l = refl
+  all_none (x ∷ xs) ss l =
+      let one = one_more ss x in
+      ap (λ o. first_of o (items_refusal (seal_items (map (value_item value) xs)) (appended (value_item value x) (flat u ss)))) (one_none ss x (omega arith))
+      ∙ ap (items_refusal (seal_items (map (value_item value) xs))) one.1
+      ∙ all_none xs (ss ++ one.0 ∷ []) (omega (arith, length-append ss (one.0 ∷ [])))
+
+  all_past : (xs : List (Option A)) (ss : List Slot) → length ss ≤ largest_length → largest_length < length ss + length xs → items_refusal (seal_items (map (value_item value) xs)) (flat u ss) ≡ Some Overflow
+  all_past [] ss l h = absurd (omega arith)
+  all_past (x ∷ xs) ss l h = elim (cases_lt (length ss) largest_length) [
+    | inl lt ↦
+        let one = one_more ss x in
+        ap (λ o. first_of o (items_refusal (seal_items (map (value_item value) xs)) (appended (value_item value x) (flat u ss)))) (one_none ss x (omega arith))
+        ∙ ap (items_refusal (seal_items (map (value_item value) xs))) one.1
+        ∙ all_past xs (ss ++ one.0 ∷ []) (omega (arith, length-append ss (one.0 ∷ []))) (omega (arith, length-append ss (one.0 ∷ [])))
+    | inr ge ↦ ap (λ o. first_of o (items_refusal (seal_items (map (value_item value) xs)) (appended (value_item value x) (flat u ss)))) (one_past ss x (omega arith))
+  ]
+
+  -- a row of numbers is refused just where rows or items have no place
+  pub number_row_refusal : (large : Bool) (t : TypeTree) (rows : List Row) (ss : List Slot) (xs : List (Option A)) → length ss ≤ largest_length
+      → item_refusal (row_item value (Some xs)) (list large t rows (flat u ss)) ≡ refuse_if (is_past (length rows + 1) || ltb (largest_offset large) (length ss + length xs)) Overflow None
+  number_row_refusal large t rows ss xs l = elim (cases_lt largest_length (length ss + length xs)) [
+    | inl lt ↦
+        ap (λ o. first_of o (refuse_if (is_past (length rows + 1) || ltb (largest_offset large) (builder_len (items_appended (seal_items (map (value_item value) xs)) (flat u ss)))) Overflow None)) (all_past xs ss l lt)
+        ∙ sym (ap (λ b. refuse_if b Overflow None) (or_true (is_past (length rows + 1)) _ (lt-ltb (largest_offset large) (length ss + length xs) (let w = offsets-within large in omega arith))))
+    | inr le ↦
+        let more = all_more xs ss in
+        ap (λ o. first_of o (refuse_if (is_past (length rows + 1) || ltb (largest_offset large) (builder_len (items_appended (seal_items (map (value_item value) xs)) (flat u ss)))) Overflow None)) (all_none xs ss le)
+        ∙ ap (λ n. refuse_if (is_past (length rows + 1) || ltb (largest_offset large) n) Overflow None) (ap builder_len more.1 ∙ more.2)
+  ]
+    where
+      or_true : (a b : Bool) → b ≡ true → a || b ≡ true
+      or_true false b h = h
+      or_true true b h = refl

@@ -1,0 +1,10 @@
+-- Rows of values, as items of a builder of lists.
+use Rattle.std.specs.Prelude.{List, map, Option, Some, None}
+use Rattle.nest_model.specs.BuilderItem as items
+use Rattle.nest_model.specs.BuilderItem.{Item, PlainValue, seal_items}
+use Rattle.nest_model.specs.BuilderSpells.{value_item}
+
+-- null, or the list of the values
+abbrev pub row_item : {A : Type 0} → (A → PlainValue) → Option (List (Option A)) → Item
+row_item value None = items.null
+row_item value (Some xs) = items.list_of (seal_items (map (value_item value) xs))

@@ -1,0 +1,36 @@
+//! Rows of values that lie in a slice.
+ghost use Rattle.std.specs.Prelude.{◌≡◌, ◌⊎◌, None, Some, OnOk, OnErr, IfErr, alloc_error};
+ghost use Rattle.std.specs.Option.{option_copied};
+ghost use Rattle.nest_build.specs.Words.{Accepted, IsWhole, Memory, item_refusal, row_item};
+
+use crate::array::MutableArray;
+use crate::flat::{FlatBuilder, TakesValue};
+use crate::list::mutable::MutableListArray;
+use crate::list::width::ListWidth;
+use crate::push::TryPush;
+use nest_flat::plain::AsPlain;
+use nest_memory::error::Error;
+
+impl<O: ListWidth, M: FlatBuilder> MutableListArray<O, M> {
+    /// Adds a row: null, or the list of the values of a slice. It is `try_push` of the slice's iterator.
+    ///
+    /// # Errors
+    /// As `try_push`.
+    pub fn try_push_slice<A: AsPlain + Copy + Drop>(
+        &mut self,
+        row: Option<&[Option<A>]>,
+    ) -> Result<(), Error>
+    where
+        M: TakesValue<A>,
+        requires { IsWhole (⟦<MutableListArray<O, M> as MutableArray>⟧.model self.old) }
+        ensures accepted { OnOk result (Accepted (row_item A.value (option_copied row.entry)) (⟦<MutableListArray<O, M> as MutableArray>⟧.model self.old) (⟦<MutableListArray<O, M> as MutableArray>⟧.model self.new)) }
+        ensures unrefused { OnOk result (item_refusal (row_item A.value (option_copied row.entry)) (⟦<MutableListArray<O, M> as MutableArray>⟧.model self.old) ≡ None) }
+        ensures err { OnErr result (⟦<MutableListArray<O, M> as MutableArray>⟧.model self.new ≡ ⟦<MutableListArray<O, M> as MutableArray>⟧.model self.old) }
+        ensures cause { IfErr result (λ e. (e ≡ Memory alloc_error) ⊎ (item_refusal (row_item A.value (option_copied row.entry)) (⟦<MutableListArray<O, M> as MutableArray>⟧.model self.old) ≡ Some e)) }
+    {
+        match row {
+            None => self.push_null(),
+            Some(items) => self.try_push(Some(items.iter().copied())),
+        }
+    }
+}
