@@ -12,18 +12,27 @@ use anyhow::Result;
 use nest_array::equal::equal_windows;
 use nest_array::{AnyArray, ListArray, Window};
 use nest_build::list::MutableListArray;
+use nest_flat::primitive::mutable::MutablePrimitiveArray;
 use nest_memory::error::Error;
 use std::alloc::Global;
+
+/// A builder of lists of numbers of 64 bits, by offsets of 32 bits.
+type ListBuilder = MutableListArray<i32, MutablePrimitiveArray<i64>>;
+
+/// A builder without rows.
+fn list_builder(alloc: Global) -> Result<ListBuilder, Error> {
+    MutableListArray::new(alloc, MutablePrimitiveArray::new(alloc))
+}
 
 /// The rows [1, 2], null, [] and [3, null].
 fn four_rows(alloc: Global) -> Result<ListArray, Error>
     ensures { IfOk result (λ a. slots_of a ≡ four_rows) }
 {
-    let mut builder = MutableListArray::new(alloc)?;
-    builder.try_push(Some(&[Some(1), Some(2)]))?;
-    builder.try_push(None)?;
-    builder.try_push(Some(&[]))?;
-    builder.try_push(Some(&[Some(3), None]))?;
+    let mut builder = list_builder(alloc)?;
+    builder.try_push_slice(Some(&[Some(1), Some(2)]))?;
+    builder.try_push_slice(None)?;
+    builder.try_push_slice(Some(&[]))?;
+    builder.try_push_slice(Some(&[Some(3), None]))?;
     builder.freeze()
 }
 
@@ -31,9 +40,9 @@ fn four_rows(alloc: Global) -> Result<ListArray, Error>
 fn two_rows(alloc: Global) -> Result<ListArray, Error>
     ensures { IfOk result (λ a. slots_of a ≡ last_two) }
 {
-    let mut builder = MutableListArray::new(alloc)?;
-    builder.try_push(Some(&[]))?;
-    builder.try_push(Some(&[Some(3), None]))?;
+    let mut builder = list_builder(alloc)?;
+    builder.try_push_slice(Some(&[]))?;
+    builder.try_push_slice(Some(&[Some(3), None]))?;
     builder.freeze()
 }
 

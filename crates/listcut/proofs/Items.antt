@@ -4,7 +4,7 @@ use Rattle.std.specs.Borrow.{Bor}
 use Rattle.std.specs.List.{slice_split}
 use Rattle.std.proofs.lemmas.List.{map-append}
 use Rattle.nest_model.specs.Slot.{Slot}
-use Rattle.nest_build.specs.Items.{item_slot}
+use Rattle.listcut.specs.SeenRow.{item_slot}
 use Rattle.listcut.specs.Grammar.{all_of, item_of}
 use Rattle.listcut.proofs.Pieces.{pieces_left, is_byte, with_front, front_grows}
 

@@ -12,7 +12,7 @@ use Rattle.nest_model.specs.Layout.{Layout}
 use Rattle.nest_model.specs.Meaning.{len, slot, slots_of}
 use Rattle.nest_model.specs.Reads.{where_valid, slots-length, slot-place}
 use Rattle.nest_flat.specs.FlatParts.{optional}
-use Rattle.nest_build.specs.Items.{item_slot}
+use Rattle.listcut.specs.SeenRow.{item_slot}
 use Rattle.listcut.proofs.Sealed.{unseal-seal}
 use Rattle.listcut.specs.Spelling.{item_text, row_text, text_of}
 

@@ -1,9 +1,19 @@
--- A row of the code as its slot.
-use Rattle.std.specs.Prelude.{List, Option, ℤ}
+-- Items and rows of the code as their slots.
+use Rattle.std.specs.Prelude.{List, [], ◌∷◌, map, Option, Some, None, ℤ}
 use Rattle.std.specs.Option.{option_copied}
 use Rattle.std.specs.Borrow.{Bor}
-use Rattle.nest_model.specs.Slot.{Slot}
-use Rattle.nest_build.specs.Items.{row_slot}
+use Rattle.nest_flat.specs.FlatParts.{optional}
+use Rattle.nest_model.specs.Slot as slots
+use Rattle.nest_model.specs.Slot.{Slot, seal}
+
+-- null, or a number
+abbrev pub item_slot : Option ℤ → Slot
+item_slot x = optional (λ z. slots.number (z ∷ [])) x
+
+-- null, or the list of the items
+abbrev pub row_slot : Option (List (Option ℤ)) → Slot
+row_slot None = slots.null
+row_slot (Some xs) = slots.list (seal (map item_slot xs))
 
 -- the slot of a row behind a reference
 abbrev pub seen_row : Option (Bor (List (Option ℤ))) → Slot

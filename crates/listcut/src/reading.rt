@@ -2,13 +2,15 @@
 ghost use Rattle.std.specs.Prelude.{◌≡◌, ℕ, ◌+◌, ◌<◌, ◌∷◌, ◌++◌, ◌==◌, [], false, All, MatchOption, option_map, map, IfOk, IfErr, OnOk, Ok, length};
 ghost use Rattle.std.specs.Bool.{then_some};
 ghost use Rattle.nest_memory.specs.TypeTree as types;
-ghost use Rattle.listcut.specs.Words.{IsWhole, ReadFault, builder_type, default_list_type, item_count, item_of, item_slot, items_of, layout_type, lines_of, own_slots, row_of, rows_of, seen_row, slots_of, tree_of};
+ghost use Rattle.listcut.specs.Words.{IsWhole, ReadFault, builder_len, builder_type, default_list_type, item_of, item_slot, items_of, layout_type, lines_of, list_child, own_slots, row_of, rows_of, seen_row, slots_of};
 
 use crate::fault::Fault;
 use crate::numbers::parse_number;
 use memchr::memchr;
 use nest_array::ListArray;
+use nest_build::array::MutableArray;
 use nest_build::list::MutableListArray;
+use nest_flat::primitive::mutable::MutablePrimitiveArray;
 use nest_memory::error::Error;
 use std::alloc::{AllocError, Global};
 
@@ -92,13 +94,17 @@ fn next_line(bytes: &[u8]) -> (&[u8], &[u8])
 }
 
 /// Pushes the rows that the bytes spell into a builder without rows.
-fn push_rows(alloc: Global, rows: &mut MutableListArray, bytes: &[u8]) -> Result<(), Fault>
-    requires whole { IsWhole (tree_of rows.old) }
-    requires no_rows { own_slots (tree_of rows.old) ≡ [] }
-    requires no_items { item_count rows.old ≡ 0 }
-    ensures rows { OnOk result (rows_of bytes.now ≡ Ok (own_slots (tree_of rows.new))) }
-    ensures whole { OnOk result (IsWhole (tree_of rows.new)) }
-    ensures same_type { OnOk result (builder_type (tree_of rows.new) ≡ builder_type (tree_of rows.old)) }
+fn push_rows(
+    alloc: Global,
+    rows: &mut MutableListArray<i32, MutablePrimitiveArray<i64>>,
+    bytes: &[u8],
+) -> Result<(), Fault>
+    requires whole { IsWhole (⟦<MutableListArray<i32, MutablePrimitiveArray<i64>> as MutableArray>⟧.model rows.old) }
+    requires no_rows { own_slots (⟦<MutableListArray<i32, MutablePrimitiveArray<i64>> as MutableArray>⟧.model rows.old) ≡ [] }
+    requires no_items { builder_len (list_child (⟦<MutableListArray<i32, MutablePrimitiveArray<i64>> as MutableArray>⟧.model rows.old)) ≡ 0 }
+    ensures rows { OnOk result (rows_of bytes.now ≡ Ok (own_slots (⟦<MutableListArray<i32, MutablePrimitiveArray<i64>> as MutableArray>⟧.model rows.new))) }
+    ensures whole { OnOk result (IsWhole (⟦<MutableListArray<i32, MutablePrimitiveArray<i64>> as MutableArray>⟧.model rows.new)) }
+    ensures same_type { OnOk result (builder_type (⟦<MutableListArray<i32, MutablePrimitiveArray<i64>> as MutableArray>⟧.model rows.new) ≡ builder_type (⟦<MutableListArray<i32, MutablePrimitiveArray<i64>> as MutableArray>⟧.model rows.old)) }
     ensures fault { IfErr result (λ fault. ReadFault fault (rows_of bytes.now)) }
 {
     let mut items = Vec::new(alloc);
@@ -109,7 +115,7 @@ fn push_rows(alloc: Global, rows: &mut MutableListArray, bytes: &[u8]) -> Result
         let Some(row) = parse_row(line, &mut items)? else {
             return Err(Fault::Line(above + 1));
         };
-        match rows.try_push(row) {
+        match rows.try_push_slice(row) {
             Ok(()) => {}
             Err(Error::Overflow) => return Err(Fault::Line(above + 1)),
             Err(_) => return Err(Fault::Memory),
@@ -131,7 +137,8 @@ pub fn read_rows(alloc: Global, bytes: &[u8]) -> Result<ListArray, Fault>
     ensures same_type { IfOk result (λ a. layout_type a ≡ default_list_type types.int64) }
     ensures fault { IfErr result (λ fault. ReadFault fault (rows_of bytes.now)) }
 {
-    let Ok(mut rows) = MutableListArray::new(alloc) else {
+    let values: MutablePrimitiveArray<i64> = MutablePrimitiveArray::new(alloc);
+    let Ok(mut rows) = MutableListArray::new(alloc, values) else {
         return Err(Fault::Memory);
     };
     if let Err(fault) = push_rows(alloc, &mut rows, bytes) {

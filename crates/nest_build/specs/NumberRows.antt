@@ -1,17 +1,16 @@
--- Which rows of numbers a builder of lists refuses.
-use Rattle.std.specs.Prelude.{Option, Some, None, ltb, ◌||◌, if◌then◌else◌}
+-- Which rows of numbers a builder of lists refuses, and what an accepted one adds.
+use Rattle.std.specs.Prelude.{Option, Some, None, ltb, ◌||◌}
 use Rattle.std.proofs.Common.{◌≡◌, ℕ, ◌+◌, ◌<◌, ◌≤◌, Bool, false, true, List, [], ◌∷◌, ◌++◌, length, map, refl, ap, sym, ◌∙◌, inl, inr, arith, length-append}
-use Rattle.std.proofs.lemmas.Bool.{cases_lt, lt-ltb}
-use Rattle.std.proofs.lemmas.List.{length-map}
+use Rattle.std.proofs.lemmas.Bool.{cases_lt, lt-ltb, ltb-true}
 use Rattle.nest_memory.specs.Physical.{physical_type}
 use Rattle.nest_memory.specs.Rising.{largest_offset}
 use Rattle.nest_memory.specs.TypeTree.{TypeTree}
 use Rattle.nest_memory.specs.declared.datatypes.physical_type.PhysicalType.TheVariants as physical
 use Rattle.nest_memory.specs.declared.datatypes.physical_type.PrimitiveType.{PrimitiveType}
+use Rattle.nest_memory.specs.declared.error.Error.{Error}
 use Rattle.nest_memory.specs.declared.error.Error.TheVariants.{Overflow}
-use Rattle.nest_model.specs.BuilderAppend.{appended, items_appended}
-use Rattle.nest_model.specs.BuilderItem as items
-use Rattle.nest_model.specs.BuilderItem.{PlainValue, Item, seal_items, holds_kind}
+use Rattle.nest_model.specs.BuilderAppend.{Accepted, appended, items_appended}
+use Rattle.nest_model.specs.BuilderItem.{PlainValue, seal_items, holds_kind}
 use Rattle.nest_model.specs.BuilderRefusals.{item_refusal, items_refusal}
 use Rattle.nest_model.specs.BuilderRefusalLaws.{within}
 use Rattle.nest_model.specs.BuilderRow.{Row}
@@ -20,7 +19,8 @@ use Rattle.nest_model.specs.BuilderTree.{BuilderTree, flat, list, builder_len}
 use Rattle.nest_model.specs.Checks.{first_of, refuse_if, is_past, largest_length}
 use Rattle.nest_model.specs.Slot as slots
 use Rattle.nest_model.specs.Slot.{Slot}
-use Rattle.nest_build.specs.Slices.{row_item}
+use Rattle.nest_build.specs.Children.{list_child}
+use Rattle.nest_build.specs.Slices.{row_item, row_len}
 
 past : (n : ℕ) → largest_length < n → is_past n ≡ true
 past n h = lt-ltb largest_length n h
@@ -85,3 +85,32 @@ module _ {A : Type 0} (value : A → PlainValue) (p : PrimitiveType) (kind : (x 
       or_true : (a b : Bool) → b ≡ true → a || b ≡ true
       or_true false b h = h
       or_true true b h = refl
+
+  -- a row that was accepted adds its values to the child
+  pub number_row_items : (large : Bool) (t : TypeTree) (rows : List Row) (ss : List Slot) (r : Option (List (Option A))) (new : BuilderTree) → Accepted (row_item value r) (list large t rows (flat u ss)) new → builder_len (list_child new) ≡ length ss + row_len r
+  number_row_items large t rows ss None new a = ap (λ t. builder_len (list_child t)) a.exact ∙ omega arith
+  number_row_items large t rows ss (Some xs) new a = let more = all_more xs ss in ap (λ t. builder_len (list_child t)) a.exact ∙ ap builder_len more.1 ∙ more.2
+
+  -- a row that nothing refuses has a place for its values
+  pub number_row_fits : (large : Bool) (t : TypeTree) (rows : List Row) (ss : List Slot) (r : Option (List (Option A))) → length ss ≤ largest_offset large → item_refusal (row_item value r) (list large t rows (flat u ss)) ≡ None → length ss + row_len r ≤ largest_offset large
+  number_row_fits large t rows ss None l h = omega (arith, l)
+  number_row_fits large t rows ss (Some xs) l h = elim (cases_lt (largest_offset large) (length ss + length xs)) [
+    | inl lt ↦ absurd (none_past (is_past (length rows + 1)) _ (lt-ltb (largest_offset large) (length ss + length xs) lt) (sym (number_row_refusal large t rows ss xs (let w = offsets-within large in omega arith)) ∙ h))
+    | inr le ↦ le
+  ]
+    where
+      none_past : (a b : Bool) → b ≡ true → ◌≡◌ {A = Option Error} (refuse_if (a || b) Overflow None) None → ⊥
+      none_past false b h e = elim b as (λ x. x ≡ true → ◌≡◌ {A = Option Error} (refuse_if x Overflow None) None → ⊥) [ true ↦ λ p q. cc | false ↦ λ p q. cc ] h e
+      none_past true b h e = cc
+
+  -- what refuses a row, while rows have their place, is that its values have none
+  pub number_row_past : (large : Bool) (t : TypeTree) (rows : List Row) (ss : List Slot) (r : Option (List (Option A))) (e : Error) → length rows + 1 ≤ largest_length → length ss ≤ largest_length
+      → item_refusal (row_item value r) (list large t rows (flat u ss)) ≡ Some e → (e ≡ Overflow) × (largest_offset large < length ss + row_len r)
+  number_row_past large t rows ss None e n l h = absurd (let k : ◌≡◌ {A = Option Error} None (Some e) = sym (ap (λ b. refuse_if b Overflow None) (within (length rows + 1) n)) ∙ h in cc)
+  number_row_past large t rows ss (Some xs) e n l h =
+      by_test (ltb (largest_offset large) (length ss + length xs)) refl
+      (sym (ap (λ b. refuse_if (b || ltb (largest_offset large) (length ss + length xs)) Overflow None) (within (length rows + 1) n)) ∙ sym (number_row_refusal large t rows ss xs l) ∙ h)
+    where
+      by_test : (b : Bool) → ltb (largest_offset large) (length ss + length xs) ≡ b → refuse_if b Overflow None ≡ Some e → (e ≡ Overflow) × (largest_offset large < length ss + length xs)
+      by_test true t k = (let p = k in cc, ltb-true (largest_offset large) (length ss + length xs) t)
+      by_test false t k = absurd (let p = k in cc)

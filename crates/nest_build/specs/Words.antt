@@ -5,7 +5,7 @@ pub use Rattle.nest_build.specs.Children.{IsListBy, ListCovers, list_child}
 pub use Rattle.nest_build.specs.FixedBytes.{IsOtherSize, has_null, joined_bytes, pushed_bytes, sized_bytes}
 pub use Rattle.nest_build.specs.FlatTree.{flat_tree}
 pub use Rattle.nest_build.specs.Rows.{Spells, bits_told, rows_told, told_rows_checks}
-pub use Rattle.nest_build.specs.Slices.{row_item}
+pub use Rattle.nest_build.specs.Slices.{row_item, row_len}
 pub use Rattle.nest_build.specs.Told.{IsOfOtherKind, TellsNulls, own_slot, reserve_passes}
 pub use Rattle.nest_flat.specs.FlatParts.{optional}
 pub use Rattle.nest_flat.specs.Growth.{is_masked}

@@ -1,15 +1,26 @@
--- The words of this crate's contracts, by one name.
-pub use Rattle.nest_array.specs.Types.{default_list_type}
-pub use Rattle.nest_build.specs.Items.{row_item, row_len, row_slot}
-pub use Rattle.nest_build.specs.Seen.{item_count, tree_of}
+-- The words of these promises, by one name.
+pub use Rattle.nest_array.specs.Seen.{layout_of}
+pub use Rattle.nest_array.specs.Types.{default_field}
+pub use Rattle.nest_build.specs.Children.{list_child}
+pub use Rattle.nest_build.specs.Lists.{list_type, new_fixed_checks, new_list_checks}
+pub use Rattle.nest_build.specs.Rows.{rows_told, told_rows_checks}
+pub use Rattle.nest_build.specs.Slices.{row_item, row_len}
+pub use Rattle.nest_build.specs.Told.{IsOfOtherKind, own_slot, reserve_passes}
+pub use Rattle.nest_flat.specs.Plain.{plain_value, plain_values}
 pub use Rattle.nest_memory.specs.Rising.{largest_offset}
-pub use Rattle.nest_memory.specs.declared.error.Argument.TheVariants.{Unfinished}
+pub use Rattle.nest_memory.specs.TypeOf.{type_of}
+pub use Rattle.nest_memory.specs.declared.error.Argument.TheVariants.{ItemType, Unfinished}
 pub use Rattle.nest_memory.specs.declared.error.Error.TheVariants.{InvalidArgumentError, Memory, Overflow}
-pub use Rattle.nest_model.specs.BuilderAppend.{Accepted, IsReady, pending_slot, told}
+pub use Rattle.nest_model.specs.BuilderAppend.{Accepted, Told, ToldLengths}
+pub use Rattle.nest_model.specs.BuilderItem.{Holds, slot_of_item}
+pub use Rattle.nest_model.specs.BuilderJoin.{Joined}
 pub use Rattle.nest_model.specs.BuilderLevels.{own_slots}
-pub use Rattle.nest_model.specs.BuilderRowChecks.{row_checks}
-pub use Rattle.nest_model.specs.BuilderTree.{builder_type}
-pub use Rattle.nest_model.specs.BuilderWhole.{IsWhole, emptied}
+pub use Rattle.nest_model.specs.BuilderReading.{Refused, RefusedSome, Took, TookAll, TookEach}
+pub use Rattle.nest_model.specs.BuilderRefusals.{asked_item, asked_refusal, item_refusal}
+pub use Rattle.nest_model.specs.BuilderRowChecks.{HasWholeChildren, join_checks, lengths_checks, row_checks}
+pub use Rattle.nest_model.specs.BuilderSpells.{CanRead}
+pub use Rattle.nest_model.specs.BuilderTree.{builder_len, builder_type}
+pub use Rattle.nest_model.specs.BuilderWhole.{IsWhole, cut_builder, emptied}
 pub use Rattle.nest_model.specs.Checks.{FailFirst, Pass}
 pub use Rattle.nest_model.specs.Layout.{layout_type}
 pub use Rattle.nest_model.specs.Meaning.{slots_of}

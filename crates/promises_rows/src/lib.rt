@@ -1,85 +1,272 @@
-//! The builder of lists: a row that is accepted adds what it spells to each level, a refused one changes no level, and the
-//! builder freezes to the rows that it began with, followed by the accepted ones. It is seen as its tree of levels,
-//! `tree_of`: its rows, and below them the items of its child.
+//! Builders over any builder. A builder is seen as its tree of levels, `B.model`: its own rows, and below them those of its
+//! children with the items that wait there. What is accepted adds what it spells to each level, what is refused changes no
+//! level, and a builder freezes to the slots that it began with, followed by the accepted ones. Said once for every builder,
+//! a boxed one too, and then of what builders of lists do besides.
 #![tactic(auto)]
 
-ghost use Rattle.std.specs.Prelude.{◌≡◌, ◌+◌, ◌<◌, ◌⊎◌, ◌↔◌, ◌++◌, ◌∷◌, [], false, true, IsTrue, OnOk, OnErr, IfOk, IfErr, IsErrOf, IsOkUnless, None, Some, alloc_error};
+ghost use Rattle.std.specs.Prelude.{◌≡◌, ◌≢◌, ◌≤◌, ◌<◌, ◌+◌, ◌⊎◌, ◌↔◌, ◌++◌, ◌∷◌, [], true, false, map, length, IsTrue, OnOk, OnErr, IfOk, IfErr, IsErrOf, IsOkUnless, None, Some, alloc_error};
+ghost use Rattle.std.specs.List.{All, items_where_true};
 ghost use Rattle.std.specs.Option.{option_copied};
-ghost use Rattle.nest_memory.specs.TypeTree as types;
-ghost use Rattle.nest_model.specs.BuilderRefusals.{item_refusal};
+ghost use Rattle.nest_model.specs.BuilderItem.{null as null_item};
 ghost use Rattle.nest_model.specs.BuilderTree as builders;
-ghost use Rattle.promises_rows.specs.Words.{Accepted, FailFirst, InvalidArgumentError, IsReady, IsWhole, Memory, Overflow, Pass, Unfinished, builder_type, default_list_type, emptied, item_count, largest_offset, layout_type, own_slots, pending_slot, row_checks, row_item, row_len, row_slot, slots_of, told, tree_of};
+ghost use Rattle.nest_model.specs.Slot as slots;
+ghost use Rattle.promises_rows.specs.Words.{Accepted, CanRead, FailFirst, HasWholeChildren, Holds, InvalidArgumentError, IsOfOtherKind, IsWhole, ItemType, Joined, Memory, Overflow, Pass, Refused, RefusedSome, Told, ToldLengths, Took, TookAll, TookEach, Unfinished, asked_item, asked_refusal, builder_len, builder_type, cut_builder, emptied, item_refusal, join_checks, largest_offset, layout_of, layout_type, lengths_checks, list_child, new_fixed_checks, new_list_checks, own_slot, own_slots, plain_value, plain_values, reserve_passes, row_checks, row_item, row_len, rows_told, slot_of_item, slots_of, told_rows_checks, type_of};
 
-use nest_array::ListArray;
+use nest_array::AnyArray;
+use nest_build::array::MutableArray;
+use nest_build::fixed_size_list::MutableFixedSizeListArray;
+use nest_build::list::width::{FrozenRows, ListWidth};
 use nest_build::list::MutableListArray;
+use nest_build::push::{TryExtend, TryExtendFromSelf, TryPush};
+use nest_build::tried::push_all;
+use nest_flat::plain::{AsPlain, Plain};
+use nest_flat::primitive::mutable::MutablePrimitiveArray;
+use nest_memory::bitmap::mutable::MutableBitmap;
+use nest_memory::datatypes::DataType;
 use nest_memory::error::Error;
 use std::alloc::Global;
+use std::rc::Rc;
 
-/// A builder of lists begins with no row.
-pub fn no_rows(alloc: Global) -> Result<MutableListArray, Error>
-    ensures ok { IfOk result (λ b. tree_of b ≡ builders.list false (default_list_type types.int64) [] (builders.flat types.int64 [])) }
-    ensures memory { IsOkUnless result (Memory alloc_error) }
+/// A builder tells its rows, and what stands in each.
+pub fn rows_so_far<B: MutableArray>(builder: &B) -> usize
+    ensures { result ≡ builder_len (B.model builder.now) }
 {
-    MutableListArray::new(alloc)
+    builder.len()
 }
 
-/// It is whole where the child's items are just those of the rows.
-pub fn are_rows_whole(rows: &MutableListArray) -> bool
-    ensures { IsTrue result ↔ IsWhole (tree_of rows.now) }
+pub fn is_row<B: MutableArray>(builder: &B, i: usize) -> bool
+    requires { i < builder_len (B.model builder.now) }
+    ensures { IsTrue result ↔ own_slot (B.model builder.now) i ≢ slots.null }
 {
-    rows.is_whole()
+    builder.is_valid(i)
 }
 
-/// One row more: each level gains what the row adds there, and the row's slot stands last. Refused exactly where there would
-/// be more than 2^31 - 1 items, want of memory aside, which is what the model refuses the row for; then no level changes.
-pub fn push_row(rows: &mut MutableListArray, row: Option<&[Option<i64>]>) -> Result<(), Error>
-    requires { IsWhole (tree_of rows.old) }
-    ensures accepted { OnOk result (Accepted (row_item (option_copied row.entry)) (tree_of rows.old) (tree_of rows.new)) }
-    ensures own { OnOk result (own_slots (tree_of rows.new) ≡ own_slots (tree_of rows.old) ++ row_slot (option_copied row.entry) ∷ []) }
-    ensures fits { OnOk result (item_refusal (row_item (option_copied row.entry)) (tree_of rows.old) ≡ None) }
-    ensures err { OnErr result (tree_of rows.new ≡ tree_of rows.old) }
-    ensures refused { IfErr result (λ e. (e ≡ Memory alloc_error) ⊎ (item_refusal (row_item (option_copied row.entry)) (tree_of rows.old) ≡ Some e)) }
-    ensures overflow { IsErrOf result Overflow ↔ (largest_offset false < item_count rows.old + row_len (option_copied row.entry)) }
-    ensures errors { IfErr result (λ e. (e ≡ Overflow) ⊎ (e ≡ Memory alloc_error)) }
+pub fn holds_value<B: MutableArray>(builder: &B, i: usize, value: &Plain<'_>) -> bool
+    requires { i < builder_len (B.model builder.now) }
+    ensures { IsTrue result ↔ Holds (B.model builder.now) i (plain_value value.now) }
 {
-    rows.try_push(row)
+    builder.holds(i, value)
 }
 
-/// A row of the items that wait in the child; refused exactly where they make no row, or too many items, want of memory aside.
-pub fn tell_row(rows: &mut MutableListArray) -> Result<(), Error>
-    ensures ok { OnOk result (tree_of rows.new ≡ told true (tree_of rows.old)) }
-    ensures own { OnOk result (own_slots (tree_of rows.new) ≡ own_slots (tree_of rows.old) ++ pending_slot true (tree_of rows.old) ∷ []) }
-    ensures passed { OnOk result (Pass (row_checks (tree_of rows.old))) }
-    ensures err { OnErr result (tree_of rows.new ≡ tree_of rows.old) }
-    ensures refused { IfErr result (λ e. (e ≡ Memory alloc_error) ⊎ FailFirst e (row_checks (tree_of rows.old))) }
-    ensures unfinished { IsErrOf result (InvalidArgumentError Unfinished) ↔ ¬ IsReady (tree_of rows.old) }
-    ensures overflow { IsErrOf result Overflow ↔ IsReady (tree_of rows.old) × (largest_offset false < item_count rows.old) }
-    ensures errors { IfErr result (λ e. (e ≡ InvalidArgumentError Unfinished) ⊎ ((e ≡ Overflow) ⊎ (e ≡ Memory alloc_error))) }
+/// It is whole where no item waits at any level.
+pub fn is_whole<B: MutableArray>(builder: &B) -> bool
+    ensures { IsTrue result ↔ IsWhole (B.model builder.now) }
 {
-    rows.try_push_valid()
+    builder.is_whole()
 }
 
-/// The array of the rows' slots. Refused exactly where the builder is not whole, want of memory aside; it changes nothing
-/// then, and else no row is left.
-pub fn freeze_rows(rows: &mut MutableListArray) -> Result<ListArray, Error>
-    ensures slots { IfOk result (λ a. slots_of a ≡ own_slots (tree_of rows.old)) }
-    ensures same_type { IfOk result (λ a. layout_type a ≡ builder_type (tree_of rows.old)) }
-    ensures unfinished { IsErrOf result (InvalidArgumentError Unfinished) ↔ ¬ IsWhole (tree_of rows.old) }
-    ensures unchanged { ¬ IsWhole (tree_of rows.old) → tree_of rows.new ≡ tree_of rows.old }
-    ensures emptied { IsWhole (tree_of rows.old) → tree_of rows.new ≡ emptied (tree_of rows.old) }
+/// A null more: each level gains what a null needs there. Refused where a level has no place, want of memory aside; then no
+/// level changes.
+pub fn push_null<B: MutableArray>(builder: &mut B) -> Result<(), Error>
+    requires { IsWhole (B.model builder.old) }
+    ensures accepted { OnOk result (Accepted null_item (B.model builder.old) (B.model builder.new)) }
+    ensures fits { OnOk result (item_refusal null_item (B.model builder.old) ≡ None) }
+    ensures err { OnErr result (B.model builder.new ≡ B.model builder.old) }
+    ensures refused { IfErr result (λ e. (e ≡ Memory alloc_error) ⊎ (item_refusal null_item (B.model builder.old) ≡ Some e)) }
+{
+    builder.push_null()
+}
+
+/// A value more. `ItemType` exactly where the builder takes no value of that kind.
+pub fn push_value<B: MutableArray>(builder: &mut B, value: Option<Plain<'_>>) -> Result<(), Error>
+    requires { IsWhole (B.model builder.old) }
+    ensures accepted { OnOk result (Accepted (asked_item (plain_values value.entry)) (B.model builder.old) (B.model builder.new)) }
+    ensures fits { OnOk result (asked_refusal (plain_values value.entry) (B.model builder.old) ≡ None) }
+    ensures err { OnErr result (B.model builder.new ≡ B.model builder.old) }
+    ensures kind { IsErrOf result (InvalidArgumentError ItemType) ↔ IsOfOtherKind (plain_values value.entry) (B.model builder.old) }
+    ensures refused { IfErr result (λ e. (e ≡ Memory alloc_error) ⊎ (asked_refusal (plain_values value.entry) (B.model builder.old) ≡ Some e)) }
+{
+    builder.try_push_plain(value)
+}
+
+/// An item more, of any type that the builder takes: `Took` says that what it spells was accepted and nothing refuses it,
+/// `Refused` which check refused what was read of it, here or at a level below.
+pub fn push_item<A, B: TryPush<A>>(builder: &mut B, item: A) -> Result<(), Error>
+    requires whole { IsWhole (B.model builder.old) }
+    requires can { B.can_push item }
+    ensures taken { OnOk result (Took B.reads item (B.model builder.old) (B.model builder.new)) }
+    ensures err { OnErr result (B.model builder.new ≡ B.model builder.old) }
+    ensures refused { IfErr result (λ e. Refused B.reads item (B.model builder.old) e) }
+{
+    builder.try_push(item)
+}
+
+/// All items, or none: refused as the first of them that is.
+pub fn push_items<A, B: TryExtend<A>, I: IntoIterator<Item = A>>(
+    builder: &mut B,
+    items: I,
+) -> Result<(), Error>
+    requires whole { IsWhole (B.model builder.old) }
+    requires can { CanRead I.into_iter_gives I.IntoIter.can_next I.IntoIter.remaining I.IntoIter.next_gives B.can_extend items }
+    ensures taken { OnOk result (TookAll I.into_iter_gives I.IntoIter.next_gives B.reads_each items (B.model builder.old) (B.model builder.new)) }
+    ensures err { OnErr result (B.model builder.new ≡ B.model builder.old) }
+    ensures refused { IfErr result (λ e. RefusedSome I.into_iter_gives I.IntoIter.next_gives B.reads_each items (B.model builder.old) e) }
+{
+    builder.try_extend(items)
+}
+
+/// All rows of another builder, at every level, or none.
+pub fn join_rows<B: TryExtendFromSelf>(builder: &mut B, other: &B) -> Result<(), Error>
+    requires whole { IsWhole (B.model builder.old) }
+    requires other_whole { IsWhole (B.model other.now) }
+    ensures joined { OnOk result (Joined (B.model other.now) (B.model builder.old) (B.model builder.new)) }
+    ensures passed { OnOk result (Pass (join_checks (B.model builder.old) (B.model other.now))) }
+    ensures err { OnErr result (B.model builder.new ≡ B.model builder.old) }
+    ensures refused { IfErr result (λ e. (e ≡ Memory alloc_error) ⊎ FailFirst e (join_checks (B.model builder.old) (B.model other.now))) }
+{
+    builder.try_extend_from_self(other)
+}
+
+/// The first rows alone, at each level.
+pub fn cut_rows<B: MutableArray>(builder: &mut B, n: usize)
+    requires whole { IsWhole (B.model builder.old) }
+    requires within { n ≤ builder_len (B.model builder.old) }
+    ensures { B.model builder.new ≡ cut_builder (B.model builder.old) n }
+{
+    builder.truncate(n)
+}
+
+/// Room for more rows, which changes no level.
+pub fn make_room<B: MutableArray>(builder: &mut B, additional: usize) -> Result<(), Error>
+    ensures same { B.model builder.new ≡ B.model builder.old }
+    ensures room { OnOk result (reserve_passes additional (B.model builder.old) ≡ false) }
+    ensures refused { IfErr result (λ e. (e ≡ Memory alloc_error) ⊎ ((e ≡ Overflow) × (reserve_passes additional (B.model builder.old) ≡ true))) }
+{
+    builder.reserve(additional)
+}
+
+/// The array of the rows. Refused exactly where the builder is not whole, want of memory aside; it changes nothing then, and
+/// else no row is left at any level.
+pub fn freeze_rows<B: MutableArray>(builder: &mut B) -> Result<AnyArray, Error>
+    ensures slots { IfOk result (λ a. slots_of (layout_of a) ≡ own_slots (B.model builder.old)) }
+    ensures same_type { IfOk result (λ a. layout_type (layout_of a) ≡ builder_type (B.model builder.old)) }
+    ensures unfinished { IsErrOf result (InvalidArgumentError Unfinished) ↔ ¬ IsWhole (B.model builder.old) }
+    ensures unchanged { ¬ IsWhole (B.model builder.old) → B.model builder.new ≡ B.model builder.old }
+    ensures emptied { IsWhole (B.model builder.old) → B.model builder.new ≡ emptied (B.model builder.old) }
     ensures errors { IfErr result (λ e. (e ≡ InvalidArgumentError Unfinished) ⊎ (e ≡ Memory alloc_error)) }
 {
-    rows.freeze()
+    builder.as_box()
 }
 
-/// Pushed and frozen: the slots that the builder began with, followed by the row.
-pub fn push_and_freeze(
-    lists: &mut MutableListArray,
-    row: Option<&[Option<i64>]>,
-) -> Result<ListArray, Error>
-    requires { IsWhole (tree_of lists.old) }
-    ensures { IfOk result (λ a. slots_of a ≡ own_slots (tree_of lists.old) ++ row_slot (option_copied row.entry) ∷ []) }
+/// The same array, owned by what shares it.
+pub fn freeze_shared<B: MutableArray>(builder: &mut B, alloc: Global) -> Result<Rc<AnyArray>, Error>
+    ensures slots { IfOk result (λ r. slots_of (layout_of r.value) ≡ own_slots (B.model builder.old)) }
+    ensures same_type { IfOk result (λ r. layout_type (layout_of r.value) ≡ builder_type (B.model builder.old)) }
+    ensures unfinished { IsErrOf result (InvalidArgumentError Unfinished) ↔ ¬ IsWhole (B.model builder.old) }
+    ensures emptied { IsWhole (B.model builder.old) → B.model builder.new ≡ emptied (B.model builder.old) }
 {
-    lists.try_push(row)?;
-    lists.freeze()
+    builder.as_arc(alloc)
+}
+
+/// Each item that is accepted, in order; the others are left, and the marks say which.
+pub fn push_each<A: Drop, B: TryPush<A>>(
+    alloc: Global,
+    builder: &mut B,
+    items: Vec<A>,
+) -> Result<Vec<bool>, Error>
+    requires whole { IsWhole (B.model builder.old) }
+    requires can { All B.can_push items.items }
+    ensures count { IfOk result (λ marks. length marks.items ≡ length items.items) }
+    ensures taken { IfOk result (λ marks. TookEach B.reads (items_where_true marks.items items.items) (B.model builder.old) (B.model builder.new)) }
+    ensures err { OnErr result (B.model builder.new ≡ B.model builder.old) }
+{
+    push_all(alloc, builder, items)
+}
+
+/// Pushed and frozen: the slots that the builder began with, followed by the item's.
+pub fn push_and_freeze<B: MutableArray>(
+    builder: &mut B,
+    value: Option<Plain<'_>>,
+) -> Result<AnyArray, Error>
+    requires { IsWhole (B.model builder.old) }
+    ensures { IfOk result (λ a. slots_of (layout_of a) ≡ own_slots (B.model builder.old) ++ slot_of_item (asked_item (plain_values value.entry)) ∷ []) }
+{
+    match builder.try_push_plain(value) {
+        Ok(()) => builder.as_box(),
+        Err(error) => Err(error),
+    }
+}
+
+/// A builder of lists of that data type has no row, over a child without rows of its items' type.
+pub fn lists_of_type<O: ListWidth, M: MutableArray>(
+    alloc: Global,
+    values: M,
+    data_type: DataType,
+    capacity: usize,
+) -> Result<MutableListArray<O, M>, Error>
+    requires { IsWhole (M.model values) }
+    ensures ok { IfOk result (λ b. ⟦<MutableListArray<O, M> as MutableArray>⟧.model b ≡ builders.list O.IS_LARGE (type_of data_type) [] (M.model values)) }
+    ensures passed { IfOk result (λ b. Pass (new_list_checks O.IS_LARGE (type_of data_type) (M.model values))) }
+    ensures refused { IfErr result (λ e. (e ≡ Memory alloc_error) ⊎ FailFirst e (new_list_checks O.IS_LARGE (type_of data_type) (M.model values))) }
+{
+    MutableListArray::new_from(alloc, values, data_type, capacity)
+}
+
+/// The same of lists of one size.
+pub fn lists_of_size<M: MutableArray>(
+    alloc: Global,
+    values: M,
+    data_type: DataType,
+    size: usize,
+) -> Result<MutableFixedSizeListArray<M>, Error>
+    requires { IsWhole (M.model values) }
+    ensures ok { IfOk result (λ b. ⟦<MutableFixedSizeListArray<M> as MutableArray>⟧.model b ≡ builders.fixed_size_list (type_of data_type) [] (M.model values)) }
+    ensures passed { IfOk result (λ b. Pass (new_fixed_checks size (type_of data_type) (M.model values))) }
+    ensures refused { IfErr result (λ e. FailFirst e (new_fixed_checks size (type_of data_type) (M.model values))) }
+{
+    MutableFixedSizeListArray::new_from(alloc, values, data_type, size)
+}
+
+/// A row of the items that wait in the child; else the first check that fails, and they go on waiting.
+pub fn tell_row<O: ListWidth, M: MutableArray>(
+    lists: &mut MutableListArray<O, M>,
+) -> Result<(), Error>
+    requires { HasWholeChildren (⟦<MutableListArray<O, M> as MutableArray>⟧.model lists.old) }
+    ensures ok { OnOk result (Told true (⟦<MutableListArray<O, M> as MutableArray>⟧.model lists.old) (⟦<MutableListArray<O, M> as MutableArray>⟧.model lists.new)) }
+    ensures passed { OnOk result (Pass (row_checks (⟦<MutableListArray<O, M> as MutableArray>⟧.model lists.old))) }
+    ensures err { OnErr result (⟦<MutableListArray<O, M> as MutableArray>⟧.model lists.new ≡ ⟦<MutableListArray<O, M> as MutableArray>⟧.model lists.old) }
+    ensures refused { IfErr result (λ e. (e ≡ Memory alloc_error) ⊎ FailFirst e (row_checks (⟦<MutableListArray<O, M> as MutableArray>⟧.model lists.old))) }
+{
+    lists.try_push_valid()
+}
+
+/// Rows of these lengths, all of them or none; a row without a length is null.
+pub fn tell_rows<O: ListWidth, M: MutableArray>(
+    lists: &mut MutableListArray<O, M>,
+    lengths: &[Option<usize>],
+) -> Result<(), Error>
+    requires { HasWholeChildren (⟦<MutableListArray<O, M> as MutableArray>⟧.model lists.old) }
+    ensures ok { OnOk result (ToldLengths lengths.now (⟦<MutableListArray<O, M> as MutableArray>⟧.model lists.old) (⟦<MutableListArray<O, M> as MutableArray>⟧.model lists.new)) }
+    ensures passed { OnOk result (Pass (lengths_checks lengths.now (⟦<MutableListArray<O, M> as MutableArray>⟧.model lists.old))) }
+    ensures err { OnErr result (⟦<MutableListArray<O, M> as MutableArray>⟧.model lists.new ≡ ⟦<MutableListArray<O, M> as MutableArray>⟧.model lists.old) }
+    ensures refused { IfErr result (λ e. (e ≡ Memory alloc_error) ⊎ FailFirst e (lengths_checks lengths.now (⟦<MutableListArray<O, M> as MutableArray>⟧.model lists.old))) }
+{
+    lists.try_extend_from_lengths(lengths)
+}
+
+/// A row of one size of the items that wait.
+pub fn tell_row_of_size<M: MutableArray>(
+    lists: &mut MutableFixedSizeListArray<M>,
+) -> Result<(), Error>
+    requires { HasWholeChildren (⟦<MutableFixedSizeListArray<M> as MutableArray>⟧.model lists.old) }
+    ensures ok { OnOk result (Told true (⟦<MutableFixedSizeListArray<M> as MutableArray>⟧.model lists.old) (⟦<MutableFixedSizeListArray<M> as MutableArray>⟧.model lists.new)) }
+    ensures passed { OnOk result (Pass (row_checks (⟦<MutableFixedSizeListArray<M> as MutableArray>⟧.model lists.old))) }
+    ensures err { OnErr result (⟦<MutableFixedSizeListArray<M> as MutableArray>⟧.model lists.new ≡ ⟦<MutableFixedSizeListArray<M> as MutableArray>⟧.model lists.old) }
+    ensures refused { IfErr result (λ e. (e ≡ Memory alloc_error) ⊎ FailFirst e (row_checks (⟦<MutableFixedSizeListArray<M> as MutableArray>⟧.model lists.old))) }
+{
+    lists.try_push_valid()
+}
+
+/// A row of numbers in a builder of lists: null, or the list of the numbers of a slice.
+pub fn push_numbers(
+    lists: &mut MutableListArray<i32, MutablePrimitiveArray<i64>>,
+    row: Option<&[Option<i64>]>,
+) -> Result<(), Error>
+    requires { IsWhole (⟦<MutableListArray<i32, MutablePrimitiveArray<i64>> as MutableArray>⟧.model lists.old) }
+    ensures accepted { OnOk result (Accepted (row_item ⟦<i64 as AsPlain>⟧.value (option_copied row.entry)) (⟦<MutableListArray<i32, MutablePrimitiveArray<i64>> as MutableArray>⟧.model lists.old) (⟦<MutableListArray<i32, MutablePrimitiveArray<i64>> as MutableArray>⟧.model lists.new)) }
+    ensures fits { OnOk result (item_refusal (row_item ⟦<i64 as AsPlain>⟧.value (option_copied row.entry)) (⟦<MutableListArray<i32, MutablePrimitiveArray<i64>> as MutableArray>⟧.model lists.old) ≡ None) }
+    ensures err { OnErr result (⟦<MutableListArray<i32, MutablePrimitiveArray<i64>> as MutableArray>⟧.model lists.new ≡ ⟦<MutableListArray<i32, MutablePrimitiveArray<i64>> as MutableArray>⟧.model lists.old) }
+    ensures refused { IfErr result (λ e. (e ≡ Memory alloc_error) ⊎ (item_refusal (row_item ⟦<i64 as AsPlain>⟧.value (option_copied row.entry)) (⟦<MutableListArray<i32, MutablePrimitiveArray<i64>> as MutableArray>⟧.model lists.old) ≡ Some e)) }
+{
+    lists.try_push_slice(row)
 }

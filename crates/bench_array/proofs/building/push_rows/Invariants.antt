@@ -1,8 +1,7 @@
 use Rattle.nest_model.specs.BuilderWhole.{IsWhole}
-use Rattle.nest_build.specs.Seen.{tree_of}
 use Rattle.bench_array.proofs.building.push_rows.Given as goal
 
 abbrev pub invariant-rows : goal.invariant-rows
-invariant-rows l = record {
-  whole : IsWhole (tree_of l.builder);
+invariant-rows g l = record {
+  whole : IsWhole (g.B.Filled.MutableArray.model l.builder);
 }

@@ -1,5 +1,5 @@
 use Rattle.std.proofs.Common.{◌≡◌, map}
-use Rattle.nest_build.specs.Items.{item_slot}
+use Rattle.listcut.specs.SeenRow.{item_slot}
 use Rattle.listcut.specs.Grammar.{item_of, items_of, all_of}
 use Rattle.listcut.proofs.Pieces.{pieces_left, size_left, with_front}
 use Rattle.listcut.proofs.reading.parse_items.Given as goal
