@@ -11,7 +11,14 @@
 //! | Items are pushed at their own type, one by one and by an iterator, also an empty one | `flat::items_of_its_type_are_pushed` |
 //! | A full builder of nulls refuses one more; nulls are pushed, cut and frozen; no value is taken | `nulls` |
 //! | Byte strings of one size: all items or none, popped, read from both ends, joined; parts and room are checked | `fixed_size_binaries` |
-//! | Any one request for memory refused: no row is added, and a freeze empties | `lists::refused_rows_change_nothing` |
+//! | A list of pairs refuses a row with a pair of another size and takes it back; accepted ones are frozen | `fixed_size_lists::a_refused_pair_takes_its_row_back`, `fixed_size_lists::all_rows_are_taken_or_none` |
+//! | A list over a boxed builder takes 7 and a null, and no text; no plain value is a list | `lists::a_boxed_child_takes_the_items` |
+//! | Lists by offsets that end before their items, by a validity of another length, over a child with a row | `lists::lists_by_offsets`, `lists::a_child_with_rows_makes_no_lists` |
+//! | Four waiting items, and one, make no pair and go on waiting | `fixed_size_lists::waiting_items_of_another_number_make_no_row` |
+//! | Each item that is accepted is kept, the others are left | `fixed_size_lists::accepted_rows_are_kept_and_others_left` |
+//! | Another builder's rows are joined at each level; of another type none is | `lists::rows_of_another_builder_are_joined`, `lists::rows_of_another_type_are_not_joined` |
+//! | A row ends at 2^31 - 1 items and none past it; rows are cut to all and to none | `nested` |
+//! | Any one request for memory refused: no row is added at any level, and a freeze empties | `lists::refused_rows_change_nothing`, `nested::all_levels_take_three_rows_or_none`, `nested::a_boxed_child_keeps_what_it_took` |
 #![tactic(auto)]
 
 #[cfg(test)]
@@ -22,6 +29,8 @@ mod fixed_size_lists;
 mod flat;
 #[cfg(test)]
 mod lists;
+#[cfg(test)]
+mod nested;
 #[cfg(test)]
 mod nulls;
 #[cfg(test)]

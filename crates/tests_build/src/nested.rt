@@ -1,0 +1,154 @@
+//! Builders over builders over builders: the largest offset, cuts at both ends, and what a refused request leaves.
+use nest_build::array::MutableArray;
+use nest_build::fixed_size_list::MutableFixedSizeListArray;
+use nest_build::list::MutableListArray;
+use nest_build::null::MutableNullArray;
+use nest_build::push::TryExtend;
+use nest_flat::any_native::AnyNative;
+use nest_flat::plain::Plain;
+use nest_flat::primitive::mutable::MutablePrimitiveArray;
+use nest_memory::datatypes::DataType;
+use nest_memory::error::{Argument, Error};
+use std::alloc::{AllocError, Global};
+use std::mem;
+use std::test::Fail;
+
+const UNFINISHED: Error = Error::InvalidArgumentError(Argument::Unfinished);
+
+/// Lists of nulls.
+type NullLists = MutableListArray<i32, MutableNullArray>;
+
+/// Tells a row of the nulls that wait.
+fn tell(rows: &mut NullLists) -> Result<(), Error> {
+    rows.known();
+    rows.try_push_valid()
+}
+
+/// As many nulls wait as an offset of 32 bits can be.
+fn full_of_nulls(alloc: Global) -> Result<NullLists, Error> {
+    let mut rows = MutableListArray::new(alloc, MutableNullArray::new(alloc, DataType::Null, 0))?;
+    let mut full = MutableNullArray::new(alloc, DataType::Null, 2147483647);
+    mem::swap(rows.mut_values(), &mut full);
+    drop(full);
+    Ok(rows)
+}
+
+#[test]
+fn a_row_ends_at_the_largest_offset_and_none_past_it(rt: HostRuntime) -> Result<(), Fail> {
+    let mut rows = full_of_nulls(rt.alloc())?;
+    assert!(rt; tell(&mut rows) == Ok(()));
+    rows.mut_values().push_null()?;
+    assert!(rt; tell(&mut rows) == Err(Error::Overflow));
+    assert!(rt; rows.len() == 1);
+    assert!(rt; rows.values().len() == 2147483648);
+    drop(rows);
+    Ok(())
+}
+
+/// Lists of pairs.
+type Rows = MutableListArray<i32, MutableFixedSizeListArray<MutablePrimitiveArray<i64>>>;
+
+fn no_rows(alloc: Global) -> Result<Rows, Error> {
+    let numbers = MutablePrimitiveArray::new(alloc);
+    MutableListArray::new(alloc, MutableFixedSizeListArray::new(alloc, numbers, 2)?)
+}
+
+/// How long each level is.
+fn levels(rows: &Rows) -> (usize, usize, usize) {
+    let pairs = rows.values();
+    (rows.len(), pairs.len(), pairs.values().len())
+}
+
+/// A pair of numbers as an item.
+fn pair(alloc: Global, a: i64) -> Result<Vec<Option<i64>>, Error> {
+    Ok(vec![in alloc; Some(a), None]?)
+}
+
+/// A row of a pair and of a null.
+fn row(alloc: Global, a: i64) -> Result<Vec<Option<Vec<Option<i64>>>>, Error> {
+    Ok(vec![in alloc; Some(pair(alloc, a)?), None]?)
+}
+
+/// Pushes three rows, one of them null, all of them or none.
+fn push_three(alloc: Global, rows: &mut Rows) -> Result<(), Error> {
+    if !rows.is_whole() {
+        return Err(UNFINISHED);
+    }
+    let three = vec![in alloc; Some(row(alloc, 1)?), None, Some(row(alloc, 2)?)]?;
+    rows.try_extend(three)
+}
+
+// Holds where any one request for memory is refused.
+#[test]
+fn all_levels_take_three_rows_or_none(rt: HostRuntime) {
+    let Ok(mut rows) = no_rows(rt.alloc()) else {
+        return;
+    };
+    let first = push_three(rt.alloc(), &mut rows);
+    let taken = if first.is_ok() { (3, 4, 8) } else { (0, 0, 0) };
+    assert!(rt; first == Ok(()) || first == Err(Error::Memory(AllocError)));
+    assert!(rt; levels(&rows) == taken);
+    let again = push_three(rt.alloc(), &mut rows);
+    assert!(rt; again.is_err() || levels(&rows) == (taken.0 + 3, taken.1 + 4, taken.2 + 8));
+    assert!(rt; again.is_ok() || levels(&rows) == taken);
+    drop(rows);
+}
+
+/// Cuts where it may be cut there.
+fn cut(rows: &mut Rows, n: usize) {
+    if rows.is_whole() && n <= rows.len() {
+        rows.truncate(n);
+    }
+}
+
+#[test]
+fn rows_are_cut_to_all_and_to_none(rt: HostRuntime) -> Result<(), Fail> {
+    let mut rows = no_rows(rt.alloc())?;
+    push_three(rt.alloc(), &mut rows)?;
+    cut(&mut rows, 3);
+    assert!(rt; levels(&rows) == (3, 4, 8));
+    cut(&mut rows, 2);
+    assert!(rt; levels(&rows) == (2, 2, 4));
+    cut(&mut rows, 0);
+    assert!(rt; levels(&rows) == (0, 0, 0));
+    assert!(rt; rows.is_whole());
+    drop(rows);
+    Ok(())
+}
+
+/// Lists of whatever the boxed child takes.
+type BoxedLists = MutableListArray<i32, Box<dyn MutableArray>>;
+
+fn boxed_lists(alloc: Global) -> Result<BoxedLists, Error> {
+    let numbers: Box<dyn MutableArray> = Box::new(alloc, MutablePrimitiveArray::<i64>::new(alloc))?;
+    MutableListArray::new(alloc, numbers)
+}
+
+/// Pushes a number into the child, and tells a row of it.
+fn push_number(rows: &mut BoxedLists) -> Result<(), Error> {
+    let child = rows.mut_values();
+    if !child.is_whole() {
+        return Err(UNFINISHED);
+    }
+    child.try_push_plain(Some(Plain::Native(AnyNative::Int64(7))))?;
+    if !rows.values().is_whole() {
+        return Err(UNFINISHED);
+    }
+    rows.known();
+    rows.try_push_valid()
+}
+
+// Holds where any one request for memory is refused: an item that waits is told with the next.
+#[test]
+fn a_boxed_child_keeps_what_it_took(rt: HostRuntime) {
+    let Ok(mut rows) = boxed_lists(rt.alloc()) else {
+        return;
+    };
+    let first = push_number(&mut rows);
+    assert!(rt; first == Ok(()) || first == Err(Error::Memory(AllocError)));
+    assert!(rt; first.is_err() || (rows.len() == 1 && rows.values().len() == 1));
+    assert!(rt; first.is_ok() || (rows.len() == 0 && rows.values().len() <= 1));
+    let second = push_number(&mut rows);
+    assert!(rt; second.is_err() || rows.is_whole());
+    drop(rows);
+}
