@@ -7,6 +7,7 @@ pub mod Items
 pub mod Lines
 pub mod Pieces
 pub mod ReadDigits
+pub mod RowsTree
 pub mod Sealed
 pub mod Spelled
 pub mod Texts

@@ -102,6 +102,7 @@ fn push_rows(
     requires whole { IsWhole (⟦<MutableListArray<i32, MutablePrimitiveArray<i64>> as MutableArray>⟧.model rows.old) }
     requires no_rows { own_slots (⟦<MutableListArray<i32, MutablePrimitiveArray<i64>> as MutableArray>⟧.model rows.old) ≡ [] }
     requires no_items { builder_len (list_child (⟦<MutableListArray<i32, MutablePrimitiveArray<i64>> as MutableArray>⟧.model rows.old)) ≡ 0 }
+    requires numbers { builder_type (list_child (⟦<MutableListArray<i32, MutablePrimitiveArray<i64>> as MutableArray>⟧.model rows.old)) ≡ types.int64 }
     ensures rows { OnOk result (rows_of bytes.now ≡ Ok (own_slots (⟦<MutableListArray<i32, MutablePrimitiveArray<i64>> as MutableArray>⟧.model rows.new))) }
     ensures whole { OnOk result (IsWhole (⟦<MutableListArray<i32, MutablePrimitiveArray<i64>> as MutableArray>⟧.model rows.new)) }
     ensures same_type { OnOk result (builder_type (⟦<MutableListArray<i32, MutablePrimitiveArray<i64>> as MutableArray>⟧.model rows.new) ≡ builder_type (⟦<MutableListArray<i32, MutablePrimitiveArray<i64>> as MutableArray>⟧.model rows.old)) }

@@ -1,37 +1,41 @@
-use Rattle.std.proofs.Common.{◌≡◌, ◌∙◌, ◌+◌, refl, sym, ap, [], arith, option_map, Err}
+use Rattle.std.proofs.Common.{◌≡◌, ◌∙◌, ◌+◌, refl, sym, ap, [], arith, option_map}
+use Rattle.std.specs.Option.{option_copied}
 use Rattle.std.proofs.lemmas.Bool.{eqb-true}
 use Rattle.std.proofs.lemmas.List.{nil_from_length}
 use Rattle.nest_model.specs.BuilderLevels.{own_slots}
-use Rattle.nest_model.specs.BuilderAppendLaws.{type-accepted}
-use Rattle.nest_build.specs.Seen.{tree_of, item_count}
+use Rattle.nest_model.specs.BuilderAppendLaws.{len-accepted, type-accepted}
 use Rattle.listcut.specs.SeenRow.{seen_row}
 use Rattle.listcut.specs.Grammar.{lines_of, rows_after, rows_of}
 use Rattle.listcut.proofs.Lines.{lines_stop, lines_many, lines_next, rows_end, with_rows, with_no_rows}
-use Rattle.listcut.proofs.Counted.{items-len, within-limit}
+use Rattle.listcut.proofs.Counted.{items-len}
+use Rattle.listcut.proofs.RowsTree.{rows_tree, items_in, row-last, row-items, row-type, row-fits, row-past}
 use Rattle.listcut.proofs.reading.push_rows.Goals as goal
 
 pub returns-in_default-clause-fault : goal.returns-in_default-clause-fault
 returns-in_default-clause-fault c =
-    lines_stop (own_slots (tree_of c.lines.rows)) c.lines.above (item_count c.lines.rows) c.lines.rest.now c.next_line.result.0.now c.next_line.result.1.now _ c.next_line.ensures.line c.lines.invariant.so_far
+    let tree = rows_tree c.lines.rows.data_type c.lines.rows.rows c.lines.rows.values in
+    lines_stop (own_slots tree) c.lines.above (items_in tree) c.lines.rest.now c.next_line.result.0.now c.next_line.result.1.now _ c.next_line.ensures.line c.lines.invariant.so_far
     (sym c.in_ok-row.ensures ∙ ap (option_map seen_row) c.in_default.is)
-
-pub returns-in-Err-Overflow-clause-fault : goal.returns-in-Err-Overflow-clause-fault
-returns-in-Err-Overflow-clause-fault c =
-    lines_many (own_slots (tree_of c.lines.rows)) c.lines.above (item_count c.lines.rows) c.lines.rest.now c.next_line.result.0.now c.next_line.result.1.now _ c.next_line.ensures.line c.lines.invariant.so_far
-    (seen_row c.in-Some.row) (sym c.in_ok-row.ensures ∙ ap (option_map seen_row) c.in-Some.is) (omega (arith, c.in-Err-Overflow.ensures.overflow.0 (ap Err c.in-Err-Overflow.field-0-is), items-len c.in-Some.row))
 
 pub lines-preserved : goal.lines-preserved
 lines-preserved c =
+    let old = c.lines.rows in
+    let tree = rows_tree old.data_type old.rows old.values in
+    let row = option_copied c.in-Some.row in
+    let is = c.lines.invariant.numbers in
     let pushed = c.in-Ok.ensures in
+    let added = row-items old.data_type old.rows old.values row is _ pushed.accepted in
+    let few = row-fits old.data_type old.rows old.values row is c.lines.invariant.few pushed.unrefused in
     let same = items-len c.in-Some.row in
-    let within = within-limit _ _ _ _ pushed.overflow.1 in
     record {
-      so_far = ap (λ n. with_rows (own_slots (tree_of c.try_push.new.self)) (rows_after (c.lines.above + 1) n (lines_of c.next_line.result.1.now))) pushed.items
-          ∙ lines_next (own_slots (tree_of c.lines.rows)) _ c.lines.above (item_count c.lines.rows) _ c.lines.rest.now c.next_line.result.0.now c.next_line.result.1.now _ (seen_row c.in-Some.row)
-          c.next_line.ensures.line c.lines.invariant.so_far (sym c.in_ok-row.ensures ∙ ap (option_map seen_row) c.in-Some.is) same (omega (arith, within)) pushed.own;
+      so_far = ap (λ n. with_rows (own_slots _) (rows_after (c.lines.above + 1) n (lines_of c.next_line.result.1.now))) added
+          ∙ lines_next (own_slots tree) _ c.lines.above (items_in tree) _ c.lines.rest.now c.next_line.result.0.now c.next_line.result.1.now _ (seen_row c.in-Some.row)
+          c.next_line.ensures.line c.lines.invariant.so_far (sym c.in_ok-row.ensures ∙ ap (option_map seen_row) c.in-Some.is) same few (row-last old.data_type old.rows old.values row is _ pushed.accepted);
       whole = pushed.accepted.whole;
       same_type = type-accepted _ _ _ pushed.accepted ∙ c.lines.invariant.same_type;
-      few = omega (arith, within, pushed.items);
+      numbers = row-type old.data_type old.rows old.values row is _ pushed.accepted;
+      few = omega (arith, few, added);
+      counted = len-accepted _ _ _ pushed.accepted ∙ ap (λ n. n + 1) c.lines.invariant.counted;
       room = omega arith;
     }
 
@@ -40,12 +44,15 @@ lines-init c = record {
   so_far = (λ i. with_rows (c.requires.no_rows i) (rows_after 0 (c.requires.no_items i) (lines_of c.args.bytes.now))) ∙ with_no_rows (rows_of c.args.bytes.now);
   whole = c.requires.whole;
   same_type = refl;
+  numbers = c.requires.numbers;
   few = omega (arith, c.requires.no_items);
+  counted = omega arith;
   room = omega arith;
 }
 
 pub returns-clause-rows : goal.returns-clause-rows
 returns-clause-rows c =
     let done : c.lines.rest.now ≡ [] = nil_from_length _ (eqb-true _ _ (sym c.is_empty.ensures ∙ c.lines-test.false)) in
-    let front = own_slots (tree_of c.lines.rows) in
-    sym c.lines.invariant.so_far ∙ ap (λ l. with_rows front (rows_after c.lines.above (item_count c.lines.rows) (lines_of l))) done ∙ rows_end front c.lines.above (item_count c.lines.rows)
+    let tree = rows_tree c.lines.rows.data_type c.lines.rows.rows c.lines.rows.values in
+    let front = own_slots tree in
+    sym c.lines.invariant.so_far ∙ ap (λ l. with_rows front (rows_after c.lines.above (items_in tree) (lines_of l))) done ∙ rows_end front c.lines.above (items_in tree)
