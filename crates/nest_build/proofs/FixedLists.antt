@@ -1,8 +1,7 @@
 -- What the calls of a builder of lists of one size come to.
 use Rattle.std.specs.Prelude.{◌⊎◌, ◌≢◌, ◌||◌, Option, Some, None, alloc_error}
 use Rattle.std.proofs.Common.{◌≡◌, ℕ, zero, suc, ◌+◌, ◌-◌, ◌*◌, ◌<◌, ◌≤◌, Bool, true, false, List, [], ◌∷◌, ◌++◌, length, replicate, get_or, refl, sym, ap, subst, ◌∙◌, inl, inr, arith}
-use Rattle.std.proofs.lemmas.Bool.{lt-ltb}
-use Rattle.std.proofs.lemmas.List.{length-append, length-replicate}
+use Rattle.std.proofs.lemmas.List.{length-replicate}
 use Rattle.std.proofs.Math.Nat.{add-mul, mul-suc}
 use Rattle.nest_memory.specs.TypeTree.{TypeTree, item_type, size_of}
 use Rattle.nest_memory.specs.Cut.{cut}
@@ -21,10 +20,10 @@ use Rattle.nest_model.specs.BuilderAppendLaws.{len-accepted_all, fixed_size_list
 use Rattle.nest_model.specs.BuilderJoin.{Joined}
 use Rattle.nest_model.specs.BuilderJoinLaws.{fixed_size_list_joined}
 use Rattle.nest_model.specs.BuilderToldLaws.{fixed_size_list_told}
-use Rattle.nest_model.specs.BuilderRowChecks.{HasWholeChildren, row_checks, join_checks, join_passes}
+use Rattle.nest_model.specs.BuilderRowChecks.{row_checks, join_checks, join_passes}
 use Rattle.nest_model.specs.BuilderRefusals.{item_refusal, nulls_pass}
 use Rattle.nest_model.specs.BuilderRefusalLaws.{within, fixed_none, fixed_size, null_past}
-use Rattle.nest_model.specs.BuilderReading.{Read, whole, begun, ReadsList, Took, Refused, TookAll, RefusedSome}
+use Rattle.nest_model.specs.BuilderReading.{Read, begun, ReadsList, Took, Refused, TookAll, RefusedSome}
 use Rattle.nest_model.specs.Checks.{Pass, FailFirst, is_past, largest_length}
 use Rattle.nest_model.specs.BuilderLevels.{own_slots}
 use Rattle.nest_model.specs.BuilderLevelLaws.{own-length, len-grown}

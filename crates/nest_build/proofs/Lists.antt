@@ -1,11 +1,11 @@
 -- What the calls of a builder of lists come to.
-use Rattle.std.specs.Prelude.{◌⊎◌, ◌≢◌, ◌↔◌, ltb, leb, ◌||◌, Option, Some, None, alloc_error}
+use Rattle.std.specs.Prelude.{◌⊎◌, ltb, ◌||◌, Option, Some, None, alloc_error}
 use Rattle.std.proofs.Common.{◌≡◌, ℕ, zero, suc, ◌+◌, ◌-◌, ◌<◌, ◌≤◌, Bool, true, false, List, [], ◌∷◌, ◌++◌, length, get_or, take, refl, sym, ap, ◌∙◌, inl, inr, arith}
 use Rattle.std.specs.Option.{unwrap_or}
 use Rattle.std.proofs.lemmas.Bool.{lt-ltb}
 use Rattle.std.proofs.lemmas.List.{take_more}
 use Rattle.nest_build.proofs.Rows.{told-append}
-use Rattle.nest_memory.specs.TypeTree.{TypeTree, item_type}
+use Rattle.nest_memory.specs.TypeTree.{TypeTree}
 use Rattle.nest_memory.specs.Cut.{cut}
 use Rattle.nest_memory.specs.Rising.{largest_offset}
 use Rattle.nest_memory.specs.declared.error.Error.{Error}
@@ -18,15 +18,14 @@ use Rattle.nest_model.specs.BuilderLevelLaws.{own-length}
 use Rattle.nest_model.specs.Slot as slots
 use Rattle.nest_model.specs.Slot.{Slot, Slots, seal}
 use Rattle.nest_model.specs.BuilderRow.{Row, told_row, end_from}
-use Rattle.nest_model.specs.BuilderRowLaws.{end_from-front}
 use Rattle.nest_model.specs.BuilderTree.{BuilderTree, list, builder_len, builder_type}
 use Rattle.nest_model.specs.BuilderLevels.{own_slots, rows_of_items, valid_or_null}
-use Rattle.nest_model.specs.BuilderWhole.{IsWhole, cut_builder}
+use Rattle.nest_model.specs.BuilderWhole.{IsWhole}
 use Rattle.nest_model.specs.BuilderCutLaws.{type-cut}
 use Rattle.nest_model.specs.BuilderItem as items
 use Rattle.nest_model.specs.BuilderItem.{seal_items}
-use Rattle.nest_model.specs.BuilderAppend.{Accepted, AcceptedAll, Told, ToldLengths, items_told, rows_of_lengths}
-use Rattle.nest_model.specs.BuilderAppendLaws.{list_took, list_took_null}
+use Rattle.nest_model.specs.BuilderAppend.{Accepted, Told, ToldLengths, items_told, rows_of_lengths}
+use Rattle.nest_model.specs.BuilderAppendLaws.{list_took}
 use Rattle.nest_model.specs.BuilderFreeze.{row_bits}
 use Rattle.nest_model.specs.BuilderJoin.{Joined, moved}
 use Rattle.nest_model.specs.BuilderJoinLaws.{list_joined}
@@ -35,7 +34,7 @@ use Rattle.nest_model.specs.BuilderRowChecks.{CoversRows, HasWholeChildren, row_
 use Rattle.nest_model.specs.BuilderRefusals.{item_refusal}
 use Rattle.nest_model.specs.BuilderRefusalLaws.{within, below, list_none, list_past}
 use Rattle.nest_model.specs.BuilderReading.{Read, whole, begun, ReadsList, Took, Refused, TookAll, RefusedSome}
-use Rattle.nest_model.specs.Checks.{Checks, Pass, FailFirst, FailsOr, check, done, is_past, largest_length}
+use Rattle.nest_model.specs.Checks.{Pass, FailFirst, FailsOr, check, done, is_past, largest_length}
 
 -- a null in place of a list
 pub none_refused : {U T A : Type 0} (becomes : U → T → Type 0) (steps : T → Option A → T → Type 0) (reads : A → Read → Type 0) (item : Option U) (t : BuilderTree) (e : Error)

@@ -2,7 +2,7 @@
 use Rattle.std.specs.Prelude.{◌≡◌, ℕ, List as Seq}
 use Rattle.nest_model.specs.BuilderFreeze.{offsets_from}
 use Rattle.nest_model.specs.BuilderRowChecks.{CoversRows}
-use Rattle.nest_model.specs.BuilderTree.{BuilderTree, flat, list, fixed_size_list, dictionary, struct}
+use Rattle.nest_model.specs.BuilderTree.{BuilderTree, list, fixed_size_list}
 
 -- the child; a builder of another kind stands for itself
 abbrev pub list_child : BuilderTree → BuilderTree

@@ -1,5 +1,5 @@
 -- The data types of builders of lists, and why no builder is made.
-use Rattle.std.specs.Prelude.{◌≡◌, ℕ, ◌<◌, Bool, true, codes, [], length, Some, if◌then◌else◌}
+use Rattle.std.specs.Prelude.{◌≡◌, ℕ, ◌<◌, Bool, Some, if◌then◌else◌}
 use Rattle.nest_memory.specs.TypeTree as types
 use Rattle.nest_memory.specs.TypeTree.{TypeTree, FieldTree, item_type, size_of}
 use Rattle.nest_memory.specs.Physical.{list_of_width, physical_type}

@@ -1,4 +1,4 @@
-use Rattle.std.proofs.Common.{◌≡◌, ◌≤◌, length, vec_len, vec_capacity}
+use Rattle.std.proofs.Common.{◌≡◌, ◌≤◌, length, vec_capacity}
 use Rattle.std.specs.List.{items_where_true}
 use Rattle.nest_model.specs.BuilderReading.{TookEach}
 use Rattle.nest_build.proofs.tried.push_all.Given as goal

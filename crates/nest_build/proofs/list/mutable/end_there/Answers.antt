@@ -1,6 +1,5 @@
 use Rattle.std.specs.Prelude.{None}
-use Rattle.std.proofs.Common.{◌≡◌, ◌+◌, ◌<◌, ◌≤◌, true, false, get_or, take, arith}
-use Rattle.nest_model.specs.BuilderAppend.{items_told}
+use Rattle.std.proofs.Common.{◌≡◌, true, false, get_or, arith}
 use Rattle.nest_build.proofs.Rows.{told-first}
 use Rattle.nest_build.proofs.Lists.{told-one, told-next}
 use Rattle.nest_build.proofs.list.mutable.end_there.Goals as goal

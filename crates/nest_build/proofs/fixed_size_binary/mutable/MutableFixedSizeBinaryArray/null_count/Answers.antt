@@ -1,4 +1,4 @@
-use Rattle.std.proofs.Common.{sym, ◌∙◌}
+use Rattle.std.proofs.Common.{◌∙◌}
 use Rattle.nest_build.proofs.FixedTrees.{fixed-no_nulls, fixed-nulls}
 use Rattle.nest_build.proofs.fixed_size_binary.mutable.MutableFixedSizeBinaryArray.null_count.Goals as goal
 

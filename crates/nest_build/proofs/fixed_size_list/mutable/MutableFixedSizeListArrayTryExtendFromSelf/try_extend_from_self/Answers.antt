@@ -1,5 +1,4 @@
-use Rattle.std.specs.Prelude.{Some}
-use Rattle.std.proofs.Common.{◌≡◌, sym, ap, ◌∙◌, inl, inr, arith}
+use Rattle.std.proofs.Common.{sym, ap, ◌∙◌, inl, inr, arith}
 use Rattle.std.proofs.lemmas.Option.{same_Some}
 use Rattle.nest_memory.specs.TypeTree.{item_type}
 use Rattle.nest_build.proofs.FixedLists.{child_join_refused, rows_joined, join_unrefused, join_alone}

@@ -1,4 +1,4 @@
-use Rattle.std.proofs.Common.{◌≡◌, ◌≤◌, ap, arith}
+use Rattle.std.proofs.Common.{ap, arith}
 use Rattle.nest_model.specs.BuilderRow.{end_from}
 use Rattle.nest_model.specs.BuilderRowLaws.{end_from-front}
 use Rattle.nest_build.proofs.list.mutable.MutableListArrayMutableArray.truncate.Goals as goal

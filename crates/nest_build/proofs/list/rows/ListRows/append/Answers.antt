@@ -1,8 +1,6 @@
-use Rattle.std.specs.Prelude.{◌⊎◌, alloc_error}
-use Rattle.std.proofs.Common.{◌≡◌, ◌+◌, ◌<◌, ◌≤◌, length, inl, inr, sym, ap, subst, ◌∙◌, arith}
-use Rattle.nest_memory.specs.Rising.{last_of, joined, largest_offset}
+use Rattle.std.proofs.Common.{◌≡◌, ◌+◌, ◌≤◌, length, inl, inr, sym, ap, ◌∙◌, arith}
+use Rattle.nest_memory.specs.Rising.{last_of}
 use Rattle.nest_model.specs.Part.{rows}
-use Rattle.nest_model.specs.Fits.{ValidityFits}
 use Rattle.nest_model.specs.BuilderRow.{end_from}
 use Rattle.nest_model.specs.Checks.{largest_length}
 use Rattle.nest_build.proofs.Rows.{told-end, told-count, told-joined, rows-joined, joined-fits, err-of, not_past, by-width, by-width-past}

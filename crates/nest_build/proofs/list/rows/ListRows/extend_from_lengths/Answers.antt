@@ -1,5 +1,5 @@
 use Rattle.std.specs.Prelude.{None}
-use Rattle.std.proofs.Common.{◌≡◌, ◌+◌, ◌≤◌, ◌++◌, length, get_or, take, refl, ap, ◌∙◌, arith}
+use Rattle.std.proofs.Common.{◌≡◌, ◌+◌, ◌++◌, length, get_or, take, ap, ◌∙◌, arith}
 use Rattle.std.proofs.lemmas.List.{length-append, take_more, take_all}
 use Rattle.nest_model.specs.BuilderRow.{end_from}
 use Rattle.nest_model.specs.BuilderAppend.{rows_of_lengths}

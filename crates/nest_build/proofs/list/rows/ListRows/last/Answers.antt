@@ -1,5 +1,4 @@
-use Rattle.std.proofs.Common.{◌≡◌, ◌≤◌, length, sym, ◌∙◌, arith}
-use Rattle.nest_model.specs.Checks.{largest_length}
+use Rattle.std.proofs.Common.{sym, ◌∙◌, arith}
 use Rattle.nest_build.proofs.Rows.{told-end, told-rises, told-count, by-width}
 use Rattle.nest_build.proofs.list.rows.ListRows.last.Goals as goal
 

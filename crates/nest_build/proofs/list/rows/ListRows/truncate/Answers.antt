@@ -1,4 +1,4 @@
-use Rattle.std.proofs.Common.{◌≡◌, ◌≤◌, arith}
+use Rattle.std.proofs.Common.{arith}
 use Rattle.nest_model.specs.Part.{rows}
 use Rattle.nest_build.proofs.Rows.{told-count, told-cut, covers}
 use Rattle.nest_build.proofs.list.rows.ListRows.truncate.Goals as goal
