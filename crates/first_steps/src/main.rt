@@ -19,16 +19,11 @@ use std::alloc::Global;
 /// A builder of lists of numbers of 64 bits, by offsets of 32 bits.
 type ListBuilder = MutableListArray<i32, MutablePrimitiveArray<i64>>;
 
-/// A builder without rows.
-fn list_builder(alloc: Global) -> Result<ListBuilder, Error> {
-    MutableListArray::new(alloc, MutablePrimitiveArray::new(alloc))
-}
-
 /// The rows [1, 2], null, [] and [3, null].
 fn four_rows(alloc: Global) -> Result<ListArray, Error>
     ensures { IfOk result (λ a. slots_of a ≡ four_rows) }
 {
-    let mut builder = list_builder(alloc)?;
+    let mut builder: ListBuilder = MutableListArray::new(alloc, MutablePrimitiveArray::new(alloc))?;
     builder.try_push_slice(Some(&[Some(1), Some(2)]))?;
     builder.try_push_slice(None)?;
     builder.try_push_slice(Some(&[]))?;
@@ -40,7 +35,7 @@ fn four_rows(alloc: Global) -> Result<ListArray, Error>
 fn two_rows(alloc: Global) -> Result<ListArray, Error>
     ensures { IfOk result (λ a. slots_of a ≡ last_two) }
 {
-    let mut builder = list_builder(alloc)?;
+    let mut builder: ListBuilder = MutableListArray::new(alloc, MutablePrimitiveArray::new(alloc))?;
     builder.try_push_slice(Some(&[]))?;
     builder.try_push_slice(Some(&[Some(3), None]))?;
     builder.freeze()

@@ -12,35 +12,29 @@ use Rattle.nest_model.specs.BuilderLevels.{own_slots}
 use Rattle.nest_model.specs.BuilderRefusals.{item_refusal}
 use Rattle.nest_model.specs.BuilderRow.{Row}
 use Rattle.nest_model.specs.BuilderSpells.{value_item}
-use Rattle.nest_model.specs.BuilderTree.{BuilderTree, builder_len, builder_type, flat, list}
+use Rattle.nest_model.specs.BuilderTree.{BuilderTree, builder_type, flat, list}
 use Rattle.nest_model.specs.Checks.{largest_length}
 use Rattle.nest_model.specs.Layout.{Layout, layout_type}
 use Rattle.nest_model.specs.Meaning.{slots_of}
 use Rattle.nest_build.specs.Children.{list_child}
 use Rattle.nest_build.specs.NumberRows.{number_row_fits, number_row_items, number_row_past}
 use Rattle.nest_build.specs.Slices.{row_item, row_len}
+use Rattle.listcut.specs.RowsTree.{items_in, tree_of}
 use Rattle.listcut.specs.SeenRow.{row_slot}
 use Rattle.listcut.proofs.Counted.{int64_value, row-slot}
-
-abbrev pub rows_tree : TypeTree → List Row → Layout → BuilderTree
-rows_tree t rows items = list false t rows (flat (layout_type items) (slots_of items))
-
--- how many items there are
-abbrev pub items_in : BuilderTree → ℕ
-items_in t = builder_len (list_child t)
 
 module _ (t : TypeTree) (rows : List Row) (items : Layout) (row : Option (List (Option ℤ))) (int64 : layout_type items ≡ types.int64) where
   number : physical_type (layout_type items) ≡ physical.Primitive primitives.Int64
   number = ap physical_type int64
 
   -- an accepted row is its slot, adds its items, and keeps their type
-  pub row-last : (new : BuilderTree) → Accepted (row_item int64_value row) (rows_tree t rows items) new → own_slots new ≡ own_slots (rows_tree t rows items) ++ row_slot row ∷ []
-  row-last new a = a.last ∙ ap (λ s. own_slots (rows_tree t rows items) ++ s ∷ []) (row-slot row)
+  pub row-last : (new : BuilderTree) → Accepted (row_item int64_value row) (tree_of t rows items) new → own_slots new ≡ own_slots (tree_of t rows items) ++ row_slot row ∷ []
+  row-last new a = a.last ∙ ap (λ s. own_slots (tree_of t rows items) ++ s ∷ []) (row-slot row)
 
-  pub row-items : (new : BuilderTree) → Accepted (row_item int64_value row) (rows_tree t rows items) new → items_in new ≡ items_in (rows_tree t rows items) + row_len row
+  pub row-items : (new : BuilderTree) → Accepted (row_item int64_value row) (tree_of t rows items) new → items_in new ≡ items_in (tree_of t rows items) + row_len row
   row-items new a = number_row_items int64_value primitives.Int64 (λ x. refl) (layout_type items) number false t rows (slots_of items) row new a
 
-  pub row-type : (new : BuilderTree) → Accepted (row_item int64_value row) (rows_tree t rows items) new → builder_type (list_child new) ≡ types.int64
+  pub row-type : (new : BuilderTree) → Accepted (row_item int64_value row) (tree_of t rows items) new → builder_type (list_child new) ≡ types.int64
   row-type new a = ap (λ b. builder_type (list_child b)) a.exact ∙ by_row row ∙ int64
     where
       child : BuilderTree
@@ -51,8 +45,8 @@ module _ (t : TypeTree) (rows : List Row) (items : Layout) (row : Option (List (
       by_row (Some xs) = ap builder_type (appended-sealed (map (value_item int64_value) xs) child) ∙ type-all_appended (map (value_item int64_value) xs) child
 
   -- which has its place; and a refused one, while rows have theirs, has none
-  pub row-fits : items_in (rows_tree t rows items) < 2 ^ 31 → item_refusal (row_item int64_value row) (rows_tree t rows items) ≡ None → items_in (rows_tree t rows items) + row_len row < 2 ^ 31
+  pub row-fits : items_in (tree_of t rows items) < 2 ^ 31 → item_refusal (row_item int64_value row) (tree_of t rows items) ≡ None → items_in (tree_of t rows items) + row_len row < 2 ^ 31
   row-fits few none = omega (arith, number_row_fits int64_value primitives.Int64 (λ x. refl) (layout_type items) number false t rows (slots_of items) row (omega (arith, few)) none)
 
-  pub row-past : (e : Error) → items_in (rows_tree t rows items) < 2 ^ 31 → length rows + 1 ≤ largest_length → item_refusal (row_item int64_value row) (rows_tree t rows items) ≡ Some e → 2 ^ 31 ≤ items_in (rows_tree t rows items) + row_len row
+  pub row-past : (e : Error) → items_in (tree_of t rows items) < 2 ^ 31 → length rows + 1 ≤ largest_length → item_refusal (row_item int64_value row) (tree_of t rows items) ≡ Some e → 2 ^ 31 ≤ items_in (tree_of t rows items) + row_len row
   row-past e few room some = omega (arith, (number_row_past int64_value primitives.Int64 (λ x. refl) (layout_type items) number false t rows (slots_of items) row e room (omega (arith, few)) some).1)

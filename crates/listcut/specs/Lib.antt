@@ -1,4 +1,5 @@
 pub mod Rows
+pub mod RowsTree
 pub mod Grammar
 pub mod Spelling
 pub mod Outcome

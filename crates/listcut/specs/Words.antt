@@ -7,7 +7,7 @@ pub use Rattle.listcut.specs.Spelling.{IsFirstFault, IsTextOf, item_text, row_te
 pub use Rattle.listcut.specs.declared.fault.Fault.TheVariants.{Memory}
 pub use Rattle.nest_array.specs.Seen.{layout_of}
 pub use Rattle.nest_array.specs.Types.{default_list_type}
-pub use Rattle.nest_build.specs.Children.{list_child}
+pub use Rattle.listcut.specs.RowsTree.{items_in, tree_of}
 pub use Rattle.nest_memory.specs.Cut.{cut}
 pub use Rattle.nest_memory.specs.TypeTree.{item_type}
 pub use Rattle.nest_model.specs.BuilderLevels.{own_slots}

@@ -2,13 +2,12 @@
 ghost use Rattle.std.specs.Prelude.{◌≡◌, ℕ, ◌+◌, ◌<◌, ◌∷◌, ◌++◌, ◌==◌, [], false, All, MatchOption, option_map, map, IfOk, IfErr, OnOk, Ok, length};
 ghost use Rattle.std.specs.Bool.{then_some};
 ghost use Rattle.nest_memory.specs.TypeTree as types;
-ghost use Rattle.listcut.specs.Words.{IsWhole, ReadFault, builder_len, builder_type, default_list_type, item_of, item_slot, items_of, layout_type, lines_of, list_child, own_slots, row_of, rows_of, seen_row, slots_of};
+ghost use Rattle.listcut.specs.Words.{IsWhole, ReadFault, builder_type, default_list_type, item_of, item_slot, items_of, items_in, layout_type, lines_of, own_slots, row_of, rows_of, seen_row, slots_of, tree_of};
 
 use crate::fault::Fault;
 use crate::numbers::parse_number;
 use memchr::memchr;
 use nest_array::ListArray;
-use nest_build::array::MutableArray;
 use nest_build::list::MutableListArray;
 use nest_flat::primitive::mutable::MutablePrimitiveArray;
 use nest_memory::error::Error;
@@ -16,6 +15,9 @@ use std::alloc::{AllocError, Global};
 
 /// The items of a row, or nothing where it is null.
 type Row<'a> = Option<&'a [Option<i64>]>;
+
+/// Lists of numbers of 64 bits, by offsets of 32 bits.
+type RowsBuilder = MutableListArray<i32, MutablePrimitiveArray<i64>>;
 
 /// What stands before the first `separator`, and what follows it, if it is there.
 fn split_at_byte(bytes: &[u8], separator: u8) -> (&[u8], Option<&[u8]>)
@@ -94,18 +96,14 @@ fn next_line(bytes: &[u8]) -> (&[u8], &[u8])
 }
 
 /// Pushes the rows that the bytes spell into a builder without rows.
-fn push_rows(
-    alloc: Global,
-    rows: &mut MutableListArray<i32, MutablePrimitiveArray<i64>>,
-    bytes: &[u8],
-) -> Result<(), Fault>
-    requires whole { IsWhole (⟦<MutableListArray<i32, MutablePrimitiveArray<i64>> as MutableArray>⟧.model rows.old) }
-    requires no_rows { own_slots (⟦<MutableListArray<i32, MutablePrimitiveArray<i64>> as MutableArray>⟧.model rows.old) ≡ [] }
-    requires no_items { builder_len (list_child (⟦<MutableListArray<i32, MutablePrimitiveArray<i64>> as MutableArray>⟧.model rows.old)) ≡ 0 }
-    requires numbers { builder_type (list_child (⟦<MutableListArray<i32, MutablePrimitiveArray<i64>> as MutableArray>⟧.model rows.old)) ≡ types.int64 }
-    ensures rows { OnOk result (rows_of bytes.now ≡ Ok (own_slots (⟦<MutableListArray<i32, MutablePrimitiveArray<i64>> as MutableArray>⟧.model rows.new))) }
-    ensures whole { OnOk result (IsWhole (⟦<MutableListArray<i32, MutablePrimitiveArray<i64>> as MutableArray>⟧.model rows.new)) }
-    ensures same_type { OnOk result (builder_type (⟦<MutableListArray<i32, MutablePrimitiveArray<i64>> as MutableArray>⟧.model rows.new) ≡ builder_type (⟦<MutableListArray<i32, MutablePrimitiveArray<i64>> as MutableArray>⟧.model rows.old)) }
+fn push_rows(alloc: Global, rows: &mut RowsBuilder, bytes: &[u8]) -> Result<(), Fault>
+    requires whole { IsWhole (tree_of rows.old.data_type rows.old.rows rows.old.values) }
+    requires no_rows { rows.old.rows ≡ [] }
+    requires no_items { items_in (tree_of rows.old.data_type rows.old.rows rows.old.values) ≡ 0 }
+    requires numbers { layout_type rows.old.values ≡ types.int64 }
+    ensures rows { OnOk result (rows_of bytes.now ≡ Ok (own_slots (tree_of rows.new.data_type rows.new.rows rows.new.values))) }
+    ensures whole { OnOk result (IsWhole (tree_of rows.new.data_type rows.new.rows rows.new.values)) }
+    ensures same_type { OnOk result (builder_type (tree_of rows.new.data_type rows.new.rows rows.new.values) ≡ builder_type (tree_of rows.old.data_type rows.old.rows rows.old.values)) }
     ensures fault { IfErr result (λ fault. ReadFault fault (rows_of bytes.now)) }
 {
     let mut items = Vec::new(alloc);

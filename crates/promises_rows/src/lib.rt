@@ -14,13 +14,13 @@ ghost use Rattle.promises_rows.specs.Words.{Accepted, CanRead, FailFirst, HasWho
 
 use nest_array::AnyArray;
 use nest_build::array::MutableArray;
+use nest_build::flat::{FlatBuilder, TakesValue};
 use nest_build::fixed_size_list::MutableFixedSizeListArray;
-use nest_build::list::width::{FrozenRows, ListWidth};
 use nest_build::list::MutableListArray;
+use nest_build::list::width::{FrozenRows, ListWidth};
 use nest_build::push::{TryExtend, TryExtendFromSelf, TryPush};
 use nest_build::tried::push_all;
 use nest_flat::plain::{AsPlain, Plain};
-use nest_flat::primitive::mutable::MutablePrimitiveArray;
 use nest_memory::bitmap::mutable::MutableBitmap;
 use nest_memory::datatypes::DataType;
 use nest_memory::error::Error;
@@ -257,16 +257,16 @@ pub fn tell_row_of_size<M: MutableArray>(
     lists.try_push_valid()
 }
 
-/// A row of numbers in a builder of lists: null, or the list of the numbers of a slice.
-pub fn push_numbers(
-    lists: &mut MutableListArray<i32, MutablePrimitiveArray<i64>>,
-    row: Option<&[Option<i64>]>,
+/// A row of values in a builder of lists over a flat one: null, or the list of the values of a slice.
+pub fn push_values<O: ListWidth, A: AsPlain + Copy + Drop, M: FlatBuilder + TakesValue<A>>(
+    lists: &mut MutableListArray<O, M>,
+    row: Option<&[Option<A>]>,
 ) -> Result<(), Error>
-    requires { IsWhole (⟦<MutableListArray<i32, MutablePrimitiveArray<i64>> as MutableArray>⟧.model lists.old) }
-    ensures accepted { OnOk result (Accepted (row_item ⟦<i64 as AsPlain>⟧.value (option_copied row.entry)) (⟦<MutableListArray<i32, MutablePrimitiveArray<i64>> as MutableArray>⟧.model lists.old) (⟦<MutableListArray<i32, MutablePrimitiveArray<i64>> as MutableArray>⟧.model lists.new)) }
-    ensures fits { OnOk result (item_refusal (row_item ⟦<i64 as AsPlain>⟧.value (option_copied row.entry)) (⟦<MutableListArray<i32, MutablePrimitiveArray<i64>> as MutableArray>⟧.model lists.old) ≡ None) }
-    ensures err { OnErr result (⟦<MutableListArray<i32, MutablePrimitiveArray<i64>> as MutableArray>⟧.model lists.new ≡ ⟦<MutableListArray<i32, MutablePrimitiveArray<i64>> as MutableArray>⟧.model lists.old) }
-    ensures refused { IfErr result (λ e. (e ≡ Memory alloc_error) ⊎ (item_refusal (row_item ⟦<i64 as AsPlain>⟧.value (option_copied row.entry)) (⟦<MutableListArray<i32, MutablePrimitiveArray<i64>> as MutableArray>⟧.model lists.old) ≡ Some e)) }
+    requires { IsWhole (⟦<MutableListArray<O, M> as MutableArray>⟧.model lists.old) }
+    ensures accepted { OnOk result (Accepted (row_item A.value (option_copied row.entry)) (⟦<MutableListArray<O, M> as MutableArray>⟧.model lists.old) (⟦<MutableListArray<O, M> as MutableArray>⟧.model lists.new)) }
+    ensures fits { OnOk result (item_refusal (row_item A.value (option_copied row.entry)) (⟦<MutableListArray<O, M> as MutableArray>⟧.model lists.old) ≡ None) }
+    ensures err { OnErr result (⟦<MutableListArray<O, M> as MutableArray>⟧.model lists.new ≡ ⟦<MutableListArray<O, M> as MutableArray>⟧.model lists.old) }
+    ensures refused { IfErr result (λ e. (e ≡ Memory alloc_error) ⊎ (item_refusal (row_item A.value (option_copied row.entry)) (⟦<MutableListArray<O, M> as MutableArray>⟧.model lists.old) ≡ Some e)) }
 {
     lists.try_push_slice(row)
 }

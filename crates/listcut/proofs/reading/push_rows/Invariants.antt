@@ -6,12 +6,12 @@ use Rattle.nest_model.specs.BuilderWhole.{IsWhole}
 use Rattle.nest_model.specs.Layout.{layout_type}
 use Rattle.listcut.specs.Grammar.{lines_of, rows_after, rows_of}
 use Rattle.listcut.proofs.Lines.{with_rows}
-use Rattle.listcut.proofs.RowsTree.{rows_tree, items_in}
+use Rattle.listcut.specs.RowsTree.{items_in, tree_of}
 use Rattle.listcut.proofs.reading.push_rows.Given as goal
 
 abbrev pub invariant-lines : goal.invariant-lines
 invariant-lines l =
-    let tree = rows_tree l.rows.data_type l.rows.rows l.rows.values in
+    let tree = tree_of l.rows.data_type l.rows.rows l.rows.values in
     record {
       so_far : with_rows (own_slots tree) (rows_after l.above (items_in tree) (lines_of l.rest)) ≡ rows_of l.bytes;
       whole : IsWhole tree;
