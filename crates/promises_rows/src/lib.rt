@@ -14,8 +14,8 @@ ghost use Rattle.promises_rows.specs.Words.{Accepted, CanRead, FailFirst, HasWho
 
 use nest_array::AnyArray;
 use nest_build::array::MutableArray;
-use nest_build::flat::{FlatBuilder, TakesValue};
 use nest_build::fixed_size_list::MutableFixedSizeListArray;
+use nest_build::flat::{FlatBuilder, TakesValue};
 use nest_build::list::MutableListArray;
 use nest_build::list::width::{FrozenRows, ListWidth};
 use nest_build::push::{TryExtend, TryExtendFromSelf, TryPush};
