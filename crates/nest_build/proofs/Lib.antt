@@ -1,3 +1,4 @@
+mod BytesTrees
 mod FixedBytesLaws
 mod FixedLists
 mod FixedTrees

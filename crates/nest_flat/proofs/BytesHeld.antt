@@ -1,12 +1,12 @@
 -- How many bytes the slots of a builder of bytes or of texts hold: as many as lie before its last offset.
 use Rattle.std.specs.Prelude.{if◌then◌else◌}
-use Rattle.std.proofs.Common.{◌≡◌, ℕ, zero, suc, ◌+◌, ◌<◌, ◌≤◌, Bool, true, false, List, [], ◌∷◌, length, refl, ap, sym, ◌∙◌, arith}
+use Rattle.std.proofs.Common.{◌≡◌, ℕ, zero, suc, ◌+◌, ◌<◌, ◌≤◌, Bool, true, false, List, length, refl, ap, sym, ◌∙◌, arith}
 use Rattle.nest_memory.specs.Cut.{cut}
 use Rattle.nest_memory.specs.CutLaws.{length-cut}
 use Rattle.nest_memory.specs.Rising.{last_of}
 use Rattle.nest_model.specs.BuilderItem.{byte_count, bytes_held}
 use Rattle.nest_model.specs.Layout.{Layout}
-use Rattle.nest_model.specs.Meaning.{run, len, slot, slots_of}
+use Rattle.nest_model.specs.Meaning.{run, slot, slots_of}
 use Rattle.nest_model.specs.Part.{valid_at, begin, extent, rows}
 use Rattle.nest_model.specs.Reads.{extent-fits}
 use Rattle.nest_model.specs.Slot as slots
