@@ -9,11 +9,15 @@
 //! | A builder has no validity before its first null, its child neither | `rows::no_validity_before_the_first_null` |
 //! | A boxed builder of numbers takes 7 and a null, refuses a text and a number of another kind, and is frozen and filled again | `flat::a_boxed_builder_takes_its_kind`, `flat::a_boxed_builder_is_shared_and_cut` |
 //! | Items are pushed at their own type, one by one and by an iterator, also an empty one | `flat::items_of_its_type_are_pushed` |
+//! | Texts and bytes are pushed at their type and as plain values, found, cut, joined, frozen and boxed; another kind is refused | `texts`, `bytes` |
+//! | A list of texts is frozen to its offsets and its bytes | `text_lists::lists_of_texts_are_frozen` |
 //! | A full builder of nulls refuses one more; nulls are pushed, cut and frozen; no value is taken | `nulls` |
 //! | Byte strings of one size: all items or none, popped, read from both ends, joined; parts and room are checked | `fixed_size_binaries` |
 //! | Any one request for memory refused: no row is added, and a freeze empties | `lists::refused_rows_change_nothing` |
 #![tactic(auto)]
 
+#[cfg(test)]
+mod bytes;
 #[cfg(test)]
 mod fixed_size_binaries;
 #[cfg(test)]
@@ -26,3 +30,7 @@ mod lists;
 mod nulls;
 #[cfg(test)]
 mod rows;
+#[cfg(test)]
+mod text_lists;
+#[cfg(test)]
+mod texts;
