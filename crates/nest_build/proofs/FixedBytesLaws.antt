@@ -269,3 +269,9 @@ last-slot a n s e p h =
 pub copied-some : (x : Option (Bor (List ℕ))) → is_some (option_copied x) ≡ is_some x
 copied-some None = refl
 copied-some (Some y) = refl
+
+-- other bytes, as many
+pub other-bytes_fit : (t : TypeTree) (bs cs : List ℕ) (va : Validity) → length cs ≡ length bs → TopFits (fixed_size_binary t bs va) → TopFits (fixed_size_binary t cs va)
+other-bytes_fit t bs cs va e f =
+    let k = fixed_size_binary-facts t bs va f in
+    (tt, (k.typed, (k.sized, (ap (λ n. n % size_of t) e ∙ k.multiple, (subst (ValidityFits va) (ap (λ n. n / size_of t) (sym e)) k.bits, tt)))))

@@ -4,6 +4,7 @@ mod FixedLists
 mod FixedTrees
 mod FlatTrees
 mod Lists
+mod MadeBytes
 mod NullTrees
 mod Nulled
 mod Nulls

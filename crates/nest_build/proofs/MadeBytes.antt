@@ -1,0 +1,42 @@
+-- Byte strings of one size that are made of items, one after another.
+use Rattle.std.specs.Prelude.{Option, Some, None, is_some, not, ◌||◌}
+use Rattle.std.specs.Borrow.{Bor}
+use Rattle.std.specs.List.{All}
+use Rattle.std.specs.Option.{option_copied}
+use Rattle.std.proofs.Common.{◌≡◌, ℕ, List, [], ◌∷◌, ◌++◌, map, refl, ap, sym, subst, ◌∙◌}
+use Rattle.std.proofs.lemmas.List.Elements.{All-append}
+use Rattle.nest_memory.specs.TypeTree as types
+use Rattle.nest_memory.specs.TypeTree.{size_of}
+use Rattle.nest_model.specs.Layout.{Layout, layout_type}
+use Rattle.nest_model.specs.Meaning.{slots_of}
+use Rattle.nest_model.specs.Slot as slots
+use Rattle.nest_flat.specs.FlatParts.{optional}
+use Rattle.nest_flat.specs.Growth.{is_masked}
+use Rattle.nest_build.specs.FixedBytes.{IsMadeOf, IsOtherSize, has_null}
+use Rattle.nest_build.proofs.FixedTrees.{has_null-push, map-push}
+
+made-push : (size : ℕ) (xs : List (Option (List ℕ))) (x : Option (List ℕ)) (a b : Layout) → IsMadeOf size xs a → slots_of b ≡ slots_of a ++ optional slots.bytes x ∷ []
+    → is_masked b ≡ (is_masked a || not (is_some x)) → layout_type b ≡ layout_type a → ¬ IsOtherSize size x → IsMadeOf size (xs ++ x ∷ []) b
+made-push size xs x a b k s m t n = record {
+  typed = t ∙ k.typed;
+  spelled = s ∙ ap (λ ss. ss ++ optional slots.bytes x ∷ []) k.spelled ∙ sym (map-push (optional slots.bytes) xs x);
+  masked = m ∙ ap (λ c. c || not (is_some x)) k.masked ∙ sym (has_null-push xs x);
+  sized = All-append (λ y. ¬ IsOtherSize size y) xs (x ∷ []) k.sized (n, tt);
+}
+
+pub made-more : (size : ℕ) (xs : List (Option (Bor (List ℕ)))) (x : Option (Bor (List ℕ))) (a b : Layout) → IsMadeOf size (map option_copied xs) a → slots_of b ≡ slots_of a ++ optional slots.bytes (option_copied x) ∷ []
+    → is_masked b ≡ (is_masked a || not (is_some (option_copied x))) → layout_type b ≡ layout_type a → ¬ IsOtherSize size (option_copied x) → IsMadeOf size (map option_copied (xs ++ x ∷ [])) b
+made-more size xs x a b k s m t n =
+    subst (λ ys. IsMadeOf size ys b) (sym (map-push option_copied xs x)) (made-push size (map option_copied xs) (option_copied x) a b k s m t n)
+
+-- the type of what is made so far has its size
+pub made-size : (a b : Layout) (xs : List (Option (List ℕ))) → IsMadeOf (size_of (layout_type a)) xs b → size_of (layout_type b) ≡ size_of (layout_type a)
+made-size a b xs k = ap size_of k.typed
+
+-- the items that were taken are of the size
+pub taken-sized : (size : ℕ) (xs : List (Option (Bor (List ℕ)))) (a : Layout) → IsMadeOf size (map option_copied xs) a → All (λ x. ¬ IsOtherSize size (option_copied x)) xs
+taken-sized size xs a k = all-mapped xs k.sized
+  where
+    all-mapped : (ys : List (Option (Bor (List ℕ)))) → All (λ x. ¬ IsOtherSize size x) (map option_copied ys) → All (λ x. ¬ IsOtherSize size (option_copied x)) ys
+    all-mapped [] h = tt
+    all-mapped (y ∷ ys) h = (h.0, all-mapped ys h.1)
