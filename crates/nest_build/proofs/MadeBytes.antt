@@ -1,12 +1,15 @@
 -- Byte strings of one size that are made of items, one after another.
-use Rattle.std.specs.Prelude.{Option, Some, None, is_some, not, ◌||◌}
+use Rattle.std.specs.Prelude.{◌⊎◌, Option, Some, None, is_some, not, ◌||◌, alloc_error}
 use Rattle.std.specs.Borrow.{Bor}
 use Rattle.std.specs.List.{All}
 use Rattle.std.specs.Option.{option_copied}
-use Rattle.std.proofs.Common.{◌≡◌, ℕ, List, [], ◌∷◌, ◌++◌, map, refl, ap, sym, subst, ◌∙◌}
-use Rattle.std.proofs.lemmas.List.Elements.{All-append}
+use Rattle.std.proofs.Common.{◌≡◌, ℕ, List, [], ◌∷◌, ◌++◌, map, refl, ap, sym, subst, ◌∙◌, inl, inr}
+use Rattle.std.proofs.lemmas.List.Elements.{All-nil, All-cons, All-head, All-tail, All-push}
 use Rattle.nest_memory.specs.TypeTree as types
 use Rattle.nest_memory.specs.TypeTree.{size_of}
+use Rattle.nest_memory.specs.declared.error.Error.{Error}
+use Rattle.nest_memory.specs.declared.error.Error.TheVariants.{Memory, InvalidArgumentError}
+use Rattle.nest_memory.specs.declared.error.Argument.TheVariants.{ItemSize}
 use Rattle.nest_model.specs.Layout.{Layout, layout_type}
 use Rattle.nest_model.specs.Meaning.{slots_of}
 use Rattle.nest_model.specs.Slot as slots
@@ -21,7 +24,7 @@ made-push size xs x a b k s m t n = record {
   typed = t ∙ k.typed;
   spelled = s ∙ ap (λ ss. ss ++ optional slots.bytes x ∷ []) k.spelled ∙ sym (map-push (optional slots.bytes) xs x);
   masked = m ∙ ap (λ c. c || not (is_some x)) k.masked ∙ sym (has_null-push xs x);
-  sized = All-append (λ y. ¬ IsOtherSize size y) xs (x ∷ []) k.sized (n, tt);
+  sized = All-push (λ y. ¬ IsOtherSize size y) xs x k.sized n;
 }
 
 pub made-more : (size : ℕ) (xs : List (Option (Bor (List ℕ)))) (x : Option (Bor (List ℕ))) (a b : Layout) → IsMadeOf size (map option_copied xs) a → slots_of b ≡ slots_of a ++ optional slots.bytes (option_copied x) ∷ []
@@ -38,5 +41,11 @@ pub taken-sized : (size : ℕ) (xs : List (Option (Bor (List ℕ)))) (a : Layout
 taken-sized size xs a k = all-mapped xs k.sized
   where
     all-mapped : (ys : List (Option (Bor (List ℕ)))) → All (λ x. ¬ IsOtherSize size x) (map option_copied ys) → All (λ x. ¬ IsOtherSize size (option_copied x)) ys
-    all-mapped [] h = tt
-    all-mapped (y ∷ ys) h = (h.0, all-mapped ys h.1)
+    all-mapped [] h = All-nil (λ x. ¬ IsOtherSize size (option_copied x))
+    all-mapped (y ∷ ys) h =
+        All-cons (λ x. ¬ IsOtherSize size (option_copied x)) y ys (All-head (λ x. ¬ IsOtherSize size x) (option_copied y) (map option_copied ys) h)
+        (all-mapped ys (All-tail (λ x. ¬ IsOtherSize size x) (option_copied y) (map option_copied ys) h))
+
+pub refused-sized : (e : Error) (P : Type 0) → (e ≡ InvalidArgumentError ItemSize) ⊎ (e ≡ Memory alloc_error) → (e ≡ InvalidArgumentError ItemSize → P) → (e ≡ Memory alloc_error) ⊎ ((e ≡ InvalidArgumentError ItemSize) × P)
+refused-sized e P (inl s) f = inr (s, f s)
+refused-sized e P (inr m) f = inl m

@@ -115,7 +115,9 @@ fn push_items<'a, I: IntoIterator<Item = Option<&'a [u8]>>>(
         ⊎ ((e ≡ InvalidArgumentError ItemSize) × GivesOtherSize I.into_iter_gives I.IntoIter.next_gives (size_of (layout_type builder.old)) items)) }
 {
     for item in items {
-        push_item(builder, item)?;
+        if let Err(error) = push_item(builder, item) {
+            return Err(error);
+        }
     }
     Ok(())
 }
