@@ -1,10 +1,8 @@
 mod BytesTrees
-mod FixedBytesLaws
 mod FixedLists
 mod FixedTrees
 mod FlatTrees
 mod Lists
-mod MadeBytes
 mod NullTrees
 mod Nulled
 mod Nulls

@@ -77,7 +77,12 @@ fn texts_of_its_type_are_pushed(rt: HostRuntime) -> Result<(), Fail> {
     let mut texts = three_texts(rt.alloc())?;
     assert!(rt; TryPush::try_push(&mut texts, Some("é")) == Ok(()));
     assert!(rt; MutableArray::len(&texts) == 4);
-    assert!(rt; texts_are(texts.as_box(), [Some("ab"), None, Some(""), Some("é")].as_slice()));
+    assert!(rt;
+        texts_are(
+            texts.as_box(),
+            [Some("ab"), None, Some(""), Some("é")].as_slice()
+        )
+    );
     assert!(rt; MutableArray::is_empty(&texts));
     assert!(rt; MutableArray::validity(&texts).is_none());
     drop(texts);

@@ -39,11 +39,7 @@ impl<M: MutableArray> MutableFixedSizeListArray<M> {
     ///
     /// # Errors
     /// `ChildNotEmpty` where the child has rows, then `ZeroSize`; `Memory`.
-    pub fn new(
-        alloc: Global,
-        values: M,
-        size: usize,
-    ) -> Result<MutableFixedSizeListArray<M>, Error>
+    pub fn new(alloc: Global, values: M, size: usize) -> Result<MutableFixedSizeListArray<M>, Error>
         requires { IsWhole (M.model values) }
         ensures ok { IfOk result (λ b. ⟦<MutableFixedSizeListArray<M> as MutableArray>⟧.model b ≡ builders.fixed_size_list (types.fixed_size_list (default_field (builder_type (M.model values))) size) [] (M.model values)) }
         ensures passed { IfOk result (λ b. (builder_len (M.model values) ≡ 0) × (0 < size)) }
@@ -343,8 +339,7 @@ impl<M: MutableArray> MutableArray for MutableFixedSizeListArray<M> {
 }
 
 impl<M: TryExtend<Option<T>>, I: IntoIterator<Item = Option<T>>, T> TryPush<Option<I>>
-    for MutableFixedSizeListArray<M>
-{
+    for MutableFixedSizeListArray<M> {
     ghost can_push = { CanReadList I.into_iter_gives I.IntoIter.can_next I.IntoIter.remaining I.IntoIter.next_gives M.can_extend };
 
     ghost reads = { ReadsList I.into_iter_gives I.IntoIter.next_gives M.reads_each };
@@ -376,8 +371,7 @@ impl<M: TryExtend<Option<T>>, I: IntoIterator<Item = Option<T>>, T> TryPush<Opti
 }
 
 impl<M: TryExtend<Option<T>>, I: IntoIterator<Item = Option<T>>, T> TryExtend<Option<I>>
-    for MutableFixedSizeListArray<M>
-{
+    for MutableFixedSizeListArray<M> {
     ghost can_extend = { CanReadList I.into_iter_gives I.IntoIter.can_next I.IntoIter.remaining I.IntoIter.next_gives M.can_extend };
 
     ghost reads_each = { ReadsList I.into_iter_gives I.IntoIter.next_gives M.reads_each };

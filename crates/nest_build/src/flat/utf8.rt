@@ -7,19 +7,16 @@ ghost use Rattle.nest_build.specs.Words.{Accepted, Memory, Overflow, asked_item,
 use crate::flat::{FlatBuilder, TakesValue};
 use nest_array::AnyArray;
 use nest_array::array::Variant;
+use nest_flat::plain::Plain;
 use nest_flat::utf8::Utf8Array;
 use nest_flat::utf8::mutable::MutableUtf8Array;
-use nest_flat::plain::Plain;
 use nest_memory::bitmap::mutable::MutableBitmap;
 use nest_memory::datatypes::DataType;
 use nest_memory::error::{Argument, Error};
 use nest_memory::offset::Offset;
 
 /// Adds a text, or a null. `Overflow` where no offset can stand for its end.
-fn push_text<O: Offset>(
-    values: &mut MutableUtf8Array<O>,
-    item: Option<&str>,
-) -> Result<(), Error>
+fn push_text<O: Offset>(values: &mut MutableUtf8Array<O>, item: Option<&str>) -> Result<(), Error>
     ensures accepted { OnOk result (Accepted (asked_item (option_map items.text (option_copied item.entry))) (flat_tree values.old) (flat_tree values.new)) }
     ensures unrefused { OnOk result (asked_refusal (option_map items.text (option_copied item.entry)) (flat_tree values.old) ≡ None) }
     ensures err { OnErr result (values.new ≡ values.old) }

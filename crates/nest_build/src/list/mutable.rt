@@ -403,8 +403,7 @@ impl<O: ListWidth, M: MutableArray> MutableArray for MutableListArray<O, M> {
 }
 
 impl<O: ListWidth, M: TryExtend<Option<T>>, I: IntoIterator<Item = Option<T>>, T> TryPush<Option<I>>
-    for MutableListArray<O, M>
-{
+    for MutableListArray<O, M> {
     ghost can_push = { CanReadList I.into_iter_gives I.IntoIter.can_next I.IntoIter.remaining I.IntoIter.next_gives M.can_extend };
 
     ghost reads = { ReadsList I.into_iter_gives I.IntoIter.next_gives M.reads_each };
@@ -430,9 +429,9 @@ impl<O: ListWidth, M: TryExtend<Option<T>>, I: IntoIterator<Item = Option<T>>, T
     }
 }
 
-impl<O: ListWidth, M: TryExtend<Option<T>>, I: IntoIterator<Item = Option<T>>, T>
-    TryExtend<Option<I>> for MutableListArray<O, M>
-{
+impl<O: ListWidth, M: TryExtend<Option<T>>, I: IntoIterator<Item = Option<T>>, T> TryExtend<
+    Option<I>,
+> for MutableListArray<O, M> {
     ghost can_extend = { CanReadList I.into_iter_gives I.IntoIter.can_next I.IntoIter.remaining I.IntoIter.next_gives M.can_extend };
 
     ghost reads_each = { ReadsList I.into_iter_gives I.IntoIter.next_gives M.reads_each };

@@ -202,8 +202,13 @@ impl<O: Offset> ListRows<O> {
             return Err(refusal);
         }
         self.offsets.known();
-        if let Err(error) = validity::join(self.alloc, &mut self.validity, len, &other.validity, more)
-        {
+        if let Err(error) = validity::join(
+            self.alloc,
+            &mut self.validity,
+            len,
+            &other.validity,
+            more,
+        ) {
             self.offsets.truncate(len);
             return Err(error);
         }

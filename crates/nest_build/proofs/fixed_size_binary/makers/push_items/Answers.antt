@@ -3,8 +3,8 @@ use Rattle.std.proofs.iter.Next.{Yields-more}
 use Rattle.std.specs.Option.{option_copied}
 use Rattle.nest_memory.specs.TypeTree.{size_of}
 use Rattle.nest_model.specs.Layout.{layout_type}
-use Rattle.nest_build.specs.FixedBytes.{IsOtherSize}
-use Rattle.nest_build.proofs.MadeBytes.{made-more, made-size, refused-sized, taken-sized}
+use Rattle.nest_array.specs.FixedBytes.{IsOtherSize}
+use Rattle.nest_array.specs.MadeBytes.{made-more, made-size, refused-sized, taken-sized}
 use Rattle.nest_build.proofs.fixed_size_binary.makers.push_items.Goals as goal
 
 pub loop-item-preserved : goal.loop-item-preserved

@@ -1,7 +1,7 @@
 use Rattle.std.proofs.Common.{sym, ◌∙◌}
 use Rattle.std.specs.List.{length_refill}
 use Rattle.nest_memory.specs.TypeOf.{type_of}
-use Rattle.nest_build.proofs.FixedBytesLaws.{other-bytes_fit}
+use Rattle.nest_array.specs.FixedBytesLaws.{other-bytes_fit}
 use Rattle.nest_build.proofs.fixed_size_binary.mutable.MutableFixedSizeBinaryArray.values_mut_slice.Goals as goal
 
 pub invariant_of-self-lent : goal.invariant_of-self-lent

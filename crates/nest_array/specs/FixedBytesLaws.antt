@@ -26,7 +26,7 @@ use Rattle.nest_model.specs.Array.{TopFits}
 use Rattle.nest_model.specs.Facts.{IsFixedSizeBinary, fixed_size_binary-facts}
 use Rattle.nest_flat.specs.FlatParts.{optional}
 use Rattle.nest_flat.specs.Growth.{pushed_validity, joined_validity}
-use Rattle.nest_build.specs.FixedBytes.{sized_bytes, pushed_bytes, joined_bytes, IsOtherSize}
+use Rattle.nest_array.specs.FixedBytes.{sized_bytes, pushed_bytes, joined_bytes, IsOtherSize}
 
 -- bits of both
 fits-joined : (va vb : Validity) (n m : ℕ) → ValidityFits va n → ValidityFits vb m → ValidityFits (joined_validity va n vb m) (n + m)

@@ -3,7 +3,8 @@ use Rattle.std.specs.Prelude.{◌⊎◌, Option, Some, None, is_some, not, ◌||
 use Rattle.std.specs.Borrow.{Bor}
 use Rattle.std.specs.List.{All}
 use Rattle.std.specs.Option.{option_copied}
-use Rattle.std.proofs.Common.{◌≡◌, ℕ, List, [], ◌∷◌, ◌++◌, map, refl, ap, sym, subst, ◌∙◌, inl, inr}
+use Rattle.std.proofs.Common.{◌≡◌, ℕ, suc, ◌+◌, ◌<◌, List, [], ◌∷◌, ◌++◌, length, map, take, get_or, refl, ap, sym, subst, ◌∙◌, inl, inr, arith}
+use Rattle.std.proofs.Math.Seq.{take-suc}
 use Rattle.std.proofs.lemmas.List.Elements.{All-nil, All-cons, All-head, All-tail, All-push}
 use Rattle.nest_memory.specs.TypeTree as types
 use Rattle.nest_memory.specs.TypeTree.{size_of}
@@ -15,10 +16,25 @@ use Rattle.nest_model.specs.Meaning.{slots_of}
 use Rattle.nest_model.specs.Slot as slots
 use Rattle.nest_flat.specs.FlatParts.{optional}
 use Rattle.nest_flat.specs.Growth.{is_masked}
-use Rattle.nest_build.specs.FixedBytes.{IsMadeOf, IsOtherSize, has_null}
-use Rattle.nest_build.proofs.FixedTrees.{has_null-push, map-push}
+use Rattle.nest_array.specs.FixedBytes.{IsMadeOf, IsOtherSize, has_null}
 
-made-push : (size : ℕ) (xs : List (Option (List ℕ))) (x : Option (List ℕ)) (a b : Layout) → IsMadeOf size xs a → slots_of b ≡ slots_of a ++ optional slots.bytes x ∷ []
+-- one item more
+pub taken-more : {A : Type 0} (xs : List A) (i : ℕ) (x : A) → i < length xs → x ≡ get_or xs i x → take (i + 1) xs ≡ take i xs ++ x ∷ []
+taken-more xs i x h e =
+    let k : i + 1 ≡ suc i = omega arith in
+    ap (λ n. take n xs) k ∙ take-suc xs i x h ∙ ap (λ y. take i xs ++ y ∷ []) (sym e)
+
+pub map-push : {A B : Type 0} (f : A → B) (xs : List A) (x : A) → map f (xs ++ x ∷ []) ≡ map f xs ++ f x ∷ []
+map-push f [] x = refl
+map-push f (y ∷ xs) x = ap (λ zs. f y ∷ zs) (map-push f xs x)
+
+pub has_null-push : {A : Type 0} (xs : List (Option A)) (x : Option A) → has_null (xs ++ x ∷ []) ≡ (has_null xs || not (is_some x))
+has_null-push [] None = refl
+has_null-push [] (Some y) = refl
+has_null-push (None ∷ xs) x = refl
+has_null-push (Some y ∷ xs) x = has_null-push xs x
+
+pub made-push : (size : ℕ) (xs : List (Option (List ℕ))) (x : Option (List ℕ)) (a b : Layout) → IsMadeOf size xs a → slots_of b ≡ slots_of a ++ optional slots.bytes x ∷ []
     → is_masked b ≡ (is_masked a || not (is_some x)) → layout_type b ≡ layout_type a → ¬ IsOtherSize size x → IsMadeOf size (xs ++ x ∷ []) b
 made-push size xs x a b k s m t n = record {
   typed = t ∙ k.typed;
