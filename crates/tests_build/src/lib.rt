@@ -13,6 +13,7 @@
 //! | A list of texts is frozen to its offsets and its bytes | `text_lists::lists_of_texts_are_frozen` |
 //! | A full builder of nulls refuses one more; nulls are pushed, cut and frozen; no value is taken | `nulls` |
 //! | Byte strings of one size: all items or none, popped, read from both ends, joined; parts and room are checked | `fixed_size_binaries` |
+//! | Arrays and builders of items of one size: a validity exactly where one is null, size 0 and items of another size refused; bytes written over | `makers` |
 //! | Any one request for memory refused: no row is added, and a freeze empties | `lists::refused_rows_change_nothing` |
 #![tactic(auto)]
 
@@ -26,6 +27,8 @@ mod fixed_size_lists;
 mod flat;
 #[cfg(test)]
 mod lists;
+#[cfg(test)]
+mod makers;
 #[cfg(test)]
 mod nulls;
 #[cfg(test)]
