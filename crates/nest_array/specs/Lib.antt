@@ -1,6 +1,9 @@
 pub mod Falls
+pub mod FixedBytes
+pub mod FixedBytesLaws
 pub mod Keys
 pub mod Kinds
+pub mod MadeBytes
 pub mod Positions
 pub mod Refusals
 pub mod RowSlots

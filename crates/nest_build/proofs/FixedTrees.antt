@@ -30,10 +30,10 @@ use Rattle.nest_model.specs.BuilderAppendLaws.{flat_took, flat_took_null}
 use Rattle.nest_model.specs.BuilderRefusals.{asked_item, asked_refusal}
 use Rattle.nest_model.specs.BuilderRefusalLaws.{within, same_number, other_number}
 use Rattle.nest_model.specs.BuilderRowChecks.{join_checks}
-use Rattle.nest_build.specs.FixedBytes.{IsOtherSize, has_null}
+use Rattle.nest_array.specs.FixedBytes.{IsOtherSize, has_null}
 use Rattle.nest_build.specs.FlatTree.{flat_tree}
 use Rattle.nest_build.proofs.FlatTrees.{flat-bits, value-holds}
-use Rattle.nest_build.proofs.FixedBytesLaws.{sized-equal}
+use Rattle.nest_array.specs.FixedBytesLaws.{sized-equal}
 
 pub fixed-physical : (a : Layout) → TopFits a → a ≡ fixed_size_binary (layout_type a) (bytes_of a) (validity_of a) → physical_type (layout_type a) ≡ physical.FixedSizeBinary
 fixed-physical a f e = (subst TopFits e f).1.0
@@ -98,19 +98,3 @@ fixed-no_nulls a e h = sym (null_count-none a (ap (λ b. is_null_at b 0) e ∙ a
 
 pub fixed-nulls : (a : Layout) (bits : List Bool) → TopFits a → a ≡ fixed_size_binary (layout_type a) (bytes_of a) (validity_of a) → Some bits ≡ validity_of a → count_by not bits ≡ null_count a
 fixed-nulls a bits f e h = sym (null_count-bits a bits (sym h) (subst (λ v. ValidityFits v (len a)) (sym h) (flat-bits a f (subst NullsByValidity (sym e) tt))))
-
--- one item more
-pub taken-more : {A : Type 0} (xs : List A) (i : ℕ) (x : A) → i < length xs → x ≡ get_or xs i x → take (i + 1) xs ≡ take i xs ++ x ∷ []
-taken-more xs i x h e =
-    let k : i + 1 ≡ suc i = omega arith in
-    ap (λ n. take n xs) k ∙ take-suc xs i x h ∙ ap (λ y. take i xs ++ y ∷ []) (sym e)
-
-pub map-push : {A B : Type 0} (f : A → B) (xs : List A) (x : A) → map f (xs ++ x ∷ []) ≡ map f xs ++ f x ∷ []
-map-push f [] x = refl
-map-push f (y ∷ xs) x = ap (λ zs. f y ∷ zs) (map-push f xs x)
-
-pub has_null-push : {A : Type 0} (xs : List (Option A)) (x : Option A) → has_null (xs ++ x ∷ []) ≡ (has_null xs || not (is_some x))
-has_null-push [] None = refl
-has_null-push [] (Some y) = refl
-has_null-push (None ∷ xs) x = refl
-has_null-push (Some y ∷ xs) x = has_null-push xs x

@@ -1,4 +1,4 @@
-mod FixedBytesLaws
+mod BytesTrees
 mod FixedLists
 mod FixedTrees
 mod FlatTrees

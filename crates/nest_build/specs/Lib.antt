@@ -1,5 +1,4 @@
 pub mod Children
-pub mod FixedBytes
 pub mod FlatTree
 pub mod Lists
 pub mod NumberRows

@@ -1,14 +1,14 @@
 -- The words of this crate's contracts, by one name.
+pub use Rattle.nest_array.specs.FixedBytes.{GivesOtherSize, IsMadeOf, IsOtherSize, has_null, joined_bytes, pushed_bytes, sized_bytes, with_bytes}
 pub use Rattle.nest_array.specs.Seen.{layout_of}
 pub use Rattle.nest_array.specs.Types.{default_field, default_list_type}
 pub use Rattle.nest_build.specs.Children.{IsListBy, ListCovers, list_child}
-pub use Rattle.nest_build.specs.FixedBytes.{IsOtherSize, has_null, joined_bytes, pushed_bytes, sized_bytes}
 pub use Rattle.nest_build.specs.FlatTree.{flat_tree}
 pub use Rattle.nest_build.specs.Rows.{Spells, bits_told, rows_told, told_rows_checks}
 pub use Rattle.nest_build.specs.Slices.{row_item, row_len}
 pub use Rattle.nest_build.specs.Told.{IsOfOtherKind, TellsNulls, own_slot, reserve_passes}
 pub use Rattle.nest_flat.specs.FlatParts.{optional}
-pub use Rattle.nest_flat.specs.Growth.{is_masked}
+pub use Rattle.nest_flat.specs.Growth.{CanDrain, is_masked}
 pub use Rattle.nest_flat.specs.Plain.{plain_value, plain_values}
 pub use Rattle.nest_memory.specs.Cut.{cut}
 pub use Rattle.nest_memory.specs.Physical.{physical_type}
@@ -29,7 +29,7 @@ pub use Rattle.nest_model.specs.BuilderReading.{Read, ReadsList, ReadsValue, Ref
 pub use Rattle.nest_model.specs.BuilderRefusals.{asked_item, asked_refusal, item_refusal, nulls_pass, plain_refusal}
 pub use Rattle.nest_model.specs.BuilderRow.{RisesFrom, end_from, told_row}
 pub use Rattle.nest_model.specs.BuilderRowChecks.{HasWholeChildren, join_checks, lengths_checks, row_checks}
-pub use Rattle.nest_model.specs.BuilderSpells.{CanRead, CanReadList, value_item}
+pub use Rattle.nest_model.specs.BuilderSpells.{CanRead, CanReadList, Gives, value_item}
 pub use Rattle.nest_model.specs.BuilderTree.{BuilderTree, IsPast, builder_len, builder_type}
 pub use Rattle.nest_model.specs.BuilderWhole.{IsWhole, cut_builder, emptied}
 pub use Rattle.nest_model.specs.Checks.{FailFirst, Pass, largest_length}

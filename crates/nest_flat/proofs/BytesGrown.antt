@@ -25,7 +25,7 @@ use Rattle.nest_model.specs.Array.{AreOffsets, TopFits}
 use Rattle.nest_model.specs.CutLaws.{slots-cut}
 use Rattle.nest_flat.specs.FlatParts.{optional}
 use Rattle.nest_flat.specs.Growth.{pushed_validity, joined_validity, first_slots, taken_back, is_masked, Grew}
-use Rattle.nest_flat.specs.BytesGrowth.{Spans, AreSpans, spans, item_bytes, pushed_span, joined_spans, first_spans, bare_spans, spans_of, with_spans}
+use Rattle.nest_flat.specs.BytesGrowth.{Spans, AreSpans, NullsAreBare, spans, item_bytes, pushed_span, joined_spans, first_spans, bare_spans, spans_of, with_spans}
 use Rattle.nest_flat.proofs.Grown.{fits-joined, valid-before, valid-after, slots-joined, pushed-joined, validity-back, masked-joined}
 
 -- the offsets of the slots of both
@@ -65,6 +65,21 @@ cut-left bs cs o n h =
 cut-right : (bs cs : List ℕ) (o n : ℕ) → cut (bs ++ cs) (length bs + o) n ≡ cut cs o n
 cut-right bs cs o n = ap (take n) (sym (drop-drop o (length bs) (bs ++ cs)) ∙ ap (drop o) (drop-append_seam bs cs))
 
+-- how many bytes each slot of both has
+before-extent : (os ps : List ℕ) (i : ℕ) → i < rows os → extent (both os ps) i ≡ extent os i
+before-extent os ps i k =
+    let more = map (λ (e : ℕ). last_of os + e) (drop 1 ps) in
+    let a = get_or_append_left os more 0 i (omega arith) in
+    let b = get_or_append_left os more 0 (i + 1) (omega arith) in
+    λ j. b j - a j
+
+after-extent : (os ps : List ℕ) (i : ℕ) → 0 < length os → begin ps 0 ≡ 0 → i < rows ps → extent (both os ps) (rows os + i) ≡ extent ps i
+after-extent os ps i h z k =
+    let a = begin-after os ps i h z (omega arith) in
+    let p : rows os + (i + 1) ≡ rows os + i + 1 = omega arith in
+    let b = ap (λ q. get_or (both os ps) q 0) (sym p) ∙ begin-after os ps (i + 1) h z (omega arith) in
+    omega arith
+
 -- the bytes of the slots of both
 before-bytes : (os ps bs cs : List ℕ) (i : ℕ) → AreOffsets os → last_of os ≡ length bs → i < rows os
     → cut (bs ++ cs) (begin (both os ps) i) (extent (both os ps) i) ≡ cut bs (begin os i) (extent os i)
@@ -78,11 +93,8 @@ before-bytes os ps bs cs i h l k =
 after-bytes : (os ps bs cs : List ℕ) (i : ℕ) → 0 < length os → last_of os ≡ length bs → begin ps 0 ≡ 0 → i < rows ps
     → cut (bs ++ cs) (begin (both os ps) (rows os + i)) (extent (both os ps) (rows os + i)) ≡ cut cs (begin ps i) (extent ps i)
 after-bytes os ps bs cs i h l z k =
-    let a = begin-after os ps i h z (omega arith) in
-    let p : rows os + (i + 1) ≡ rows os + i + 1 = omega arith in
-    let b = ap (λ q. get_or (both os ps) q 0) (sym p) ∙ begin-after os ps (i + 1) h z (omega arith) in
-    let o : begin (both os ps) (rows os + i) ≡ length bs + begin ps i = a ∙ ap (λ q. q + begin ps i) l in
-    let x : extent (both os ps) (rows os + i) ≡ extent ps i = omega arith in
+    let o : begin (both os ps) (rows os + i) ≡ length bs + begin ps i = begin-after os ps i h z (omega arith) ∙ ap (λ q. q + begin ps i) l in
+    let x = after-extent os ps i h z k in
     (λ j. cut (bs ++ cs) (o j) (x j)) ∙ cut-right bs cs (begin ps i) (extent ps i)
 
 -- how arrays of bytes and of texts are made of their parts
@@ -145,6 +157,17 @@ each-joined s r h k t u i j =
     (λ q w. subst IsUtf8 (sym (after-bytes s.offsets r.offsets s.bytes r.bytes q h.rising.0 h.ends k.first w)) (u q w))
     i (omega arith)
 
+-- no byte lies under a null of both
+bare-joined : (s r : Spans) → AreSpans s → AreSpans r → NullsAreBare (joined_spans s r).validity (joined_spans s r).offsets
+bare-joined s r h k i j v =
+    let n = rows s.offsets in
+    let m = rows r.offsets in
+    let e = rows-both s.offsets r.offsets h.rising.0 in
+    places (λ q. valid_at (joined_validity s.validity n r.validity m) q ≡ false → extent (both s.offsets r.offsets) q ≡ 0) n m
+    (λ q w f. before-extent s.offsets r.offsets q w ∙ h.bare q w (sym (valid-before s.validity r.validity n m q h.fits w) ∙ f))
+    (λ q w f. after-extent s.offsets r.offsets q h.rising.0 k.first w ∙ k.bare q w (sym (valid-after s.validity r.validity n m q h.fits w) ∙ f))
+    i (omega arith) v
+
 -- one slot
 abbrev one : Option (List ℕ) → Spans
 one item = record { offsets = 0 ∷ (length (item_bytes item) ∷ []); bytes = item_bytes item; validity = if is_some item then None else Some (false ∷ []) }
@@ -160,8 +183,15 @@ one-rising n = (omega arith, rises)
     rises (suc (suc i)) j a b = absurd (omega arith)
 
 one-spans : (item : Option (List ℕ)) → AreSpans (one item)
-one-spans None = record { rising = one-rising 0; first = refl; ends = refl; fits = refl }
-one-spans (Some xs) = record { rising = one-rising (length xs); first = refl; ends = refl; fits = tt }
+one-spans None = record { rising = one-rising 0; first = refl; ends = refl; fits = refl; bare = no_bytes }
+  where
+    no_bytes : NullsAreBare (Some (false ∷ [])) (0 ∷ (0 ∷ []))
+    no_bytes zero j v = refl
+    no_bytes (suc i) j v = absurd (omega arith)
+one-spans (Some xs) = record { rising = one-rising (length xs); first = refl; ends = refl; fits = tt; bare = λ i j v. absurd (all_valid v) }
+  where
+    all_valid : true ≡ false → ⊥
+    all_valid e = cc
 
 -- a pushed slot is one slot behind the others
 pushed-one : (s : Spans) (item : Option (List ℕ)) → pushed_span item s ≡ joined_spans s (one item)
@@ -208,36 +238,54 @@ each-first s n h k t i j =
     let b = get_or-take (n + 1) s.offsets (i + 1) 0 (omega arith) in
     subst IsUtf8 (sym (first-bytes s.offsets s.bytes n i h.rising k m ∙ (λ w. cut s.bytes (a w) (b w - a w)))) (t i (omega arith))
 
+valid-first : (va : Validity) (n i : ℕ) → i < n → valid_at (cut_validity va 0 n) i ≡ valid_at va i
+valid-first None n i h = refl
+valid-first (Some bits) n i h = get_or-take n bits i true h
+
+bare-first : (s : Spans) (n : ℕ) → AreSpans s → n ≤ rows s.offsets → NullsAreBare (first_spans n s).validity (first_spans n s).offsets
+bare-first s n h k i j v =
+    let r = rows-first s.offsets n h.rising.0 k in
+    let m : i < n = omega arith in
+    let a = get_or-take (n + 1) s.offsets i 0 (omega arith) in
+    let b = get_or-take (n + 1) s.offsets (i + 1) 0 (omega arith) in
+    let x : extent (take (n + 1) s.offsets) i ≡ extent s.offsets i = λ w. b w - a w in
+    x ∙ h.bare i (omega arith) (sym (valid-first s.validity n i m) ∙ v)
+
+-- without a validity there is no null
+pub bare-none : (os : List ℕ) → NullsAreBare None os
+bare-none os i j v = cc
+
 -- ---- what the calls leave
-pub spans-known : (os bs : List ℕ) (va : Validity) → 0 < length os → NeverFalls os → slice_index os 0 ≡ 0 → (last_of os ≡ length bs) × ValidityFits va (rows os)
-    → AreSpans (record { offsets = os; bytes = bs; validity = va })
-spans-known os bs va z h f w = record { rising = (z, h); first = f; ends = w.0; fits = w.1 }
+abbrev pub Whole : Spans → Type 0
+Whole s = (last_of s.offsets ≡ length s.bytes) × ValidityFits s.validity (rows s.offsets) × NullsAreBare s.validity s.offsets
 
-abbrev Whole : Spans → Type 0
-Whole s = (last_of s.offsets ≡ length s.bytes) × ValidityFits s.validity (rows s.offsets)
+pub spans-known : (os bs : List ℕ) (va : Validity) → 0 < length os → NeverFalls os → slice_index os 0 ≡ 0 → Whole (spans os bs va) → AreSpans (record { offsets = os; bytes = bs; validity = va })
+spans-known os bs va z h f w = record { rising = (z, h); first = f; ends = w.0; fits = w.1; bare = w.2 }
 
-pub whole-at : (s r : Spans) → s ≡ r → (last_of r.offsets ≡ length r.bytes) × ValidityFits r.validity (rows r.offsets) → (last_of s.offsets ≡ length s.bytes) × ValidityFits s.validity (rows s.offsets)
+pub whole-at : (s r : Spans) → s ≡ r → Whole r → Whole s
 whole-at s r e w = subst (λ (q : Spans). Whole q) (sym e) w
 
-pub joined-whole : (s r : Spans) → AreSpans s → AreSpans r → (last_of (joined_spans s r).offsets ≡ length (joined_spans s r).bytes) × ValidityFits (joined_spans s r).validity (rows (joined_spans s r).offsets)
+pub joined-whole : (s r : Spans) → AreSpans s → AreSpans r → Whole (joined_spans s r)
 joined-whole s r h k =
     let l = last-both s.offsets r.offsets h.rising.0 k.rising.0 k.first in
     let e = h.ends in
     let f = k.ends in (
       omega (arith, l, length-append s.bytes r.bytes),
       fits-joined s.validity r.validity (rows s.offsets) (rows r.offsets) (rows (joined_spans s r).offsets) h.fits k.fits (rows-both s.offsets r.offsets h.rising.0),
+      bare-joined s r h k,
     )
 
-pub pushed-whole : (s : Spans) (item : Option (List ℕ)) → AreSpans s → (last_of (pushed_span item s).offsets ≡ length (pushed_span item s).bytes) × ValidityFits (pushed_span item s).validity (rows (pushed_span item s).offsets)
+pub pushed-whole : (s : Spans) (item : Option (List ℕ)) → AreSpans s → Whole (pushed_span item s)
 pushed-whole s item h = whole-at (pushed_span item s) (joined_spans s (one item)) (pushed-one s item) (joined-whole s (one item) h (one-spans item))
 
-pub first-whole : (s : Spans) (n : ℕ) → AreSpans s → n ≤ rows s.offsets → (last_of (first_spans n s).offsets ≡ length (first_spans n s).bytes) × ValidityFits (first_spans n s).validity (rows (first_spans n s).offsets)
+pub first-whole : (s : Spans) (n : ℕ) → AreSpans s → n ≤ rows s.offsets → Whole (first_spans n s)
 first-whole s n h k =
     let z = h.rising.0 in
     let a = h.rising.1 n (length s.offsets - 1) (omega arith) (omega arith) in
     let e = h.ends in (
       last-first s.offsets n z k ∙ sym (length-take-le (begin s.offsets n) s.bytes (omega arith)),
       subst (ValidityFits (cut_validity s.validity 0 n)) (sym (rows-first s.offsets n z k)) (fits-first s.validity (rows s.offsets) n h.fits k),
+      bare-first s n h k,
     )
   where
     fits-first : (va : Validity) (m n : ℕ) → ValidityFits va m → n ≤ m → ValidityFits (cut_validity va 0 n) n
@@ -271,9 +319,9 @@ parts-joined s r os bs cs va vb n m e f g v x i j =
     λ w. spans (e w) (b w) ((v ∙ (λ q. joined_validity s.validity (i q) (x q) (j q))) w)
 
 pub taken-whole : (s : Spans) (n : ℕ) (m : Bool) → AreSpans s → n ≤ rows s.offsets
-    → (last_of (if m then first_spans n s else bare_spans (first_spans n s)).offsets ≡ length (if m then first_spans n s else bare_spans (first_spans n s)).bytes) × ValidityFits (if m then first_spans n s else bare_spans (first_spans n s)).validity (rows (if m then first_spans n s else bare_spans (first_spans n s)).offsets)
+    → Whole (if m then first_spans n s else bare_spans (first_spans n s))
 taken-whole s n true h k = first-whole s n h k
-taken-whole s n false h k = ((first-whole s n h k).0, tt)
+taken-whole s n false h k = ((first-whole s n h k).0, tt, bare-none (take (n + 1) s.offsets))
 
 -- a call that lacks memory alone never answers that a number is past its type
 pub memory-alone : {T U : Type 0} (r : Result T Error) (x : U) (P : Type 0) → IsOkUnless r (Memory alloc_error) → (P → IsErrOf {T = U} {E = Error} (Ok x) Overflow) → (IsErrOf r Overflow → P) × (P → IsErrOf r Overflow)

@@ -1,4 +1,5 @@
 pub mod BytesGrown
+pub mod BytesHeld
 pub mod Cutting
 pub mod Extending
 pub mod Grown

@@ -1,11 +1,11 @@
 -- Builders of bytes and of texts: the parts of their slots, and what each call makes of them.
-use Rattle.std.specs.Prelude.{◌≡◌, nat_lt, ℕ, ◌+◌, List, [], ◌∷◌, ◌++◌, map, take, drop, length, Option, Some, None, is_some, Bool, if◌then◌else◌}
+use Rattle.std.specs.Prelude.{◌≡◌, ◌<◌, nat_lt, ℕ, ◌+◌, List, [], ◌∷◌, ◌++◌, map, take, drop, length, Option, Some, None, is_some, Bool, false, if◌then◌else◌}
 use Rattle.nest_memory.specs.declared.error.Error.{Error}
 use Rattle.nest_memory.specs.declared.error.Error.TheVariants.{Overflow}
 use Rattle.nest_memory.specs.TypeTree as types
 use Rattle.nest_memory.specs.TypeTree.{TypeTree}
 use Rattle.nest_memory.specs.Rising.{last_of}
-use Rattle.nest_model.specs.Part.{Validity, rows, begin, cut_validity}
+use Rattle.nest_model.specs.Part.{Validity, rows, begin, extent, valid_at, cut_validity}
 use Rattle.nest_model.specs.Checks.{refuse_if}
 use Rattle.nest_model.specs.Fits.{ValidityFits}
 use Rattle.nest_model.specs.Array.{AreOffsets}
@@ -26,12 +26,17 @@ spans os bs va = record { offsets = os; bytes = bs; validity = va }
 abbrev pub no_spans : Spans
 no_spans = spans (0 ∷ []) [] None
 
--- what holds of a builder's: the first slot begins with the bytes, and the last ends with them
+-- no byte lies under a null
+abbrev pub NullsAreBare : Validity → List ℕ → Type 0
+NullsAreBare va os = (i : ℕ) → i < rows os → valid_at va i ≡ false → extent os i ≡ 0
+
+-- what holds of a builder's: the first slot begins with the bytes, the last ends with them, and a null has none
 pub record AreSpans (s : Spans) : Type 0 where
   pub rising : AreOffsets s.offsets
   pub first : begin s.offsets 0 ≡ 0
   pub ends : last_of s.offsets ≡ length s.bytes
   pub fits : ValidityFits s.validity (rows s.offsets)
+  pub bare : NullsAreBare s.validity s.offsets
 
 -- the bytes of an item: a null has none
 abbrev pub item_bytes : Option (List ℕ) → List ℕ

@@ -9,6 +9,8 @@
 //! | A builder has no validity before its first null, its child neither | `rows::no_validity_before_the_first_null` |
 //! | A boxed builder of numbers takes 7 and a null, refuses a text and a number of another kind, and is frozen and filled again | `flat::a_boxed_builder_takes_its_kind`, `flat::a_boxed_builder_is_shared_and_cut` |
 //! | Items are pushed at their own type, one by one and by an iterator, also an empty one | `flat::items_of_its_type_are_pushed` |
+//! | Texts and bytes are pushed at their type and as plain values, found, cut, joined, frozen and boxed; another kind is refused | `texts`, `bytes` |
+//! | A list of texts is frozen to its offsets and its bytes | `text_lists::lists_of_texts_are_frozen` |
 //! | A full builder of nulls refuses one more; nulls are pushed, cut and frozen; no value is taken | `nulls` |
 //! | Byte strings of one size: all items or none, popped, read from both ends, joined; parts and room are checked | `fixed_size_binaries` |
 //! | A list of pairs refuses a row with a pair of another size and takes it back; accepted ones are frozen | `fixed_size_lists::a_refused_pair_takes_its_row_back`, `fixed_size_lists::all_rows_are_taken_or_none` |
@@ -18,9 +20,12 @@
 //! | Each item that is accepted is kept, the others are left | `fixed_size_lists::accepted_rows_are_kept_and_others_left` |
 //! | Another builder's rows are joined at each level; of another type none is | `lists::rows_of_another_builder_are_joined`, `lists::rows_of_another_type_are_not_joined` |
 //! | A row ends at 2^31 - 1 items and none past it; rows are cut to all and to none | `nested` |
+//! | Arrays and builders of items of one size: a validity exactly where one is null, size 0 and items of another size refused; bytes written over | `makers` |
 //! | Any one request for memory refused: no row is added at any level, and a freeze empties | `lists::refused_rows_change_nothing`, `nested::all_levels_take_three_rows_or_none`, `nested::a_boxed_child_keeps_what_it_took` |
 #![tactic(auto)]
 
+#[cfg(test)]
+mod bytes;
 #[cfg(test)]
 mod fixed_size_binaries;
 #[cfg(test)]
@@ -30,8 +35,14 @@ mod flat;
 #[cfg(test)]
 mod lists;
 #[cfg(test)]
+mod makers;
+#[cfg(test)]
 mod nested;
 #[cfg(test)]
 mod nulls;
 #[cfg(test)]
 mod rows;
+#[cfg(test)]
+mod text_lists;
+#[cfg(test)]
+mod texts;

@@ -306,7 +306,9 @@ fn a_boxed_child_takes_the_items(rt: HostRuntime) -> Result<(), Fail> {
 }
 
 /// Rows of a builder over another boxed one, also after a freeze.
-fn lists_of_boxed_lists(alloc: Global) -> Result<MutableListArray<i32, Box<dyn MutableArray>>, Error> {
+fn lists_of_boxed_lists(
+    alloc: Global,
+) -> Result<MutableListArray<i32, Box<dyn MutableArray>>, Error> {
     let inner = boxed_lists(alloc)?;
     let child: Box<dyn MutableArray> = match Box::new(alloc, inner) {
         Ok(child) => child,
@@ -347,8 +349,10 @@ fn a_list_over_a_boxed_list_is_filled_again(rt: HostRuntime) -> Result<(), Fail>
 #[test]
 fn a_child_of_another_type_makes_no_row(rt: HostRuntime) -> Result<(), Fail> {
     let mut rows = boxed_lists(rt.alloc())?;
-    let mut other: Box<dyn MutableArray> =
-        Box::new(rt.alloc(), MutablePrimitiveArray::<i32>::new(rt.alloc()))?;
+    let mut other: Box<dyn MutableArray> = Box::new(
+        rt.alloc(),
+        MutablePrimitiveArray::<i32>::new(rt.alloc()),
+    )?;
     std::mem::swap(rows.mut_values(), &mut other);
     assert!(rt; !rows.is_whole());
     assert!(rt; tell_boxed(&mut rows) == Err(Error::InvalidArgumentError(Argument::Unfinished)));
@@ -375,7 +379,10 @@ fn keep_first(rows: &mut Lists) -> Result<(), Error> {
 #[test]
 fn rows_are_cut_with_their_items(rt: HostRuntime) -> Result<(), Fail> {
     let mut rows = no_lists(rt.alloc())?;
-    let two = [Some([Some(1)].as_slice()), Some([Some(2), Some(3)].as_slice())];
+    let two = [
+        Some([Some(1)].as_slice()),
+        Some([Some(2), Some(3)].as_slice()),
+    ];
     push_each(&mut rows, two.as_slice())?;
     keep_first(&mut rows)?;
     assert!(rt; rows.is_whole());
@@ -430,7 +437,10 @@ fn joined(alloc: Global) -> Result<ListArray, Error> {
             return Err(error);
         }
     };
-    let first = [Some([Some(1)].as_slice()), Some([Some(2), Some(3)].as_slice())];
+    let first = [
+        Some([Some(1)].as_slice()),
+        Some([Some(2), Some(3)].as_slice()),
+    ];
     let second = [None, Some([Some(4)].as_slice())];
     let done = push_each(&mut rows, first.as_slice());
     let more = push_each(&mut other, second.as_slice());

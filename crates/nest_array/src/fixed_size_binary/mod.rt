@@ -1,5 +1,6 @@
 //! Arrays of byte strings of one size.
 mod flat;
+mod makers;
 mod nulls;
 mod rows;
 

@@ -83,7 +83,7 @@ fn joined<const N: usize>(alloc: Global, rows: &[[u8; N]]) -> Result<Buffer<u8>,
 }
 
 /// The bytes of a row.
-fn bytes_of<const N: usize>(row: &[u8; N]) -> &[u8]
+pub(crate) fn bytes_of<const N: usize>(row: &[u8; N]) -> &[u8]
     ensures bytes { result.now ≡ row.now }
     ensures count { length result.now ≡ N }
 {

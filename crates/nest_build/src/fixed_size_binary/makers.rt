@@ -1,9 +1,11 @@
 //! Builders of byte strings of one size from parts and from items.
-ghost use Rattle.std.specs.Prelude.{◌≡◌, ◌*◌, ◌<◌, ◌↔◌, ◌⊎◌, ◌++◌, ◌∷◌, ◌||◌, [], false, not, is_some, IfOk, IfErr, IsErrOf, OnOk, IsOkUnless, IsTrue, MatchResult, MatchOption, None, length, map, alloc_error};
+ghost use Rattle.std.specs.Prelude.{◌≡◌, ◌*◌, ◌<◌, ◌↔◌, ◌⊎◌, ◌++◌, ◌∷◌, ◌||◌, [], false, not, is_some, IfOk, IfErr, IsErrOf, OnOk, IsOkUnless, IsTrue, MatchResult, MatchOption, None, ℕ, List, Option, length, map, alloc_error};
+ghost use Rattle.std.specs.Borrow.{Bor};
+ghost use Rattle.std.specs.Option.{option_copied};
 ghost use Rattle.nest_memory.specs.TypeTree as types;
 ghost use Rattle.nest_model.specs.Layout as layouts;
 ghost use Rattle.nest_model.specs.Slot as slots;
-ghost use Rattle.nest_build.specs.Words.{FirstFault, Fits, IsPast, Memory, Overflow, ValidityFits, has_null, is_masked, layout_type, optional, size_of, slots_of, type_of};
+ghost use Rattle.nest_build.specs.Words.{CanDrain, FirstFault, Fits, Gives, GivesOtherSize, InvalidArgumentError, IsMadeOf, IsOtherSize, IsPast, ItemSize, Memory, OutOfSpec, Overflow, ValidityFits, ZeroSize, has_null, is_masked, layout_type, optional, size_of, slots_of, type_of};
 
 use crate::fixed_size_binary::MutableFixedSizeBinaryArray;
 use nest_memory::bitmap::mutable::MutableBitmap;
@@ -88,6 +90,38 @@ fn push_rows<const N: usize>(
     Ok(())
 }
 
+/// Adds a slot: bytes of its size, or null.
+fn push_item(builder: &mut MutableFixedSizeBinaryArray, item: Option<&[u8]>) -> Result<(), Error>
+    ensures slots { OnOk result (slots_of builder.new ≡ slots_of builder.old ++ optional slots.bytes (option_copied item.entry) ∷ []) }
+    ensures masked { OnOk result (is_masked builder.new ≡ (is_masked builder.old || not (is_some (option_copied item.entry)))) }
+    ensures same_type { layout_type builder.new ≡ layout_type builder.old }
+    ensures size { IsErrOf result (InvalidArgumentError ItemSize) ↔ IsOtherSize (size_of (layout_type builder.old)) (option_copied item.entry) }
+    ensures errors { IfErr result (λ e. (e ≡ InvalidArgumentError ItemSize) ⊎ (e ≡ Memory alloc_error)) }
+{
+    builder.known();
+    builder.try_push(item)
+}
+
+/// Adds a slot for each item, until one is refused.
+fn push_items<'a, I: IntoIterator<Item = Option<&'a [u8]>>>(
+    builder: &mut MutableFixedSizeBinaryArray,
+    items: I,
+) -> Result<(), Error>
+    requires can { CanDrain I.into_iter_gives I.IntoIter.can_next I.IntoIter.remaining items }
+    requires empty { IsMadeOf (size_of (layout_type builder.old)) [] builder.old }
+    ensures ok { OnOk result ((xs : List (Option (Bor (List ℕ)))) × Gives I.into_iter_gives I.IntoIter.next_gives items xs
+        × IsMadeOf (size_of (layout_type builder.old)) (map option_copied xs) builder.new) }
+    ensures cause { IfErr result (λ e. (e ≡ Memory alloc_error)
+        ⊎ ((e ≡ InvalidArgumentError ItemSize) × GivesOtherSize I.into_iter_gives I.IntoIter.next_gives (size_of (layout_type builder.old)) items)) }
+{
+    for item in items {
+        if let Err(error) = push_item(builder, item) {
+            return Err(error);
+        }
+    }
+    Ok(())
+}
+
 impl MutableFixedSizeBinaryArray {
     /// The builder of these parts.
     ///
@@ -148,6 +182,34 @@ impl MutableFixedSizeBinaryArray {
     {
         let mut builder = MutableFixedSizeBinaryArray::new(alloc, N);
         match push_rows(&mut builder, items) {
+            Ok(()) => Ok(builder),
+            Err(error) => {
+                drop(builder);
+                Err(error)
+            }
+        }
+    }
+
+    /// The builder of these items, of the type of byte strings of this size. It has a validity where one is null.
+    ///
+    /// # Errors
+    /// `ZeroSize` where the size is 0; `ItemSize` at the first item of another size; `Memory`.
+    pub fn try_from_iter<'a, I: IntoIterator<Item = Option<&'a [u8]>> + Drop>(
+        alloc: Global,
+        items: I,
+        size: usize,
+    ) -> Result<MutableFixedSizeBinaryArray, Error>
+        requires { CanDrain I.into_iter_gives I.IntoIter.can_next I.IntoIter.remaining items }
+        ensures ok { IfOk result (λ b. (xs : List (Option (Bor (List ℕ)))) × Gives I.into_iter_gives I.IntoIter.next_gives items xs × IsMadeOf size (map option_copied xs) b) }
+        ensures zero { IsErrOf result (OutOfSpec ZeroSize) ↔ (size ≡ 0) }
+        ensures cause { IfErr result (λ e. ((e ≡ OutOfSpec ZeroSize) × (size ≡ 0)) ⊎ ((e ≡ Memory alloc_error)
+            ⊎ ((e ≡ InvalidArgumentError ItemSize) × GivesOtherSize I.into_iter_gives I.IntoIter.next_gives size items))) }
+    {
+        if size == 0 {
+            return Err(Error::OutOfSpec(Spec::ZeroSize));
+        }
+        let mut builder = MutableFixedSizeBinaryArray::new(alloc, size);
+        match push_items(&mut builder, items) {
             Ok(()) => Ok(builder),
             Err(error) => {
                 drop(builder);

@@ -4,7 +4,7 @@ ghost use Rattle.std.specs.Option.{option_copied};
 ghost use Rattle.nest_memory.specs.TypeTree as types;
 ghost use Rattle.nest_model.specs.Layout as layouts;
 ghost use Rattle.nest_model.specs.Slot as slots;
-ghost use Rattle.nest_build.specs.Words.{Fits, InvalidArgumentError, IsOtherSize, IsPast, ItemSize, ItemType, Memory, Overflow, TopFits, bytes_of, cut, cut_layout, joined_bytes, layout_type, len, optional, pushed_bytes, size_of, sized_bytes, slot, slots_of, type_of, valid_at, validity_of, where_valid, with_validity};
+ghost use Rattle.nest_build.specs.Words.{Fits, InvalidArgumentError, IsOtherSize, IsPast, ItemSize, ItemType, Memory, Overflow, TopFits, bytes_of, cut, cut_layout, joined_bytes, layout_type, len, optional, pushed_bytes, size_of, sized_bytes, slot, slots_of, type_of, valid_at, validity_of, where_valid, with_bytes, with_validity};
 
 use nest_array::FixedSizeBinaryArray;
 use nest_flat::growth::validity;
@@ -68,6 +68,9 @@ fn push_bytes(values: &mut Vec<u8>, size: usize, item: Option<&[u8]>) -> Result<
 }
 
 impl MutableFixedSizeBinaryArray {
+    ghost use Rattle.std.specs.Borrow.{Array, Lends, sem, u8 as byte};
+    ghost use Rattle.nest_build.specs.contracts.fixed_size_binary.mutable.MutableFixedSizeBinaryArray.{the_row};
+
     /// No slot, of the type of byte strings of this size, and no memory taken.
     pub fn new(alloc: Global, size: usize) -> MutableFixedSizeBinaryArray
         requires { 0 < size }
@@ -154,6 +157,14 @@ impl MutableFixedSizeBinaryArray {
         ensures { result.now.items ≡ bytes_of self.now }
     {
         &self.values
+    }
+
+    /// The same, to be written over.
+    pub fn values_mut_slice(&mut self) -> &mut [u8]
+        ensures* writes_back { sem 𝓛 (Lends the_row (Array byte 0) self.entry result (with_bytes self.entry.now)) }
+        ensures value { result.now ≡ bytes_of self.old }
+    {
+        self.values.as_mut_slice()
     }
 
     /// How many bytes its slots have together.

@@ -1,6 +1,8 @@
 //! The builders of flat arrays as builders of arrays: what they do alike is said once, for every `FlatBuilder`.
+mod binary;
 mod boolean;
 mod primitive;
+mod utf8;
 
 ghost use Rattle.std.specs.Prelude.{◌≡◌, ◌≤◌, ◌<◌, ◌↔◌, ◌⊎◌, ⊤, [], true, false, IsTrue, OnOk, OnErr, IfOk, IfErr, IsErrOf, IsOkUnless, None, Some, take, option_map, alloc_error};
 ghost use Rattle.nest_model.specs.BuilderTree as builders;

@@ -4,7 +4,7 @@ ghost use Rattle.std.specs.Borrow.{Bor};
 ghost use Rattle.std.specs.Option.{option_copied};
 ghost use Rattle.nest_model.specs.Layout as layouts;
 ghost use Rattle.nest_model.specs.Slot as slots;
-ghost use Rattle.nest_flat.specs.Words.{AreSpans, CanDrain, Extended, Gives, InvalidArgumentError, ItemType, Memory, Overflow, RefusesBeginning, TopFits, begin, binary_of_width, binary_tree, bytes_of, cut, extent, first_slots, is_masked, item_bytes, item_refusal, joined_spans, last_of, layout_type, len, offsets_of, optional, physical_type, pushed_item, slot, slots_of, spans_of, taken_back, type_of, valid_at, validity_of, where_valid, with_spans};
+ghost use Rattle.nest_flat.specs.Words.{AreSpans, CanDrain, Extended, Gives, InvalidArgumentError, ItemType, Memory, Overflow, RefusesBeginning, TopFits, begin, binary_of_width, binary_tree, bytes_held, bytes_of, cut, extent, first_slots, is_masked, item_bytes, item_refusal, joined_spans, last_of, layout_type, len, offsets_of, optional, physical_type, pushed_item, slot, slots_of, spans_of, taken_back, type_of, valid_at, validity_of, where_valid, with_spans};
 
 use crate::binary::BinaryArray;
 use crate::growth::bytes::BytesBuilder;
@@ -78,6 +78,7 @@ impl<O: Offset> MutableBinaryArray<O> {
         ensures fits { TopFits self.now }
         ensures kind { self.now ≡ layouts.binary O.IS_LARGE (layout_type self.now) (offsets_of self.now) (bytes_of self.now) (validity_of self.now) }
         ensures spans { AreSpans (spans_of self.now) }
+        ensures held { bytes_held (slots_of self.now) ≡ last_of (offsets_of self.now) }
         ensures room { last_of (offsets_of self.now) ≤ O.largest }
     {
         let _ = &self.data_type;

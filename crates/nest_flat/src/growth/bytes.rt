@@ -17,8 +17,8 @@ use std::mem;
 /// Offsets, bytes and a validity that never change.
 pub(crate) type Frozen<O> = (OffsetsBuffer<O>, Buffer<u8>, Option<Bitmap>);
 
-/// The bytes of slots one after another, where those of each end, and which slots are valid. A validity is made at
-/// the first null.
+/// The bytes of slots one after another, where those of each end, and which slots are valid. A null
+/// has no bytes. A validity is made at the first null.
 #[derive(Drop)]
 pub(crate) struct BytesBuilder<O: Offset> {
     offsets: Offsets<O>,
@@ -31,13 +31,13 @@ impl<O: Offset> Model for BytesBuilder<O> {
     ghost use Rattle.nest_memory.specs.Rising.{last_of};
     ghost use Rattle.nest_model.specs.Fits.{ValidityFits};
     ghost use Rattle.nest_model.specs.Part.{rows};
-    ghost use Rattle.nest_flat.specs.BytesGrowth.{Spans};
+    ghost use Rattle.nest_flat.specs.BytesGrowth.{NullsAreBare, Spans};
 
     ghost Value = { Spans };
 
     ghost view = { λ b. record { offsets = b.offsets; bytes = b.bytes.items; validity = b.validity } };
 
-    ghost invariant = { λ b. (last_of b.offsets ≡ length b.bytes.items) × ValidityFits b.validity (rows b.offsets) };
+    ghost invariant = { λ b. (last_of b.offsets ≡ length b.bytes.items) × ValidityFits b.validity (rows b.offsets) × NullsAreBare b.validity b.offsets };
 }
 
 /// The bytes of an item: a null has none.

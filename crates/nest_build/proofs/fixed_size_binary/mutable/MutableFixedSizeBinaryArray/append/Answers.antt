@@ -2,7 +2,7 @@ use Rattle.std.proofs.Common.{ap, sym, subst, ◌∙◌}
 use Rattle.nest_memory.specs.TypeOf.{type_of}
 use Rattle.nest_model.specs.Array.{TopFits}
 use Rattle.nest_model.specs.Meaning.{slots_of}
-use Rattle.nest_build.proofs.FixedBytesLaws.{appended-parts, appended-fits, appended-slots}
+use Rattle.nest_array.specs.FixedBytesLaws.{appended-parts, appended-fits, appended-slots}
 use Rattle.nest_build.proofs.fixed_size_binary.mutable.MutableFixedSizeBinaryArray.append.Goals as goal
 
 pub invariant_of-self-in_default : goal.invariant_of-self-in_default

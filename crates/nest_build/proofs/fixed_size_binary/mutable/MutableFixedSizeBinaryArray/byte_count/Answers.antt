@@ -1,5 +1,5 @@
 use Rattle.std.proofs.Common.{◌≡◌, length, ◌∙◌, rules}
-use Rattle.nest_build.proofs.FixedBytesLaws.{bytes-counted}
+use Rattle.nest_array.specs.FixedBytesLaws.{bytes-counted}
 use Rattle.nest_build.proofs.fixed_size_binary.mutable.MutableFixedSizeBinaryArray.byte_count.Goals as goal
 
 pub returns : goal.returns

@@ -1,6 +1,6 @@
 use Rattle.std.proofs.Common.{ap, arith, ◌∙◌}
 use Rattle.nest_model.specs.Slot as slots
-use Rattle.nest_build.proofs.FixedBytesLaws.{last-slot}
+use Rattle.nest_array.specs.FixedBytesLaws.{last-slot}
 use Rattle.nest_build.proofs.fixed_size_binary.mutable.MutableFixedSizeBinaryArray.last.Goals as goal
 
 pub returns-in-None-clause-ok : goal.returns-in-None-clause-ok

@@ -5,7 +5,7 @@ use Rattle.nest_memory.specs.TypeOf.{type_of}
 use Rattle.nest_flat.specs.Growth.{pushed_validity}
 use Rattle.nest_model.specs.Array.{TopFits}
 use Rattle.nest_model.specs.Meaning.{slots_of}
-use Rattle.nest_build.proofs.FixedBytesLaws.{added-parts, added-fits, added-slots, copied-some}
+use Rattle.nest_array.specs.FixedBytesLaws.{added-parts, added-fits, added-slots, copied-some}
 use Rattle.nest_build.proofs.fixed_size_binary.mutable.MutableFixedSizeBinaryArray.push.Goals as goal
 
 pub invariant_of-self-in_default : goal.invariant_of-self-in_default

@@ -3,7 +3,7 @@ use Rattle.nest_memory.specs.TypeOf.{type_of}
 use Rattle.nest_model.specs.Array.{TopFits}
 use Rattle.nest_model.specs.CutLaws.{slots-cut}
 use Rattle.nest_model.specs.Meaning.{slots_of}
-use Rattle.nest_build.proofs.FixedBytesLaws.{cut-parts, cut-fits}
+use Rattle.nest_array.specs.FixedBytesLaws.{cut-parts, cut-fits}
 use Rattle.nest_build.proofs.fixed_size_binary.mutable.MutableFixedSizeBinaryArray.truncate.Goals as goal
 
 pub invariant_of-self : goal.invariant_of-self

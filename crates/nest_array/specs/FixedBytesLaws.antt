@@ -26,7 +26,7 @@ use Rattle.nest_model.specs.Array.{TopFits}
 use Rattle.nest_model.specs.Facts.{IsFixedSizeBinary, fixed_size_binary-facts}
 use Rattle.nest_flat.specs.FlatParts.{optional}
 use Rattle.nest_flat.specs.Growth.{pushed_validity, joined_validity}
-use Rattle.nest_build.specs.FixedBytes.{sized_bytes, pushed_bytes, joined_bytes, IsOtherSize}
+use Rattle.nest_array.specs.FixedBytes.{sized_bytes, pushed_bytes, joined_bytes, IsOtherSize}
 
 -- bits of both
 fits-joined : (va vb : Validity) (n m : ℕ) → ValidityFits va n → ValidityFits vb m → ValidityFits (joined_validity va n vb m) (n + m)
@@ -269,3 +269,9 @@ last-slot a n s e p h =
 pub copied-some : (x : Option (Bor (List ℕ))) → is_some (option_copied x) ≡ is_some x
 copied-some None = refl
 copied-some (Some y) = refl
+
+-- other bytes, as many
+pub other-bytes_fit : (t : TypeTree) (bs cs : List ℕ) (va : Validity) → length cs ≡ length bs → TopFits (fixed_size_binary t bs va) → TopFits (fixed_size_binary t cs va)
+other-bytes_fit t bs cs va e f =
+    let k = fixed_size_binary-facts t bs va f in
+    (tt, (k.typed, (k.sized, (ap (λ n. n % size_of t) e ∙ k.multiple, (subst (ValidityFits va) (ap (λ n. n / size_of t) (sym e)) k.bits, tt)))))
