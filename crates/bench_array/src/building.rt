@@ -1,6 +1,6 @@
 //! Arrays built row by row.
-ghost use Rattle.std.specs.Prelude.{IfOk, OnOk};
 ghost use Rattle.nest_model.specs.BuilderWhole.{IsWhole};
+ghost use Rattle.bench_array.specs.Trees.{list_tree, sized_tree};
 
 use anyhow::Result;
 use bench_tools::{begin, tell};
@@ -8,10 +8,10 @@ use nest_array::AnyArray;
 use nest_build::array::MutableArray;
 use nest_build::fixed_size_binary::MutableFixedSizeBinaryArray;
 use nest_build::fixed_size_list::MutableFixedSizeListArray;
-use nest_build::list::{ListWidth, MutableListArray};
+use nest_build::list::MutableListArray;
 use nest_build::push::TryPush;
 use nest_flat::primitive::mutable::MutablePrimitiveArray;
-use nest_memory::error::Error;
+use nest_memory::error::{Argument, Error};
 use std::alloc::Global;
 use std::rt::Clock;
 
@@ -19,10 +19,9 @@ const FEW: usize = 100;
 
 const ROWS: usize = 500_000;
 
-/// What is pushed as a row.
-type Items<'a> = &'a [Option<i64>];
-
 type Numbers = MutablePrimitiveArray<i64>;
+
+type Lists = MutableListArray<i32, Numbers>;
 
 const NUMBERS: [Option<i64>; 8] = [
     Some(1),
@@ -48,91 +47,200 @@ const NUMBERS_AND_NULL: [Option<i64>; 8] = [
 
 const BYTES: [u8; 16] = *b"sixteen bytes ..";
 
-/// A builder that the benchmark fills.
-trait Filled: MutableArray {
-    /// Pushes a row of eight numbers, or of as many bytes.
-    fn row(&mut self, items: Items<'_>) -> Result<(), Error>
-        requires { IsWhole (Self.model self.old) }
-        ensures { OnOk result (IsWhole (Self.model self.new)) };
-}
-
-impl<O: ListWidth> Filled for MutableListArray<O, Numbers> {
-    fn row(&mut self, items: Items<'_>) -> Result<(), Error> {
-        self.try_push_slice(Some(items))
-    }
-}
-
-/// Pushes rows, every tenth of them null where `nulls` says so.
-fn push_rows<B: Filled>(builder: &mut B, n: usize, nulls: bool) -> Result<(), Error>
-    requires { IsWhole (B.model builder.old) }
+/// Pushes rows of these items by a slice, every tenth of them null where `nulls` says so.
+fn push_lists(
+    builder: &mut Lists,
+    items: &[Option<i64>],
+    n: usize,
+    nulls: bool,
+) -> Result<(), Error>
+    requires { IsWhole (list_tree builder.old.data_type builder.old.rows builder.old.values) }
 {
-    let items = if nulls { NUMBERS_AND_NULL } else { NUMBERS };
+    'rows: for i in 0..n {
+        let row = if nulls && i % 10 == 9 {
+            None
+        } else {
+            Some(items)
+        };
+        builder.try_push_slice(row)?;
+    }
+    Ok(())
+}
+
+/// The same of lists of one size, by an iterator.
+fn push_sized(
+    builder: &mut MutableFixedSizeListArray<Numbers>,
+    items: &[Option<i64>],
+    n: usize,
+    nulls: bool,
+) -> Result<(), Error>
+    requires { IsWhole (sized_tree builder.old.data_type builder.old.rows builder.old.values) }
+{
     'rows: for i in 0..n {
         if nulls && i % 10 == 9 {
             builder.push_null()?;
         } else {
-            builder.row(&items)?;
+            builder.try_push(Some(items.iter().copied()))?;
         }
     }
     Ok(())
 }
 
-/// So many rows pushed one by one and frozen.
-fn rows<B: Filled>(builder: Result<B, Error>, n: usize, nulls: bool) -> Result<AnyArray, Error>
-    requires { IfOk builder (λ b. IsWhole (B.model b)) }
-{
-    match builder {
+/// Byte strings of 16 bytes.
+fn push_bytes(
+    builder: &mut MutableFixedSizeBinaryArray,
+    n: usize,
+    nulls: bool,
+) -> Result<(), Error> {
+    'rows: for i in 0..n {
+        let item = if nulls && i % 10 == 9 {
+            None
+        } else {
+            Some(BYTES.as_slice())
+        };
+        builder.try_push(item)?;
+    }
+    Ok(())
+}
+
+/// Pushes a list into the child of a builder of lists of lists.
+fn push_below(child: &mut Lists, items: &[Option<i64>]) -> Result<(), Error> {
+    if !child.is_whole() {
+        return Err(Error::InvalidArgumentError(Argument::Unfinished));
+    }
+    child.try_push_slice(Some(items))
+}
+
+/// Tells a row of two lists, which were pushed into the child; that it is whole is tested for each.
+fn push_nested(
+    builder: &mut MutableListArray<i32, Lists>,
+    items: &[Option<i64>],
+) -> Result<(), Error> {
+    push_below(builder.mut_values(), items)?;
+    push_below(builder.mut_values(), items)?;
+    if !builder.values().is_whole() {
+        return Err(Error::InvalidArgumentError(Argument::Unfinished));
+    }
+    builder.known();
+    builder.try_push_valid()
+}
+
+fn numbers(nulls: bool) -> [Option<i64>; 8] {
+    if nulls { NUMBERS_AND_NULL } else { NUMBERS }
+}
+
+/// So many lists pushed one by one and frozen.
+fn lists(alloc: Global, n: usize, nulls: bool) -> Result<AnyArray, Error> {
+    let mut builder: Lists = MutableListArray::new(alloc, MutablePrimitiveArray::new(alloc))?;
+    let frozen = match push_lists(&mut builder, &numbers(nulls), n, nulls) {
+        Ok(()) => builder.as_box(),
         Err(error) => Err(error),
-        Ok(mut builder) => {
-            let frozen = match push_rows(&mut builder, n, nulls) {
-                Ok(()) => builder.as_box(),
-                Err(error) => Err(error),
-            };
-            drop(builder);
-            frozen
+    };
+    drop(builder);
+    frozen
+}
+
+fn sized_lists(alloc: Global, n: usize, nulls: bool) -> Result<AnyArray, Error> {
+    let items: Numbers = MutablePrimitiveArray::new(alloc);
+    let mut builder = MutableFixedSizeListArray::new(alloc, items, 8)?;
+    let frozen = match push_sized(&mut builder, &numbers(nulls), n, nulls) {
+        Ok(()) => builder.as_box(),
+        Err(error) => Err(error),
+    };
+    drop(builder);
+    frozen
+}
+
+fn byte_strings(alloc: Global, n: usize, nulls: bool) -> Result<AnyArray, Error> {
+    let mut builder = MutableFixedSizeBinaryArray::new(alloc, 16);
+    let frozen = match push_bytes(&mut builder, n, nulls) {
+        Ok(()) => builder.as_box(),
+        Err(error) => Err(error),
+    };
+    drop(builder);
+    frozen
+}
+
+/// So many rows of two lists of four numbers.
+fn nested_lists(alloc: Global, n: usize) -> Result<AnyArray, Error> {
+    let items: Lists = MutableListArray::new(alloc, MutablePrimitiveArray::new(alloc))?;
+    let mut builder: MutableListArray<i32, Lists> = MutableListArray::new(alloc, items)?;
+    let mut done = Ok(());
+    for _i in 0..n {
+        if done.is_ok() {
+            done = push_nested(&mut builder, &NUMBERS[..4]);
         }
+    }
+    let frozen = builder.as_box();
+    drop(builder);
+    frozen
+}
+
+/// What is built.
+#[derive(Clone, Copy)]
+enum Work {
+    Lists,
+    SizedLists,
+    Bytes,
+    NestedLists,
+}
+
+fn built(alloc: Global, work: Work, n: usize, nulls: bool) -> Result<AnyArray, Error> {
+    match work {
+        Work::Lists => lists(alloc, n, nulls),
+        Work::SizedLists => sized_lists(alloc, n, nulls),
+        Work::Bytes => byte_strings(alloc, n, nulls),
+        Work::NestedLists => nested_lists(alloc, n),
     }
 }
 
-fn run_rows<B: Filled, R: Clock + Print + AllocGlobal>(
+fn run_rows<R: Clock + Print + AllocGlobal>(
     rt: &R,
-    builder: Result<B, Error>,
-    work: &str,
+    line: &str,
+    work: Work,
     nulls: bool,
     measured: bool,
-) -> Result<()>
-    requires { IfOk builder (λ b. IsWhole (B.model b)) }
-{
+) -> Result<()> {
     let n = if measured { ROWS } else { FEW };
     let begun = begin(rt, measured)?;
-    let array = rows(builder, n, nulls)?;
-    let told = tell(rt, work, array.null_count(), begun, n);
+    let array = built(rt.alloc(), work, n, nulls)?;
+    let told = tell(rt, line, array.null_count(), begun, n);
     drop(array);
     told?;
     Ok(())
 }
 
-fn lists(alloc: Global) -> Result<MutableListArray<i32, Numbers>, Error>
-    ensures { IfOk result (λ b. IsWhole (⟦<MutableListArray<i32, Numbers> as MutableArray>⟧.model b)) }
-{
-    MutableListArray::new(alloc, MutablePrimitiveArray::new(alloc))
-}
-
-/// Builds lists of eight numbers, without a null and with a null in each row and every tenth row null.
-pub fn run<R: Clock + Print + AllocGlobal>(rt: &R, measured: bool) -> Result<()> {
-    println!(rt; "lists of 8 numbers, built")?;
+fn run_both<R: Clock + Print + AllocGlobal>(rt: &R, work: Work, measured: bool) -> Result<()> {
     run_rows(
         rt,
-        lists(rt.alloc()),
         "  rows pushed and frozen, their nulls",
+        work,
         false,
         measured,
     )?;
     run_rows(
         rt,
-        lists(rt.alloc()),
         "  rows and nulls pushed and frozen, their nulls",
+        work,
         true,
+        measured,
+    )
+}
+
+/// Builds each, without a null, and with a null in each row of numbers and every tenth row null.
+pub fn run<R: Clock + Print + AllocGlobal>(rt: &R, measured: bool) -> Result<()> {
+    println!(rt; "lists of 8 numbers, built")?;
+    run_both(rt, Work::Lists, measured)?;
+    println!(rt; "lists of the fixed size 8, built")?;
+    run_both(rt, Work::SizedLists, measured)?;
+    println!(rt; "byte strings of 16 bytes, built")?;
+    run_both(rt, Work::Bytes, measured)?;
+    println!(rt; "lists of two lists of 4 numbers, built")?;
+    run_rows(
+        rt,
+        "  rows pushed and frozen, their nulls",
+        Work::NestedLists,
+        false,
         measured,
     )
 }
