@@ -30,21 +30,33 @@ const ITEM_SIZE: Result<(), Error> = Err(Error::InvalidArgumentError(Argument::I
 
 const UNFINISHED: Result<(), Error> = Err(Error::InvalidArgumentError(Argument::Unfinished));
 
+/// How long the frozen array and its items are; the array is let go.
+fn frozen_lens(array: Result<FixedSizeListArray, Error>) -> Option<(usize, usize)> {
+    match array {
+        Ok(array) => {
+            let found = (array.len(), array.values().len());
+            drop(array);
+            Some(found)
+        }
+        Err(_) => None,
+    }
+}
+
 #[test]
 fn rows_of_another_size_are_refused(rt: HostRuntime) -> Result<(), Fail> {
     let mut rows = no_lists(rt.alloc(), 2)?;
-    let four = [Some(1), Some(2), Some(3), Some(4)];
-    assert!(rt; push(&mut rows, Some(four.as_slice())) == ITEM_SIZE);
-    assert!(rt; push(&mut rows, Some([].as_slice())) == ITEM_SIZE);
-    assert!(rt; rows.values().len() == 0);
-    assert!(rt; push(&mut rows, Some([Some(5), Some(6)].as_slice())) == Ok(()));
-    assert!(rt; rows.len() == 1);
-    assert!(rt; rows.size() == 2);
-    let array = rows.freeze()?;
-    assert!(rt; array.len() == 1);
-    assert!(rt; array.values().len() == 2);
-    drop(array);
+    let four = push(&mut rows, Some(&[Some(1), Some(2), Some(3), Some(4)]));
+    let none = push(&mut rows, Some(&[]));
+    let before = rows.values().len();
+    let two = push(&mut rows, Some(&[Some(5), Some(6)]));
+    let after = (rows.len(), rows.size());
+    let array = frozen_lens(rows.freeze());
     drop(rows);
+    assert!(rt; four == ITEM_SIZE && none == ITEM_SIZE);
+    assert!(rt; before == 0);
+    assert!(rt; two == Ok(()));
+    assert!(rt; after == (1, 2));
+    assert!(rt; array == Some((1, 2)));
     Ok(())
 }
 
@@ -52,47 +64,69 @@ fn push_item(rows: &mut Lists, item: i64) -> Result<(), Error> {
     TryPush::try_push(rows.mut_values(), Some(item))
 }
 
+fn push_items_from(rows: &mut Lists, items: &[i64]) -> Result<(), Error> {
+    for item in items {
+        push_item(rows, *item)?;
+    }
+    Ok(())
+}
+
 #[test]
 fn waiting_items_of_another_number_make_no_row(rt: HostRuntime) -> Result<(), Fail> {
     let mut rows = no_lists(rt.alloc(), 2)?;
-    push_item(&mut rows, 1)?;
-    assert!(rt; rows.push_valid() == UNFINISHED);
-    push_item(&mut rows, 2)?;
-    push_item(&mut rows, 3)?;
-    push_item(&mut rows, 4)?;
-    assert!(rt; rows.push_valid() == ITEM_SIZE);
-    assert!(rt; rows.values().len() == 4);
-    assert!(rt; rows.as_box().is_err());
-    assert!(rt; rows.values().len() == 4);
+    let first = push_items_from(&mut rows, &[1]);
+    let one = rows.push_valid();
+    let more = push_items_from(&mut rows, &[2, 3, 4]);
+    let four = rows.push_valid();
+    let waiting = rows.values().len();
+    let frozen = frozen_lens(rows.freeze());
+    let still = rows.values().len();
     drop(rows);
+    assert!(rt; first == Ok(()) && more == Ok(()));
+    assert!(rt; one == UNFINISHED);
+    assert!(rt; four == ITEM_SIZE);
+    assert!(rt; frozen == None);
+    assert!(rt; (waiting, still) == (4, 4));
     Ok(())
+}
+
+/// Tells a row of two items, pushes a null, and says whether a validity was there before and after.
+fn tell_and_push_null(rows: &mut Lists) -> Result<(bool, bool), Error> {
+    push_items_from(rows, &[1, 2])?;
+    rows.try_push_valid()?;
+    let before = rows.validity().is_some();
+    push(rows, None)?;
+    rows.reserve(3)?;
+    rows.shrink_to_fit()?;
+    Ok((before, rows.validity().is_some()))
+}
+
+/// Keeps the first of two rows, the second of which is null.
+fn keep_first(rows: &mut Lists) -> bool {
+    if !rows.is_whole() || rows.len() != 2 || rows.is_valid(1) {
+        return false;
+    }
+    rows.truncate(1);
+    rows.values().len() == 2
 }
 
 #[test]
 fn a_row_is_told_and_a_null_pushed(rt: HostRuntime) -> Result<(), Fail> {
     let mut rows = no_lists(rt.alloc(), 2)?;
-    push_item(&mut rows, 1)?;
-    push_item(&mut rows, 2)?;
-    assert!(rt; rows.try_push_valid() == Ok(()));
-    assert!(rt; rows.is_whole());
-    assert!(rt; rows.validity().is_none());
-    assert!(rt; push(&mut rows, None) == Ok(()));
-    assert!(rt; rows.validity().is_some());
-    assert!(rt; rows.values().len() == 4);
-    rows.reserve(3)?;
-    rows.shrink_to_fit()?;
-    if rows.len() == 2 {
-        assert!(rt; !rows.is_valid(1));
-    }
-    if rows.is_whole() && rows.len() == 2 {
-        rows.truncate(1);
-    }
-    assert!(rt; rows.values().len() == 2);
-    let array = rows.as_arc(rt.alloc())?;
-    assert!(rt; array.len() == 1);
-    drop(array);
-    assert!(rt; rows.is_empty());
+    let validities = tell_and_push_null(&mut rows);
+    let items = rows.values().len();
+    let cut = keep_first(&mut rows);
+    let shared = match rows.as_arc(rt.alloc()) {
+        Ok(array) => array.len(),
+        Err(_) => 0,
+    };
+    let empty = rows.is_empty();
     drop(rows);
+    assert!(rt; validities == Ok((false, true)));
+    assert!(rt; items == 4);
+    assert!(rt; cut);
+    assert!(rt; shared == 1);
+    assert!(rt; empty);
     Ok(())
 }
 
@@ -125,20 +159,40 @@ fn lists_of_a_data_type_and_size(rt: HostRuntime) -> Result<(), Fail> {
     Ok(())
 }
 
-#[test]
-fn accepted_rows_are_kept_and_others_left(rt: HostRuntime) -> Result<(), Fail> {
-    let alloc = rt.alloc();
-    let mut rows = no_lists(alloc, 1)?;
+/// The rows [1], [2,3] and null.
+fn three_rows(alloc: Global) -> Result<Vec<Option<Vec<Option<i64>>>>, Error> {
     let one = vec![in alloc; Some(1i64)]?;
     let two = vec![in alloc; Some(2i64), Some(3)]?;
-    let items = vec![in alloc; Some(one), Some(two), None]?;
-    if rows.is_whole() {
-        let marks = push_all(alloc, &mut rows, items)?;
-        assert!(rt; marks.as_slice() == [true, false, true].as_slice());
+    Ok(vec![in alloc; Some(one), Some(two), None]?)
+}
+
+/// Which of these rows were accepted.
+fn push_each(
+    alloc: Global,
+    rows: &mut Lists,
+    items: Result<Vec<Option<Vec<Option<i64>>>>, Error>,
+) -> Result<bool, Error> {
+    match items {
+        Ok(items) => {
+            if !rows.is_whole() {
+                drop(items);
+                return Err(Error::InvalidArgumentError(Argument::Unfinished));
+            }
+            let marks = push_all(alloc, rows, items)?;
+            Ok(marks.as_slice() == [true, false, true].as_slice())
+        }
+        Err(error) => Err(error),
     }
-    assert!(rt; rows.len() == 2);
-    assert!(rt; rows.values().len() == 2);
+}
+
+#[test]
+fn accepted_rows_are_kept_and_others_left(rt: HostRuntime) -> Result<(), Fail> {
+    let mut rows = no_lists(rt.alloc(), 1)?;
+    let marked = push_each(rt.alloc(), &mut rows, three_rows(rt.alloc()));
+    let found = (rows.len(), rows.values().len());
     drop(rows);
+    assert!(rt; marked == Ok(true));
+    assert!(rt; found == (2, 2));
     Ok(())
 }
 
@@ -146,53 +200,86 @@ fn accepted_rows_are_kept_and_others_left(rt: HostRuntime) -> Result<(), Fail> {
 type Rows = MutableListArray<i32, Lists>;
 
 fn no_rows(alloc: Global) -> Result<Rows, Error> {
-    let child = no_lists(alloc, 2)?;
-    MutableListArray::new(alloc, child)
+    let items: MutablePrimitiveArray<i64> = MutablePrimitiveArray::new(alloc);
+    MutableListArray::new(alloc, MutableFixedSizeListArray::new(alloc, items, 2)?)
 }
 
-fn pair(alloc: Global, a: i64, b: i64) -> Result<Option<Vec<Option<i64>>>, Error> {
-    Ok(Some(vec![in alloc; Some(a), Some(b)]?))
+/// The pair 1, 2, and behind it these numbers.
+fn pair_and(
+    alloc: Global,
+    numbers: &[Option<i64>],
+) -> Result<Vec<Option<Vec<Option<i64>>>>, Error> {
+    let pair = vec![in alloc; Some(1i64), Some(2)]?;
+    let more = Vec::from_slice(alloc, numbers)?;
+    Ok(vec![in alloc; Some(pair), Some(more)]?)
 }
 
-fn single(alloc: Global, a: i64) -> Result<Option<Vec<Option<i64>>>, Error> {
-    Ok(Some(vec![in alloc; Some(a)]?))
+/// Pushes a row of lists.
+fn push_row(
+    rows: &mut Rows,
+    row: Result<Vec<Option<Vec<Option<i64>>>>, Error>,
+) -> Result<(), Error> {
+    match row {
+        Ok(row) => {
+            if !rows.is_whole() {
+                drop(row);
+                return UNFINISHED;
+            }
+            rows.try_push(Some(row))
+        }
+        Err(error) => Err(error),
+    }
+}
+
+/// How long each level is.
+fn levels(rows: &Rows) -> (usize, usize, usize) {
+    let pairs = rows.values();
+    (rows.len(), pairs.len(), pairs.values().len())
 }
 
 #[test]
 fn a_refused_pair_takes_its_row_back(rt: HostRuntime) -> Result<(), Fail> {
-    let alloc = rt.alloc();
-    let mut rows = no_rows(alloc)?;
-    let wrong = vec![in alloc; pair(alloc, 1, 2)?, single(alloc, 3)?]?;
-    if rows.is_whole() {
-        assert!(rt; rows.try_push(Some(wrong)) == ITEM_SIZE);
-    }
-    assert!(rt; rows.len() == 0);
-    assert!(rt; rows.values().len() == 0);
-    assert!(rt; rows.values().values().len() == 0);
-    let right = vec![in alloc; pair(alloc, 5, 6)?]?;
-    if rows.is_whole() {
-        assert!(rt; rows.try_push(Some(right)) == Ok(()));
-    }
-    assert!(rt; rows.len() == 1);
-    assert!(rt; rows.values().values().len() == 2);
+    let mut rows = no_rows(rt.alloc())?;
+    let refused = push_row(&mut rows, pair_and(rt.alloc(), &[Some(3)]));
+    let before = levels(&rows);
+    let taken = push_row(&mut rows, pair_and(rt.alloc(), &[Some(5), None]));
+    let after = levels(&rows);
     drop(rows);
+    assert!(rt; refused == ITEM_SIZE);
+    assert!(rt; before == (0, 0, 0));
+    assert!(rt; taken == Ok(()));
+    assert!(rt; after == (1, 2, 4));
     Ok(())
+}
+
+/// Pushes all rows, or none.
+fn extend(
+    rows: &mut Lists,
+    items: Result<Vec<Option<Vec<Option<i64>>>>, Error>,
+) -> Result<(), Error> {
+    match items {
+        Ok(items) => {
+            if !rows.is_whole() {
+                drop(items);
+                return UNFINISHED;
+            }
+            rows.try_extend(items)
+        }
+        Err(error) => Err(error),
+    }
 }
 
 #[test]
 fn all_rows_are_taken_or_none(rt: HostRuntime) -> Result<(), Fail> {
-    let alloc = rt.alloc();
-    let mut rows = no_lists(alloc, 2)?;
-    let wrong = vec![in alloc; pair(alloc, 1, 2)?, single(alloc, 3)?]?;
-    if rows.is_whole() {
-        assert!(rt; rows.try_extend(wrong) == ITEM_SIZE);
-    }
-    assert!(rt; rows.len() == 0);
-    let right = vec![in alloc; pair(alloc, 1, 2)?, None]?;
-    if rows.is_whole() {
-        assert!(rt; rows.try_extend(right) == Ok(()));
-    }
-    assert!(rt; rows.len() == 2);
+    let mut rows = no_lists(rt.alloc(), 2)?;
+    let refused = extend(&mut rows, pair_and(rt.alloc(), &[Some(3)]));
+    let before = rows.len();
+    let taken = extend(&mut rows, pair_and(rt.alloc(), &[Some(3), None]));
+    let after = (rows.len(), rows.values().len());
     drop(rows);
+    assert!(rt; refused == ITEM_SIZE);
+    assert!(rt; before == 0);
+    assert!(rt; taken == Ok(()));
+    assert!(rt; after == (2, 4));
     Ok(())
 }

@@ -22,11 +22,6 @@ fn push_plain<B: MutableArray>(builder: &mut B, value: Option<Plain<'_>>) -> Res
     builder.try_push_plain(value)
 }
 
-/// A builder of numbers, as one of any kind.
-fn boxed(alloc: Global) -> Result<Box<dyn MutableArray>, Error> {
-    Ok(Box::new(alloc, MutablePrimitiveArray::<i64>::new(alloc))?)
-}
-
 fn slots_are(array: &AnyArray, expected: [Option<i64>; 2]) -> bool {
     let AnyArray::Primitive(AnyPrimitive::Int64(numbers)) = array else {
         return false;
@@ -35,7 +30,7 @@ fn slots_are(array: &AnyArray, expected: [Option<i64>; 2]) -> bool {
 }
 
 /// 7 and a null are taken, a text and a number of another kind are not.
-fn take_values(builder: &mut Box<dyn MutableArray>) -> Result<bool, Error> {
+fn take_values<B: MutableArray>(builder: &mut B) -> Result<bool, Error> {
     let other_kind = Err(Error::InvalidArgumentError(Argument::ItemType));
     push_plain(builder, Some(SEVEN))?;
     let no_validity = builder.validity().is_none();
@@ -45,71 +40,112 @@ fn take_values(builder: &mut Box<dyn MutableArray>) -> Result<bool, Error> {
     Ok(no_validity && builder.validity().is_some() && text && small && builder.len() == 2)
 }
 
-#[test]
-fn a_boxed_builder_takes_its_kind(rt: HostRuntime) -> Result<(), Fail> {
-    let mut builder = boxed(rt.alloc())?;
-    assert_eq!(rt; take_values(&mut builder), Ok(true));
-    if builder.len() == 2 {
-        assert!(rt; builder.is_valid(0));
-        assert!(rt; !builder.is_valid(1));
-        assert!(rt; builder.holds(0, &SEVEN));
-        assert!(rt; !builder.holds(1, &SEVEN));
-        assert!(rt; !builder.holds(0, &Plain::Native(AnyNative::Int64(8))));
-        assert!(rt; !builder.holds(0, &Plain::Native(AnyNative::Int8(7))));
+/// Whether 7 stands at place 0 and a null at 1, and nothing else is found there.
+fn holds_seven<B: MutableArray>(builder: &B) -> bool {
+    if builder.len() != 2 {
+        return false;
     }
-    let array = builder.as_box()?;
-    assert!(rt; slots_are(&array, [Some(7), None]));
-    drop(array);
-    assert!(rt; builder.is_empty());
-    assert!(rt; builder.validity().is_none());
-    assert_eq!(rt; push_plain(&mut builder, Some(SEVEN)), Ok(()));
-    assert_eq!(rt; builder.len(), 1);
-    drop(builder);
-    Ok(())
+    let eight = Plain::Native(AnyNative::Int64(8));
+    let small = Plain::Native(AnyNative::Int8(7));
+    let valid = builder.is_valid(0) && !builder.is_valid(1);
+    let found = builder.holds(0, &SEVEN) && !builder.holds(1, &SEVEN);
+    valid && found && !builder.holds(0, &eight) && !builder.holds(0, &small)
+}
+
+/// Whether a frozen array has 7 and a null; it is let go.
+fn freezes_to_seven(array: Result<AnyArray, Error>) -> bool {
+    match array {
+        Ok(array) => {
+            let same = slots_are(&array, [Some(7), None]);
+            drop(array);
+            same
+        }
+        Err(_) => false,
+    }
+}
+
+/// Whether no row and no validity is left.
+fn is_cleared<B: MutableArray>(builder: &B) -> bool {
+    builder.is_empty() && builder.validity().is_none()
 }
 
 #[test]
-fn a_boxed_builder_is_shared_and_cut(rt: HostRuntime) -> Result<(), Fail> {
-    let mut builder = boxed(rt.alloc())?;
-    assert_eq!(rt; take_values(&mut builder), Ok(true));
+fn a_builder_takes_its_kind(rt: HostRuntime) {
+    let mut builder = MutablePrimitiveArray::<i64>::new(rt.alloc());
+    let taken = take_values(&mut builder);
+    let held = holds_seven(&builder);
+    let frozen = freezes_to_seven(builder.as_box());
+    let cleared = is_cleared(&builder);
+    let again = push_plain(&mut builder, Some(SEVEN));
+    drop(builder);
+    assert!(rt; taken == Ok(true));
+    assert!(rt; held && frozen);
+    assert!(rt; cleared);
+    assert!(rt; again == Ok(()));
+}
+
+/// Cuts to all rows and to none.
+fn cut_all<B: MutableArray>(builder: &mut B) -> Result<bool, Error> {
     builder.reserve(10)?;
     builder.shrink_to_fit()?;
-    if builder.is_whole() && builder.len() == 2 {
-        builder.truncate(2);
-        assert_eq!(rt; builder.len(), 2);
+    if !builder.is_whole() || builder.len() != 2 {
+        return Ok(false);
     }
-    let array = builder.as_arc(rt.alloc())?;
-    assert!(rt; slots_are(&array, [Some(7), None]));
-    drop(array);
-    assert_eq!(rt; push_plain(&mut builder, Some(SEVEN)), Ok(()));
-    if builder.is_whole() && !builder.is_empty() {
-        builder.truncate(0);
-    }
-    assert!(rt; builder.is_empty());
-    drop(builder);
-    Ok(())
+    builder.truncate(2);
+    let kept = builder.len() == 2;
+    builder.truncate(0);
+    Ok(kept && builder.is_empty())
 }
 
 #[test]
-fn items_of_its_type_are_pushed(rt: HostRuntime) -> Result<(), Fail> {
-    let alloc = rt.alloc();
-    let mut numbers = MutablePrimitiveArray::<i64>::new(alloc);
-    TryPush::try_push(&mut numbers, Some(7))?;
-    TryExtend::try_extend(&mut numbers, vec![in alloc; None::<i64>, Some(8)]?)?;
-    TryExtend::try_extend(&mut numbers, Vec::<Option<i64>>::new(alloc))?;
-    assert_eq!(rt; MutableArray::len(&numbers), 3);
+fn a_builder_is_cut_and_shared(rt: HostRuntime) {
+    let mut builder = MutablePrimitiveArray::<i64>::new(rt.alloc());
+    let taken = take_values(&mut builder);
+    let cut = cut_all(&mut builder);
+    let again = push_plain(&mut builder, Some(SEVEN));
+    let shared = match builder.as_arc(rt.alloc()) {
+        Ok(array) => array.len(),
+        Err(_) => 0,
+    };
+    drop(builder);
+    assert!(rt; taken == Ok(true) && cut == Ok(true));
+    assert!(rt; again == Ok(()));
+    assert!(rt; shared == 1);
+}
+
+/// Whether numbers are pushed by an item, by iterators, and by one that is empty.
+fn push_numbers(alloc: Global, numbers: &mut MutablePrimitiveArray<i64>) -> Result<bool, Error> {
+    TryPush::try_push(numbers, Some(7))?;
+    TryExtend::try_extend(numbers, vec![in alloc; None::<i64>, Some(8)]?)?;
+    TryExtend::try_extend(numbers, Vec::<Option<i64>>::new(alloc))?;
+    Ok(MutableArray::len(numbers) == 3)
+}
+
+fn push_truths(alloc: Global, truths: &mut MutableBooleanArray) -> Result<bool, Error> {
+    TryPush::try_push(truths, None::<bool>)?;
+    TryExtend::try_extend(truths, vec![in alloc; Some(true), Some(false)]?)?;
+    push_plain(truths, Some(Plain::Boolean(true)))?;
+    let other_kind = Err(Error::InvalidArgumentError(Argument::ItemType));
+    Ok(push_plain(truths, Some(SEVEN)) == other_kind)
+}
+
+/// Whether the last of four is true and the first isn't false.
+fn holds_truths<B: MutableArray>(truths: &B) -> bool {
+    truths.len() == 4
+        && truths.holds(3, &Plain::Boolean(true))
+        && !truths.holds(0, &Plain::Boolean(false))
+}
+
+#[test]
+fn items_of_its_type_are_pushed(rt: HostRuntime) {
+    let mut numbers = MutablePrimitiveArray::<i64>::new(rt.alloc());
+    let pushed = push_numbers(rt.alloc(), &mut numbers);
     drop(numbers);
-    let mut truths = MutableBooleanArray::new(alloc);
-    TryPush::try_push(&mut truths, None::<bool>)?;
-    TryExtend::try_extend(&mut truths, vec![in alloc; Some(true), Some(false)]?)?;
-    assert_eq!(rt; MutableArray::len(&truths), 3);
-    assert_eq!(rt; push_plain(&mut truths, Some(Plain::Boolean(true))), Ok(()));
-    assert_eq!(rt;
-        push_plain(&mut truths, Some(SEVEN)),
-        Err(Error::InvalidArgumentError(Argument::ItemType))
-    );
-    assert!(rt; truths.holds(3, &Plain::Boolean(true)));
-    assert!(rt; !truths.holds(0, &Plain::Boolean(false)));
+    assert!(rt; pushed == Ok(true));
+    let mut truths = MutableBooleanArray::new(rt.alloc());
+    let pushed = push_truths(rt.alloc(), &mut truths);
+    let held = holds_truths(&truths);
     drop(truths);
-    Ok(())
+    assert!(rt; pushed == Ok(true));
+    assert!(rt; held);
 }

@@ -7,14 +7,14 @@
 //! | Numbers of 64 bits from 1 to 5 by the offsets 0, 2, 2, 3, 5, and by 0, 2 and 0, 6 | `rows::four_lists_of_five_numbers`, `rows::offsets_within_and_past_the_numbers` |
 //! | Items wait until their row is told, and a builder with waiting items is not frozen | `lists::items_wait_for_their_row` |
 //! | A builder has no validity before its first null, its child neither | `rows::no_validity_before_the_first_null` |
-//! | A boxed builder of numbers takes 7 and a null, refuses a text and a number of another kind, and is frozen and filled again | `flat::a_boxed_builder_takes_its_kind`, `flat::a_boxed_builder_is_shared_and_cut` |
+//! | A builder of numbers takes 7 and a null, refuses a text and a number of another kind, and is frozen and filled again; a boxed one of bytes likewise | `flat::a_builder_takes_its_kind`, `flat::a_builder_is_cut_and_shared`, `bytes::a_boxed_builder_of_bytes` |
 //! | Items are pushed at their own type, one by one and by an iterator, also an empty one | `flat::items_of_its_type_are_pushed` |
 //! | Texts and bytes are pushed at their type and as plain values, found, cut, joined, frozen and boxed; another kind is refused | `texts`, `bytes` |
 //! | A list of texts is frozen to its offsets and its bytes | `text_lists::lists_of_texts_are_frozen` |
 //! | A full builder of nulls refuses one more; nulls are pushed, cut and frozen; no value is taken | `nulls` |
 //! | Byte strings of one size: all items or none, popped, read from both ends, joined; parts and room are checked | `fixed_size_binaries` |
 //! | A list of pairs refuses a row with a pair of another size and takes it back; accepted ones are frozen | `fixed_size_lists::a_refused_pair_takes_its_row_back`, `fixed_size_lists::all_rows_are_taken_or_none` |
-//! | A list over a boxed builder takes 7 and a null, and no text; no plain value is a list | `lists::a_boxed_child_takes_the_items` |
+//! | A list over a boxed builder of bytes takes 7 and a null, and no text; no plain value is a list; a list over such a list is filled again | `lists::a_boxed_child_takes_the_items`, `lists::a_list_over_a_list_of_a_boxed_builder_is_filled_again` |
 //! | Lists by offsets that end before their items, by a validity of another length, over a child with a row | `lists::lists_by_offsets`, `lists::a_child_with_rows_makes_no_lists` |
 //! | Four waiting items, and one, make no pair and go on waiting | `fixed_size_lists::waiting_items_of_another_number_make_no_row` |
 //! | Each item that is accepted is kept, the others are left | `fixed_size_lists::accepted_rows_are_kept_and_others_left` |

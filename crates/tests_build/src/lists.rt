@@ -3,9 +3,10 @@
 use nest_array::{AnyArray, ListArray};
 use nest_build::array::MutableArray;
 use nest_build::list::MutableListArray;
+use nest_build::null::MutableNullArray;
 use nest_build::push::{TryExtend, TryExtendFromSelf, TryPush};
-use nest_flat::any_native::AnyNative;
 use nest_flat::any_primitive::AnyPrimitive;
+use nest_flat::binary::mutable::MutableBinaryArray;
 use nest_flat::plain::Plain;
 use nest_flat::primitive::mutable::MutablePrimitiveArray;
 use nest_memory::bitmap::mutable::MutableBitmap;
@@ -13,6 +14,8 @@ use nest_memory::datatypes::DataType;
 use nest_memory::error::{Argument, Error, Spec};
 use nest_memory::offsets::Offsets;
 use std::alloc::{AllocError, Global};
+use std::mem;
+use std::rc::Rc;
 use std::test::Fail;
 
 /// Lists of whole numbers.
@@ -123,7 +126,7 @@ fn wait_and_tell(rows: &mut Lists) -> Result<bool, Error> {
     let waits = !rows.is_whole();
     let unfinished = Some(Error::InvalidArgumentError(Argument::Unfinished));
     let refused = refusal(rows.freeze()) == unfinished;
-    rows.try_push_valid()?;
+    tell(rows)?;
     Ok(waits && refused && rows.is_whole() && rows.len() == 1)
 }
 
@@ -261,7 +264,11 @@ fn push_each(rows: &mut Lists, items: &[Option<&[Option<i64>]>]) -> Result<(), E
 type BoxedLists = MutableListArray<i64, Box<dyn MutableArray>>;
 
 fn boxed_lists(alloc: Global) -> Result<BoxedLists, Error> {
-    let child: Box<dyn MutableArray> = Box::new(alloc, MutablePrimitiveArray::<i64>::new(alloc))?;
+    let bytes: MutableBinaryArray<i32> = MutableBinaryArray::new(alloc)?;
+    let child: Box<dyn MutableArray> = Box::new(alloc, bytes)?;
+    if !child.is_whole() {
+        return Err(Error::InvalidArgumentError(Argument::Unfinished));
+    }
     MutableListArray::new(alloc, child)
 }
 
@@ -281,43 +288,61 @@ fn tell_boxed(rows: &mut BoxedLists) -> Result<(), Error> {
     rows.try_push_valid()
 }
 
+/// Whether 7 and a null are taken, a text isn't, and a row of both is told.
+fn take_both(rows: &mut BoxedLists) -> bool {
+    let other_kind = Err(Error::InvalidArgumentError(Argument::ItemType));
+    let taken = push_below(rows, Some(Plain::Bytes(b"7"))).is_ok();
+    let text = push_below(rows, Some(Plain::Text("x"))) == other_kind;
+    let null = push_below(rows, None).is_ok();
+    let waits = !rows.is_whole();
+    taken && text && null && waits && tell_boxed(rows).is_ok() && rows.is_whole()
+}
+
+/// Whether the list takes no value, and its one row is valid and no value.
+fn takes_no_value(rows: &mut BoxedLists) -> bool {
+    let other_kind = Err(Error::InvalidArgumentError(Argument::ItemType));
+    if !rows.is_whole() || rows.try_push_plain(Some(Plain::Bytes(b"7"))) != other_kind {
+        return false;
+    }
+    rows.len() == 1 && rows.is_valid(0) && !rows.holds(0, &Plain::Bytes(b"7"))
+}
+
+/// How long an array is; it is let go.
+fn len_of(array: Result<AnyArray, Error>) -> Option<usize> {
+    match array {
+        Ok(array) => {
+            let found = array.len();
+            drop(array);
+            Some(found)
+        }
+        Err(_) => None,
+    }
+}
+
 #[test]
 fn a_boxed_child_takes_the_items(rt: HostRuntime) -> Result<(), Fail> {
     let mut rows = boxed_lists(rt.alloc())?;
-    let other_kind = Err(Error::InvalidArgumentError(Argument::ItemType));
-    let seven = Plain::Native(AnyNative::Int64(7));
-    assert!(rt; push_below(&mut rows, Some(seven)) == Ok(()));
-    assert!(rt; push_below(&mut rows, Some(Plain::Text("x"))) == other_kind);
-    assert!(rt; push_below(&mut rows, None) == Ok(()));
-    assert!(rt; !rows.is_whole());
-    assert!(rt; tell_boxed(&mut rows) == Ok(()));
-    assert!(rt; rows.is_whole());
-    if rows.is_whole() {
-        assert!(rt; rows.try_push_plain(Some(seven)) == other_kind);
-    }
-    if rows.len() == 1 {
-        assert!(rt; rows.is_valid(0));
-        assert!(rt; !rows.holds(0, &seven));
-    }
-    let array = rows.into_box()?;
-    assert!(rt; array.len() == 1);
-    drop(array);
+    let both = take_both(&mut rows);
+    let lists = takes_no_value(&mut rows);
+    let found = len_of(rows.into_box());
+    assert!(rt; both);
+    assert!(rt; lists);
+    assert!(rt; found == Some(1));
     Ok(())
 }
 
-/// Rows of a builder over another boxed one, also after a freeze.
-fn lists_of_boxed_lists(
-    alloc: Global,
-) -> Result<MutableListArray<i32, Box<dyn MutableArray>>, Error> {
-    let inner = boxed_lists(alloc)?;
-    let child: Box<dyn MutableArray> = match Box::new(alloc, inner) {
-        Ok(child) => child,
-        Err(error) => return Err(error.into()),
-    };
+/// Lists of lists of whatever the boxed child takes.
+type Nested = MutableListArray<i32, BoxedLists>;
+
+fn lists_of_boxed_lists(alloc: Global) -> Result<Nested, Error> {
+    let child = boxed_lists(alloc)?;
+    if !child.is_whole() {
+        return Err(Error::InvalidArgumentError(Argument::Unfinished));
+    }
     MutableListArray::new(alloc, child)
 }
 
-fn tell_outer(rows: &mut MutableListArray<i32, Box<dyn MutableArray>>) -> Result<(), Error> {
+fn tell_outer(rows: &mut Nested) -> Result<(), Error> {
     let child = rows.mut_values();
     if !child.is_whole() {
         return Err(Error::InvalidArgumentError(Argument::Unfinished));
@@ -330,37 +355,51 @@ fn tell_outer(rows: &mut MutableListArray<i32, Box<dyn MutableArray>>) -> Result
     rows.try_push_valid()
 }
 
+/// How long a shared array is.
+fn shared_len(array: Result<Rc<AnyArray>, Error>) -> Option<usize> {
+    match array {
+        Ok(array) => Some(array.len()),
+        Err(_) => None,
+    }
+}
+
 #[test]
-fn a_list_over_a_boxed_list_is_filled_again(rt: HostRuntime) -> Result<(), Fail> {
+fn a_list_over_a_list_of_a_boxed_builder_is_filled_again(rt: HostRuntime) -> Result<(), Fail> {
     let mut rows = lists_of_boxed_lists(rt.alloc())?;
-    assert!(rt; tell_outer(&mut rows) == Ok(()));
-    assert!(rt; tell_outer(&mut rows) == Ok(()));
-    let first = rows.as_arc(rt.alloc())?;
-    assert!(rt; first.len() == 2);
-    drop(first);
-    assert!(rt; rows.is_empty());
-    assert!(rt; tell_outer(&mut rows) == Ok(()));
-    let second = rows.into_arc(rt.alloc())?;
-    assert!(rt; second.len() == 1);
-    drop(second);
+    let told = tell_outer(&mut rows).is_ok() && tell_outer(&mut rows).is_ok();
+    let first = shared_len(rows.as_arc(rt.alloc()));
+    let empty = rows.is_empty();
+    let again = tell_outer(&mut rows);
+    let second = shared_len(rows.into_arc(rt.alloc()));
+    assert!(rt; told && again == Ok(()));
+    assert!(rt; first == Some(2) && empty);
+    assert!(rt; second == Some(1));
     Ok(())
+}
+
+/// A boxed builder of nulls.
+fn boxed_nulls(alloc: Global) -> Result<Box<dyn MutableArray>, Error> {
+    let nulls = MutableNullArray::new(alloc, DataType::Null, 0);
+    Ok(Box::new(alloc, nulls)?)
+}
+
+/// Tells a row over another child, then over the one before.
+fn tell_over_both(rows: &mut BoxedLists, other: &mut Box<dyn MutableArray>) -> (bool, bool) {
+    mem::swap(rows.mut_values(), other);
+    let unfinished = Err(Error::InvalidArgumentError(Argument::Unfinished));
+    let refused = !rows.is_whole() && tell_boxed(rows) == unfinished;
+    mem::swap(rows.mut_values(), other);
+    (refused, rows.is_whole() && tell_boxed(rows).is_ok())
 }
 
 #[test]
 fn a_child_of_another_type_makes_no_row(rt: HostRuntime) -> Result<(), Fail> {
+    let mut other = boxed_nulls(rt.alloc())?;
     let mut rows = boxed_lists(rt.alloc())?;
-    let mut other: Box<dyn MutableArray> = Box::new(
-        rt.alloc(),
-        MutablePrimitiveArray::<i32>::new(rt.alloc()),
-    )?;
-    std::mem::swap(rows.mut_values(), &mut other);
-    assert!(rt; !rows.is_whole());
-    assert!(rt; tell_boxed(&mut rows) == Err(Error::InvalidArgumentError(Argument::Unfinished)));
-    std::mem::swap(rows.mut_values(), &mut other);
-    drop(other);
-    assert!(rt; rows.is_whole());
-    assert!(rt; tell_boxed(&mut rows) == Ok(()));
+    let seen = tell_over_both(&mut rows, &mut other);
     drop(rows);
+    drop(other);
+    assert!(rt; seen == (true, true));
     Ok(())
 }
 

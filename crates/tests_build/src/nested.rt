@@ -4,7 +4,7 @@ use nest_build::fixed_size_list::MutableFixedSizeListArray;
 use nest_build::list::MutableListArray;
 use nest_build::null::MutableNullArray;
 use nest_build::push::TryExtend;
-use nest_flat::any_native::AnyNative;
+use nest_flat::binary::mutable::MutableBinaryArray;
 use nest_flat::plain::Plain;
 use nest_flat::primitive::mutable::MutablePrimitiveArray;
 use nest_memory::datatypes::DataType;
@@ -120,17 +120,21 @@ fn rows_are_cut_to_all_and_to_none(rt: HostRuntime) -> Result<(), Fail> {
 type BoxedLists = MutableListArray<i32, Box<dyn MutableArray>>;
 
 fn boxed_lists(alloc: Global) -> Result<BoxedLists, Error> {
-    let numbers: Box<dyn MutableArray> = Box::new(alloc, MutablePrimitiveArray::<i64>::new(alloc))?;
-    MutableListArray::new(alloc, numbers)
+    let bytes: MutableBinaryArray<i32> = MutableBinaryArray::new(alloc)?;
+    let child: Box<dyn MutableArray> = Box::new(alloc, bytes)?;
+    if !child.is_whole() {
+        return Err(UNFINISHED);
+    }
+    MutableListArray::new(alloc, child)
 }
 
-/// Pushes a number into the child, and tells a row of it.
-fn push_number(rows: &mut BoxedLists) -> Result<(), Error> {
+/// Pushes bytes into the child, and tells a row of them.
+fn push_bytes(rows: &mut BoxedLists) -> Result<(), Error> {
     let child = rows.mut_values();
     if !child.is_whole() {
         return Err(UNFINISHED);
     }
-    child.try_push_plain(Some(Plain::Native(AnyNative::Int64(7))))?;
+    child.try_push_plain(Some(Plain::Bytes(b"7")))?;
     if !rows.values().is_whole() {
         return Err(UNFINISHED);
     }
@@ -144,11 +148,11 @@ fn a_boxed_child_keeps_what_it_took(rt: HostRuntime) {
     let Ok(mut rows) = boxed_lists(rt.alloc()) else {
         return;
     };
-    let first = push_number(&mut rows);
+    let first = push_bytes(&mut rows);
     assert!(rt; first == Ok(()) || first == Err(Error::Memory(AllocError)));
     assert!(rt; first.is_err() || (rows.len() == 1 && rows.values().len() == 1));
     assert!(rt; first.is_ok() || (rows.len() == 0 && rows.values().len() <= 1));
-    let second = push_number(&mut rows);
+    let second = push_bytes(&mut rows);
     assert!(rt; second.is_err() || rows.is_whole());
     drop(rows);
 }

@@ -6,7 +6,7 @@ use nest_build::list::MutableListArray;
 use nest_build::push::TryPush;
 use nest_flat::utf8::Utf8Array;
 use nest_flat::utf8::mutable::MutableUtf8Array;
-use nest_memory::error::Error;
+use nest_memory::error::{Argument, Error};
 use std::alloc::Global;
 use std::test::Fail;
 
@@ -17,15 +17,19 @@ fn no_lists(alloc: Global) -> Result<Lists, Error> {
     MutableListArray::new(alloc, texts)
 }
 
+const WORDS: [Option<&'static str>; 3] = [Some("a"), None, Some("bc")];
+
+fn push_row(rows: &mut Lists, row: Option<&[Option<&'static str>]>) -> Result<(), Error> {
+    if !rows.is_whole() {
+        return Err(Error::InvalidArgumentError(Argument::Unfinished));
+    }
+    rows.try_push(row.map(|items| items.iter().copied()))
+}
+
 /// Adds the row ["a", null, "bc"], then a null row.
 fn push_rows(rows: &mut Lists) -> Result<(), Error> {
-    let items = [Some("a"), None, Some("bc")];
-    for row in [Some(items.as_slice()), None] {
-        if rows.is_whole() {
-            rows.try_push(row.map(|items| items.iter().copied()))?;
-        }
-    }
-    Ok(())
+    push_row(rows, Some(WORDS.as_slice()))?;
+    push_row(rows, None)
 }
 
 /// Whether its rows end at these offsets, and its texts lie at these bytes.
@@ -51,10 +55,14 @@ fn made_at(array: Result<ListArray, Error>, offsets: &[i32], bytes: &[u8]) -> bo
 #[test]
 fn lists_of_texts_are_frozen(rt: HostRuntime) -> Result<(), Fail> {
     let mut rows = no_lists(rt.alloc())?;
-    assert!(rt; push_rows(&mut rows) == Ok(()));
-    assert!(rt; rows.len() == 2);
-    assert!(rt; made_at(rows.freeze(), [0i32, 3, 3].as_slice(), b"abc"));
-    assert!(rt; rows.is_whole() && rows.is_empty());
+    let pushed = push_rows(&mut rows);
+    let count = rows.len();
+    let made = made_at(rows.freeze(), [0i32, 3, 3].as_slice(), b"abc");
+    let empty = rows.is_whole() && rows.is_empty();
     drop(rows);
+    assert!(rt; pushed == Ok(()));
+    assert!(rt; count == 2);
+    assert!(rt; made);
+    assert!(rt; empty);
     Ok(())
 }
