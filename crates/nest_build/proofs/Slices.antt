@@ -58,9 +58,9 @@ module _ {T A : Type 0} (steps : T → Option (Option A) → T → Type 0) (valu
       let of_next = value_item value next in
       let rest = map (value_item value) more.0 in
       let split : map (value_item value) all ≡ ys ++ of_next ∷ rest =
-        ap (map (value_item value)) more.1
-        ∙ map-append (value_item value) (front ++ next ∷ []) more.0
-        ∙ ap (λ l. l ++ rest) (map-append (value_item value) front (next ∷ []))
-        ∙ ap (λ l. (l ++ of_next ∷ []) ++ rest) (sym front_items)
-        ∙ append_assoc ys (of_next ∷ []) rest in
+      ap (map (value_item value)) more.1
+      ∙ map-append (value_item value) (front ++ next ∷ []) more.0
+      ∙ ap (λ l. l ++ rest) (map-append (value_item value) front (next ∷ []))
+      ∙ ap (λ l. (l ++ of_next ∷ []) ++ rest) (sym front_items)
+      ∙ append_assoc ys (of_next ∷ []) rest in
       inr (read-refused (begun ys s) (row_item value (Some all)) old e (of_next, rest, ap (λ l. items.list_of (seal_items l)) split, subst (λ q. ReadOf q of_next) (sym n) refl) (subst (λ q. read_refusal q old ≡ Some e) k h))
