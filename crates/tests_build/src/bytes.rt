@@ -73,11 +73,6 @@ fn bytes_are_joined(rt: HostRuntime) -> Result<(), Fail> {
     Ok(())
 }
 
-fn boxed(alloc: Global) -> Result<Box<dyn MutableArray>, Error> {
-    let bytes = two(alloc)?;
-    Ok(Box::new(alloc, bytes)?)
-}
-
 /// Adds bytes where nothing waits.
 fn push(builder: &mut Box<dyn MutableArray>, value: &[u8]) -> Result<(), Error> {
     if !builder.is_whole() {
@@ -95,7 +90,8 @@ fn keep_one(builder: &mut Box<dyn MutableArray>) {
 
 #[test]
 fn a_boxed_builder_of_bytes(rt: HostRuntime) -> Result<(), Fail> {
-    let mut builder = boxed(rt.alloc())?;
+    let bytes = two(rt.alloc())?;
+    let mut builder: Box<dyn MutableArray> = Box::new(rt.alloc(), bytes)?;
     assert!(rt; push(&mut builder, b"abc") == Ok(()));
     assert!(rt; builder.len() == 3);
     keep_one(&mut builder);

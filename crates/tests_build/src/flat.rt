@@ -93,7 +93,9 @@ fn cut_all<B: MutableArray>(builder: &mut B) -> Result<bool, Error> {
     }
     builder.truncate(2);
     let kept = builder.len() == 2;
-    builder.truncate(0);
+    if builder.is_whole() {
+        builder.truncate(0);
+    }
     Ok(kept && builder.is_empty())
 }
 

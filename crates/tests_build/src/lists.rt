@@ -263,15 +263,6 @@ fn push_each(rows: &mut Lists, items: &[Option<&[Option<i64>]>]) -> Result<(), E
 /// Lists of whatever the boxed child takes.
 type BoxedLists = MutableListArray<i64, Box<dyn MutableArray>>;
 
-fn boxed_lists(alloc: Global) -> Result<BoxedLists, Error> {
-    let bytes: MutableBinaryArray<i32> = MutableBinaryArray::new(alloc)?;
-    let child: Box<dyn MutableArray> = Box::new(alloc, bytes)?;
-    if !child.is_whole() {
-        return Err(Error::InvalidArgumentError(Argument::Unfinished));
-    }
-    MutableListArray::new(alloc, child)
-}
-
 fn push_below(rows: &mut BoxedLists, value: Option<Plain<'_>>) -> Result<(), Error> {
     let child = rows.mut_values();
     if !child.is_whole() {
@@ -321,7 +312,10 @@ fn len_of(array: Result<AnyArray, Error>) -> Option<usize> {
 
 #[test]
 fn a_boxed_child_takes_the_items(rt: HostRuntime) -> Result<(), Fail> {
-    let mut rows = boxed_lists(rt.alloc())?;
+    let bytes: MutableBinaryArray<i32> = MutableBinaryArray::new(rt.alloc())?;
+    let child: Box<dyn MutableArray> = Box::new(rt.alloc(), bytes)?;
+    assert!(rt; child.is_whole());
+    let mut rows: BoxedLists = MutableListArray::new(rt.alloc(), child)?;
     let both = take_both(&mut rows);
     let lists = takes_no_value(&mut rows);
     let found = len_of(rows.into_box());
@@ -333,14 +327,6 @@ fn a_boxed_child_takes_the_items(rt: HostRuntime) -> Result<(), Fail> {
 
 /// Lists of lists of whatever the boxed child takes.
 type Nested = MutableListArray<i32, BoxedLists>;
-
-fn lists_of_boxed_lists(alloc: Global) -> Result<Nested, Error> {
-    let child = boxed_lists(alloc)?;
-    if !child.is_whole() {
-        return Err(Error::InvalidArgumentError(Argument::Unfinished));
-    }
-    MutableListArray::new(alloc, child)
-}
 
 fn tell_outer(rows: &mut Nested) -> Result<(), Error> {
     let child = rows.mut_values();
@@ -365,7 +351,12 @@ fn shared_len(array: Result<Rc<AnyArray>, Error>) -> Option<usize> {
 
 #[test]
 fn a_list_over_a_list_of_a_boxed_builder_is_filled_again(rt: HostRuntime) -> Result<(), Fail> {
-    let mut rows = lists_of_boxed_lists(rt.alloc())?;
+    let bytes: MutableBinaryArray<i32> = MutableBinaryArray::new(rt.alloc())?;
+    let child: Box<dyn MutableArray> = Box::new(rt.alloc(), bytes)?;
+    assert!(rt; child.is_whole());
+    let inner: BoxedLists = MutableListArray::new(rt.alloc(), child)?;
+    assert!(rt; inner.is_whole());
+    let mut rows: Nested = MutableListArray::new(rt.alloc(), inner)?;
     let told = tell_outer(&mut rows).is_ok() && tell_outer(&mut rows).is_ok();
     let first = shared_len(rows.as_arc(rt.alloc()));
     let empty = rows.is_empty();
@@ -375,12 +366,6 @@ fn a_list_over_a_list_of_a_boxed_builder_is_filled_again(rt: HostRuntime) -> Res
     assert!(rt; first == Some(2) && empty);
     assert!(rt; second == Some(1));
     Ok(())
-}
-
-/// A boxed builder of nulls.
-fn boxed_nulls(alloc: Global) -> Result<Box<dyn MutableArray>, Error> {
-    let nulls = MutableNullArray::new(alloc, DataType::Null, 0);
-    Ok(Box::new(alloc, nulls)?)
 }
 
 /// Tells a row over another child, then over the one before.
@@ -394,8 +379,12 @@ fn tell_over_both(rows: &mut BoxedLists, other: &mut Box<dyn MutableArray>) -> (
 
 #[test]
 fn a_child_of_another_type_makes_no_row(rt: HostRuntime) -> Result<(), Fail> {
-    let mut other = boxed_nulls(rt.alloc())?;
-    let mut rows = boxed_lists(rt.alloc())?;
+    let bytes: MutableBinaryArray<i32> = MutableBinaryArray::new(rt.alloc())?;
+    let child: Box<dyn MutableArray> = Box::new(rt.alloc(), bytes)?;
+    assert!(rt; child.is_whole());
+    let mut rows: BoxedLists = MutableListArray::new(rt.alloc(), child)?;
+    let nulls = MutableNullArray::new(rt.alloc(), DataType::Null, 0);
+    let mut other: Box<dyn MutableArray> = Box::new(rt.alloc(), nulls)?;
     let seen = tell_over_both(&mut rows, &mut other);
     drop(rows);
     drop(other);

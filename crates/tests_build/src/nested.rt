@@ -119,15 +119,6 @@ fn rows_are_cut_to_all_and_to_none(rt: HostRuntime) -> Result<(), Fail> {
 /// Lists of whatever the boxed child takes.
 type BoxedLists = MutableListArray<i32, Box<dyn MutableArray>>;
 
-fn boxed_lists(alloc: Global) -> Result<BoxedLists, Error> {
-    let bytes: MutableBinaryArray<i32> = MutableBinaryArray::new(alloc)?;
-    let child: Box<dyn MutableArray> = Box::new(alloc, bytes)?;
-    if !child.is_whole() {
-        return Err(UNFINISHED);
-    }
-    MutableListArray::new(alloc, child)
-}
-
 /// Pushes bytes into the child, and tells a row of them.
 fn push_bytes(rows: &mut BoxedLists) -> Result<(), Error> {
     let child = rows.mut_values();
@@ -145,9 +136,18 @@ fn push_bytes(rows: &mut BoxedLists) -> Result<(), Error> {
 // Holds where any one request for memory is refused: an item that waits is told with the next.
 #[test]
 fn a_boxed_child_keeps_what_it_took(rt: HostRuntime) {
-    let Ok(mut rows) = boxed_lists(rt.alloc()) else {
+    let Ok(bytes) = MutableBinaryArray::<i32>::new(rt.alloc()) else {
         return;
     };
+    let child: Box<dyn MutableArray> = match Box::new(rt.alloc(), bytes) {
+        Ok(child) => child,
+        Err(_) => return,
+    };
+    assert!(rt; child.is_whole());
+    let Ok(made) = MutableListArray::new(rt.alloc(), child) else {
+        return;
+    };
+    let mut rows: BoxedLists = made;
     let first = push_bytes(&mut rows);
     assert!(rt; first == Ok(()) || first == Err(Error::Memory(AllocError)));
     assert!(rt; first.is_err() || (rows.len() == 1 && rows.values().len() == 1));

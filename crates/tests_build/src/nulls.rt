@@ -6,7 +6,6 @@ use nest_build::null::MutableNullArray;
 use nest_flat::plain::Plain;
 use nest_memory::datatypes::DataType;
 use nest_memory::error::{Argument, Error};
-use std::alloc::Global;
 use std::test::Fail;
 
 #[test]
@@ -33,12 +32,6 @@ fn nulls_in(array: Result<AnyArray, Error>) -> Option<usize> {
     }
 }
 
-/// A builder of nulls, as one of any kind.
-fn boxed(alloc: Global, length: usize) -> Result<Box<dyn MutableArray>, Error> {
-    let nulls = MutableNullArray::new(alloc, DataType::Null, length);
-    Ok(Box::new(alloc, nulls)?)
-}
-
 fn push_two(nulls: &mut Box<dyn MutableArray>) -> Result<bool, Error> {
     if !nulls.is_whole() {
         return Ok(false);
@@ -52,7 +45,8 @@ fn push_two(nulls: &mut Box<dyn MutableArray>) -> Result<bool, Error> {
 
 #[test]
 fn nulls_are_pushed_and_frozen(rt: HostRuntime) -> Result<(), Fail> {
-    let mut nulls = boxed(rt.alloc(), 3)?;
+    let three = MutableNullArray::new(rt.alloc(), DataType::Null, 3);
+    let mut nulls: Box<dyn MutableArray> = Box::new(rt.alloc(), three)?;
     assert!(rt; push_two(&mut nulls) == Ok(true));
     nulls.reserve(7)?;
     nulls.shrink_to_fit()?;
