@@ -18,7 +18,7 @@ use crate::map::MapArray;
 use crate::null::NullArray;
 use crate::struct_::{StructArray, clone_all};
 use crate::union::UnionArray;
-use nest_flat::any_primitive::{AnyPrimitive, Native};
+use nest_flat::any_primitive::{AnyPrimitive, NativeArray};
 use nest_flat::binary::BinaryArray;
 use nest_flat::boolean::BooleanArray;
 use nest_flat::utf8::Utf8Array;
@@ -127,7 +127,7 @@ impl AnyArray {
     }
 
     /// The array of such native values, where its data type is of their kind.
-    pub fn as_primitive<T: Native>(&self) -> Option<&T::Array>
+    pub fn as_primitive<T: NativeArray>(&self) -> Option<&T::Array>
         ensures { MatchOption result
             (physical_type (layout_type (layout_of self.now)) ≡ physical.Primitive T.PRIMITIVE → ⊥)
             (λ a. (physical_type (layout_type (layout_of self.now)) ≡ physical.Primitive T.PRIMITIVE) × (T.layout_of_array a.now ≡ layout_of self.now)) }

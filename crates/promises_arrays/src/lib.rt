@@ -17,7 +17,7 @@ use nest_array::{
     LargeListArray, ListArray, MapArray, NullArray, ScalarValue, StructArray, UnionArray, Window,
     new_scalar,
 };
-use nest_flat::any_primitive::Native;
+use nest_flat::any_primitive::NativeArray;
 use nest_memory::bitmap::immutable::Bitmap;
 use nest_memory::buffer::Buffer;
 use nest_memory::datatypes::{DataType, Field};
@@ -133,7 +133,7 @@ pub fn copy_of_any(array: &AnyArray, alloc: Global) -> Result<AnyArray, Error>
 }
 
 /// An array of native values is found by its kind, and no other array is.
-pub fn natives_in<T: Native>(array: &AnyArray) -> Option<&T::Array>
+pub fn natives_in<T: NativeArray>(array: &AnyArray) -> Option<&T::Array>
     ensures { MatchOption result
         (physical_type (layout_type (layout_of array.now)) ≡ physical.Primitive T.PRIMITIVE → ⊥)
         (λ a. (physical_type (layout_type (layout_of array.now)) ≡ physical.Primitive T.PRIMITIVE) × (T.layout_of_array a.now ≡ layout_of array.now)) }

@@ -9,7 +9,7 @@ ghost use Rattle.nest_model.specs.Layout as layouts;
 ghost use Rattle.nest_model.specs.Slot as slots;
 ghost use Rattle.promises_flat.specs.Words.{FirstFault, Fits, len, natives_of, optional, primitive_layout, slot, slots_of, type_of, validity_of, where_valid};
 
-use nest_flat::any_primitive::{AnyPrimitive, Native};
+use nest_flat::any_primitive::{AnyPrimitive, NativeArray};
 use nest_flat::binary::BinaryArray;
 use nest_flat::boolean::BooleanArray;
 use nest_flat::iterator::{SlotItems, SlotsIter};
@@ -143,7 +143,7 @@ pub fn slots_left<S: SlotItems>(to_come: &SlotsIter<S>) -> (usize, Option<usize>
 }
 
 /// Each of the twelve native kinds keeps its slots among arrays of any kind.
-pub fn wrapped<T: Native>(natives: T::Array) -> AnyPrimitive
+pub fn wrapped<T: NativeArray>(natives: T::Array) -> AnyPrimitive
     ensures { primitive_layout result ≡ T.layout_of_array natives }
 {
     T::wrap(natives)

@@ -9,7 +9,7 @@ pub(crate) mod structs;
 mod windows;
 
 use nest_array::{AnyArray, ListArray};
-use nest_flat::any_primitive::{AnyPrimitive, Native};
+use nest_flat::any_primitive::{AnyPrimitive, NativeArray};
 use nest_flat::boolean::BooleanArray;
 use nest_flat::primitive::PrimitiveArray;
 use nest_memory::bitmap::immutable::Bitmap;

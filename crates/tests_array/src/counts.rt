@@ -9,7 +9,7 @@ use crate::rows::rebuilt_lists_of_lists;
 use nest_array::equal::equal_counted;
 use nest_array::steps::Steps;
 use nest_array::{AnyArray, NullArray};
-use nest_flat::any_primitive::Native;
+use nest_flat::any_primitive::NativeArray;
 use nest_flat::binary::BinaryArray;
 use nest_flat::primitive::PrimitiveArray;
 use nest_memory::datatypes::DataType;

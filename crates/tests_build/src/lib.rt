@@ -14,7 +14,7 @@
 //! | A full builder of nulls refuses one more; nulls are pushed, cut and frozen; no value is taken | `nulls` |
 //! | Byte strings of one size: all items or none, popped, read from both ends, joined; parts and room are checked | `fixed_size_binaries` |
 //! | A list of pairs refuses a row with a pair of another size and takes it back; accepted ones are frozen | `fixed_size_lists::a_refused_pair_takes_its_row_back`, `fixed_size_lists::all_rows_are_taken_or_none` |
-//! | A list over a boxed builder of bytes takes 7 and a null, and no text; no plain value is a list; a list over such a list is filled again | `lists::a_boxed_child_takes_the_items`, `lists::a_list_over_a_list_of_a_boxed_builder_is_filled_again` |
+//! | A list over a boxed builder of numbers takes 7 and a null, and no text; no plain value is a list; a list over such a list is filled again | `lists::a_boxed_child_takes_the_items`, `lists::a_list_over_a_list_of_a_boxed_builder_is_filled_again` |
 //! | Lists by offsets that end before their items, by a validity of another length, over a child with a row | `lists::lists_by_offsets`, `lists::a_child_with_rows_makes_no_lists` |
 //! | Four waiting items, and one, make no pair and go on waiting | `fixed_size_lists::waiting_items_of_another_number_make_no_row` |
 //! | Each item that is accepted is kept, the others are left | `fixed_size_lists::accepted_rows_are_kept_and_others_left` |

@@ -5,8 +5,8 @@ use nest_build::array::MutableArray;
 use nest_build::list::MutableListArray;
 use nest_build::null::MutableNullArray;
 use nest_build::push::{TryExtend, TryExtendFromSelf, TryPush};
+use nest_flat::any_native::AnyNative;
 use nest_flat::any_primitive::AnyPrimitive;
-use nest_flat::binary::mutable::MutableBinaryArray;
 use nest_flat::plain::Plain;
 use nest_flat::primitive::mutable::MutablePrimitiveArray;
 use nest_memory::bitmap::mutable::MutableBitmap;
@@ -24,6 +24,8 @@ type Lists = MutableListArray<i32, MutablePrimitiveArray<i64>>;
 fn no_lists(alloc: Global) -> Result<Lists, Error> {
     MutableListArray::new(alloc, MutablePrimitiveArray::new(alloc))
 }
+
+const SEVEN: Plain<'static> = Plain::Native(AnyNative::Int64(7));
 
 const ONE_TO_FIVE: [Option<i64>; 5] = [Some(1), Some(2), Some(3), Some(4), Some(5)];
 
@@ -282,7 +284,7 @@ fn tell_boxed(rows: &mut BoxedLists) -> Result<(), Error> {
 /// Whether 7 and a null are taken, a text isn't, and a row of both is told.
 fn take_both(rows: &mut BoxedLists) -> bool {
     let other_kind = Err(Error::InvalidArgumentError(Argument::ItemType));
-    let taken = push_below(rows, Some(Plain::Bytes(b"7"))).is_ok();
+    let taken = push_below(rows, Some(SEVEN)).is_ok();
     let text = push_below(rows, Some(Plain::Text("x"))) == other_kind;
     let null = push_below(rows, None).is_ok();
     let waits = !rows.is_whole();
@@ -292,10 +294,10 @@ fn take_both(rows: &mut BoxedLists) -> bool {
 /// Whether the list takes no value, and its one row is valid and no value.
 fn takes_no_value(rows: &mut BoxedLists) -> bool {
     let other_kind = Err(Error::InvalidArgumentError(Argument::ItemType));
-    if !rows.is_whole() || rows.try_push_plain(Some(Plain::Bytes(b"7"))) != other_kind {
+    if !rows.is_whole() || rows.try_push_plain(Some(SEVEN)) != other_kind {
         return false;
     }
-    rows.len() == 1 && rows.is_valid(0) && !rows.holds(0, &Plain::Bytes(b"7"))
+    rows.len() == 1 && rows.is_valid(0) && !rows.holds(0, &SEVEN)
 }
 
 /// How long an array is; it is let go.
@@ -312,8 +314,8 @@ fn len_of(array: Result<AnyArray, Error>) -> Option<usize> {
 
 #[test]
 fn a_boxed_child_takes_the_items(rt: HostRuntime) -> Result<(), Fail> {
-    let bytes: MutableBinaryArray<i32> = MutableBinaryArray::new(rt.alloc())?;
-    let child: Box<dyn MutableArray> = Box::new(rt.alloc(), bytes)?;
+    let numbers: MutablePrimitiveArray<i64> = MutablePrimitiveArray::new(rt.alloc());
+    let child: Box<dyn MutableArray> = Box::new(rt.alloc(), numbers)?;
     assert!(rt; child.is_whole());
     let mut rows: BoxedLists = MutableListArray::new(rt.alloc(), child)?;
     let both = take_both(&mut rows);
@@ -351,8 +353,8 @@ fn shared_len(array: Result<Rc<AnyArray>, Error>) -> Option<usize> {
 
 #[test]
 fn a_list_over_a_list_of_a_boxed_builder_is_filled_again(rt: HostRuntime) -> Result<(), Fail> {
-    let bytes: MutableBinaryArray<i32> = MutableBinaryArray::new(rt.alloc())?;
-    let child: Box<dyn MutableArray> = Box::new(rt.alloc(), bytes)?;
+    let numbers: MutablePrimitiveArray<i64> = MutablePrimitiveArray::new(rt.alloc());
+    let child: Box<dyn MutableArray> = Box::new(rt.alloc(), numbers)?;
     assert!(rt; child.is_whole());
     let inner: BoxedLists = MutableListArray::new(rt.alloc(), child)?;
     assert!(rt; inner.is_whole());
@@ -379,8 +381,8 @@ fn tell_over_both(rows: &mut BoxedLists, other: &mut Box<dyn MutableArray>) -> (
 
 #[test]
 fn a_child_of_another_type_makes_no_row(rt: HostRuntime) -> Result<(), Fail> {
-    let bytes: MutableBinaryArray<i32> = MutableBinaryArray::new(rt.alloc())?;
-    let child: Box<dyn MutableArray> = Box::new(rt.alloc(), bytes)?;
+    let numbers: MutablePrimitiveArray<i64> = MutablePrimitiveArray::new(rt.alloc());
+    let child: Box<dyn MutableArray> = Box::new(rt.alloc(), numbers)?;
     assert!(rt; child.is_whole());
     let mut rows: BoxedLists = MutableListArray::new(rt.alloc(), child)?;
     let nulls = MutableNullArray::new(rt.alloc(), DataType::Null, 0);

@@ -3,7 +3,7 @@ use nest_array::{AnyArray, ListArray};
 use nest_build::array::MutableArray;
 use nest_build::list::MutableListArray;
 use nest_build::push::TryPush;
-use nest_flat::any_primitive::{AnyPrimitive, Native};
+use nest_flat::any_primitive::{AnyPrimitive, NativeArray};
 use nest_flat::primitive::PrimitiveArray;
 use nest_flat::primitive::mutable::MutablePrimitiveArray;
 use nest_memory::bitmap::immutable::Bitmap;

@@ -1,7 +1,7 @@
 //! Parts of arrays, and what an iterator gave. What has a data type is let go in generic helpers and by `drop`, which keeps the
 //! proofs short.
 use nest_array::{AnyArray, ListArray};
-use nest_flat::any_primitive::{AnyPrimitive, Native};
+use nest_flat::any_primitive::{AnyPrimitive, NativeArray};
 use nest_flat::primitive::PrimitiveArray;
 use nest_memory::bitmap::immutable::Bitmap;
 use nest_memory::buffer::Buffer;

@@ -6,7 +6,7 @@ ghost use Rattle.nest_array.specs.Words.{Tells, layout_type, len, physical_type,
 
 use crate::equal::is_full;
 use crate::steps::Steps;
-use nest_flat::any_primitive::{AnyPrimitive, Native};
+use nest_flat::any_primitive::{AnyPrimitive, NativeArray};
 use nest_flat::flat_array::FlatArray;
 use nest_flat::primitive::PrimitiveArray;
 use nest_memory::types::{NativeType, days_ms, i256, months_days_ns};

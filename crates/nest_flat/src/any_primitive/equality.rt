@@ -2,7 +2,7 @@
 ghost use Rattle.std.specs.Prelude.{◌≡◌, ◌↔◌, ◌+◌, ◌≤◌, IsTrue};
 ghost use Rattle.nest_flat.specs.Words.{IsSameArray, layout_type, len, physical_type, primitive_layout, run, same_array, slot, slots_of};
 
-use crate::any_primitive::{AnyPrimitive, Native};
+use crate::any_primitive::{AnyPrimitive, NativeArray};
 use crate::flat_array;
 use nest_memory::types::{days_ms, i256, months_days_ns};
 

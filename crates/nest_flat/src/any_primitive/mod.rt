@@ -12,7 +12,7 @@ ghost use Rattle.nest_flat.specs.Words.{IsCut, Memory, TopFits, ValidityFault, V
 use crate::any_native::AnyNative;
 use crate::primitive::PrimitiveArray;
 pub use equality::same_run;
-pub use native::Native;
+pub use native::{Native, NativeArray};
 use nest_memory::bitmap::immutable::Bitmap;
 use nest_memory::datatypes::DataType;
 use nest_memory::error::Error;
@@ -66,7 +66,7 @@ fn known<T: NativeType>(array: &PrimitiveArray<T>)
 }
 
 // A copy in its variant, or the refusal of one.
-fn wrapped<T: Native>(copy: Result<T::Array, Error>) -> Result<AnyPrimitive, Error>
+fn wrapped<T: NativeArray>(copy: Result<T::Array, Error>) -> Result<AnyPrimitive, Error>
     ensures { MatchResult copy
         (λ a. MatchResult result (λ b. primitive_layout b ≡ T.layout_of_array a) (λ _. ⊥))
         (λ e. IsErrOf result e) }

@@ -10,6 +10,19 @@ use nest_memory::types::{NativeType, days_ms, i256, months_days_ns};
 
 /// The twelve native types.
 pub trait Native: NativeType {
+    /// The same value in the variant of its kind.
+    fn to_any(self) -> AnyNative
+        ensures kind { native_kind result ≡ Self.PRIMITIVE }
+        ensures same_numbers { native_numbers result ≡ Self.numbers self };
+
+    /// The value, `None` where it is of another kind.
+    fn from_any(any: AnyNative) -> Option<Self>
+        ensures kind { IsSome result ↔ (native_kind any ≡ Self.PRIMITIVE) }
+        ensures same_numbers { IfSome result (λ x. Self.numbers x ≡ native_numbers any) };
+}
+
+/// The array of each native type.
+pub trait NativeArray: Native {
     /// `PrimitiveArray<Self>`.
     type Array;
 
@@ -23,19 +36,9 @@ pub trait Native: NativeType {
     fn of(any: &AnyPrimitive) -> &Self::Array
         requires { physical_type (layout_type (primitive_layout any.now)) ≡ physical.Primitive Self.PRIMITIVE }
         ensures { layout_of_array result.now ≡ primitive_layout any.now };
-
-    /// The same value in the variant of its kind.
-    fn to_any(self) -> AnyNative
-        ensures kind { native_kind result ≡ Self.PRIMITIVE }
-        ensures same_numbers { native_numbers result ≡ Self.numbers self };
-
-    /// The value, `None` where it is of another kind.
-    fn from_any(any: AnyNative) -> Option<Self>
-        ensures kind { IsSome result ↔ (native_kind any ≡ Self.PRIMITIVE) }
-        ensures same_numbers { IfSome result (λ x. Self.numbers x ≡ native_numbers any) };
 }
 
-impl Native for i8 {
+impl NativeArray for i8 {
     type Array = PrimitiveArray<i8>;
 
     ghost layout_of_array = { λ a. a };
@@ -51,7 +54,9 @@ impl Native for i8 {
             _ => unreachable!(),
         }
     }
+}
 
+impl Native for i8 {
     fn to_any(self) -> AnyNative {
         AnyNative::Int8(self)
     }
@@ -64,7 +69,7 @@ impl Native for i8 {
     }
 }
 
-impl Native for i16 {
+impl NativeArray for i16 {
     type Array = PrimitiveArray<i16>;
 
     ghost layout_of_array = { λ a. a };
@@ -80,7 +85,9 @@ impl Native for i16 {
             _ => unreachable!(),
         }
     }
+}
 
+impl Native for i16 {
     fn to_any(self) -> AnyNative {
         AnyNative::Int16(self)
     }
@@ -93,7 +100,7 @@ impl Native for i16 {
     }
 }
 
-impl Native for i32 {
+impl NativeArray for i32 {
     type Array = PrimitiveArray<i32>;
 
     ghost layout_of_array = { λ a. a };
@@ -109,7 +116,9 @@ impl Native for i32 {
             _ => unreachable!(),
         }
     }
+}
 
+impl Native for i32 {
     fn to_any(self) -> AnyNative {
         AnyNative::Int32(self)
     }
@@ -122,7 +131,7 @@ impl Native for i32 {
     }
 }
 
-impl Native for i64 {
+impl NativeArray for i64 {
     type Array = PrimitiveArray<i64>;
 
     ghost layout_of_array = { λ a. a };
@@ -138,7 +147,9 @@ impl Native for i64 {
             _ => unreachable!(),
         }
     }
+}
 
+impl Native for i64 {
     fn to_any(self) -> AnyNative {
         AnyNative::Int64(self)
     }
@@ -151,7 +162,7 @@ impl Native for i64 {
     }
 }
 
-impl Native for i128 {
+impl NativeArray for i128 {
     type Array = PrimitiveArray<i128>;
 
     ghost layout_of_array = { λ a. a };
@@ -167,7 +178,9 @@ impl Native for i128 {
             _ => unreachable!(),
         }
     }
+}
 
+impl Native for i128 {
     fn to_any(self) -> AnyNative {
         AnyNative::Int128(self)
     }
@@ -180,7 +193,7 @@ impl Native for i128 {
     }
 }
 
-impl Native for i256 {
+impl NativeArray for i256 {
     type Array = PrimitiveArray<i256>;
 
     ghost layout_of_array = { λ a. a };
@@ -196,7 +209,9 @@ impl Native for i256 {
             _ => unreachable!(),
         }
     }
+}
 
+impl Native for i256 {
     fn to_any(self) -> AnyNative {
         AnyNative::Int256(self)
     }
@@ -209,7 +224,7 @@ impl Native for i256 {
     }
 }
 
-impl Native for u8 {
+impl NativeArray for u8 {
     type Array = PrimitiveArray<u8>;
 
     ghost layout_of_array = { λ a. a };
@@ -225,7 +240,9 @@ impl Native for u8 {
             _ => unreachable!(),
         }
     }
+}
 
+impl Native for u8 {
     fn to_any(self) -> AnyNative {
         AnyNative::UInt8(self)
     }
@@ -238,7 +255,7 @@ impl Native for u8 {
     }
 }
 
-impl Native for u16 {
+impl NativeArray for u16 {
     type Array = PrimitiveArray<u16>;
 
     ghost layout_of_array = { λ a. a };
@@ -254,7 +271,9 @@ impl Native for u16 {
             _ => unreachable!(),
         }
     }
+}
 
+impl Native for u16 {
     fn to_any(self) -> AnyNative {
         AnyNative::UInt16(self)
     }
@@ -267,7 +286,7 @@ impl Native for u16 {
     }
 }
 
-impl Native for u32 {
+impl NativeArray for u32 {
     type Array = PrimitiveArray<u32>;
 
     ghost layout_of_array = { λ a. a };
@@ -283,7 +302,9 @@ impl Native for u32 {
             _ => unreachable!(),
         }
     }
+}
 
+impl Native for u32 {
     fn to_any(self) -> AnyNative {
         AnyNative::UInt32(self)
     }
@@ -296,7 +317,7 @@ impl Native for u32 {
     }
 }
 
-impl Native for u64 {
+impl NativeArray for u64 {
     type Array = PrimitiveArray<u64>;
 
     ghost layout_of_array = { λ a. a };
@@ -312,7 +333,9 @@ impl Native for u64 {
             _ => unreachable!(),
         }
     }
+}
 
+impl Native for u64 {
     fn to_any(self) -> AnyNative {
         AnyNative::UInt64(self)
     }
@@ -325,7 +348,7 @@ impl Native for u64 {
     }
 }
 
-impl Native for days_ms {
+impl NativeArray for days_ms {
     type Array = PrimitiveArray<days_ms>;
 
     ghost layout_of_array = { λ a. a };
@@ -341,7 +364,9 @@ impl Native for days_ms {
             _ => unreachable!(),
         }
     }
+}
 
+impl Native for days_ms {
     fn to_any(self) -> AnyNative {
         AnyNative::DaysMs(self)
     }
@@ -354,7 +379,7 @@ impl Native for days_ms {
     }
 }
 
-impl Native for months_days_ns {
+impl NativeArray for months_days_ns {
     type Array = PrimitiveArray<months_days_ns>;
 
     ghost layout_of_array = { λ a. a };
@@ -370,7 +395,9 @@ impl Native for months_days_ns {
             _ => unreachable!(),
         }
     }
+}
 
+impl Native for months_days_ns {
     fn to_any(self) -> AnyNative {
         AnyNative::MonthDayNano(self)
     }

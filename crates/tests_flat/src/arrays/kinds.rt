@@ -1,7 +1,7 @@
 //! The slots of each kind of array, and what lies under its nulls.
 use super::{binaries, numbers, texts, truths};
 use nest_flat::any_native::AnyNative;
-use nest_flat::any_primitive::{AnyPrimitive, Native};
+use nest_flat::any_primitive::{AnyPrimitive, NativeArray};
 use nest_memory::datatypes::DataType;
 
 #[test]

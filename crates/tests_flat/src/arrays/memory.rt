@@ -1,6 +1,6 @@
 //! Each test passes whichever request for memory is refused: a refused clone leaves its array.
 use super::{binaries, numbers, texts, truths};
-use nest_flat::any_primitive::{AnyPrimitive, Native};
+use nest_flat::any_primitive::{AnyPrimitive, NativeArray};
 use nest_memory::datatypes::DataType;
 use nest_memory::error::Error;
 use std::alloc::{AllocError, Global};
