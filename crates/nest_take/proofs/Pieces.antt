@@ -1,0 +1,184 @@
+-- Pieces of a list one after another, and where each lies.
+use Rattle.std.specs.Prelude.{List, [], ◌∷◌, ◌++◌, map, length, get_or}
+use Rattle.std.specs.Prelude.{if◌then◌else◌}
+use Rattle.std.specs.List.{All, flat_map, range_with_len, sum_by}
+use Rattle.std.proofs.Common.{◌≡◌, ℕ, Bool, true, false, sum, zero, suc, ◌+◌, ◌-◌, ◌*◌, ◌<◌, ◌≤◌, take, drop, refl, ap, sym, ◌∙◌, subst, arith, length-append}
+use Rattle.std.proofs.lemmas.List.{length-map, take-append-le, drop-append-le}
+use Rattle.std.proofs.lemmas.List.Elements.{All-nil, All-cons, All-append}
+use Rattle.std.proofs.lemmas.List.FromFn.{length-range_with_len}
+use Rattle.std.proofs.lemmas.List.Sums.{sum-map, sum_by-cons, sum_by_more}
+use Rattle.nest_memory.specs.Cut.{cut}
+use Rattle.nest_memory.specs.Rising.{ends_from, last_of, largest_offset}
+use Rattle.nest_model.specs.Chosen.{chosen}
+use Rattle.nest_model.specs.ChosenLaws.{chosen-range, chosen-append}
+use Rattle.nest_model.specs.Part.{Validity, valid_at, begin, extent, rows}
+use Rattle.nest_model.specs.Array.{AreOffsets}
+use Rattle.nest_model.specs.Reads.{extent-fits}
+use Rattle.nest_model.specs.Runs.{length-cut}
+use Rattle.nest_model.specs.Slot.{Slot}
+use Rattle.nest_take.specs.Places.{AreBelow, count_at, items_at}
+use Rattle.nest_take.specs.Limits.{PassesOffsets}
+
+-- what holds of each place holds of the first one, and of each after it
+pub first-place : (P : ℕ → Type 0) (i : ℕ) (is : List ℕ) → All P (i ∷ is) → P i
+first-place P i is h = h 0 0 (omega arith)
+
+pub later-places : (P : ℕ → Type 0) (i : ℕ) (is : List ℕ) → All P (i ∷ is) → All P is
+later-places P i is h = λ j d l. h (suc j) d (omega arith)
+
+-- the offsets of pieces of these lengths
+abbrev pub ends : (ℕ → ℕ) → List ℕ → List ℕ
+ends n is = 0 ∷ ends_from 0 (map n is)
+
+begin-from : (n : ℕ → ℕ) (is : List ℕ) (a j : ℕ) → j ≤ length is → get_or (a ∷ ends_from a (map n is)) j 0 ≡ a + sum_by n (take j is)
+begin-from n is a zero h = omega arith
+begin-from n [] a (suc j) h = absurd (omega arith)
+begin-from n (i ∷ is) a (suc j) h = omega (arith, begin-from n is (a + n i) j (omega arith), sum_by-cons n i (take j is))
+
+-- where piece j begins, and how long it is
+pub piece-begin : (n : ℕ → ℕ) (is : List ℕ) (j : ℕ) → j ≤ length is → begin (ends n is) j ≡ sum_by n (take j is)
+piece-begin n is j h = omega (arith, begin-from n is 0 j h)
+
+pub piece-extent : (n : ℕ → ℕ) (is : List ℕ) (j : ℕ) → j < length is → extent (ends n is) j ≡ n (get_or is j 0)
+piece-extent n is j h =
+    let a = begin-from n is 0 j (omega arith) in
+    let b = begin-from n is 0 (j + 1) (omega arith) in
+    let c = sum_by_more n is j 0 h in
+    omega arith
+
+ends-length : (n : ℕ → ℕ) (is : List ℕ) (a : ℕ) → length (ends_from a (map n is)) ≡ length is
+ends-length n [] a = refl
+ends-length n (i ∷ is) a = ap suc (ends-length n is (a + n i))
+
+pub ends-rows : (n : ℕ → ℕ) (is : List ℕ) → rows (ends n is) ≡ length is
+ends-rows n is = omega (arith, ends-length n is 0)
+
+take-whole : (is : List ℕ) → take (length is) is ≡ is
+take-whole [] = refl
+take-whole (i ∷ is) = ap (◌∷◌ i) (take-whole is)
+
+pub ends-last : (n : ℕ → ℕ) (is : List ℕ) → last_of (ends n is) ≡ sum_by n is
+ends-last n is =
+    let e : length (ends n is) - 1 ≡ length is = omega (arith, ends-length n is 0) in
+    ap (λ k. get_or (ends n is) k 0) e ∙ piece-begin n is (length is) (omega arith) ∙ ap (sum_by n) (take-whole is)
+
+-- piece j lies after those before it
+take-piece : {A : Type 0} (xs ys : List A) (n : ℕ) → length xs ≡ n → take n (xs ++ ys) ≡ xs
+take-piece [] ys zero h = refl
+take-piece [] ys (suc n) h = absurd (omega arith)
+take-piece (x ∷ xs) ys zero h = absurd (omega arith)
+take-piece (x ∷ xs) ys (suc n) h = ap (◌∷◌ x) (take-piece xs ys n (omega arith))
+
+drop-piece : {A : Type 0} (xs ys : List A) (n k : ℕ) → length xs ≡ n → drop (n + k) (xs ++ ys) ≡ drop k ys
+drop-piece [] ys zero k h = let e : 0 + k ≡ k = omega arith in ap (λ z. drop z ys) e
+drop-piece [] ys (suc n) k h = absurd (omega arith)
+drop-piece (x ∷ xs) ys zero k h = absurd (omega arith)
+drop-piece (x ∷ xs) ys (suc n) k h =
+    let e : suc n + k ≡ suc (n + k) = omega arith in
+    ap (λ z. drop z (x ∷ (xs ++ ys))) e ∙ drop-piece xs ys n k (omega arith)
+
+pub piece-cut : {A : Type 0} (f : ℕ → List A) (n : ℕ → ℕ) (is : List ℕ) (j : ℕ) → All (λ i. length (f i) ≡ n i) is → j < length is
+    → cut (flat_map f is) (sum_by n (take j is)) (n (get_or is j 0)) ≡ f (get_or is j 0)
+piece-cut f n [] j h k = absurd (omega arith)
+piece-cut f n (i ∷ is) zero h k = take-piece (f i) (flat_map f is) (n i) (first-place (λ p. length (f p) ≡ n p) i is h)
+piece-cut f n (i ∷ is) (suc j) h k =
+    let l = first-place (λ p. length (f p) ≡ n p) i is h in
+    ap (λ s. take (n (get_or is j 0)) (drop s (f i ++ flat_map f is))) (sum_by-cons n i (take j is))
+    ∙ ap (take (n (get_or is j 0))) (drop-piece (f i) (flat_map f is) (n i) (sum_by n (take j is)) l)
+    ∙ piece-cut f n is j (later-places (λ p. length (f p) ≡ n p) i is h) (omega arith)
+
+-- pieces of one length
+same-sum : (n : ℕ) (is : List ℕ) (j : ℕ) → j ≤ length is → sum_by (λ i. n) (take j is) ≡ j * n
+same-sum n is zero h = omega arith
+same-sum n [] (suc j) h = absurd (omega arith)
+same-sum n (i ∷ is) (suc j) h = omega (arith, sum_by-cons (λ p. n) i (take j is), same-sum n is j (omega arith))
+
+pub block-cut : {A : Type 0} (f : ℕ → List A) (n : ℕ) (is : List ℕ) (j : ℕ) → All (λ i. length (f i) ≡ n) is → j < length is
+    → cut (flat_map f is) (j * n) n ≡ f (get_or is j 0)
+block-cut f n is j h k = ap (λ s. cut (flat_map f is) s n) (sym (same-sum n is j (omega arith))) ∙ piece-cut f (λ i. n) is j h k
+
+-- how long all pieces are
+pub pieces-length : {A : Type 0} (f : ℕ → List A) (n : ℕ → ℕ) (is : List ℕ) → All (λ i. length (f i) ≡ n i) is → length (flat_map f is) ≡ sum_by n is
+pieces-length f n [] h = refl
+pieces-length f n (i ∷ is) h =
+    omega (arith, length-append (f i) (flat_map f is), first-place (λ p. length (f p) ≡ n p) i is h, pieces-length f n is (later-places (λ p. length (f p) ≡ n p) i is h), sum_by-cons n i is)
+
+pub blocks-length : {A : Type 0} (f : ℕ → List A) (n : ℕ) (is : List ℕ) → All (λ i. length (f i) ≡ n) is → length (flat_map f is) ≡ length is * n
+blocks-length f n is h = pieces-length f (λ i. n) is h ∙ ap (sum_by (λ i. n)) (sym (take-whole is)) ∙ same-sum n is (length is) (omega arith)
+
+-- slots at the places of ranges are cuts one after another
+pub chosen-pieces : (ss : List Slot) (b n : ℕ → ℕ) (is : List ℕ) → All (λ i. b i + n i ≤ length ss) is
+    → chosen ss (flat_map (λ i. range_with_len (b i) (n i)) is) ≡ flat_map (λ i. cut ss (b i) (n i)) is
+chosen-pieces ss b n [] h = refl
+chosen-pieces ss b n (i ∷ is) h =
+    let e = chosen-range ss (b i) (n i) (first-place (λ p. b p + n p ≤ length ss) i is h) in
+    let d = chosen-pieces ss b n is (later-places (λ p. b p + n p ≤ length ss) i is h) in
+    chosen-append ss (range_with_len (b i) (n i)) (flat_map (λ p. range_with_len (b p) (n p)) is) ∙ ap (λ x. x ++ chosen ss (flat_map (λ p. range_with_len (b p) (n p)) is)) e ∙ ap (◌++◌ (cut ss (b i) (n i))) d
+
+-- and those places are there
+range-below : (m b n : ℕ) → b + n ≤ m → AreBelow (range_with_len b n) m
+range-below m b zero h = All-nil (λ p. p < m)
+range-below m b (suc n) h = All-cons (λ p. p < m) b (range_with_len (b + 1) n) (omega arith) (range-below m (b + 1) n (omega arith))
+
+pub pieces-below : (m : ℕ) (b n : ℕ → ℕ) (is : List ℕ) → All (λ i. b i + n i ≤ m) is → AreBelow (flat_map (λ i. range_with_len (b i) (n i)) is) m
+pieces-below m b n [] h = All-nil (λ p. p < m)
+pieces-below m b n (i ∷ is) h =
+    All-append (λ p. p < m) (range_with_len (b i) (n i)) (flat_map (λ p. range_with_len (b p) (n p)) is)
+    (range-below m (b i) (n i) (first-place (λ p. b p + n p ≤ m) i is h))
+    (pieces-below m b n is (later-places (λ p. b p + n p ≤ m) i is h))
+
+-- a range, one number longer
+pub range_more : (b n : ℕ) → range_with_len b (n + 1) ≡ range_with_len b n ++ (b + n) ∷ []
+range_more b zero = let e : b ≡ b + 0 = omega arith in ap (λ z. z ∷ []) e
+range_more b (suc n) =
+    let e : b + 1 + n ≡ b + suc n = omega arith in
+    let f : suc n + 1 ≡ suc (n + 1) = omega arith in
+    ap (range_with_len b) f ∙ ap (◌∷◌ b) (range_more (b + 1) n ∙ ap (λ z. range_with_len (b + 1) n ++ z ∷ []) e)
+
+-- lengths whose sum passes the largest offset
+pub passes-offsets : (large : Bool) (m : ℕ) (os : List ℕ) (va : Validity) (is ls es : List ℕ) → m ≡ largest_offset large → es ≡ 0 ∷ []
+    → ls ≡ map (count_at os va) is → m < last_of es + sum ls → PassesOffsets large os va is
+passes-offsets large m os va is ls es e f g h =
+    let a = ap last_of f in
+    let b = ap sum g in
+    omega (arith, sum-map (count_at os va) is)
+
+-- rows between offsets that end within m items have their items there
+count-le : (b : Bool) (n : ℕ) → (if b then n else 0) ≤ n
+count-le true n = omega arith
+count-le false n = omega arith
+
+pub count-valid : (os : List ℕ) (va : Validity) (i : ℕ) → valid_at va i ≡ true → count_at os va i ≡ extent os i
+count-valid os va i h = ap (λ b. if b then extent os i else 0) h
+
+pub rows-within : (os : List ℕ) (va : Validity) (m : ℕ) (is : List ℕ) → AreOffsets os → last_of os ≤ m → AreBelow is (rows os)
+    → All (λ i. begin os i + count_at os va i ≤ m) is
+rows-within os va m is h l b j d k =
+    let i = get_or is j d in
+    let a = extent-fits os m i h l (b j d k) in
+    let c = count-le (valid_at va i) (extent os i) in
+    omega arith
+
+-- the items of the row at place j, among the items of the taken rows
+pub row-items : {A : Type 0} (xs : List A) (os : List ℕ) (va : Validity) (is : List ℕ) (j : ℕ) → All (λ i. begin os i + count_at os va i ≤ length xs) is → j < length is
+    → cut (items_at xs os va is) (begin (ends (count_at os va) is) j) (extent (ends (count_at os va) is) j) ≡ cut xs (begin os (get_or is j 0)) (count_at os va (get_or is j 0))
+row-items xs os va is j h k =
+    let n = count_at os va in
+    let f = λ (i : ℕ). cut xs (begin os i) (n i) in
+    ap (λ b. cut (items_at xs os va is) b (extent (ends n is) j)) (piece-begin n is j (omega arith))
+    ∙ ap (cut (items_at xs os va is) (sum_by n (take j is))) (piece-extent n is j k)
+    ∙ piece-cut f n is j (λ p d l. length-cut xs (begin os (get_or is p d)) (n (get_or is p d)) (h p d l)) k
+
+-- as many items as their counts say
+pub items-length : {A : Type 0} (xs : List A) (os : List ℕ) (va : Validity) (is : List ℕ) → All (λ i. begin os i + count_at os va i ≤ length xs) is
+    → length (items_at xs os va is) ≡ sum_by (count_at os va) is
+items-length xs os va is h =
+    let n = count_at os va in
+    pieces-length (λ i. cut xs (begin os i) (n i)) n is (λ p d l. length-cut xs (begin os (get_or is p d)) (n (get_or is p d)) (h p d l))
+
+-- the same offsets and validity give the same
+pub ends-same : (os ns : List ℕ) (va v : Validity) (is : List ℕ) → os ≡ ns → va ≡ v → ends (count_at os va) is ≡ ends (count_at ns v) is
+ends-same os ns va v is e f = ap (λ z. ends (count_at z va) is) e ∙ ap (λ z. ends (count_at ns z) is) f
+
+pub items-same : {A : Type 0} (xs ys : List A) (os ns : List ℕ) (va v : Validity) (is : List ℕ) → xs ≡ ys → os ≡ ns → va ≡ v → items_at xs os va is ≡ items_at ys ns v is
+items-same xs ys os ns va v is e f g = ap (λ z. items_at z os va is) e ∙ ap (λ z. items_at ys z va is) f ∙ ap (λ z. items_at ys ns z is) g

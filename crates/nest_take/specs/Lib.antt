@@ -1,0 +1,6 @@
+pub mod Limits
+pub mod Places
+pub mod Taken
+pub mod TakenKeys
+pub mod TakenLaws
+pub mod Words

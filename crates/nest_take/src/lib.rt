@@ -1,0 +1,23 @@
+//! Slots of arrays of any nesting: those at given places, and those where a mask is true.
+#![tactic(auto)]
+
+mod any;
+mod binary;
+mod boolean;
+mod dictionary;
+mod fixed_size_binary;
+mod fixed_size_list;
+pub mod laws;
+mod list;
+mod map;
+mod mask;
+mod null;
+mod places;
+mod primitive;
+mod spans;
+mod struct_;
+mod union;
+mod utf8;
+
+pub use any::take;
+pub use mask::filter;

@@ -1,0 +1,20 @@
+//! Tests of `take` and `filter` over arrays of every kind, as a crate above `nest_take` sees them.
+//!
+//! | What the row shows | Test |
+//! |---|---|
+//! | Four lists of numbers at the places 3, 0, 0 and 1; where a mask with a null is true | `rows::lists_at_places`, `rows::lists_by_a_mask` |
+//! | Lists of lists in falling order | `rows::lists_of_lists` |
+//! | Records with a null row; a cut of values by keys; maps of pairs | `rows::null_records`, `rows::values_by_keys`, `rows::maps_of_pairs` |
+//! | A cut of a sparse union; a dense union; a dictionary whose keys are all null | `rows::sparse_picks`, `rows::dense_picks`, `rows::null_keys` |
+//! | No place of each array gives the empty array of its type | `rows::no_place` |
+//! | Twice 2^31 - 1 nulls are more than an offset can name, under a null row they count none | `limits::more_items_than_an_offset_names` |
+//! | Fixed-size lists of nulls whose items are more than a length can be | `limits::more_items_than_a_length` |
+//! | Nothing is lost where any one request for memory is refused | `limits::refused_memory` |
+#![tactic(auto)]
+
+#[cfg(test)]
+mod arrays;
+#[cfg(test)]
+mod limits;
+#[cfg(test)]
+mod rows;
