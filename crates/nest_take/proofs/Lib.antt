@@ -1,8 +1,11 @@
 pub mod At
 pub mod Children
+pub mod Dense
 pub mod Flats
 pub mod Looked
+pub mod Masks
 pub mod Nested
+pub mod Picks
 pub mod Pieces
 pub mod Rows
 pub mod SpanRows

@@ -31,7 +31,7 @@ fn places_of(alloc: Global, mask: &BooleanArray) -> Result<Vec<usize>, Error>
 {
     let mut places = Vec::new(alloc);
     for i in 0..mask.len() {
-        if mask.get(i) == Some(true) {
+        if mask.get(i).unwrap_or(false) {
             places.push(i)?;
         }
     }

@@ -4,7 +4,7 @@ ghost use Rattle.nest_flat.specs.AnyPrimitive.{primitive_layout};
 ghost use Rattle.nest_take.specs.Words.{AreBelow, IsTaken, Memory, len};
 
 use crate::places;
-use nest_flat::any_primitive::{AnyPrimitive, Native};
+use nest_flat::any_primitive::{AnyPrimitive, NativeArray};
 use nest_flat::primitive::PrimitiveArray;
 use nest_memory::error::Error;
 use nest_memory::types::{NativeType, days_ms, i256, months_days_ns};
@@ -28,7 +28,7 @@ fn take_natives<T: NativeType>(
 }
 
 /// The array in the variant of its kind, or the refusal of one.
-fn wrapped<T: Native>(taken: Result<T::Array, Error>) -> Result<AnyPrimitive, Error>
+fn wrapped<T: NativeArray>(taken: Result<T::Array, Error>) -> Result<AnyPrimitive, Error>
     ensures { MatchResult taken
         (λ a. MatchResult result (λ b. primitive_layout b ≡ T.layout_of_array a) (λ _. ⊥))
         (λ e. IsErrOf result e) }

@@ -87,10 +87,12 @@ fn take_dense(alloc: Global, array: &UnionArray, places: &[usize]) -> Result<Any
 
 /// Counts the picks of each field. `Overflow` where an offset can't name as many.
 fn count_picks(array: &UnionArray, places: &[usize]) -> Result<(), Error>
-    requires { AreBelow places.now (len array.now) }
+    requires within { AreBelow places.now (len array.now) }
+    requires dense { union_offsets_of array.now ≡ None → ⊥ }
     ensures ok { IfOk result (λ _. (f : ℕ) → length (pick_places array.now f places.now) ≤ 2147483648) }
     ensures err { IfErr result (λ e. (e ≡ Overflow) × PicksPass (λ f. pick_places array.now f places.now) 0 (children_of array.now)) }
 {
+    array.known();
     let mut counts = [0_u32; 128];
     for place in places {
         let (field, _) = array.index(*place);
@@ -105,11 +107,13 @@ fn count_picks(array: &UnionArray, places: &[usize]) -> Result<(), Error>
 /// The offset of each pick: how many of its field come before it.
 fn new_offsets(alloc: Global, array: &UnionArray, places: &[usize]) -> Result<Buffer<i32>, Error>
     requires within { AreBelow places.now (len array.now) }
+    requires dense { union_offsets_of array.now ≡ None → ⊥ }
     requires few { (f : ℕ) → length (pick_places array.now f places.now) ≤ 2147483648 }
     ensures ok { IfOk result (λ b. b ≡ offsets_in array.now places.now) }
     ensures err { IsOkUnless result (Memory alloc_error) }
 {
-    let mut counts = [0_i64; 128];
+    array.known();
+    let mut counts = [0_u32; 128];
     let mut offsets = Vec::with_capacity(alloc, places.len())?;
     for place in places {
         let (field, _) = array.index(*place);
@@ -147,10 +151,12 @@ fn picks_of(
     field: usize,
     places: &[usize],
 ) -> Result<Vec<usize>, Error>
-    requires { AreBelow places.now (len array.now) }
+    requires within { AreBelow places.now (len array.now) }
+    requires dense { union_offsets_of array.now ≡ None → ⊥ }
     ensures ok { IfOk result (λ v. v.items ≡ pick_places array.now field places.now) }
     ensures err { IsOkUnless result (Memory alloc_error) }
 {
+    array.known();
     let mut picks = Vec::new(alloc);
     for place in places {
         let (picked, slot) = array.index(*place);

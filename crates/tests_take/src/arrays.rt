@@ -1,9 +1,10 @@
 //! Arrays of each kind, each made of parts that may be refused.
 use nest_array::{
-    AnyArray, AnyKeys, DictionaryArray, FixedSizeListArray, ListArray, MapArray, NullArray,
-    StructArray, UnionArray,
+    AnyArray, AnyKeys, DictionaryArray, FixedSizeBinaryArray, FixedSizeListArray, LargeListArray,
+    ListArray, MapArray, NullArray, StructArray, UnionArray,
 };
-use nest_flat::any_primitive::Native;
+use nest_flat::any_primitive::NativeArray;
+use nest_flat::binary::mutable::MutableBinaryArray;
 use nest_flat::boolean::BooleanArray;
 use nest_flat::primitive::PrimitiveArray;
 use nest_flat::utf8::mutable::MutableUtf8Array;
@@ -13,7 +14,7 @@ use nest_memory::datatypes::field::Field;
 use nest_memory::datatypes::{DataType, UnionMode};
 use nest_memory::error::Error;
 use nest_memory::offsets::OffsetsBuffer;
-use std::alloc::Global;
+use std::alloc::{AllocError, Global};
 
 /// An array of any kind, or why there is none.
 pub type Made = Result<AnyArray, Error>;
@@ -110,6 +111,45 @@ pub fn texts(alloc: Global, items: &[Option<&str>]) -> Made {
     builder.freeze().map(|texts| AnyArray::Utf8(texts))
 }
 
+/// Texts by wide offsets.
+pub fn wide_texts(alloc: Global, items: &[Option<&str>]) -> Made {
+    let mut builder = MutableUtf8Array::<i64>::new(alloc)?;
+    for item in items {
+        builder.try_push(*item)?;
+    }
+    builder.freeze().map(|texts| AnyArray::LargeUtf8(texts))
+}
+
+/// Byte strings.
+pub fn bytes(alloc: Global, items: &[Option<&[u8]>]) -> Made {
+    let mut builder = MutableBinaryArray::<i32>::new(alloc)?;
+    for item in items {
+        builder.try_push(*item)?;
+    }
+    builder.freeze().map(|bytes| AnyArray::Binary(bytes))
+}
+
+/// Byte strings by wide offsets.
+pub fn wide_bytes(alloc: Global, items: &[Option<&[u8]>]) -> Made {
+    let mut builder = MutableBinaryArray::<i64>::new(alloc)?;
+    for item in items {
+        builder.try_push(*item)?;
+    }
+    builder.freeze().map(|bytes| AnyArray::LargeBinary(bytes))
+}
+
+/// Byte strings of one size.
+pub fn sized_bytes(alloc: Global, size: usize, items: &[u8], bits: Option<&[bool]>) -> Made {
+    match both(buffer(alloc, items), validity(alloc, bits)) {
+        Ok((bytes, validity)) => {
+            FixedSizeBinaryArray::try_new(DataType::FixedSizeBinary(size), bytes, validity).map(
+                |bytes| bytes.boxed(),
+            )
+        }
+        Err(error) => Err(error),
+    }
+}
+
 fn list_type(alloc: Global, items: &Made) -> Result<DataType, Error> {
     match type_of(alloc, items) {
         Ok(items) => ListArray::default_datatype(alloc, items),
@@ -123,6 +163,35 @@ pub fn lists(alloc: Global, items: Made, offsets: &[i32], bits: Option<&[bool]>)
     match both(both(data_type, items), ranges(alloc, offsets, bits)) {
         Ok(((data_type, items), (offsets, validity))) => {
             ListArray::try_new(alloc, data_type, offsets, items, validity).map(
+                |lists| lists.boxed(),
+            )
+        }
+        Err(error) => Err(error),
+    }
+}
+
+fn wide_ranges(
+    alloc: Global,
+    offsets: &[i64],
+    bits: Option<&[bool]>,
+) -> Result<(OffsetsBuffer<i64>, Option<Bitmap>), Error> {
+    let offsets = OffsetsBuffer::try_new(alloc, Vec::from_slice(alloc, offsets)?)?;
+    Ok((offsets, validity(alloc, bits)?))
+}
+
+fn wide_list_type(alloc: Global, items: &Made) -> Result<DataType, Error> {
+    match type_of(alloc, items) {
+        Ok(items) => LargeListArray::default_datatype(alloc, items),
+        Err(error) => Err(error),
+    }
+}
+
+/// Lists of items by wide offsets.
+pub fn wide_lists(alloc: Global, items: Made, offsets: &[i64], bits: Option<&[bool]>) -> Made {
+    let data_type = wide_list_type(alloc, &items);
+    match both(both(data_type, items), wide_ranges(alloc, offsets, bits)) {
+        Ok(((data_type, items), (offsets, validity))) => {
+            LargeListArray::try_new(alloc, data_type, offsets, items, validity).map(
                 |lists| lists.boxed(),
             )
         }
@@ -261,6 +330,32 @@ pub fn taken(alloc: Global, array: Made, places: &[usize]) -> Made {
             taken
         }
         Err(error) => Err(error),
+    }
+}
+
+fn is_equal(taken: Made, array: &AnyArray) -> bool {
+    match taken {
+        Ok(taken) => {
+            let same = taken == *array;
+            drop(taken);
+            same
+        }
+        Err(error) => error == Error::Memory(AllocError),
+    }
+}
+
+/// Whether taking all of an array's places refused memory or gave an equal array; in both cases the source equals its copy after.
+pub fn leaves_source(alloc: Global, array: Made, copy: Made, places: &[usize]) -> bool {
+    match both(array, copy) {
+        Ok((array, copy)) => {
+            let fine = are_below(places, array.len())
+                && is_equal(nest_take::take(alloc, &array, places), &copy);
+            let same = array == copy;
+            drop(copy);
+            drop(array);
+            fine && same
+        }
+        Err(error) => error == Error::Memory(AllocError),
     }
 }
 

@@ -1,7 +1,10 @@
 //! Too many items, and memory that is refused.
-use crate::arrays::{Made, are_same, lists, nulls, numbers, refusal, sized, taken};
+use crate::arrays::{
+    Made, are_same, keyed, leaves_source, lists, nulls, numbers, records, refusal, sized, taken,
+    texts,
+};
 use nest_memory::error::Error;
-use std::alloc::{AllocError, Global};
+use std::alloc::Global;
 
 fn longest_list(alloc: Global, bits: Option<&[bool]>) -> Made {
     lists(alloc, nulls(2147483647), &[0, 2147483647], bits)
@@ -28,14 +31,18 @@ fn more_items_than_a_length(rt: HostRuntime) {
     assert!(rt; refusal(found) == Some(Error::Overflow));
 }
 
+fn lists_and_texts(alloc: Global) -> Made {
+    let items = numbers(alloc, &[1, 2, 3], None);
+    let first = lists(alloc, items, &[0, 1, 3], None);
+    let values = texts(alloc, &[Some("a"), Some("b")]);
+    records(alloc, first, keyed(alloc, &[1, 0], None, values), None)
+}
+
 // Passes whichever request for memory is refused.
 #[test]
 fn refused_memory(rt: HostRuntime) {
     let alloc = rt.alloc();
-    let items = numbers(alloc, &[1, 2, 3], None);
-    let found = taken(alloc, lists(alloc, items, &[0, 1, 3], None), &[1, 1]);
-    match refusal(found) {
-        None => {}
-        Some(error) => assert!(rt; error == Error::Memory(AllocError)),
-    }
+    let array = lists_and_texts(alloc);
+    let copy = lists_and_texts(alloc);
+    assert!(rt; leaves_source(alloc, array, copy, &[0, 1]));
 }
