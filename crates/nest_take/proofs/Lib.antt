@@ -3,9 +3,11 @@ pub mod Children
 pub mod Dense
 pub mod Flats
 pub mod Looked
+pub mod Made
 pub mod Masks
 pub mod Nested
 pub mod Picks
 pub mod Pieces
+pub mod Refused
 pub mod Rows
 pub mod SpanRows

@@ -1,6 +1,6 @@
 -- How often each field of a dense union is picked by the first rows.
 use Rattle.std.specs.Prelude.{if◌then◌else◌, Option, Some, None, unwrap_or, nat_eq}
-use Rattle.std.proofs.Common.{◌≡◌, ℕ, ℤ, pos, zero, suc, ◌+◌, ◌<◌, ◌≤◌, ◌⊎◌, inl, inr, Bool, true, false, List, [], ◌∷◌, ◌++◌, take, set, get_or, length, refl, ap, sym, ◌∙◌, subst, arith, append_assoc, length-append}
+use Rattle.std.proofs.Common.{◌≡◌, ℕ, ℤ, pos, zero, suc, ◌+◌, ◌<◌, ◌≤◌, ◌⊎◌, inl, inr, Bool, true, false, List, [], ◌∷◌, ◌++◌, take, replicate, set, get_or, length, refl, ap, sym, ◌∙◌, subst, arith, append_assoc, length-append}
 use Rattle.std.proofs.lemmas.Bool.{eqb-true, eq-eqb}
 use Rattle.std.proofs.lemmas.Bool.Decides.{eqb_tells}
 use Rattle.std.proofs.lemmas.List.{take_more, take_all, get_or-set_same, get_or-set_other}
@@ -161,3 +161,24 @@ dense-passes a is d h =
     let x : a ≡ u = d.kind ∙ ap (λ z. union t (types_of a) (children_of a) z (start_of a)) o.1 in
     let y = subst (λ z. PicksPass (λ f. pick_places z f is) 0 (children_of z)) x h in
     subst (λ z. PassesLimits z is) (sym x) y
+
+-- before the first row
+no-picks : (a : Layout) (f : ℕ) → IsDense a → pick_places a f [] ≡ []
+no-picks a f d =
+    let o = dense-offsets (union_offsets_of a) d.dense in
+    ap (λ z. pick_places z f []) (d.kind ∙ ap (λ z. union (layout_type a) (types_of a) (children_of a) z (start_of a)) o.1)
+
+zero-at : (n f : ℕ) → get_or (replicate n 0) f 0 ≡ 0
+zero-at zero f = refl
+zero-at (suc n) zero = refl
+zero-at (suc n) (suc f) = zero-at n f
+
+zeros : (n : ℕ) → length (replicate n 0) ≡ n
+zeros zero = refl
+zeros (suc n) = ap suc (zeros n)
+
+pub counts-none : (a : Layout) (cs : List ℕ) → IsDense a → cs ≡ replicate 128 0 → AreCounts a [] cs
+counts-none a cs d e = record { wide = ap length e ∙ zeros 128; each = λ f. ap (λ z. get_or z f 0) e ∙ zero-at 128 f ∙ sym (ap length (no-picks a f d)) }
+
+pub few-none : (cs : List ℕ) → cs ≡ replicate 128 0 → AreFew cs
+few-none cs e = record { each = λ f. let x = ap (λ z. get_or z f 0) e ∙ zero-at 128 f in omega arith }

@@ -1,0 +1,17 @@
+-- What a call that made an array owes.
+use Rattle.std.specs.Prelude.{IfOk, IfErr, IsOkUnless, alloc_error}
+use Rattle.std.proofs.Common.{◌≡◌, ℕ, List, Result, Ok, Err, inl, sym, subst}
+use Rattle.nest_array.specs.declared.any.AnyArray.{AnyArray}
+use Rattle.nest_array.specs.Seen.{layout_of}
+use Rattle.nest_memory.specs.declared.error.Error.{Error}
+use Rattle.nest_memory.specs.declared.error.Error.TheVariants.{Memory}
+use Rattle.nest_model.specs.Layout.{Layout}
+use Rattle.nest_take.specs.Taken.{IsTaken, RefusesTake}
+
+pub ok-taken : (r : Result AnyArray Error) (p a : Layout) (is : List ℕ) → IfOk r (λ b. layout_of b ≡ p) → IsTaken a is p → IfOk r (λ b. IsTaken a is (layout_of b))
+ok-taken (Ok b) p a is h t = subst (IsTaken a is) (sym h) t
+ok-taken (Err e) p a is h t = tt
+
+pub err-memory : (r : Result AnyArray Error) (a : Layout) (is : List ℕ) → IsOkUnless r (Memory alloc_error) → IfErr r (λ e. RefusesTake e a is)
+err-memory (Ok b) a is h = tt
+err-memory (Err e) a is h = inl h
