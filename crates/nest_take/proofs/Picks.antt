@@ -7,6 +7,8 @@ use Rattle.std.proofs.lemmas.List.{take_more, take_all, get_or-set_same, get_or-
 use Rattle.nest_memory.specs.Rising.{largest_offset}
 use Rattle.nest_memory.specs.TypeTree.{ids_of}
 use Rattle.nest_model.specs.Accessors.{children_of, start_of, types_of, union_offsets_of}
+use Rattle.nest_model.specs.Array.{TopFits}
+use Rattle.nest_model.specs.Facts.{union-facts}
 use Rattle.nest_model.specs.Layout.{Layout, Layouts, union, no_layouts, more_layouts, layout_type, count_layouts}
 use Rattle.nest_model.specs.Meaning.{union_place}
 use Rattle.nest_model.specs.Part.{field_named}
@@ -182,3 +184,10 @@ counts-none a cs d e = record { wide = ap length e ∙ zeros 128; each = λ f. a
 
 pub few-none : (cs : List ℕ) → cs ≡ replicate 128 0 → AreFew cs
 few-none cs e = record { each = λ f. let x = ap (λ z. get_or z f 0) e ∙ zero-at 128 f in omega arith }
+
+-- a union's fields are few enough for a table of counts
+pub field-below : (a : Layout) (g : ℕ) → TopFits a → IsDense a → g < count_layouts (children_of a) → g < 128
+field-below a g h d l =
+    let f = union-facts (layout_type a) (types_of a) (children_of a) (union_offsets_of a) (start_of a) (subst TopFits d.kind h) in
+    let m = f.at_most in
+    omega arith
