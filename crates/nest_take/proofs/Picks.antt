@@ -170,12 +170,12 @@ no-picks a f d =
     let o = dense-offsets (union_offsets_of a) d.dense in
     ap (λ z. pick_places z f []) (d.kind ∙ ap (λ z. union (layout_type a) (types_of a) (children_of a) z (start_of a)) o.1)
 
-zero-at : (n f : ℕ) → get_or (replicate n 0) f 0 ≡ 0
+zero-at : (n f : ℕ) → get_or {A = ℕ} (replicate n 0) f 0 ≡ 0
 zero-at zero f = refl
 zero-at (suc n) zero = refl
 zero-at (suc n) (suc f) = zero-at n f
 
-zeros : (n : ℕ) → length (replicate n 0) ≡ n
+zeros : (n : ℕ) → length {A = ℕ} (replicate n 0) ≡ n
 zeros zero = refl
 zeros (suc n) = ap suc (zeros n)
 

@@ -9,9 +9,9 @@ pub new-requires : goal.new-requires
 new-requires c =
     let a = c.args.array.now in
     let is = c.args.places.now in
-    (fixed-taken a _ c.size.result (bytes_of a) _ (validity_of a) _ is c.known.ensures.fits c.known.ensures.kind c.requires
-    (c.in_ok-data_type.ensures.ok ∙ c.data_type.ensures) c.size.ensures.typed
-    (c.in_ok-bytes.ensures.ok ∙ ap (λ z. blocks_at z c.size.result is) (c.as_slice.ensures ∙ c.values.ensures))
+    (fixed-taken a _ c.size-size.result (bytes_of a) _ (validity_of a) _ is c.known.ensures.fits c.known.ensures.kind c.requires
+    (c.in_ok-data_type.ensures.ok ∙ c.data_type.ensures) c.size-size.ensures.typed
+    (c.in_ok-bytes.ensures.ok ∙ ap (λ z. blocks_at z c.size-size.result is) (c.as_slice.ensures ∙ c.values.ensures))
     (c.in_ok-validity.ensures.ok ∙ ap (λ z. taken_validity z is) c.validity.ensures)).0
 
 pub returns-clause-ok : goal.returns-clause-ok
@@ -19,7 +19,7 @@ returns-clause-ok c =
     let a = c.args.array.now in
     let is = c.args.places.now in
     subst (IsTaken a is) (sym c.new.ensures)
-    (fixed-taken a _ c.size.result (bytes_of a) _ (validity_of a) _ is c.known.ensures.fits c.known.ensures.kind c.requires
-    (c.in_ok-data_type.ensures.ok ∙ c.data_type.ensures) c.size.ensures.typed
-    (c.in_ok-bytes.ensures.ok ∙ ap (λ z. blocks_at z c.size.result is) (c.as_slice.ensures ∙ c.values.ensures))
+    (fixed-taken a _ c.size-size.result (bytes_of a) _ (validity_of a) _ is c.known.ensures.fits c.known.ensures.kind c.requires
+    (c.in_ok-data_type.ensures.ok ∙ c.data_type.ensures) c.size-size.ensures.typed
+    (c.in_ok-bytes.ensures.ok ∙ ap (λ z. blocks_at z c.size-size.result is) (c.as_slice.ensures ∙ c.values.ensures))
     (c.in_ok-validity.ensures.ok ∙ ap (λ z. taken_validity z is) c.validity.ensures)).1
