@@ -1,6 +1,6 @@
 -- How often each field of a dense union is picked by the first rows.
-use Rattle.std.specs.Prelude.{if◌then◌else◌, Option, Some, None, unwrap_or, nat_eq}
-use Rattle.std.proofs.Common.{◌≡◌, ℕ, ℤ, pos, zero, suc, ◌+◌, ◌<◌, ◌≤◌, ◌⊎◌, inl, inr, Bool, true, false, List, [], ◌∷◌, ◌++◌, take, replicate, set, get_or, length, refl, ap, sym, ◌∙◌, subst, arith, append_assoc, length-append}
+use Rattle.std.specs.Prelude.{IfErr, alloc_error, List as Seq, if◌then◌else◌, Option, Some, None, unwrap_or, nat_eq}
+use Rattle.std.proofs.Common.{◌≡◌, ℕ, ℤ, pos, zero, suc, ◌+◌, ◌<◌, ◌≤◌, ◌⊎◌, Result, Ok, Err, inl, inr, Bool, true, false, List, [], ◌∷◌, ◌++◌, take, replicate, set, get_or, length, refl, ap, sym, ◌∙◌, subst, arith, append_assoc, length-append}
 use Rattle.std.proofs.lemmas.Bool.{eqb-true, eq-eqb}
 use Rattle.std.proofs.lemmas.Bool.Decides.{eqb_tells}
 use Rattle.std.proofs.lemmas.List.{take_more, take_all, get_or-set_same, get_or-set_other}
@@ -14,7 +14,18 @@ use Rattle.nest_model.specs.Meaning.{union_place}
 use Rattle.nest_model.specs.Part.{field_named}
 use Rattle.nest_take.specs.Limits.{PassesLimits, PicksPass, is_pick_of, picks_of}
 use Rattle.nest_take.specs.Taken.{pick_places, field_at, offsets_after, offsets_in}
-use Rattle.nest_take.proofs.Dense.{picks-more, pick-at}
+use Rattle.nest_array.specs.declared.any.AnyArray.{AnyArray}
+use Rattle.nest_array.specs.Seen.{layout_of, layouts_of}
+use Rattle.nest_memory.specs.TypeTree.{TypeTree}
+use Rattle.nest_memory.specs.declared.error.Error.{Error}
+use Rattle.nest_memory.specs.declared.error.Error.TheVariants.{Memory, Overflow}
+use Rattle.nest_model.specs.Accessors.{child_at}
+use Rattle.nest_model.specs.Fits.{Fits}
+use Rattle.nest_model.specs.Meaning.{len}
+use Rattle.nest_take.specs.Places.{AreAt, AreBelow}
+use Rattle.nest_take.specs.Taken.{IsTaken, EachPicked, RefusesTake}
+use Rattle.nest_take.proofs.Children.{layout-at}
+use Rattle.nest_take.proofs.Dense.{dense-taken, picks-more, pick-at, pick-places-below}
 
 dense-offsets : (o : Option (List ℤ)) → (o ≡ None → ⊥) → (os : List ℤ) × (o ≡ Some os)
 dense-offsets None h = absurd (h refl)
@@ -191,3 +202,29 @@ field-below a g h d l =
     let f = union-facts (layout_type a) (types_of a) (children_of a) (union_offsets_of a) (start_of a) (subst TopFits d.kind h) in
     let m = f.at_most in
     omega arith
+
+-- what is made of picks, and why it is refused
+pub dense-made : (a : Layout) (u : TypeTree) (xs ns : List ℤ) (ds : Layouts) (is : List ℕ) → TopFits a → IsDense a → AreBelow is (len a) → u ≡ layout_type a
+    → AreAt (types_of a) is xs → ns ≡ offsets_in a is → EachPicked (λ f. pick_places a f is) 0 (children_of a) ds
+    → Fits (union u xs ds (Some ns) 0) × IsTaken a is (union u xs ds (Some ns) 0)
+dense-made a u xs ns ds is h d b p q o g =
+    let s = dense-offsets (union_offsets_of a) d.dense in
+    let t = layout_type a in
+    let k : a ≡ union t (types_of a) (children_of a) (Some s.0) (start_of a) = d.kind ∙ ap (λ z. union t (types_of a) (children_of a) z (start_of a)) s.1 in
+    dense-taken a u (types_of a) xs s.0 ns (children_of a) ds (start_of a) is h k b p q o g
+
+pub dense-refuses : (a : Layout) (is : List ℕ) (e : Error) → IsDense a → (e ≡ Memory alloc_error) ⊎ ((e ≡ Overflow) × PicksPass (λ f. pick_places a f is) 0 (children_of a)) → RefusesTake e a is
+dense-refuses a is e d (inl m) = inl m
+dense-refuses a is e d (inr p) = inr (p.0, dense-passes a is d p.1)
+
+pub field-picks-below : (a : Layout) (xs : Seq AnyArray) (f : ℕ) (x : AnyArray) (is ps : List ℕ) → TopFits a → IsDense a → layouts_of xs ≡ children_of a → x ≡ get_or xs f x → f < length xs
+    → AreBelow is (len a) → ps ≡ pick_places a f is → AreBelow ps (len (layout_of x))
+field-picks-below a xs f x is ps h d g s l b q =
+    let o = dense-offsets (union_offsets_of a) d.dense in
+    let t = layout_type a in
+    let u = union t (types_of a) (children_of a) (Some o.0) (start_of a) in
+    let k : a ≡ u = d.kind ∙ ap (λ z. union t (types_of a) (children_of a) z (start_of a)) o.1 in
+    let r = pick-places-below t (types_of a) o.0 (children_of a) (start_of a) f is (subst TopFits k h) (subst (λ z. AreBelow is (len z)) k b) in
+    let p : pick_places u f is ≡ ps = ap (λ z. pick_places z f is) (sym k) ∙ sym q in
+    let y : child_at (children_of a) f ≡ layout_of x = ap (λ z. child_at z f) (sym g) ∙ sym (layout-at xs f x l) ∙ sym (ap layout_of s) in
+    subst (λ z. AreBelow ps (len z)) y (subst (λ z. AreBelow z (len (child_at (children_of a) f))) p r)
