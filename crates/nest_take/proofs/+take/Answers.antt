@@ -6,7 +6,7 @@ use Rattle.nest_model.specs.LayoutCode.{weight, weight_all}
 use Rattle.nest_model.specs.Meaning.{len}
 use Rattle.nest_array.specs.Seen.{layout_of, layouts_of}
 use Rattle.nest_take.specs.Places.{AreAt, AreBelow}
-use Rattle.nest_take.specs.Taken.{EachTaken, IsTaken, pick_places}
+use Rattle.nest_take.specs.Taken.{EachTaken, IsTaken, RefusesTake, pick_places}
 use Rattle.nest_take.proofs.Children.{weight-at, reaches-at, all-taken, refuses-at, one-more, fields-picked, field-refuses}
 use Rattle.nest_take.proofs.Picks.{IsDense, dense-made, dense-refuses, field-picks-below}
 use Rattle.nest_take.proofs.Looked.{sparse-taken}
@@ -183,7 +183,7 @@ union::take_dense-returns-in_err-count_picks-clause-err t c =
     let a = c.args.array.now in
     let d : IsDense a = record { kind = c.known.ensures.kind; dense = c.requires.dense } in
     let p = err_from_is_err_and c.from_residual.result c.from_residual.ensures.1 in
-    rw p.1 (dense-refuses a c.args.places.now _ d (inr c.in_err-count_picks.ensures.err))
+    rw p.1 (subst (λ z. RefusesTake z a c.args.places.now) (sym p.2) (dense-refuses a c.args.places.now _ d (inr c.in_err-count_picks.ensures.err)))
 
 pub union::take_dense-array_of-requires : goal.union::take_dense-array_of-requires
 union::take_dense-array_of-requires t c =

@@ -1,4 +1,5 @@
-use Rattle.std.proofs.Common.{◌≡◌, ◌+◌, ◌<◌, ◌≤◌, ◌++◌, ◌∷◌, [], pos, get_or, length, take, refl, ap, sym, ◌∙◌, arith}
+use Rattle.std.proofs.Common.{◌≡◌, ◌+◌, ◌<◌, ◌≤◌, ◌++◌, ◌∷◌, [], pos, get_or, length, take, w32, refl, ap, sym, ◌∙◌, arith}
+use Rattle.std.proofs.lemmas.Int.{to_z_pos}
 use Rattle.nest_take.specs.Taken.{offsets_in, pick_places}
 use Rattle.nest_take.proofs.Picks.{IsDense, Picks, counts-none, count-step, field-below, offset-more, pick-later}
 use Rattle.nest_take.proofs.union.new_offsets.Goals as goal
@@ -42,10 +43,14 @@ loop-place-preserved c =
     let d : IsDense a = record { kind = c.known.ensures.kind; dense = c.requires.dense } in
     let q : Picks a (get_or is k 0) g c.index-field.result.1 = record { field = c.index-field.ensures.field; place = c.index-field.ensures.place } in
     let l = field-below a g c.known.ensures.fits d c.index-field.ensures.field_there in
+    let x = pick-later a g c.index-field.result.1 is k d c.loop-place-test.true q in
+    let y = i.counted.each g in
+    let r = c.requires.few g in
+    let h : get_or c.loop-place.counts g 0 < 2147483648 = omega arith in
     let m = offset-more a g c.index-field.result.1 is k c.loop-place-test.true q in
     record {
       room = omega (arith, c.push_reserved.ensures.capacity, i.room);
       same_length = omega (arith, ap length m, i.same_length, ap length i.done, ap length e, c.push_reserved.ensures.len);
       counted = count-step a g c.index-field.result.1 is k c.loop-place.counts d c.loop-place-test.true q l i.counted;
-      done = e ∙ ap (λ z. z ++ pos (get_or c.loop-place.counts g 0) ∷ []) i.done ∙ ap (λ n. offsets_in a (take k is) ++ pos n ∷ []) (i.counted.each g) ∙ sym m;
+      done = e ∙ ap (λ z. c.loop-place.offsets.items ++ z ∷ []) (to_z_pos w32 (get_or c.loop-place.counts g 0) h) ∙ ap (λ z. z ++ pos (get_or c.loop-place.counts g 0) ∷ []) i.done ∙ ap (λ n. offsets_in a (take k is) ++ pos n ∷ []) (i.counted.each g) ∙ sym m;
     }
