@@ -96,6 +96,7 @@ picks-below ids ks os f n m (i ∷ is) b h =
     add : (d : Bool) (x : ℕ) (xs : List ℕ) → (d ≡ true → x < m) → AreBelow xs m → AreBelow (if d then x ∷ xs else xs) m
     add true x xs k l = All-cons (λ p. p < m) x xs (k refl) l
     add false x xs k l = l
+
     some : (o : Option ℕ) (x : ℕ) (xs : List ℕ) → (o ≡ Some f → x < m) → AreBelow xs m → AreBelow (if is_pick_of f o then x ∷ xs else xs) m
     some None x xs k l = l
     some (Some g) x xs k l = add (nat_eq f g) x xs (λ e. k (ap Some (sym (eqb-true f g e)))) l

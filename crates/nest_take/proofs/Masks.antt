@@ -35,6 +35,7 @@ mask-step o b ps i ss h e f g =
     whole : (xs : List ℕ) → xs ≡ xs ++ []
     whole [] = refl
     whole (x ∷ xs) = ap (◌∷◌ x) (whole xs)
+
     one : (o : Option Bool) → (if unwrap_or o false then ps ++ i ∷ [] else ps) ≡ ps ++ places_from i (optional (λ x. slots.truth x) o ∷ [])
     one None = whole ps
     one (Some true) = refl

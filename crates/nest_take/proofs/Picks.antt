@@ -90,6 +90,7 @@ count-step a g p is k cs d h q l c =
     length-set' [] i v = refl
     length-set' (x ∷ xs) zero v = refl
     length-set' (x ∷ xs) (suc i) v = ap suc (length-set' xs i v)
+
     go : (f : ℕ) → ((nat_eq g f ≡ true) × (g ≡ f)) ⊎ ((nat_eq g f ≡ false) × (g ≡ f → ⊥)) → get_or (set cs g (get_or cs g 0 + 1)) f 0 ≡ length (pick_places a f (take (k + 1) is))
     go f (inl t) =
         let m : g < length cs = let w = c.wide in omega arith in
