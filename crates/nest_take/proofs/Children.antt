@@ -1,6 +1,6 @@
 -- Children in a vector: how deep each is, and what holds of each that is taken.
 use Rattle.std.specs.Prelude.{◌⊎◌, List as Seq, [], ◌∷◌, ◌++◌, alloc_error}
-use Rattle.std.proofs.Common.{◌≡◌, ℕ, zero, suc, ◌+◌, ◌<◌, ◌≤◌, List, length, get_or, inl, inr, refl, ap, sym, ◌∙◌, subst, arith}
+use Rattle.std.proofs.Common.{◌≡◌, ℕ, zero, suc, ◌+◌, ◌<◌, List, length, get_or, inl, inr, refl, ap, sym, ◌∙◌, subst, arith}
 use Rattle.nest_memory.specs.declared.error.Error.{Error}
 use Rattle.nest_memory.specs.declared.error.Error.TheVariants.{Memory, Overflow}
 use Rattle.nest_array.specs.declared.any.AnyArray.{AnyArray}

@@ -1,8 +1,6 @@
 -- Flat arrays that are made of values and bits at places.
 use Rattle.std.specs.Prelude.{MatchResult, IfOk, IfErr, if◌then◌else◌}
-use Rattle.std.specs.List.{All}
-use Rattle.std.proofs.Common.{◌≡◌, ℕ, ◌<◌, ℤ, Bool, true, false, List, [], map, get_or, length, Result, Ok, Err, refl, ap, sym, ◌∙◌, subst, arith}
-use Rattle.std.proofs.lemmas.List.{length-map}
+use Rattle.std.proofs.Common.{◌≡◌, ℕ, ◌<◌, ℤ, Bool, true, false, List, [], get_or, length, Result, Ok, Err, refl, ap, sym, ◌∙◌, subst}
 use Rattle.nest_memory.specs.TypeTree.{TypeTree}
 use Rattle.nest_memory.specs.declared.datatypes.physical_type.PrimitiveType.{PrimitiveType}
 use Rattle.nest_memory.specs.declared.error.Error.{Error}
@@ -16,7 +14,7 @@ use Rattle.nest_model.specs.Slot as slots
 use Rattle.nest_model.specs.Slot.{Slot}
 use Rattle.nest_take.specs.Places.{AreAt, AreBelow, taken_validity}
 use Rattle.nest_take.specs.Taken.{IsTaken}
-use Rattle.nest_take.proofs.At.{at-length, at-get, at-map, at-valid}
+use Rattle.nest_take.proofs.At.{at-length, at-get, at-valid}
 use Rattle.nest_take.proofs.Rows.{taken}
 
 -- what a constructor made of parts that are the taken ones

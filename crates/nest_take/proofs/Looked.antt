@@ -1,20 +1,19 @@
 -- Values looked up by taken keys, and picks of taken fields.
 use Rattle.std.specs.Prelude.{if◌then◌else◌, Option, Some, None}
-use Rattle.std.specs.List.{All}
-use Rattle.std.proofs.Common.{◌≡◌, ℕ, ℤ, pos, negsuc, zero, suc, ◌+◌, ◌<◌, ◌≤◌, Bool, true, false, List, [], map, get_or, length, refl, ap, sym, ◌∙◌, subst, arith}
+use Rattle.std.proofs.Common.{◌≡◌, ℕ, ℤ, pos, negsuc, zero, suc, ◌+◌, ◌<◌, ◌≤◌, Bool, true, false, List, map, get_or, length, refl, ap, sym, ◌∙◌, subst, arith}
 use Rattle.std.proofs.lemmas.List.Elements.{All-get_or, All-from_get_or}
 use Rattle.std.proofs.lemmas.List.{get_or-map, length-map}
 use Rattle.nest_memory.specs.TypeTree.{TypeTree, fields_of, ids_of}
 use Rattle.nest_model.specs.Accessors.{validity_of, key_at, raw_keys}
 use Rattle.nest_model.specs.Array.{TopFits}
 use Rattle.nest_model.specs.Facts.{dictionary-facts, union-facts}
-use Rattle.nest_model.specs.Fits.{Fits, Names, EachNames, KeysInRange, SomeValid, EachLen, EachCovers, EachMeansField, MeansField, IdsCount}
+use Rattle.nest_model.specs.Fits.{Fits, Names, KeysInRange, EachLen, EachCovers, EachMeansField, MeansField, IdsCount}
 use Rattle.nest_model.specs.Layout.{Layout, Layouts, dictionary, union, no_layouts, more_layouts, layout_type, count_layouts}
 use Rattle.nest_model.specs.Meaning.{len, slot, of_field, picked, union_place}
-use Rattle.nest_model.specs.Part.{Validity, valid_at, place, field_named}
+use Rattle.nest_model.specs.Part.{valid_at, place, field_named}
 use Rattle.nest_model.specs.Slot as slots
 use Rattle.nest_model.specs.Slot.{Slot}
-use Rattle.nest_take.specs.Places.{AreAt, AreBelow, taken_validity}
+use Rattle.nest_take.specs.Places.{AreAt, AreBelow}
 use Rattle.nest_take.specs.Taken.{IsTaken, EachReaches, EachTaken}
 use Rattle.nest_take.specs.TakenKeys.{AreKeysAt, raw_at}
 use Rattle.nest_take.proofs.At.{at-valid, at-length, at-get}

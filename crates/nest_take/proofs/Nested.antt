@@ -1,15 +1,14 @@
 -- Arrays that are made of taken children.
-use Rattle.std.specs.Prelude.{if◌then◌else◌, Option, Some, None}
+use Rattle.std.specs.Prelude.{Some}
 use Rattle.std.specs.List.{All}
-use Rattle.std.proofs.Common.{◌≡◌, ℕ, zero, suc, ◌+◌, ◌-◌, ◌*◌, ◌/◌, ◌%◌, ◌<◌, ◌≤◌, ◌∷◌, Bool, true, false, List, [], get_or, length, refl, ap, sym, ◌∙◌, subst, arith}
+use Rattle.std.proofs.Common.{◌≡◌, ℕ, suc, ◌+◌, ◌*◌, ◌/◌, ◌%◌, ◌<◌, ◌≤◌, Bool, true, List, get_or, length, refl, ap, sym, ◌∙◌, subst, arith}
 use Rattle.std.proofs.lemmas.List.Elements.{All-get_or}
 use Rattle.std.proofs.lemmas.List.{get_or-map}
 use Rattle.std.proofs.Math.Nat.{mul-div_cancel}
 use Rattle.nest_memory.specs.Cut.{cut}
 use Rattle.nest_memory.specs.Rising.{last_of}
-use Rattle.nest_memory.specs.TypeTree.{TypeTree, FieldTrees, no_fields, more_fields, size_of, fields_of, count_fields}
+use Rattle.nest_memory.specs.TypeTree.{TypeTree, FieldTrees, no_fields, more_fields, size_of, fields_of}
 use Rattle.nest_model.specs.Array.{AreOffsets, TopFits}
-use Rattle.nest_model.specs.Chosen.{chosen}
 use Rattle.nest_model.specs.ChosenLaws.{length-chosen}
 use Rattle.nest_model.specs.Facts.{list-facts, map-facts, fixed_size_list-facts, fixed_size_binary-facts, struct-facts}
 use Rattle.nest_model.specs.Fits.{Fits, ValidityFits, EachType, EachLen}
@@ -17,7 +16,7 @@ use Rattle.nest_model.specs.Layout.{Layout, Layouts, null, fixed_size_binary, fi
 use Rattle.nest_model.specs.Meaning.{len, first_len, slot, each, slots_of}
 use Rattle.nest_model.specs.Part.{Validity, valid_at, begin, extent, rows}
 use Rattle.nest_model.specs.Reads.{slots-length, slot-place, list-slot, map-slot, fixed_size_list-slot}
-use Rattle.nest_model.specs.Runs.{length-cut, product-fits, product-over, product-exact}
+use Rattle.nest_model.specs.Runs.{length-cut, product-fits, product-exact}
 use Rattle.nest_model.specs.Slot as slots
 use Rattle.nest_model.specs.Slot.{Slot, Slots, seal}
 use Rattle.nest_take.specs.Places.{AreBelow, count_at, item_places, items_at, block_places, blocks_at, taken_validity}

@@ -1,7 +1,7 @@
 -- How often each field of a dense union is picked by the first rows.
-use Rattle.std.specs.Prelude.{IfErr, alloc_error, List as Seq, if◌then◌else◌, Option, Some, None, unwrap_or, nat_eq}
-use Rattle.std.proofs.Common.{◌≡◌, ℕ, ℤ, pos, zero, suc, ◌+◌, ◌<◌, ◌≤◌, ◌⊎◌, Result, Ok, Err, inl, inr, Bool, true, false, List, [], ◌∷◌, ◌++◌, take, replicate, set, get_or, length, refl, ap, sym, ◌∙◌, subst, arith, append_assoc, length-append}
-use Rattle.std.proofs.lemmas.Bool.{eqb-true, eq-eqb}
+use Rattle.std.specs.Prelude.{alloc_error, List as Seq, if◌then◌else◌, Option, Some, None, unwrap_or, nat_eq}
+use Rattle.std.proofs.Common.{◌≡◌, ℕ, ℤ, pos, zero, suc, ◌+◌, ◌<◌, ◌≤◌, ◌⊎◌, inl, inr, Bool, true, false, List, [], ◌∷◌, ◌++◌, take, replicate, set, get_or, length, refl, ap, sym, ◌∙◌, subst, arith, append_assoc, length-append}
+use Rattle.std.proofs.lemmas.Bool.{eq-eqb}
 use Rattle.std.proofs.lemmas.Bool.Decides.{eqb_tells}
 use Rattle.std.proofs.lemmas.List.{take_more, take_all, get_or-set_same, get_or-set_other}
 use Rattle.nest_memory.specs.Rising.{largest_offset}

@@ -1,19 +1,19 @@
 -- What arrays with children are made of, and why taking from them is refused.
 use Rattle.std.specs.Prelude.{Option, None, alloc_error}
-use Rattle.std.proofs.Common.{◌≡◌, ℕ, ℤ, ◌+◌, ◌*◌, ◌<◌, ◌≤◌, ◌⊎◌, inl, inr, Bool, true, false, List, map, length, refl, ap, sym, ◌∙◌, subst, arith}
+use Rattle.std.proofs.Common.{◌≡◌, ℕ, ℤ, ◌+◌, ◌<◌, ◌⊎◌, inl, inr, Bool, false, List, map, length, ap, sym, ◌∙◌, subst, arith}
 use Rattle.nest_memory.specs.TypeTree.{size_of}
 use Rattle.nest_memory.specs.declared.error.Error.{Error}
 use Rattle.nest_memory.specs.declared.error.Error.TheVariants.{Memory, Overflow}
 use Rattle.nest_model.specs.Accessors.{child_of, children_of, offsets_of, start_of, types_of, union_offsets_of, validity_of}
 use Rattle.nest_model.specs.Array.{TopFits}
-use Rattle.nest_model.specs.Facts.{list-facts, map-facts, fixed_size_list-facts, struct-facts, union-facts}
+use Rattle.nest_model.specs.Facts.{list-facts, map-facts, struct-facts, union-facts}
 use Rattle.nest_model.specs.Layout as layouts
 use Rattle.nest_model.specs.Layout.{Layout, Layouts, layout_type}
 use Rattle.nest_model.specs.LayoutCode.{weight, weight_all}
 use Rattle.nest_model.specs.Meaning.{len, union_place}
-use Rattle.nest_model.specs.Part.{Validity, rows}
+use Rattle.nest_model.specs.Part.{Validity}
 use Rattle.nest_take.specs.Limits.{PassesLength, PassesLimits, PassesOffsets, SomePasses}
-use Rattle.nest_take.specs.Places.{AreBelow, block_places, item_places, taken_validity}
+use Rattle.nest_take.specs.Places.{AreBelow, block_places, item_places}
 use Rattle.nest_take.specs.Taken.{EachReaches, RefusesTake}
 use Rattle.nest_take.proofs.Looked.{sparse-reaches}
 use Rattle.nest_take.proofs.Nested.{block-places-below, each-reaches, list-places}

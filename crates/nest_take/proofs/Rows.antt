@@ -1,7 +1,6 @@
 -- An array has the chosen slots where each of its slots is the one at its place.
-use Rattle.std.specs.Prelude.{List, [], ◌∷◌, map, length, get_or}
-use Rattle.std.specs.List.{All}
-use Rattle.std.proofs.Common.{◌≡◌, ℕ, zero, suc, ◌+◌, ◌<◌, refl, ap, sym, ◌∙◌, arith}
+use Rattle.std.specs.Prelude.{List, [], ◌∷◌, length, get_or}
+use Rattle.std.proofs.Common.{◌≡◌, ℕ, suc, ◌+◌, ◌<◌, refl, ap, sym, ◌∙◌, arith}
 use Rattle.std.proofs.lemmas.List.{get_or-map}
 use Rattle.std.proofs.lemmas.List.Elements.{All-get_or}
 use Rattle.nest_model.specs.Chosen.{chosen}

@@ -1,10 +1,10 @@
 -- When the rows taken at some level of an array are more than its layout can name (of this project).
-use Rattle.std.specs.Prelude.{ℕ, suc, ◌+◌, ◌*◌, ◌<◌, ◌≤◌, ◌^◌, ◌⊎◌, ℤ, pos, Bool, true, false, List, [], ◌∷◌, Option, Some, None, map, length, get_or, nat_eq, if◌then◌else◌}
+use Rattle.std.specs.Prelude.{ℕ, suc, ◌+◌, ◌*◌, ◌<◌, ◌≤◌, ◌^◌, ◌⊎◌, ℤ, pos, Bool, false, List, [], ◌∷◌, Option, Some, None, map, length, get_or, nat_eq, if◌then◌else◌}
 use Rattle.std.specs.List.{sum_by}
 use Rattle.nest_memory.specs.TypeTree.{size_of, ids_of}
 use Rattle.nest_memory.specs.Rising.{largest_offset}
 use Rattle.nest_model.specs.Part.{Validity, place, field_named}
-use Rattle.nest_model.specs.Layout.{Layout, Layouts, binary, text, fixed_size_binary, fixed_size_list, list, map as map_of, struct, union, dictionary, no_layouts, more_layouts}
+use Rattle.nest_model.specs.Layout.{Layout, Layouts, binary, text, fixed_size_binary, fixed_size_list, list, map as map_of, struct, union, no_layouts, more_layouts}
 use Rattle.nest_take.specs.Places.{count_at, item_places, block_places}
 
 -- Variable-size layouts: the rows have more items than the largest offset

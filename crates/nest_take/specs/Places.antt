@@ -1,5 +1,5 @@
 -- What rows at some places have: values, bits, and the places of their items (of this project).
-use Rattle.std.specs.Prelude.{◌≡◌, ℕ, ◌*◌, ◌<◌, Bool, true, List, Option, Some, None, map, get_or, length, slice_get, if◌then◌else◌}
+use Rattle.std.specs.Prelude.{◌≡◌, ℕ, ◌*◌, ◌<◌, true, List, Some, None, map, get_or, length, slice_get, if◌then◌else◌}
 use Rattle.std.specs.List.{All, flat_map, range_with_len}
 use Rattle.nest_memory.specs.Cut.{cut}
 use Rattle.nest_model.specs.Part.{Validity, valid_at, begin, extent}

@@ -1,5 +1,5 @@
 -- What taking slots of an array owes (of this project).
-use Rattle.std.specs.Prelude.{◌≡◌, ◌⊎◌, ◌++◌, ℕ, suc, ℤ, pos, List, [], ◌∷◌, Option, Some, None, alloc_error, get_or, length, unwrap_or}
+use Rattle.std.specs.Prelude.{◌≡◌, ◌⊎◌, ◌++◌, ℕ, suc, ℤ, pos, List, [], ◌∷◌, Option, Some, alloc_error, get_or, length, unwrap_or}
 use Rattle.nest_memory.specs.declared.error.Error.{Error}
 use Rattle.nest_memory.specs.declared.error.Error.TheVariants.{Memory, Overflow}
 use Rattle.nest_model.specs.Chosen.{chosen}

@@ -1,7 +1,7 @@
 -- Laws of taking: every place, and taking of a taking (of this project).
 use Rattle.std.specs.Prelude.{List, [], ◌∷◌, map, length, get_or}
-use Rattle.std.specs.List.{All, range_with_len}
-use Rattle.std.proofs.Common.{◌≡◌, ℕ, suc, ◌<◌, refl, ap, sym, ◌∙◌, arith}
+use Rattle.std.specs.List.{range_with_len}
+use Rattle.std.proofs.Common.{◌≡◌, ℕ, suc, refl, ap, sym, ◌∙◌, arith}
 use Rattle.std.proofs.lemmas.List.{get_or-map}
 use Rattle.nest_model.specs.Chosen.{chosen}
 use Rattle.nest_model.specs.ChosenLaws.{chosen-all}

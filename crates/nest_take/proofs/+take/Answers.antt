@@ -1,8 +1,8 @@
-use Rattle.std.proofs.Common.{◌≡◌, ◌<◌, ◌≤◌, ◌+◌, ◌*◌, ℕ, ◌∷◌, [], length, length-append, get_or, true, false, refl, ap, sym, ◌∙◌, subst, arith, inl, inr}
+use Rattle.std.proofs.Common.{◌≡◌, ◌+◌, ◌*◌, ℕ, ◌∷◌, [], length, length-append, get_or, true, false, refl, ap, sym, ◌∙◌, subst, arith, inr}
 use Rattle.std.proofs.lemmas.Result.{err_from_is_err_and}
 use Rattle.nest_memory.specs.TypeTree.{size_of}
 use Rattle.nest_model.specs.Layout.{layout_type}
-use Rattle.nest_model.specs.LayoutCode.{weight, weight_all}
+use Rattle.nest_model.specs.LayoutCode.{weight}
 use Rattle.nest_model.specs.Meaning.{len}
 use Rattle.nest_array.specs.Seen.{layout_of, layouts_of}
 use Rattle.nest_take.specs.Places.{AreAt, AreBelow}
@@ -10,9 +10,9 @@ use Rattle.nest_take.specs.Taken.{EachTaken, IsTaken, RefusesTake, pick_places}
 use Rattle.nest_take.proofs.Children.{weight-at, reaches-at, all-taken, refuses-at, one-more, fields-picked, field-refuses}
 use Rattle.nest_take.proofs.Picks.{IsDense, dense-made, dense-refuses, field-picks-below}
 use Rattle.nest_take.proofs.Looked.{sparse-taken}
-use Rattle.nest_take.proofs.Made.{ok-taken, err-memory}
+use Rattle.nest_take.proofs.Made.{ok-taken}
 use Rattle.nest_take.proofs.Nested.{blocks-within, list-taken, map-taken, record-taken, sized-taken}
-use Rattle.nest_take.proofs.Refused.{list-parts, list-lighter, list-below, list-refuses, map-parts, map-lighter, map-below, map-refuses, record-parts, record-lighter, record-reaches, record-refuses, sized-parts, sized-lighter, sized-below, sized-refuses, sparse-parts, sparse-slots, sparse-below, sparse-refuses, union-lighter}
+use Rattle.nest_take.proofs.Refused.{list-parts, list-lighter, list-below, map-parts, map-lighter, map-below, record-parts, record-lighter, record-reaches, sized-parts, sized-lighter, sized-below, sparse-parts, sparse-slots, sparse-below, sparse-refuses, union-lighter}
 use Rattle.nest_take.proofs.+take.Goals as goal
 
 pub list::take_lists-take-requires : goal.list::take_lists-take-requires

@@ -1,9 +1,9 @@
-use Rattle.std.proofs.Common.{ap, sym, ◌∙◌}
+use Rattle.std.proofs.Common.{ap, ◌∙◌}
 use Rattle.nest_model.specs.Accessors.{bytes_of, offsets_of, validity_of}
 use Rattle.nest_model.specs.Layout.{layout_type}
-use Rattle.nest_take.specs.Places.{count_at, items_at, taken_validity}
+use Rattle.nest_take.specs.Places.{taken_validity}
 use Rattle.nest_take.proofs.Flats.{made-ok, made-err}
-use Rattle.nest_take.proofs.Pieces.{ends, ends-same, items-same}
+use Rattle.nest_take.proofs.Pieces.{ends-same, items-same}
 use Rattle.nest_take.proofs.SpanRows.{binary-taken}
 use Rattle.nest_take.proofs.binary.take.Goals as goal
 

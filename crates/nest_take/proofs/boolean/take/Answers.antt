@@ -1,4 +1,4 @@
-use Rattle.std.proofs.Common.{ap, sym, ◌∙◌}
+use Rattle.std.proofs.Common.{ap, ◌∙◌}
 use Rattle.nest_model.specs.Accessors.{bits_of, validity_of}
 use Rattle.nest_model.specs.Layout.{layout_type}
 use Rattle.nest_take.specs.Places.{taken_validity}

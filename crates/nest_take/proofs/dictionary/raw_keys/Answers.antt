@@ -1,4 +1,4 @@
-use Rattle.std.proofs.Common.{◌≡◌, ◌<◌, length, sym, subst, arith}
+use Rattle.std.proofs.Common.{sym, subst, arith}
 use Rattle.std.proofs.lemmas.Result.{IfOk-weaker}
 use Rattle.nest_take.specs.TakenKeys.{AreRawKeysAt}
 use Rattle.nest_take.proofs.dictionary.raw_keys.Goals as goal

@@ -1,4 +1,4 @@
-use Rattle.std.proofs.Common.{ap, sym, ◌∙◌, subst}
+use Rattle.std.proofs.Common.{◌∙◌, subst}
 use Rattle.nest_array.specs.SeenKeys.{keys_layout}
 use Rattle.nest_take.specs.TakenKeys.{AreKeysAt}
 use Rattle.nest_take.proofs.Looked.{keyed-taken}

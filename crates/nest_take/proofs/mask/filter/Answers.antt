@@ -1,4 +1,4 @@
-use Rattle.std.proofs.Common.{◌≡◌, ◌<◌, length, get_or, sym, ◌∙◌, subst, arith}
+use Rattle.std.proofs.Common.{◌≡◌, sym, ◌∙◌, subst, arith}
 use Rattle.nest_model.specs.Chosen.{mask_places}
 use Rattle.nest_model.specs.ChosenLaws.{mask_places-true}
 use Rattle.nest_model.specs.Meaning.{len, slots_of}

@@ -1,6 +1,5 @@
-use Rattle.std.proofs.Common.{◌≡◌, ◌<◌, refl, ap, sym, ◌∙◌, arith, length, take, true, false}
-use Rattle.nest_model.specs.Chosen.{mask_places}
-use Rattle.nest_model.specs.Meaning.{len, slots_of}
+use Rattle.std.proofs.Common.{◌<◌, ap, sym, ◌∙◌, arith, length}
+use Rattle.nest_model.specs.Meaning.{slots_of}
 use Rattle.nest_model.specs.Reads.{slots-length, slot-place}
 use Rattle.nest_model.specs.Slot as slots
 use Rattle.nest_take.proofs.Masks.{mask-all, mask-no, mask-yes}

@@ -1,4 +1,4 @@
-use Rattle.std.proofs.Common.{ap, sym, ◌∙◌, map, subst}
+use Rattle.std.proofs.Common.{ap, ◌∙◌, map, subst}
 use Rattle.nest_model.specs.Accessors.{natives_of, validity_of}
 use Rattle.nest_model.specs.Layout.{layout_type}
 use Rattle.nest_take.specs.Places.{AreAt, taken_validity}

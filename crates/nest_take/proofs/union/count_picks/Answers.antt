@@ -1,4 +1,4 @@
-use Rattle.std.proofs.Common.{◌≡◌, ◌+◌, ◌≤◌, get_or, refl, arith}
+use Rattle.std.proofs.Common.{get_or, refl, arith}
 use Rattle.nest_take.proofs.Picks.{IsDense, Picks, counts-none, few-none, count-step, few-step, field-below, full-passes}
 use Rattle.nest_take.proofs.union.count_picks.Goals as goal
 

@@ -1,6 +1,6 @@
-use Rattle.std.proofs.Common.{◌≡◌, ◌+◌, ◌<◌, ◌≤◌, ◌++◌, ◌∷◌, [], pos, get_or, length, take, w32, refl, ap, sym, ◌∙◌, arith}
+use Rattle.std.proofs.Common.{◌<◌, ◌++◌, ◌∷◌, [], pos, get_or, length, take, w32, refl, ap, sym, ◌∙◌, arith}
 use Rattle.std.proofs.lemmas.Int.{to_z_pos}
-use Rattle.nest_take.specs.Taken.{offsets_in, pick_places}
+use Rattle.nest_take.specs.Taken.{offsets_in}
 use Rattle.nest_take.proofs.Picks.{IsDense, Picks, counts-none, count-step, field-below, offset-more, pick-later}
 use Rattle.nest_take.proofs.union.new_offsets.Goals as goal
 

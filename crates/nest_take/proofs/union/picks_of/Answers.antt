@@ -1,4 +1,4 @@
-use Rattle.std.proofs.Common.{◌≡◌, ◌++◌, ◌∷◌, [], ap, sym, ◌∙◌, get_or}
+use Rattle.std.proofs.Common.{◌++◌, ◌∷◌, [], ap, sym, ◌∙◌, get_or}
 use Rattle.nest_take.proofs.Picks.{IsDense, Picks, pick-yes, pick-no}
 use Rattle.nest_take.proofs.union.picks_of.Goals.{then-picked-field+in_ok-push, else-picked-field}
 use Rattle.nest_take.proofs.union.picks_of.Goals as goal
