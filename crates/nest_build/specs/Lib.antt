@@ -1,3 +1,4 @@
+pub mod BuiltKind
 pub mod Children
 pub mod FlatTree
 pub mod Lists
