@@ -4,6 +4,7 @@ pub mod FlatTree
 pub mod Lists
 pub mod NumberRows
 pub mod Rows
+pub mod Seats
 pub mod Slices
 pub mod Told
 pub mod Words
