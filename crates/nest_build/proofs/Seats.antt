@@ -169,18 +169,21 @@ seats_more hashes places hash p v s f e =
       where
         at_most : (d : ℕ) → place_on hash d (length places) < length places → seat_at places hash d ≤ length hashes
         at_most d l = s.below (place_on hash d (length places)) l
+
         place_inside : (d : ℕ) → d < length places → place_on hash d (length places) < length places
         place_inside d l = place_below hash d (length places) l
+
     seated_at : (k : ℕ) → (k < length hashes) ⊎ (length hashes ≤ k) → k < length hashes + 1 → v ≡ suc (length hashes) → IsSeated (set places p v) (get_or (hashes ++ hash ∷ []) k 0) k
     seated_at k (inl l) m successor = rw (get_or_append_left hashes (hash ∷ []) 0 k l) (seat_kept places p v (get_or hashes k 0) k (λ x a b c. absurd (omega (arith, a, c, f.free))) (s.seated k l))
     seated_at k (inr l) m successor =
         let last : k ≡ length hashes = omega arith in
         rw (last, get_or_push hashes hash 0 (length hashes) refl) (new_seat successor)
+
     one_place : length (set places p v) ≡ length places → (a b : ℕ) → a < length (set places p v) → b < length (set places p v) → 0 < get_or (set places p v) a 0 → get_or (set places p v) a 0 ≡ get_or (set places p v) b 0 → a ≡ b
     one_place wide a b la lb =
         at_written places p a v (λ x. 0 < x → x ≡ get_or (set places p v) b 0 → a ≡ b) f.inside
-          (λ ea. at_written places p b v (λ y. 0 < v → v ≡ y → a ≡ b) f.inside (λ eb _ _. ea ∙ sym eb) (λ nb _ q. absurd (omega (arith, q, e, s.below b (omega (arith, wide, lb))))))
-          (λ na. at_written places p b v (λ y. 0 < get_or places a 0 → get_or places a 0 ≡ y → a ≡ b) f.inside (λ eb _ q. absurd (omega (arith, q, e, s.below a (omega (arith, wide, la))))) (λ nb z q. s.single a b (omega (arith, wide, la)) (omega (arith, wide, lb)) z q))
+        (λ ea. at_written places p b v (λ y. 0 < v → v ≡ y → a ≡ b) f.inside (λ eb _ _. ea ∙ sym eb) (λ nb _ q. absurd (omega (arith, q, e, s.below b (omega (arith, wide, lb))))))
+        (λ na. at_written places p b v (λ y. 0 < get_or places a 0 → get_or places a 0 ≡ y → a ≡ b) f.inside (λ eb _ q. absurd (omega (arith, q, e, s.below a (omega (arith, wide, la))))) (λ nb z q. s.single a b (omega (arith, wide, la)) (omega (arith, wide, lb)) z q))
 
 -- the last number less
 pub seats_less : (hashes places : List ℕ) (hash p : ℕ) → AreSeats (hashes ++ hash ∷ []) places → p < length places → get_or places p 0 ≡ length hashes + 1 → AreSeats hashes (set places p 0)
@@ -203,11 +206,12 @@ seats_less hashes places hash p s l e =
         by_last : (length hashes < get_or places q 0) ⊎ (get_or places q 0 ≤ length hashes) → get_or places q 0 ≤ length hashes
         by_last (inr b) = b
         by_last (inl a) = absurd (n (s.single q p m l (omega (arith, a)) (omega (arith, a, e, len, s.below q m))))
+
     one_place : length (set places p 0) ≡ length places → (a b : ℕ) → a < length (set places p 0) → b < length (set places p 0) → 0 < get_or (set places p 0) a 0 → get_or (set places p 0) a 0 ≡ get_or (set places p 0) b 0 → a ≡ b
     one_place wide a b la lb =
         at_written places p a 0 (λ x. 0 < x → x ≡ get_or (set places p 0) b 0 → a ≡ b) l
-          (λ ea z _. absurd (omega (arith, z)))
-          (λ na. at_written places p b 0 (λ y. 0 < get_or places a 0 → get_or places a 0 ≡ y → a ≡ b) l (λ eb z q. absurd (omega (arith, z, q))) (λ nb z q. s.single a b (omega (arith, wide, la)) (omega (arith, wide, lb)) z q))
+        (λ ea z _. absurd (omega (arith, z)))
+        (λ na. at_written places p b 0 (λ y. 0 < get_or places a 0 → get_or places a 0 ≡ y → a ≡ b) l (λ eb z q. absurd (omega (arith, z, q))) (λ nb z q. s.single a b (omega (arith, wide, la)) (omega (arith, wide, lb)) z q))
 
 -- no number, in a table of zeros
 pub seats_none : (n : ℕ) → AreSeats [] (replicate n 0)
@@ -239,6 +243,7 @@ none_found hashes places hash n No s f stop k h = at_seat (rw (get_or_from_slice
         by_step : (n ≡ t.step) ⊎ (n ≡ t.step → ⊥) → ⊥
         by_step (inl e) = let here : seat_at places hash n ≡ suc k = rw e t.there in omega (arith, here, z)
         by_step (inr e) = omega (arith, z, t.taken n (omega (arith, l, e)))
+
     at_seat : IsSeated places hash k → No k
     at_seat t = by_step (cases_lt t.step n)
       where
