@@ -2,11 +2,13 @@
 pub use Rattle.nest_array.specs.FixedBytes.{GivesOtherSize, IsMadeOf, IsOtherSize, has_null, joined_bytes, pushed_bytes, sized_bytes, with_bytes}
 pub use Rattle.nest_array.specs.Seen.{layout_of}
 pub use Rattle.nest_array.specs.Types.{default_field, default_list_type}
+pub use Rattle.nest_build.specs.BuiltKind.{built_kind}
 pub use Rattle.nest_build.specs.Children.{IsListBy, ListCovers, list_child}
 pub use Rattle.nest_build.specs.FlatTree.{flat_tree}
 pub use Rattle.nest_build.specs.Rows.{Spells, bits_told, rows_told, told_rows_checks}
 pub use Rattle.nest_build.specs.Slices.{row_item, row_len}
 pub use Rattle.nest_build.specs.Told.{IsOfOtherKind, TellsNulls, own_slot, reserve_passes}
+pub use Rattle.nest_flat.specs.AnyMutablePrimitive.{built_layout}
 pub use Rattle.nest_flat.specs.FlatParts.{optional}
 pub use Rattle.nest_flat.specs.Growth.{CanDrain, is_masked}
 pub use Rattle.nest_flat.specs.Plain.{plain_value, plain_values}

@@ -8,6 +8,7 @@
 //! | Items wait until their row is told, and a builder with waiting items is not frozen | `lists::items_wait_for_their_row` |
 //! | A builder has no validity before its first null, its child neither | `rows::no_validity_before_the_first_null` |
 //! | A builder of numbers takes 7 and a null, refuses a text and a number of another kind, and is frozen and filled again; a boxed one of bytes likewise | `flat::a_builder_takes_its_kind`, `flat::a_builder_is_cut_and_shared`, `bytes::a_boxed_builder_of_bytes` |
+//! | A builder of any native kind takes what its kind takes, and another one's rows of that kind alone | `flat::a_builder_of_any_native_kind` |
 //! | Items are pushed at their own type, one by one and by an iterator, also an empty one | `flat::items_of_its_type_are_pushed` |
 //! | Texts and bytes are pushed at their type and as plain values, found, cut, joined, frozen and boxed; another kind is refused | `texts`, `bytes` |
 //! | A list of texts is frozen to its offsets and its bytes | `text_lists::lists_of_texts_are_frozen` |
@@ -22,6 +23,8 @@
 //! | A row ends at 2^31 - 1 items and none past it; rows are cut to all and to none | `nested` |
 //! | Arrays and builders of items of one size: a validity exactly where one is null, size 0 and items of another size refused; bytes written over | `makers` |
 //! | Any one request for memory refused: no row is added at any level, and a freeze empties | `lists::refused_rows_change_nothing`, `nested::all_levels_take_three_rows_or_none`, `nested::a_boxed_child_keeps_what_it_took` |
+//! | In a table of hashes 0, 0, 0, 8, 8 number 2 is found by hash 0 and not by 8; cut to two hashes it is gone. A thousand numbers of one hash, and numbers around the end of the places, are found | `key_tables` |
+//! | Any one request for memory refused: a table of hashes is as it was | `key_tables::a_refused_push_changes_nothing` |
 #![tactic(auto)]
 
 #[cfg(test)]
@@ -32,6 +35,8 @@ mod fixed_size_binaries;
 mod fixed_size_lists;
 #[cfg(test)]
 mod flat;
+#[cfg(test)]
+mod key_tables;
 #[cfg(test)]
 mod lists;
 #[cfg(test)]

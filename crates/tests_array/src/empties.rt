@@ -1,4 +1,4 @@
-//! Tests of null and empty arrays of every type, as a crate above `nest_array` sees them.
+//! Null and empty arrays of every type.
 //!
 //! | What the row shows | Test |
 //! |---|---|
@@ -19,17 +19,10 @@
 //! | Entries that are no records of two fields, also where they are an extension of such; extensions at every level | `refusals::entries_of_maps`, `values::extensions_at_every_level` |
 //! | The constructors of each kind refuse another kind first | `kinds` |
 //! | Nothing is lost where any one request for memory is refused | `values::refused_memory`, `dictionaries::refused_memory` |
-#![tactic(auto)]
 
-#[cfg(test)]
 mod dictionaries;
-#[cfg(test)]
 mod kinds;
-#[cfg(test)]
 mod refusals;
-#[cfg(test)]
 mod types;
-#[cfg(test)]
 mod unions;
-#[cfg(test)]
 mod values;

@@ -1,5 +1,5 @@
 //! Dictionaries of nulls: their keys are null, over one null value.
-use crate::types::{dictionary, extension, list, none, nulls, records, refusal, two};
+use crate::empties::types::{dictionary, extension, list, none, nulls, records, refusal, two};
 use nest_array::{AnyArray, DictionaryArray};
 use nest_memory::datatypes::{DataType, IntegerType};
 use nest_memory::error::{Error, Spec};

@@ -1,5 +1,7 @@
 //! Which types and lengths are refused, and which refusal is the first.
-use crate::types::{extension, list, map, none, nulls, numbers, one, records, refusal, sized, two};
+use crate::empties::types::{
+    extension, list, map, none, nulls, numbers, one, records, refusal, sized, two,
+};
 use nest_memory::datatypes::DataType;
 use nest_memory::error::{Argument, Error, Spec};
 use std::alloc::Global;

@@ -1,5 +1,5 @@
 //! Unions of nulls: which field they pick, and which are refused.
-use crate::types::{extension, list, none, nulls, numbers, one, refusal, two, union};
+use crate::empties::types::{extension, list, none, nulls, numbers, one, refusal, two, union};
 use nest_array::{AnyArray, AnyScalar, UnionArray};
 use nest_memory::datatypes::{DataType, UnionMode};
 use nest_memory::error::{Error, Spec};

@@ -1,5 +1,7 @@
 //! The constructors of each kind: another kind of type first, then the faults of the type.
-use crate::types::{extension, large_list, list, map, numbers, records, sized, two, union};
+use crate::empties::types::{
+    extension, large_list, list, map, numbers, records, sized, two, union,
+};
 use nest_array::{
     FixedSizeBinaryArray, FixedSizeListArray, LargeListArray, ListArray, MapArray, NullArray,
     StructArray, UnionArray,

@@ -1,5 +1,5 @@
 //! What null and empty arrays hold.
-use crate::types::{
+use crate::empties::types::{
     extension, large_list, list, map, none, nulls, records, refusal, sized, two, union,
 };
 use nest_array::equal::equal_counted;
