@@ -26,6 +26,9 @@
 //! *An iterator gives each place's item once, from both ends, and tells exactly how many are left*: `from_the_front`, `from_the_back`,
 //! `items_left` and their neighbours in [`scans`], once for all kinds, and what the item of each kind is.
 //!
+//! *What is taken of an array at some places has the slots at those places, in their order, under its data type*: `slots_at`,
+//! and `slots_where_true` of a mask, in [`takes`].
+//!
 //! *A builder freezes to what was pushed, and a refused push changes no slot at any depth*: `push_null`, `push_value`, `push_item`,
 //! `push_items`, `join_rows`, `push_each`, `cut_rows`, `freeze_rows`, and a push and a freeze together in `push_and_freeze`, in [`rows`], each once
 //! for every builder, at any nesting; there too what builders of lists do besides (`tell_row`, `tell_rows`, `push_values`). Of a flat
@@ -54,3 +57,4 @@ pub use promises_flat as flat;
 pub use promises_memory as memory;
 pub use promises_rows as rows;
 pub use promises_scans as scans;
+pub use promises_takes as takes;

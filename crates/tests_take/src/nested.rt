@@ -59,7 +59,12 @@ fn maps_of_lists(alloc: Global) -> Made {
     let first = texts(alloc, &[Some("k"), Some("l"), Some("m")]);
     let items = numbers(alloc, &[1, 2, 3], None);
     let second = lists(alloc, items, &[0, 1, 3, 3], None);
-    maps(alloc, records(alloc, first, second, None), &[0, 1, 1, 3], None)
+    maps(
+        alloc,
+        records(alloc, first, second, None),
+        &[0, 1, 1, 3],
+        None,
+    )
 }
 
 #[test]
@@ -69,7 +74,12 @@ fn cut_maps_repeat(rt: HostRuntime) {
     let first = texts(alloc, &[Some("l"), Some("m"), Some("l"), Some("m")]);
     let items = numbers(alloc, &[2, 3, 2, 3], None);
     let second = lists(alloc, items, &[0, 2, 2, 4, 4], None);
-    let expected = maps(alloc, records(alloc, first, second, None), &[0, 2, 4, 4], None);
+    let expected = maps(
+        alloc,
+        records(alloc, first, second, None),
+        &[0, 2, 4, 4],
+        None,
+    );
     assert!(rt; are_same(found, expected));
 }
 
@@ -142,7 +152,11 @@ fn null_lists_take_no_item(rt: HostRuntime) {
 #[test]
 fn a_mask_of_nulls_chooses_nothing(rt: HostRuntime) {
     let alloc = rt.alloc();
-    let bits = mask(alloc, &[true, true, true, true], Some(&[false, false, false, false]));
+    let bits = mask(
+        alloc,
+        &[true, true, true, true],
+        Some(&[false, false, false, false]),
+    );
     let found = filtered(alloc, records_of_lists(alloc), bits);
     assert!(rt; are_same(found, taken(alloc, records_of_lists(alloc), &[])));
 }
