@@ -1,4 +1,7 @@
 //! Arrays of each kind, each made of parts that may be refused.
+ghost use Rattle.std.specs.Prelude.{IsTrue};
+ghost use Rattle.nest_take.specs.Places.{AreBelow};
+
 use nest_array::{
     AnyArray, AnyKeys, DictionaryArray, FixedSizeBinaryArray, FixedSizeListArray, LargeListArray,
     ListArray, MapArray, NullArray, StructArray, UnionArray,
@@ -308,13 +311,10 @@ pub fn cut(array: Made, o: usize, n: usize) -> Made {
     }
 }
 
-fn are_below(places: &[usize], len: usize) -> bool {
-    for place in places {
-        if *place >= len {
-            return false;
-        }
-    }
-    true
+fn are_below(places: &[usize], len: usize) -> bool
+    ensures { IsTrue result → AreBelow places.now len }
+{
+    places.iter().all(|place| *place < len)
 }
 
 /// The slots at places that are there.
