@@ -1,0 +1,188 @@
+//! The builder of lists of any kind over a builder of any kind.
+ghost use Rattle.std.specs.Prelude.{◌≡◌, ◌≤◌, ◌<◌, ◌↔◌, ◌⊎◌, ◌×◌, IsTrue, OnOk, OnErr, IfOk, IfErr, IsOkUnless, None, Some, true, false, replicate, alloc_error};
+ghost use Rattle.nest_model.specs.BuilderItem.{null as null_item};
+ghost use Rattle.nest_any.specs.Trees.{tree_of};
+ghost use Rattle.nest_any.specs.Words.{Accepted, AcceptedAll, FailFirst, HasWholeChildren, IsWhole, Memory, Overflow, Pass, Told, builder_len, builder_type, cut_builder, emptied, item_refusal, layout_of, layout_type, list_child, nulls_pass, own_slots, reserve_passes, row_checks, slots_of};
+
+use crate::any::AnyMutableArray;
+use crate::children::add_nulls;
+use crate::rows::TypedRows;
+use nest_array::AnyArray;
+use nest_build::array::MutableArray;
+use nest_memory::bitmap::mutable::MutableBitmap;
+use nest_memory::datatypes::DataType;
+use nest_memory::error::Error;
+use std::alloc::Global;
+use std::marker::Model;
+
+/// Lists over a builder of their items: by offsets of 32 or of 64 bits, or of one size. Items that are pushed into the
+/// child wait there until a row of them is told.
+#[cycle(builder)]
+#[derive(Drop)]
+pub struct ListBuilder {
+    rows: TypedRows,
+    values: Box<AnyMutableArray>,
+    alloc: Global,
+}
+
+impl Model for ListBuilder {
+    ghost use Rattle.nest_model.specs.BuilderTree.{BuilderTree};
+    ghost use Rattle.nest_any.specs.BuilderCode.{coded_builder, weight};
+
+    ghost Value = { BuilderTree };
+
+    ghost coded = { coded_builder };
+
+    ghost use Rattle.nest_any.specs.SeenLists.{lists_seen};
+
+    ghost view = { lists_seen };
+
+    ghost size = { weight };
+
+    ghost use Rattle.nest_any.specs.Falls.{lists-fall};
+
+    ghost size_decreases = { λ a h. lists-fall a.rows a.values.value };
+}
+
+impl ListBuilder {
+    /// Rows over a child.
+    pub(crate) fn over(alloc: Global, rows: TypedRows, values: Box<AnyMutableArray>) -> ListBuilder
+        ensures { result ≡ lists_over rows (tree_of values.value) }
+    {
+        ListBuilder {
+            rows,
+            values,
+            alloc,
+        }
+    }
+
+    pub(crate) fn data_type(&self) -> &DataType
+        ensures { type_of result.now ≡ builder_type self.now }
+    {
+        self.rows.data_type()
+    }
+
+    pub(crate) fn len(&self) -> usize
+        ensures { result ≡ builder_len self.now }
+    {
+        self.rows.len()
+    }
+
+    pub(crate) fn validity(&self) -> Option<&MutableBitmap>
+        ensures { TellsNulls (option_map (λ b. b.now) result) self.now }
+    {
+        self.rows.validity()
+    }
+
+    pub(crate) fn is_valid(&self, i: usize) -> bool
+        requires { i < builder_len self.now }
+        ensures { IsTrue result ↔ own_slot self.now i ≢ slots.null }
+    {
+        let _len = self.rows.len();
+        self.rows.is_valid(i)
+    }
+
+    #[cycle(whole)]
+    pub(crate) fn whole(&self) -> bool
+        ensures { IsTrue result ↔ IsWhole self.now }
+    {
+        self.values.whole() && self.rows.fits(self.values.data_type(), self.values.len())
+    }
+
+    #[cycle(null)]
+    pub(crate) fn add_null(&mut self) -> Result<(), Error>
+        requires { IsWhole self.old }
+        ensures accepted { OnOk result (Accepted null_item self.old self.new) }
+        ensures unrefused { OnOk result (item_refusal null_item self.old ≡ None) }
+        ensures err { OnErr result (self.new ≡ self.old) }
+        ensures cause { IfErr result (λ e. (e ≡ Memory alloc_error) ⊎ (item_refusal null_item self.old ≡ Some e)) }
+    {
+        let len = self.values.len();
+        let nulls = self.rows.child_nulls();
+        if let Err(refusal) = add_nulls(&mut self.values, nulls) {
+            return Err(refusal);
+        }
+        let items = self.values.len();
+        match self.rows.push_null(items) {
+            Ok(()) => Ok(()),
+            Err(error) => {
+                self.values.cut(len);
+                Err(error)
+            }
+        }
+    }
+
+    #[cycle(cut)]
+    pub(crate) fn cut(&mut self, n: usize)
+        requires whole { IsWhole self.old }
+        requires within { n ≤ builder_len self.old }
+        ensures { self.new ≡ cut_builder self.old n }
+    {
+        let items = self.values.len();
+        let end = self.rows.truncate(n, items);
+        self.values.cut(end);
+    }
+
+    #[cycle(room)]
+    pub(crate) fn room(&mut self, additional: usize) -> Result<(), Error>
+        ensures same { self.new ≡ self.old }
+        ensures room { OnOk result (reserve_passes additional self.old ≡ false) }
+        ensures cause { IfErr result (λ e. (e ≡ Memory alloc_error) ⊎ ((e ≡ Overflow) × (reserve_passes additional self.old ≡ true))) }
+    {
+        let Some(items) = self.rows.room_for(additional) else {
+            return Err(Error::Overflow);
+        };
+        if let Err(refusal) = self.values.room(items) {
+            return Err(refusal);
+        }
+        self.rows.reserve(additional)
+    }
+
+    #[cycle(shrink)]
+    pub(crate) fn shrink(&mut self) -> Result<(), Error>
+        ensures same { self.new ≡ self.old }
+        ensures memory { IsOkUnless result (Memory alloc_error) }
+    {
+        self.rows.shrink_to_fit();
+        self.values.shrink()
+    }
+
+    #[cycle(frozen)]
+    pub(crate) fn frozen(&mut self) -> Result<AnyArray, Error>
+        requires { IsWhole self.old }
+        ensures slots { IfOk result (λ a. slots_of (layout_of a) ≡ own_slots self.old) }
+        ensures same_type { IfOk result (λ a. layout_type (layout_of a) ≡ builder_type self.old) }
+        ensures emptied { self.new ≡ emptied self.old }
+        ensures memory { IsOkUnless result (Memory alloc_error) }
+    {
+        match self.values.frozen() {
+            Ok(values) => self.rows.freeze_over(self.alloc, values),
+            Err(error) => {
+                self.rows.clear();
+                Err(error)
+            }
+        }
+    }
+
+    /// Tells a row of the items that wait.
+    pub(crate) fn tell(&mut self, valid: bool) -> Result<(), Error>
+        requires { HasWholeChildren self.old }
+        ensures ok { OnOk result (Told valid self.old self.new) }
+        ensures passed { OnOk result (Pass (row_checks self.old)) }
+        ensures err { OnErr result (self.new ≡ self.old) }
+        ensures cause { IfErr result (λ e. (e ≡ Memory alloc_error) ⊎ FailFirst e (row_checks self.old)) }
+    {
+        let count = self.values.len();
+        self.rows.tell(valid, self.values.data_type(), count)
+    }
+
+    pub(crate) fn known(&self)
+        ensures { AreWholeBelow self.now → HasWholeChildren self.now }
+    {
+        self.rows.known();
+    }
+
+    pub(crate) fn child(&mut self) -> &mut AnyMutableArray {
+        &mut self.values
+    }
+}
