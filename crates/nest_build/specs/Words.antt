@@ -7,6 +7,7 @@ pub use Rattle.nest_build.specs.FlatTree.{flat_tree}
 pub use Rattle.nest_build.specs.Rows.{Spells, bits_told, rows_told, told_rows_checks}
 pub use Rattle.nest_build.specs.Slices.{row_item, row_len}
 pub use Rattle.nest_build.specs.Told.{IsOfOtherKind, TellsNulls, own_slot, reserve_passes}
+pub use Rattle.nest_flat.specs.AnyMutablePrimitive.{built_layout}
 pub use Rattle.nest_flat.specs.FlatParts.{optional}
 pub use Rattle.nest_flat.specs.Growth.{CanDrain, is_masked}
 pub use Rattle.nest_flat.specs.Plain.{plain_value, plain_values}

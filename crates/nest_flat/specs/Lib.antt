@@ -1,4 +1,5 @@
 pub mod Alike
+pub mod AnyMutablePrimitive
 pub mod AnyNative
 pub mod AnyPrimitive
 pub mod BareSlots

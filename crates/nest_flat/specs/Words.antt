@@ -1,4 +1,5 @@
 -- The words of this crate's contracts, by one name.
+pub use Rattle.nest_flat.specs.AnyMutablePrimitive.{built_layout}
 pub use Rattle.nest_flat.specs.AnyNative.{native_kind, native_numbers}
 pub use Rattle.nest_flat.specs.AnyPrimitive.{primitive_kind, primitive_layout}
 pub use Rattle.nest_flat.specs.BytesGrowth.{AreSpans, NullsAreBare, bare_spans, binary_tree, first_spans, item_bytes, item_refusal, joined_spans, no_spans, pushed_item, pushed_span, spans, spans_of, text_tree, with_spans}

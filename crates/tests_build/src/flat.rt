@@ -3,9 +3,10 @@
 
 use nest_array::AnyArray;
 use nest_build::array::MutableArray;
-use nest_build::push::{TryExtend, TryPush};
+use nest_build::push::{TryExtend, TryExtendFromSelf, TryPush};
 use nest_flat::any_native::AnyNative;
 use nest_flat::any_primitive::AnyPrimitive;
+use nest_flat::any_primitive::mutable::AnyMutablePrimitive;
 use nest_flat::boolean::mutable::MutableBooleanArray;
 use nest_flat::plain::Plain;
 use nest_flat::primitive::mutable::MutablePrimitiveArray;
@@ -82,6 +83,51 @@ fn a_builder_takes_its_kind(rt: HostRuntime) {
     assert!(rt; held && frozen);
     assert!(rt; cleared);
     assert!(rt; again == Ok(()));
+}
+
+/// Whether the rows of another builder of the kind are taken, and those of a builder of another kind are not.
+fn join_kinds(
+    alloc: Global,
+    builder: &mut AnyMutablePrimitive,
+    more: &AnyMutablePrimitive,
+) -> Result<bool, Error> {
+    let other_kind = Err(Error::InvalidArgumentError(Argument::ItemType));
+    let small = AnyMutablePrimitive::Int32(MutablePrimitiveArray::new(alloc));
+    let refused = builder.try_extend_from_self(&small) == other_kind;
+    drop(small);
+    builder.try_extend_from_self(more)?;
+    Ok(refused && builder.len() == 4)
+}
+
+/// Whether a frozen array has four numbers, a null second and fourth; it is let go.
+fn freezes_to_four(array: Result<AnyPrimitive, Error>) -> bool {
+    match array {
+        Ok(array) => {
+            let same = array.len() == 4 && array.is_null(1) && array.null_count() == 2;
+            drop(array);
+            same
+        }
+        Err(_) => false,
+    }
+}
+
+#[test]
+fn a_builder_of_any_native_kind(rt: HostRuntime) {
+    let mut builder = AnyMutablePrimitive::Int64(MutablePrimitiveArray::new(rt.alloc()));
+    let mut more = AnyMutablePrimitive::Int64(MutablePrimitiveArray::new(rt.alloc()));
+    let taken = take_values(&mut builder);
+    let held = holds_seven(&builder);
+    let too = take_values(&mut more);
+    let joined = join_kinds(rt.alloc(), &mut builder, &more);
+    let boxed = freezes_to_seven(more.as_box());
+    drop(more);
+    let frozen = freezes_to_four(builder.freeze());
+    let cleared = is_cleared(&builder);
+    drop(builder);
+    assert!(rt; taken == Ok(true) && too == Ok(true));
+    assert!(rt; held && boxed);
+    assert!(rt; joined == Ok(true));
+    assert!(rt; frozen && cleared);
 }
 
 /// Cuts to all rows and to none.

@@ -8,6 +8,7 @@
 //! | Items wait until their row is told, and a builder with waiting items is not frozen | `lists::items_wait_for_their_row` |
 //! | A builder has no validity before its first null, its child neither | `rows::no_validity_before_the_first_null` |
 //! | A builder of numbers takes 7 and a null, refuses a text and a number of another kind, and is frozen and filled again; a boxed one of bytes likewise | `flat::a_builder_takes_its_kind`, `flat::a_builder_is_cut_and_shared`, `bytes::a_boxed_builder_of_bytes` |
+//! | A builder of any native kind takes what its kind takes, and another one's rows of that kind alone | `flat::a_builder_of_any_native_kind` |
 //! | Items are pushed at their own type, one by one and by an iterator, also an empty one | `flat::items_of_its_type_are_pushed` |
 //! | Texts and bytes are pushed at their type and as plain values, found, cut, joined, frozen and boxed; another kind is refused | `texts`, `bytes` |
 //! | A list of texts is frozen to its offsets and its bytes | `text_lists::lists_of_texts_are_frozen` |

@@ -1,5 +1,6 @@
 //! Arrays of native values of any kind.
 mod equality;
+pub mod mutable;
 mod native;
 mod nulls;
 
