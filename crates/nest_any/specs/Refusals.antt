@@ -67,14 +67,6 @@ struct_checks t cs va =
     (check (OutOfSpec ChildLength) (HaveRows cs (first_rows cs))
     (check (OutOfSpec ValidityLength) (ValidityFits va (first_rows cs)) done)))))
 
--- its children are whole
-abbrev pub AreWholeBelow : BuilderTree → Type 0
-AreWholeBelow (flat t xs) = Unit {0}
-AreWholeBelow (list large t rows c) = IsWhole c
-AreWholeBelow (fixed_size_list t bits c) = IsWhole c
-AreWholeBelow (dictionary k t keys c) = IsWhole c
-AreWholeBelow (struct t bits cs) = AreEachWhole cs
-
 -- each child is whole and has at least n rows
 abbrev pub AreEachLong : BuilderTrees → ℕ → Type 0
 AreEachLong no_builders n = Unit {0}

@@ -1,8 +1,8 @@
 //! A builder of any kind.
-ghost use Rattle.std.specs.Prelude.{◌≡◌, ◌≢◌, ◌≤◌, ◌<◌, ◌↔◌, ◌⊎◌, ◌×◌, IsTrue, OnOk, OnErr, IfOk, IfErr, IsOkUnless, None, Some, true, false, alloc_error};
+ghost use Rattle.std.specs.Prelude.{◌≡◌, ◌≢◌, ◌≤◌, ◌<◌, ◌↔◌, ◌⊎◌, IsTrue, OnOk, OnErr, IfOk, IfErr, IsOkUnless, None, Some, true, false, option_map, alloc_error};
 ghost use Rattle.nest_model.specs.BuilderItem.{null as null_item};
 ghost use Rattle.nest_any.specs.Trees.{tree_of};
-ghost use Rattle.nest_any.specs.Words.{Accepted, AreWholeBelow, FailFirst, HasWholeChildren, IsWhole, Memory, Overflow, Pass, Told, builder_len, builder_type, cut_builder, emptied, item_refusal, layout_of, layout_type, nested_checks, nested_over, own_slots, reserve_passes, row_checks, slots_of, type_of};
+ghost use Rattle.nest_any.specs.Words.{Accepted, FailFirst, HasWholeChildren, IsWhole, Memory, Overflow, Pass, Told, builder_len, builder_type, cut_builder, emptied, item_refusal, layout_of, layout_type, nested_checks, nested_over, own_slots, reserve_passes, row_checks, slots_of, type_of};
 
 use crate::lists::ListBuilder;
 use crate::rows::TypedRows;
@@ -11,10 +11,10 @@ use nest_array::AnyArray;
 use nest_build::array::{MutableArray, shared};
 use nest_build::fixed_size_binary::MutableFixedSizeBinaryArray;
 use nest_build::null::MutableNullArray;
+use nest_flat::any_primitive::mutable::AnyMutablePrimitive;
 use nest_flat::binary::mutable::MutableBinaryArray;
 use nest_flat::boolean::mutable::MutableBooleanArray;
 use nest_flat::plain::Plain;
-use nest_flat::primitive::mutable::MutablePrimitiveArray;
 use nest_flat::utf8::mutable::MutableUtf8Array;
 use nest_memory::bitmap::mutable::MutableBitmap;
 use nest_memory::datatypes::DataType;
@@ -29,7 +29,7 @@ use std::rc::Rc;
 pub enum AnyMutableArray {
     Null(MutableNullArray),
     Boolean(MutableBooleanArray),
-    Primitive(MutablePrimitiveArray<i64>),
+    Primitive(AnyMutablePrimitive),
     Binary(MutableBinaryArray<i32>),
     LargeBinary(MutableBinaryArray<i64>),
     Utf8(MutableUtf8Array<i32>),
@@ -58,6 +58,10 @@ macro_rules! each_kind {
 }
 
 impl AnyMutableArray {
+    ghost use Rattle.std.specs.Borrow.{LendsIf, sem};
+    ghost use Rattle.nest_any.specs.contracts.any.AnyMutableArray.{the_row};
+    ghost use Rattle.nest_any.specs.Lent.{child_at, with_child};
+
     /// No row of lists of that type, over an empty child.
     ///
     /// # Errors
@@ -89,16 +93,23 @@ impl AnyMutableArray {
         }
     }
 
-    /// What holds of every builder: offsets of lists never fall.
-    pub fn known(&self)
-        ensures { AreWholeBelow (tree_of self.now) → HasWholeChildren (tree_of self.now) }
+    /// Whether the children are whole, as those are that take only whole items; then a row of what waits there may be told.
+    pub fn has_whole_children(&self) -> bool
+        ensures { IsTrue result ↔ HasWholeChildren (tree_of self.now) }
     {
-        each_kind!(self, _flat => {}, nested => nested.known())
+        match self {
+            AnyMutableArray::List(lists) => lists.has_whole_children(),
+            AnyMutableArray::Struct(records) => records.has_whole_children(),
+            _ => true,
+        }
     }
 
     /// The child of a list for 0, child i of a record; `None` of any other, into which the items of a row may be pushed
     /// before the row is told.
-    pub fn child(&mut self, i: usize) -> Option<&mut AnyMutableArray> {
+    pub fn child(&mut self, i: usize) -> Option<&mut AnyMutableArray>
+        ensures* writes_back { sem 𝓛 (LendsIf the_row the_row self.entry result (with_child self.entry.now i) self.old) }
+        ensures value { option_map (λ c. tree_of c.now) result ≡ child_at i (tree_of self.old) }
+    {
         match self {
             AnyMutableArray::List(lists) => {
                 if i == 0 {

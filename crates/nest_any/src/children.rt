@@ -1,9 +1,9 @@
 //! The children of builders with children: each of them, in order.
-ghost use Rattle.std.specs.Prelude.{◌≡◌, ◌≤◌, ◌<◌, ◌+◌, ◌↔◌, ◌⊎◌, ◌×◌, IsTrue, OnOk, OnErr, IfOk, IfErr, IsOkUnless, None, Some, true, false, replicate, alloc_error};
+ghost use Rattle.std.specs.Prelude.{◌≡◌, ◌≤◌, ◌<◌, ◌+◌, ◌++◌, ◌∷◌, [], ◌↔◌, ◌⊎◌, IsTrue, OnOk, OnErr, IfOk, IfErr, IsOk, IsOkUnless, true, false, replicate, alloc_error};
 ghost use Rattle.nest_model.specs.BuilderItem.{null as null_item};
 ghost use Rattle.nest_memory.specs.TypeOf.{field_list_of};
 ghost use Rattle.nest_any.specs.Trees.{tree_of, trees_of};
-ghost use Rattle.nest_any.specs.Words.{AcceptedAll, AreCut, AreEachWhole, AreFrozen, AreWhole, EachAccepted, HaveRows, IsWhole, Memory, Overflow, builder_types, cut_builders, emptied_each, field_types, first_rows, layouts_of, nulls_pass, nulls_pass_each, reserve_passes_each};
+ghost use Rattle.nest_any.specs.Words.{AcceptedAll, AreEachLong, AreEachWhole, AreFrozen, AreWhole, EachAccepted, HaveRows, IsWhole, Memory, Overflow, builder_types, cut_builders, emptied_each, field_types, first_rows, layouts_of, nulls_pass, nulls_pass_each, reserve_passes_each};
 
 use crate::any::AnyMutableArray;
 use nest_array::AnyArray;
@@ -56,6 +56,18 @@ pub(crate) fn have_row_more(children: &[AnyMutableArray], n: usize) -> bool
 {
     for i in 0..children.len() {
         if children[i].len().checked_sub(1) != Some(n) {
+            return false;
+        }
+    }
+    true
+}
+
+/// Whether each child is whole.
+pub(crate) fn are_whole(children: &[AnyMutableArray]) -> bool
+    ensures { IsTrue result ↔ AreEachWhole (trees_of children.now) }
+{
+    for i in 0..children.len() {
+        if !children[i].whole() {
             return false;
         }
     }

@@ -1,8 +1,9 @@
 //! The builder of lists of any kind over a builder of any kind.
-ghost use Rattle.std.specs.Prelude.{◌≡◌, ◌≤◌, ◌<◌, ◌↔◌, ◌⊎◌, ◌×◌, IsTrue, OnOk, OnErr, IfOk, IfErr, IsOkUnless, None, Some, true, false, replicate, alloc_error};
+ghost use Rattle.std.specs.Prelude.{◌≡◌, ◌≢◌, ◌≤◌, ◌<◌, ◌↔◌, ◌⊎◌, IsTrue, OnOk, OnErr, IfOk, IfErr, IsOkUnless, None, Some, true, false, option_map, alloc_error};
 ghost use Rattle.nest_model.specs.BuilderItem.{null as null_item};
+ghost use Rattle.nest_model.specs.Slot as slots;
 ghost use Rattle.nest_any.specs.Trees.{tree_of};
-ghost use Rattle.nest_any.specs.Words.{Accepted, AcceptedAll, FailFirst, HasWholeChildren, IsWhole, Memory, Overflow, Pass, Told, builder_len, builder_type, cut_builder, emptied, item_refusal, layout_of, layout_type, list_child, nulls_pass, own_slots, reserve_passes, row_checks, slots_of};
+ghost use Rattle.nest_any.specs.Words.{Accepted, FailFirst, HasWholeChildren, IsWhole, Memory, Overflow, Pass, TellsNulls, Told, builder_len, builder_type, cut_builder, emptied, item_refusal, layout_of, layout_type, list_child, lists_over, own_slot, own_slots, reserve_passes, row_checks, slots_of, type_of};
 
 use crate::any::AnyMutableArray;
 use crate::children::add_nulls;
@@ -45,6 +46,11 @@ impl Model for ListBuilder {
 }
 
 impl ListBuilder {
+    ghost use Rattle.std.specs.Borrow.{Lends, sem};
+    ghost use Rattle.nest_any.specs.contracts.lists.ListBuilder.{the_row};
+    ghost use Rattle.nest_any.specs.contracts.any.AnyMutableArray.{the_row as any_row};
+    ghost use Rattle.nest_any.specs.Lent.{with_items};
+
     /// Rows over a child.
     pub(crate) fn over(alloc: Global, rows: TypedRows, values: Box<AnyMutableArray>) -> ListBuilder
         ensures { result ≡ lists_over rows (tree_of values.value) }
@@ -176,13 +182,17 @@ impl ListBuilder {
         self.rows.tell(valid, self.values.data_type(), count)
     }
 
-    pub(crate) fn known(&self)
-        ensures { AreWholeBelow self.now → HasWholeChildren self.now }
+    pub(crate) fn has_whole_children(&self) -> bool
+        ensures { IsTrue result ↔ HasWholeChildren self.now }
     {
         self.rows.known();
+        self.values.whole()
     }
 
-    pub(crate) fn child(&mut self) -> &mut AnyMutableArray {
+    pub(crate) fn child(&mut self) -> &mut AnyMutableArray
+        ensures* writes_back { sem 𝓛 (Lends the_row any_row self.entry result (λ c. with_items self.entry.now (tree_of c))) }
+        ensures value { tree_of result.now ≡ list_child self.old }
+    {
         &mut self.values
     }
 }

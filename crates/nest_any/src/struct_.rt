@@ -1,14 +1,14 @@
 //! The builder of arrays of records.
-ghost use Rattle.std.specs.Prelude.{◌≡◌, ◌≢◌, ◌≤◌, ◌<◌, ◌↔◌, ◌⊎◌, ◌×◌, IsTrue, OnOk, OnErr, IfOk, IfErr, IsErrOf, IsOkUnless, MatchResult, MatchOption, None, Some, true, false, option_map, alloc_error};
+ghost use Rattle.std.specs.Prelude.{◌≡◌, ◌≢◌, ◌≤◌, ◌<◌, ◌+◌, ◌↔◌, ◌⊎◌, Bool, List, ℕ, IsTrue, OnOk, OnErr, IfOk, IfErr, IsErrOf, IsOkUnless, MatchResult, MatchOption, None, Some, true, false, option_map, alloc_error};
 ghost use Rattle.nest_model.specs.BuilderItem.{null as null_item};
 ghost use Rattle.nest_model.specs.BuilderTree as builders;
 ghost use Rattle.nest_model.specs.Slot as slots;
 ghost use Rattle.nest_any.specs.Trees.{tree_of, trees_of};
-ghost use Rattle.nest_any.specs.Words.{Accepted, AreEachWhole, AreWholeBelow, FailFirst, HasWholeChildren, InvalidArgumentError, IsFrozenAs, IsWhole, Memory, Overflow, Pass, SpellsBits, TellsNulls, Told, Unfinished, bits_told, builder_len, builder_type, cut_builder, emptied, first_rows, item_refusal, layout_of, layout_type, layouts_of, own_slot, own_slots, reserve_passes, row_checks, slots_of, struct_bits, struct_checks, struct_children, type_of};
+ghost use Rattle.nest_any.specs.Words.{Accepted, AreEachWhole, FailFirst, HasWholeChildren, InvalidArgumentError, IsFrozenAs, IsWhole, Memory, Overflow, Pass, SpellsBits, TellsNulls, Told, Unfinished, ValidityFits, bits_told, builder_len, builder_type, count_builders, cut_builder, emptied, first_rows, item_refusal, largest_length, layout_of, layout_type, layouts_of, own_slot, own_slots, reserve_passes, row_checks, slots_of, struct_bits, struct_checks, struct_children, type_of};
 
 use crate::any::AnyMutableArray;
 use crate::children::{
-    add_null_each, cut_each, each_is_whole, first_rows, frozen_each, have_row_more, have_rows,
+    add_null_each, are_whole, cut_each, each_is_whole, first_rows, frozen_each, have_row_more, have_rows,
     have_types, room_each, shrink_each,
 };
 use crate::struct_type::StructType;
@@ -59,6 +59,11 @@ impl Model for MutableStructArray {
 }
 
 impl MutableStructArray {
+    ghost use Rattle.std.specs.Borrow.{Array, Lends, sem};
+    ghost use Rattle.nest_any.specs.contracts.struct_.MutableStructArray.{the_row};
+    ghost use Rattle.nest_any.specs.contracts.any.AnyMutableArray.{the_row as any_row};
+    ghost use Rattle.nest_any.specs.Lent.{builder_at, with_children, with_field};
+
     /// The records of such parts: as many rows as the children have, valid where the validity says so.
     ///
     /// # Errors
@@ -135,10 +140,16 @@ impl MutableStructArray {
 
     /// What holds of every such builder.
     pub fn known(&self)
-        ensures kind { self.now ≡ builders.struct (builder_type self.now) (struct_bits self.now) (struct_children self.now) }
-        ensures below { AreWholeBelow self.now → HasWholeChildren self.now }
+        ensures { self.now ≡ builders.struct (builder_type self.now) (struct_bits self.now) (struct_children self.now) }
     {
         let _ = &self.data_type;
+    }
+
+    /// Whether the children are whole; then a row of what waits there may be told.
+    pub fn has_whole_children(&self) -> bool
+        ensures { IsTrue result ↔ HasWholeChildren self.now }
+    {
+        are_whole(&self.values)
     }
 
     pub(crate) fn data_type(&self) -> &DataType
@@ -174,13 +185,18 @@ impl MutableStructArray {
     }
 
     /// The children, into which a row may be pushed before it is told.
-    pub fn mut_values(&mut self) -> &mut [AnyMutableArray] {
+    pub fn mut_values(&mut self) -> &mut [AnyMutableArray]
+        ensures* writes_back { sem 𝓛 (Lends the_row (Array any_row 0) self.entry result (λ cs. with_children self.entry.now (trees_of cs))) }
+        ensures value { trees_of result.now ≡ struct_children self.old }
+    {
         &mut self.values
     }
 
     /// Child i, into which a value may be pushed before its row is told.
     pub fn value(&mut self, i: usize) -> &mut AnyMutableArray
         requires { i < count_builders (struct_children self.old) }
+        ensures* writes_back { sem 𝓛 (Lends the_row any_row self.entry result (λ c. with_field self.entry.now i (tree_of c))) }
+        ensures value { Some (tree_of result.now) ≡ builder_at (struct_children self.old) i }
     {
         &mut self.values[i]
     }
