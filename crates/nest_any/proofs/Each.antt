@@ -1,14 +1,13 @@
 -- The builders in a list, as part of a tree: what holds of all of them and of each.
-use Rattle.std.specs.Prelude.{List as Seq, [], ◌∷◌, Bool, true, false, ◌||◌, ◌⊎◌, Option, Some, None, replicate}
+use Rattle.std.specs.Prelude.{List as Seq, [], ◌∷◌, Bool, true, false, ◌||◌, ◌⊎◌, replicate}
 use Rattle.std.proofs.Common.{◌≡◌, ℕ, zero, suc, ◌+◌, ◌<◌, ◌≤◌, ltb, length, get_or, set, take, refl, sym, ap, ◌∙◌, arith, inl, inr}
 use Rattle.std.proofs.lemmas.List.{get_or-set_same, get_or-set_other, get_or_default, length-set}
 use Rattle.std.proofs.lemmas.Bool.{ltb-true, ltb-false}
-use Rattle.nest_model.specs.BuilderItem as items
 use Rattle.nest_model.specs.BuilderTree.{BuilderTree, BuilderTrees, no_builders, more_builders, builder_len}
 use Rattle.nest_model.specs.BuilderWhole.{IsWhole, AreWhole, cut_builder, cut_builders, emptied, emptied_each}
 use Rattle.nest_model.specs.BuilderCutLaws.{cut-whole}
-use Rattle.nest_model.specs.BuilderAppend.{Accepted, EachAccepted}
-use Rattle.nest_model.specs.BuilderAppendLaws.{len-accepted, each-undone, each-whole}
+use Rattle.nest_model.specs.BuilderAppend.{nulls_appended, nulls_appended_each}
+use Rattle.nest_model.specs.BuilderAcceptLaws.{accepted-nulls, len-nulls, whole-nulls, whole-nulls-each}
 use Rattle.nest_model.specs.BuilderRefusals.{nulls_pass, nulls_pass_each}
 use Rattle.nest_model.specs.BuilderRowChecks.{AreEachWhole}
 use Rattle.nest_any.specs.BuilderCode.{weight, weight_all}
@@ -57,11 +56,14 @@ emptied-all f (x ∷ xs) (y ∷ ys) e h =
     let b = emptied-all f xs ys (omega arith) (λ k d l. h (suc k) d (omega arith)) in
     cc
 
-pub took-all : {A : Type 0} (f : A → BuilderTree) (xs ys : Seq A) → length ys ≡ length xs → ((k : ℕ) (d : A) → k < length xs → Accepted items.null (f (get_or xs k d)) (f (get_or ys k d))) → EachAccepted items.null (each f xs) (each f ys)
-took-all f [] [] e h = tt
-took-all f [] (y ∷ ys) e h = absurd (omega arith)
-took-all f (x ∷ xs) [] e h = absurd (omega arith)
-took-all f (x ∷ xs) (y ∷ ys) e h = (h 0 x (omega arith), took-all f xs ys (omega arith) (λ k d l. h (suc k) d (omega arith)))
+pub nulls-all : {A : Type 0} (f : A → BuilderTree) (xs ys : Seq A) (n : ℕ) → length xs ≡ length ys → ((k : ℕ) (d : A) → k < length ys → f (get_or xs k d) ≡ nulls_appended n (f (get_or ys k d))) → each f xs ≡ nulls_appended_each n (each f ys)
+nulls-all f [] [] n e h = refl
+nulls-all f [] (y ∷ ys) n e h = absurd (omega arith)
+nulls-all f (x ∷ xs) [] n e h = absurd (omega arith)
+nulls-all f (x ∷ xs) (y ∷ ys) n e h =
+    let a : f x ≡ nulls_appended n (f y) = h 0 x (omega arith) in
+    let b = nulls-all f xs ys n (omega arith) (λ k d l. h (suc k) d (omega arith)) in
+    cc
 
 pub whole-at : {A : Type 0} (f : A → BuilderTree) (xs : Seq A) (n k : ℕ) (d : A) → AreWhole (each f xs) n → k < length xs → IsWhole (f (get_or xs k d)) × (builder_len (f (get_or xs k d)) ≡ n)
 whole-at f [] n k d h l = absurd (omega arith)
@@ -86,18 +88,26 @@ pub long-whole : (cs : BuilderTrees) (m n : ℕ) → AreWhole cs m → n ≤ m �
 long-whole no_builders m n w l = tt
 long-whole (more_builders c cs) m n w l = (w.0, omega (arith, w.1), long-whole cs m n w.2 l)
 
+-- nulls that were appended go back by a cut
+pub nulls-undone : (n : ℕ) (t : BuilderTree) → IsWhole t → cut_builder (nulls_appended n t) (builder_len t) ≡ t
+nulls-undone n t w = (accepted-nulls t n w).undo
+
+pub each-undone : (cs : BuilderTrees) (n : ℕ) → AreWhole cs n → cut_builders (nulls_appended_each 1 cs) n ≡ cs
+each-undone no_builders n w = refl
+each-undone (more_builders c cs) n w = rw (each-undone cs n w.2, ← w.1, nulls-undone 1 c w.0) refl
+
 -- children that took a null can be cut to what they were
-pub long-took : (cs ds : BuilderTrees) (n : ℕ) → EachAccepted items.null cs ds → AreWhole cs n → AreEachLong ds n
-long-took cs ds n h w = long-whole ds (n + 1) n (each-whole items.null cs ds n (n + 1) refl h w) (omega arith)
+pub long-took : (cs : BuilderTrees) (n : ℕ) → AreWhole cs n → AreEachLong (nulls_appended_each 1 cs) n
+long-took cs n w = long-whole (nulls_appended_each 1 cs) (n + 1) n (whole-nulls-each 1 cs n w) (omega arith)
 
 -- a child that is as it was or took a null goes back by a cut
-settled : (a b : BuilderTree) (n : ℕ) → IsWhole a → builder_len a ≡ n → (b ≡ a) ⊎ Accepted items.null a b → (IsWhole b × (n ≤ builder_len b)) × (cut_builder b n ≡ a)
+settled : (a b : BuilderTree) (n : ℕ) → IsWhole a → builder_len a ≡ n → (b ≡ a) ⊎ (b ≡ nulls_appended 1 a) → (IsWhole b × (n ≤ builder_len b)) × (cut_builder b n ≡ a)
 settled a b n w e (inl q) = rw q ((w, omega (arith, e)), rw (← e) (cut-whole a w))
-settled a b n w e (inr h) = ((h.whole, omega (arith, e, len-accepted items.null a b h)), rw (← e) h.undo)
+settled a b n w e (inr q) = rw q ((whole-nulls 1 a w, omega (arith, e, len-nulls 1 a)), rw (← e) (nulls-undone 1 a w))
 
 refused-at : {A : Type 0} (f : A → BuilderTree) (old now : Seq A) (i k : ℕ) (x y d : A) (b c : Bool) → ltb k i ≡ b → ltb i k ≡ c → length now ≡ length old → i < length old → ((j : ℕ) (e : A) → i ≤ j → get_or now j e ≡ get_or old j e)
-    → ((j : ℕ) (e : A) → j < i → Accepted items.null (f (get_or old j e)) (f (get_or now j e))) → x ≡ get_or now i x → f y ≡ f x
-    → (f (get_or (set now i y) k d) ≡ f (get_or old k d)) ⊎ Accepted items.null (f (get_or old k d)) (f (get_or (set now i y) k d))
+    → ((j : ℕ) (e : A) → j < i → f (get_or now j e) ≡ nulls_appended 1 (f (get_or old j e))) → x ≡ get_or now i x → f y ≡ f x
+    → (f (get_or (set now i y) k d) ≡ f (get_or old k d)) ⊎ (f (get_or (set now i y) k d) ≡ nulls_appended 1 (f (get_or old k d)))
 refused-at f old now i k x y d true c p q e l g h s m =
     let lt : k < i = ltb-true k i p in
     rw (get_or-set_other now i k y d (λ r. omega arith)) (inr (h k d lt))
@@ -110,7 +120,7 @@ refused-at f old now i k x y d false false p q e l g h s m =
 
 -- one child refused: the former ones took a null, the later ones are as they were
 pub refused : {A : Type 0} (f : A → BuilderTree) (old now : Seq A) (i n : ℕ) (x y : A) → length now ≡ length old → i < length old → AreWhole (each f old) n → ((j : ℕ) (e : A) → i ≤ j → get_or now j e ≡ get_or old j e)
-    → ((j : ℕ) (e : A) → j < i → Accepted items.null (f (get_or old j e)) (f (get_or now j e))) → x ≡ get_or now i x → f y ≡ f x
+    → ((j : ℕ) (e : A) → j < i → f (get_or now j e) ≡ nulls_appended 1 (f (get_or old j e))) → x ≡ get_or now i x → f y ≡ f x
     → AreEachLong (each f (set now i y)) n × (cut_builders (each f (set now i y)) n ≡ each f old)
 refused {A = A} f old now i n x y e l w g h s m =
     let size_now : length (set now i y) ≡ length old = length-set now i y ∙ e in

@@ -1,9 +1,9 @@
 //! A builder of any kind.
 ghost use Rattle.std.specs.Prelude.{◌≡◌, ◌≢◌, ◌≤◌, ◌<◌, ◌↔◌, ◌⊎◌, IsTrue, OnOk, OnErr, IfOk, IfErr, IsOkUnless, None, Some, true, false, option_map, alloc_error};
-ghost use Rattle.nest_model.specs.BuilderItem.{null as null_item};
 ghost use Rattle.nest_any.specs.Trees.{tree_of};
-ghost use Rattle.nest_any.specs.Words.{Accepted, FailFirst, HasWholeChildren, IsWhole, Memory, Overflow, Pass, Told, builder_len, builder_type, cut_builder, emptied, item_refusal, layout_of, layout_type, nested_checks, nested_over, own_slots, reserve_passes, row_checks, slots_of, type_of};
+ghost use Rattle.nest_any.specs.Words.{FailFirst, HasWholeChildren, IsWhole, Memory, Overflow, Pass, Told, builder_len, builder_type, cut_builder, emptied, layout_of, layout_type, nested_checks, nested_over, nulls_appended, nulls_pass, own_slots, reserve_passes, row_checks, slots_of, type_of};
 
+use crate::children::add_null_to;
 use crate::lists::ListBuilder;
 use crate::rows::TypedRows;
 use crate::struct_::MutableStructArray;
@@ -157,12 +157,12 @@ impl AnyMutableArray {
     #[cycle(null)]
     pub(crate) fn add_null(&mut self) -> Result<(), Error>
         requires { IsWhole (tree_of self.old) }
-        ensures accepted { OnOk result (Accepted null_item (tree_of self.old) (tree_of self.new)) }
-        ensures unrefused { OnOk result (item_refusal null_item (tree_of self.old) ≡ None) }
+        ensures ok { OnOk result (tree_of self.new ≡ nulls_appended 1 (tree_of self.old)) }
+        ensures room { OnOk result (nulls_pass 1 (tree_of self.old) ≡ false) }
         ensures err { OnErr result (tree_of self.new ≡ tree_of self.old) }
-        ensures cause { IfErr result (λ e. (e ≡ Memory alloc_error) ⊎ (item_refusal null_item (tree_of self.old) ≡ Some e)) }
+        ensures cause { IfErr result (λ e. (e ≡ Memory alloc_error) ⊎ ((e ≡ Overflow) × (nulls_pass 1 (tree_of self.old) ≡ true))) }
     {
-        each_kind!(self, flat => MutableArray::push_null(flat), nested => nested.add_null())
+        each_kind!(self, flat => add_null_to(flat), nested => nested.add_null())
     }
 
     #[cycle(cut)]

@@ -1,9 +1,8 @@
 //! The children of builders with children: each of them, in order.
-ghost use Rattle.std.specs.Prelude.{◌≡◌, ◌≤◌, ◌<◌, ◌+◌, ◌++◌, ◌∷◌, [], ◌↔◌, ◌⊎◌, IsTrue, OnOk, OnErr, IfOk, IfErr, IsOk, IsOkUnless, true, false, replicate, alloc_error};
-ghost use Rattle.nest_model.specs.BuilderItem.{null as null_item};
+ghost use Rattle.std.specs.Prelude.{◌≡◌, ◌≤◌, ◌<◌, ◌+◌, ◌++◌, ◌∷◌, [], ◌↔◌, ◌⊎◌, IsTrue, OnOk, OnErr, IfOk, IfErr, IsOk, IsOkUnless, true, false, alloc_error};
 ghost use Rattle.nest_memory.specs.TypeOf.{field_list_of};
 ghost use Rattle.nest_any.specs.Trees.{tree_of, trees_of};
-ghost use Rattle.nest_any.specs.Words.{AcceptedAll, AreEachLong, AreEachWhole, AreFrozen, AreWhole, EachAccepted, HaveRows, IsWhole, Memory, Overflow, builder_types, cut_builders, emptied_each, field_types, first_rows, layouts_of, nulls_pass, nulls_pass_each, reserve_passes_each};
+ghost use Rattle.nest_any.specs.Words.{AreEachLong, AreEachWhole, AreFrozen, AreWhole, HaveRows, IsWhole, Memory, Overflow, builder_types, cut_builders, emptied_each, field_types, first_rows, layouts_of, nulls_appended, nulls_appended_each, nulls_pass, nulls_pass_each, reserve_passes_each};
 
 use crate::any::AnyMutableArray;
 use nest_array::AnyArray;
@@ -88,11 +87,22 @@ pub(crate) fn each_is_whole(children: &[AnyMutableArray], n: usize) -> bool
     true
 }
 
+/// Adds a null to a builder of any type: what is appended, as an equation of trees.
+pub(crate) fn add_null_to<B: MutableArray>(builder: &mut B) -> Result<(), Error>
+    requires { IsWhole (B.model builder.old) }
+    ensures ok { OnOk result (B.model builder.new ≡ nulls_appended 1 (B.model builder.old)) }
+    ensures room { OnOk result (nulls_pass 1 (B.model builder.old) ≡ false) }
+    ensures err { OnErr result (B.model builder.new ≡ B.model builder.old) }
+    ensures cause { IfErr result (λ e. (e ≡ Memory alloc_error) ⊎ ((e ≡ Overflow) × (nulls_pass 1 (B.model builder.old) ≡ true))) }
+{
+    builder.push_null()
+}
+
 /// Adds n nulls to a child, all of them or none.
 #[cycle(null)]
 pub(crate) fn add_nulls(child: &mut AnyMutableArray, n: usize) -> Result<(), Error>
     requires { IsWhole (tree_of child.old) }
-    ensures ok { OnOk result (AcceptedAll (replicate n null_item) (tree_of child.old) (tree_of child.new)) }
+    ensures ok { OnOk result (tree_of child.new ≡ nulls_appended n (tree_of child.old)) }
     ensures room { OnOk result (0 < n → nulls_pass n (tree_of child.old) ≡ false) }
     ensures err { OnErr result (tree_of child.new ≡ tree_of child.old) }
     ensures cause { IfErr result (λ e. (e ≡ Memory alloc_error) ⊎ ((e ≡ Overflow) × (nulls_pass n (tree_of child.old) ≡ true) × (0 < n))) }
@@ -114,7 +124,7 @@ pub(crate) fn add_nulls(child: &mut AnyMutableArray, n: usize) -> Result<(), Err
 #[cycle(null)]
 pub(crate) fn add_null_each(children: &mut [AnyMutableArray], n: usize) -> Result<(), Error>
     requires { AreWhole (trees_of children.old) n }
-    ensures ok { OnOk result (EachAccepted null_item (trees_of children.old) (trees_of children.new)) }
+    ensures ok { OnOk result (trees_of children.new ≡ nulls_appended_each 1 (trees_of children.old)) }
     ensures room { OnOk result (nulls_pass_each 1 (trees_of children.old) ≡ false) }
     ensures err { OnErr result (trees_of children.new ≡ trees_of children.old) }
     ensures cause { IfErr result (λ e. (e ≡ Memory alloc_error) ⊎ ((e ≡ Overflow) × (nulls_pass_each 1 (trees_of children.old) ≡ true))) }

@@ -1,9 +1,8 @@
 //! The builder of lists of any kind over a builder of any kind.
 ghost use Rattle.std.specs.Prelude.{◌≡◌, ◌≢◌, ◌≤◌, ◌<◌, ◌↔◌, ◌⊎◌, IsTrue, OnOk, OnErr, IfOk, IfErr, IsOkUnless, None, Some, true, false, option_map, alloc_error};
-ghost use Rattle.nest_model.specs.BuilderItem.{null as null_item};
 ghost use Rattle.nest_model.specs.Slot as slots;
 ghost use Rattle.nest_any.specs.Trees.{tree_of};
-ghost use Rattle.nest_any.specs.Words.{Accepted, FailFirst, HasWholeChildren, IsWhole, Memory, Overflow, Pass, TellsNulls, Told, builder_len, builder_type, cut_builder, emptied, item_refusal, layout_of, layout_type, list_child, lists_over, own_slot, own_slots, reserve_passes, row_checks, slots_of, type_of};
+ghost use Rattle.nest_any.specs.Words.{FailFirst, HasWholeChildren, IsWhole, Memory, Overflow, Pass, TellsNulls, Told, builder_len, builder_type, cut_builder, emptied, layout_of, layout_type, list_child, lists_over, nulls_appended, nulls_pass, own_slot, own_slots, reserve_passes, row_checks, slots_of, type_of};
 
 use crate::any::AnyMutableArray;
 use crate::children::add_nulls;
@@ -98,18 +97,18 @@ impl ListBuilder {
     #[cycle(null)]
     pub(crate) fn add_null(&mut self) -> Result<(), Error>
         requires { IsWhole self.old }
-        ensures accepted { OnOk result (Accepted null_item self.old self.new) }
-        ensures unrefused { OnOk result (item_refusal null_item self.old ≡ None) }
+        ensures ok { OnOk result (self.new ≡ nulls_appended 1 self.old) }
+        ensures room { OnOk result (nulls_pass 1 self.old ≡ false) }
         ensures err { OnErr result (self.new ≡ self.old) }
-        ensures cause { IfErr result (λ e. (e ≡ Memory alloc_error) ⊎ (item_refusal null_item self.old ≡ Some e)) }
+        ensures cause { IfErr result (λ e. (e ≡ Memory alloc_error) ⊎ ((e ≡ Overflow) × (nulls_pass 1 self.old ≡ true))) }
     {
         let len = self.values.len();
         let nulls = self.rows.child_nulls();
         if let Err(refusal) = add_nulls(&mut self.values, nulls) {
             return Err(refusal);
         }
-        let items = self.values.len();
-        match self.rows.push_null(items) {
+        let _items = self.values.len();
+        match self.rows.push_null() {
             Ok(()) => Ok(()),
             Err(error) => {
                 self.values.cut(len);

@@ -1,9 +1,8 @@
 //! The rows of a builder of lists of any kind, with its data type and without its items.
-ghost use Rattle.std.specs.Prelude.{◌≡◌, ◌≢◌, ◌≤◌, ◌<◌, ◌↔◌, ◌⊎◌, IsTrue, OnOk, OnErr, IfOk, IfErr, IsOkUnless, MatchOption, Some, None, true, false, replicate, option_map, alloc_error};
-ghost use Rattle.nest_model.specs.BuilderItem.{null as null_item};
+ghost use Rattle.std.specs.Prelude.{◌≡◌, ◌≢◌, ◌≤◌, ◌<◌, ◌↔◌, ◌⊎◌, IsTrue, OnOk, OnErr, IfOk, IfErr, IsOkUnless, MatchOption, Some, None, true, false, ◌+◌, ◌++◌, ◌∷◌, [], option_map, alloc_error};
 ghost use Rattle.nest_model.specs.BuilderTree as builders;
 ghost use Rattle.nest_model.specs.Slot as slots;
-ghost use Rattle.nest_any.specs.Words.{Accepted, AcceptedAll, BuilderTree, FailFirst, Fitting, HasWholeChildren, HasItems, IsWhole, Memory, Pass, TellsNulls, Told, builder_len, builder_type, child_nulls, cut_builder, emptied, item_refusal, item_type, items_needed, layout_of, layout_type, lists_over, nested_checks, nested_over, nulls_pass, own_slot, own_slots, reserve_passes, row_checks, rows_len, slots_of, type_of};
+ghost use Rattle.nest_any.specs.Words.{BuilderTree, FailFirst, Fitting, HasWholeChildren, HasItems, IsWhole, Memory, Overflow, Pass, TellsNulls, told, builder_len, builder_type, child_nulls, cut_builder, emptied, item_type, items_needed, largest_length, layout_of, layout_type, lists_over, nested_checks, nested_over, nulls_appended, own_slot, own_slots, reserve_passes, row_checks, rows_len, slots_of, type_of};
 
 use nest_array::AnyArray;
 use nest_array::array::Variant;
@@ -111,14 +110,13 @@ impl TypedRows {
         }
     }
 
-    /// Adds a null row, whose nulls the child has already: so many items are there.
-    pub(crate) fn push_null(&mut self, count: usize) -> Result<(), Error>
-        ensures accepted { OnOk result ((c d : BuilderTree) → IsWhole (lists_over self.old c) → AcceptedAll (replicate (child_nulls self.old) null_item) c d → Accepted null_item (lists_over self.old c) (lists_over self.new d)) }
-        ensures unrefused { OnOk result ((c d : BuilderTree) → IsWhole (lists_over self.old c) → AcceptedAll (replicate (child_nulls self.old) null_item) c d → (0 < child_nulls self.old → nulls_pass (child_nulls self.old) c ≡ false) → builder_len d ≡ count → item_refusal null_item (lists_over self.old c) ≡ None) }
+    /// Adds a null row, whose nulls the child has already.
+    pub(crate) fn push_null(&mut self) -> Result<(), Error>
+        ensures ok { OnOk result ((c : BuilderTree) → lists_over self.new (nulls_appended (child_nulls self.old) c) ≡ nulls_appended 1 (lists_over self.old c)) }
+        ensures room { OnOk result (rows_len self.old + 1 ≤ largest_length) }
         ensures err { OnErr result ((c : BuilderTree) → lists_over self.new c ≡ lists_over self.old c) }
-        ensures cause { IfErr result (λ e. (c d : BuilderTree) → IsWhole (lists_over self.old c) → AcceptedAll (replicate (child_nulls self.old) null_item) c d → builder_len d ≡ count → e ≡ Memory alloc_error) }
+        ensures cause { IfErr result (λ e. (e ≡ Memory alloc_error) ⊎ ((e ≡ Overflow) × (largest_length < rows_len self.old + 1))) }
     {
-        let _count = count;
         match self {
             TypedRows::List(_, rows) => {
                 let end = rows.last();
@@ -128,16 +126,13 @@ impl TypedRows {
                 let end = rows.last();
                 rows.push(false, end)
             }
-            TypedRows::FixedSizeList(data_type, rows) => {
-                let _size = data_type.size();
-                rows.push(false)
-            }
+            TypedRows::FixedSizeList(_, rows) => rows.push(false),
         }
     }
 
     /// Tells a row of the items that wait in a child of that type, which has so many.
     pub(crate) fn tell(&mut self, valid: bool, items: &DataType, count: usize) -> Result<(), Error>
-        ensures ok { OnOk result ((c : BuilderTree) → type_of items.now ≡ builder_type c → count ≡ builder_len c → HasWholeChildren (lists_over self.old c) → Told valid (lists_over self.old c) (lists_over self.new c)) }
+        ensures ok { OnOk result ((c : BuilderTree) → count ≡ builder_len c → lists_over self.new c ≡ told valid (lists_over self.old c)) }
         ensures passed { OnOk result ((c : BuilderTree) → type_of items.now ≡ builder_type c → count ≡ builder_len c → Pass (row_checks (lists_over self.old c))) }
         ensures err { OnErr result ((c : BuilderTree) → lists_over self.new c ≡ lists_over self.old c) }
         ensures cause { IfErr result (λ e. (c : BuilderTree) → type_of items.now ≡ builder_type c → count ≡ builder_len c → (e ≡ Memory alloc_error) ⊎ FailFirst e (row_checks (lists_over self.old c))) }
@@ -286,7 +281,7 @@ fn tell_fixed(
     typed: bool,
     count: usize,
 ) -> Result<(), Error>
-    ensures ok { OnOk result ((c : BuilderTree) → (IsTrue typed ↔ (item_type data_type.now ≡ Some (builder_type c))) → count ≡ builder_len c → IsWhole c → Told valid (builders.fixed_size_list data_type.now rows.old c) (builders.fixed_size_list data_type.now rows.new c)) }
+    ensures ok { OnOk result (rows.new ≡ rows.old ++ valid ∷ []) }
     ensures passed { OnOk result ((c : BuilderTree) → (IsTrue typed ↔ (item_type data_type.now ≡ Some (builder_type c))) → count ≡ builder_len c → Pass (row_checks (builders.fixed_size_list data_type.now rows.old c))) }
     ensures err { OnErr result (rows.new ≡ rows.old) }
     ensures cause { IfErr result (λ e. (c : BuilderTree) → (IsTrue typed ↔ (item_type data_type.now ≡ Some (builder_type c))) → count ≡ builder_len c → (e ≡ Memory alloc_error) ⊎ FailFirst e (row_checks (builders.fixed_size_list data_type.now rows.old c))) }

@@ -1,10 +1,9 @@
 //! The builder of arrays of records.
 ghost use Rattle.std.specs.Prelude.{◌≡◌, ◌≢◌, ◌≤◌, ◌<◌, ◌+◌, ◌↔◌, ◌⊎◌, Bool, List, ℕ, IsTrue, OnOk, OnErr, IfOk, IfErr, IsErrOf, IsOkUnless, MatchResult, MatchOption, None, Some, true, false, option_map, alloc_error};
-ghost use Rattle.nest_model.specs.BuilderItem.{null as null_item};
 ghost use Rattle.nest_model.specs.BuilderTree as builders;
 ghost use Rattle.nest_model.specs.Slot as slots;
 ghost use Rattle.nest_any.specs.Trees.{tree_of, trees_of};
-ghost use Rattle.nest_any.specs.Words.{Accepted, AreEachWhole, FailFirst, HasWholeChildren, InvalidArgumentError, IsFrozenAs, IsWhole, Memory, Overflow, Pass, SpellsBits, TellsNulls, Told, Unfinished, ValidityFits, bits_told, builder_len, builder_type, count_builders, cut_builder, emptied, first_rows, item_refusal, largest_length, layout_of, layout_type, layouts_of, own_slot, own_slots, reserve_passes, row_checks, slots_of, struct_bits, struct_checks, struct_children, type_of};
+ghost use Rattle.nest_any.specs.Words.{AreEachWhole, FailFirst, HasWholeChildren, InvalidArgumentError, IsFrozenAs, IsWhole, Memory, Overflow, Pass, SpellsBits, TellsNulls, Told, Unfinished, ValidityFits, bits_told, builder_len, builder_type, count_builders, cut_builder, emptied, first_rows, largest_length, layout_of, layout_type, layouts_of, nulls_appended, nulls_pass, own_slot, own_slots, reserve_passes, row_checks, slots_of, struct_bits, struct_checks, struct_children, type_of};
 
 use crate::any::AnyMutableArray;
 use crate::children::{
@@ -239,10 +238,10 @@ impl MutableStructArray {
     #[cycle(null)]
     pub(crate) fn add_null(&mut self) -> Result<(), Error>
         requires { IsWhole self.old }
-        ensures accepted { OnOk result (Accepted null_item self.old self.new) }
-        ensures unrefused { OnOk result (item_refusal null_item self.old ≡ None) }
+        ensures ok { OnOk result (self.new ≡ nulls_appended 1 self.old) }
+        ensures room { OnOk result (nulls_pass 1 self.old ≡ false) }
         ensures err { OnErr result (self.new ≡ self.old) }
-        ensures cause { IfErr result (λ e. (e ≡ Memory alloc_error) ⊎ (item_refusal null_item self.old ≡ Some e)) }
+        ensures cause { IfErr result (λ e. (e ≡ Memory alloc_error) ⊎ ((e ≡ Overflow) × (nulls_pass 1 self.old ≡ true))) }
     {
         let len = self.rows.len();
         if let Err(refusal) = add_null_each(&mut self.values, len) {
