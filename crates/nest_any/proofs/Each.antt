@@ -7,7 +7,7 @@ use Rattle.nest_model.specs.BuilderTree.{BuilderTree, BuilderTrees, no_builders,
 use Rattle.nest_model.specs.BuilderWhole.{IsWhole, AreWhole, cut_builder, cut_builders, emptied, emptied_each}
 use Rattle.nest_model.specs.BuilderCutLaws.{cut-whole}
 use Rattle.nest_model.specs.BuilderAppend.{nulls_appended, nulls_appended_each}
-use Rattle.nest_model.specs.BuilderAcceptLaws.{accepted-nulls, len-nulls, whole-nulls, whole-nulls-each}
+use Rattle.nest_model.specs.BuilderAcceptLaws.{accepted-nulls, len-nulls, whole-nulls}
 use Rattle.nest_model.specs.BuilderRefusals.{nulls_pass, nulls_pass_each}
 use Rattle.nest_model.specs.BuilderRowChecks.{AreEachWhole}
 use Rattle.nest_any.specs.BuilderCode.{weight, weight_all}
@@ -96,9 +96,13 @@ pub each-undone : (cs : BuilderTrees) (n : ℕ) → AreWhole cs n → cut_builde
 each-undone no_builders n w = refl
 each-undone (more_builders c cs) n w = rw (each-undone cs n w.2, ← w.1, nulls-undone 1 c w.0) refl
 
+whole-nulls-all : (cs : BuilderTrees) (n : ℕ) → AreWhole cs n → AreWhole (nulls_appended_each 1 cs) (n + 1)
+whole-nulls-all no_builders n w = tt
+whole-nulls-all (more_builders c cs) n w = (whole-nulls 1 c w.0, omega (arith, w.1, len-nulls 1 c), whole-nulls-all cs n w.2)
+
 -- children that took a null can be cut to what they were
 pub long-took : (cs : BuilderTrees) (n : ℕ) → AreWhole cs n → AreEachLong (nulls_appended_each 1 cs) n
-long-took cs n w = long-whole (nulls_appended_each 1 cs) (n + 1) n (whole-nulls-each 1 cs n w) (omega arith)
+long-took cs n w = long-whole (nulls_appended_each 1 cs) (n + 1) n (whole-nulls-all cs n w) (omega arith)
 
 -- a child that is as it was or took a null goes back by a cut
 settled : (a b : BuilderTree) (n : ℕ) → IsWhole a → builder_len a ≡ n → (b ≡ a) ⊎ (b ≡ nulls_appended 1 a) → (IsWhole b × (n ≤ builder_len b)) × (cut_builder b n ≡ a)

@@ -1,2 +1,3 @@
 mod Each
+mod Nulls
 mod Weights

@@ -206,7 +206,7 @@ fn with_array(
 ) -> Result<Vec<AnyArray>, Error>
     requires arrays { IsOkUnless arrays (Memory alloc_error) }
     requires array { IsOkUnless array (Memory alloc_error) }
-    ensures ok { IfOk result (λ v. IfOk arrays (λ old. IfOk array (λ a. layouts_of v.items ≡ layouts_of (old.items ++ a ∷ [])))) }
+    ensures ok { IfOk result (λ v. IfOk arrays (λ old. IfOk array (λ a. v.items ≡ old.items ++ a ∷ []))) }
     ensures both { IfOk result (λ v. IsOk arrays × IsOk array) }
     ensures memory { IsOkUnless result (Memory alloc_error) }
 {
