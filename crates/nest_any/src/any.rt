@@ -11,10 +11,10 @@ use nest_array::AnyArray;
 use nest_build::array::{MutableArray, shared};
 use nest_build::fixed_size_binary::MutableFixedSizeBinaryArray;
 use nest_build::null::MutableNullArray;
+use nest_flat::any_primitive::mutable::AnyMutablePrimitive;
 use nest_flat::binary::mutable::MutableBinaryArray;
 use nest_flat::boolean::mutable::MutableBooleanArray;
 use nest_flat::plain::Plain;
-use nest_flat::primitive::mutable::MutablePrimitiveArray;
 use nest_flat::utf8::mutable::MutableUtf8Array;
 use nest_memory::bitmap::mutable::MutableBitmap;
 use nest_memory::datatypes::DataType;
@@ -29,7 +29,7 @@ use std::rc::Rc;
 pub enum AnyMutableArray {
     Null(MutableNullArray),
     Boolean(MutableBooleanArray),
-    Primitive(MutablePrimitiveArray<i64>),
+    Primitive(AnyMutablePrimitive),
     Binary(MutableBinaryArray<i32>),
     LargeBinary(MutableBinaryArray<i64>),
     Utf8(MutableUtf8Array<i32>),
@@ -111,13 +111,7 @@ impl AnyMutableArray {
         ensures value { option_map (λ c. tree_of c.now) result ≡ child_at i (tree_of self.old) }
     {
         match self {
-            AnyMutableArray::List(lists) => {
-                if i == 0 {
-                    Some(lists.child())
-                } else {
-                    None
-                }
-            }
+            AnyMutableArray::List(lists) => { if i == 0 { Some(lists.child()) } else { None } }
             AnyMutableArray::Struct(records) => records.mut_values().get_mut(i),
             _ => None,
         }

@@ -7,8 +7,8 @@ ghost use Rattle.nest_any.specs.Words.{BuilderTree, FailFirst, Fitting, HasWhole
 use nest_array::AnyArray;
 use nest_array::array::Variant;
 use nest_build::child::has_items;
-use nest_build::fixed_size_list::{FixedRows, freeze_over};
 use nest_build::fixed_size_list::data_type::FixedType;
+use nest_build::fixed_size_list::{FixedRows, freeze_over};
 use nest_build::list::ListRows;
 use nest_build::list::data_type::ListType;
 use nest_build::list::width::FrozenRows;

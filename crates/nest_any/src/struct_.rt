@@ -7,8 +7,8 @@ ghost use Rattle.nest_any.specs.Words.{AreEachWhole, FailFirst, HasWholeChildren
 
 use crate::any::AnyMutableArray;
 use crate::children::{
-    add_null_each, are_whole, cut_each, each_is_whole, first_rows, frozen_each, have_row_more, have_rows,
-    have_types, room_each, shrink_each,
+    add_null_each, are_whole, cut_each, each_is_whole, first_rows, frozen_each, have_row_more,
+    have_rows, have_types, room_each, shrink_each,
 };
 use crate::struct_type::StructType;
 use nest_array::array::Variant;

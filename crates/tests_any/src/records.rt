@@ -121,7 +121,9 @@ fn lists_of_records_are_told_and_frozen(rt: HostRuntime) -> Result<(), Fail> {
     let shown = match &frozen {
         Ok(AnyArray::List(lists)) => match lists.values() {
             AnyArray::Struct(records) => {
-                has_offsets(lists, &[0, 2, 2]) && lists.is_null(1) && has_texts(records, &["x", "x"])
+                has_offsets(lists, &[0, 2, 2])
+                    && lists.is_null(1)
+                    && has_texts(records, &["x", "x"])
             }
             _ => false,
         },
@@ -266,8 +268,10 @@ fn freeze_drops_a_validity_without_nulls(rt: HostRuntime) -> Result<(), Fail> {
 #[test]
 fn an_untold_record_waits_under_a_list(rt: HostRuntime) -> Result<(), Fail> {
     let alloc = rt.alloc();
-    let mut lists: MutableListArray<i32, MutableStructArray> =
-        MutableListArray::new(alloc, text_records(alloc)?)?;
+    let mut lists: MutableListArray<i32, MutableStructArray> = MutableListArray::new(
+        alloc,
+        text_records(alloc)?,
+    )?;
     for child in lists.mut_values().mut_values() {
         push(child, Plain::Text("x"))?;
     }

@@ -55,11 +55,7 @@ impl FixedType {
     }
 
     /// A data type whose lists have so many items of that type.
-    pub fn of_type(
-        data_type: DataType,
-        items: &DataType,
-        size: usize,
-    ) -> Result<FixedType, Error>
+    pub fn of_type(data_type: DataType, items: &DataType, size: usize) -> Result<FixedType, Error>
         ensures { let checks = fixed_type_checks size (type_of data_type) (type_of items.now) in
             MatchResult result (λ t. Pass checks × (t ≡ type_of data_type)) (λ e. FailFirst e checks) }
     {
