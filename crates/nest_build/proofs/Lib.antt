@@ -10,3 +10,4 @@ mod Rows
 mod Slices
 mod Spelled
 mod Trials
+mod Seats

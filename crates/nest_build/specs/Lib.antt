@@ -1,8 +1,10 @@
+pub mod BuiltKind
 pub mod Children
 pub mod FlatTree
 pub mod Lists
 pub mod NumberRows
 pub mod Rows
+pub mod Seats
 pub mod Slices
 pub mod Told
 pub mod Words

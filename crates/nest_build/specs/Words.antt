@@ -2,6 +2,7 @@
 pub use Rattle.nest_array.specs.FixedBytes.{GivesOtherSize, IsMadeOf, IsOtherSize, has_null, joined_bytes, pushed_bytes, sized_bytes, with_bytes}
 pub use Rattle.nest_array.specs.Seen.{layout_of}
 pub use Rattle.nest_array.specs.Types.{default_field, default_list_type}
+pub use Rattle.nest_build.specs.BuiltKind.{built_kind}
 pub use Rattle.nest_build.specs.Children.{IsListBy, ListCovers, list_child}
 pub use Rattle.nest_build.specs.FlatTree.{flat_tree}
 pub use Rattle.nest_build.specs.Rows.{Spells, bits_told, rows_told, told_rows_checks}

@@ -4,6 +4,7 @@
 pub mod array;
 mod boxed;
 pub mod child;
+pub mod dictionary;
 pub mod fixed_size_binary;
 pub mod fixed_size_list;
 pub mod flat;

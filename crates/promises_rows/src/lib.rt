@@ -4,7 +4,7 @@
 //! a boxed one too, and then of what builders of lists do besides.
 #![tactic(auto)]
 
-ghost use Rattle.std.specs.Prelude.{◌≡◌, ◌≢◌, ◌≤◌, ◌<◌, ◌+◌, ◌⊎◌, ◌↔◌, ◌++◌, ◌∷◌, [], true, false, map, length, IsTrue, OnOk, OnErr, IfOk, IfErr, IsErrOf, IsOkUnless, None, Some, alloc_error};
+ghost use Rattle.std.specs.Prelude.{◌≡◌, ◌≢◌, ◌≤◌, ◌<◌, ◌+◌, ◌⊎◌, ◌↔◌, ◌++◌, ◌∷◌, [], true, false, ℕ, map, length, slice_get, take, IsTrue, OnOk, OnErr, IfOk, IfErr, IfSome, IfNone, IsErrOf, IsOkUnless, None, Some, alloc_error};
 ghost use Rattle.std.specs.List.{All, items_where_true};
 ghost use Rattle.std.specs.Option.{option_copied};
 ghost use Rattle.nest_model.specs.BuilderItem.{null as null_item};
@@ -14,6 +14,7 @@ ghost use Rattle.promises_rows.specs.Words.{Accepted, CanRead, FailFirst, HasWho
 
 use nest_array::AnyArray;
 use nest_build::array::MutableArray;
+use nest_build::dictionary::KeyTable;
 use nest_build::fixed_size_list::MutableFixedSizeListArray;
 use nest_build::flat::{FlatBuilder, TakesValue};
 use nest_build::list::MutableListArray;
@@ -269,4 +270,32 @@ pub fn push_values<O: ListWidth, A: AsPlain + Copy + Drop, M: FlatBuilder + Take
     ensures refused { IfErr result (λ e. (e ≡ Memory alloc_error) ⊎ (item_refusal (row_item A.value (option_copied row.entry)) (⟦<MutableListArray<O, M> as MutableArray>⟧.model lists.old) ≡ Some e)) }
 {
     lists.try_push_slice(row)
+}
+
+/// A table of hashes, by which builders of dictionaries are to find their values: a hash more has the next number. A refused
+/// one changes nothing.
+pub fn push_hash(table: &mut KeyTable, hash: u64) -> Result<(), Error>
+    ensures ok { OnOk result (table.new ≡ table.old ++ hash ∷ []) }
+    ensures err { OnErr result (table.new ≡ table.old) }
+    ensures memory { IsOkUnless result (Memory alloc_error) }
+{
+    table.push(hash)
+}
+
+/// A number is found where its hash is that one and the test passes; where none is found, the test passes at no number of
+/// that hash.
+pub fn find_number<F: Fn(usize) -> bool>(table: &KeyTable, hash: u64, test: F) -> Option<usize>
+    requires { (k : ℕ) → k < length table.now → F.pre test k }
+    ensures found { IfSome result (λ k. (slice_get table.now k ≡ Some hash) × F.post test k true) }
+    ensures none { IfNone result ((k : ℕ) → slice_get table.now k ≡ Some hash → F.post test k false) }
+{
+    table.find(hash, test)
+}
+
+/// The first hashes alone.
+pub fn cut_hashes(table: &mut KeyTable, n: usize)
+    requires { n ≤ length table.old }
+    ensures { table.new ≡ take n table.old }
+{
+    table.truncate(n)
 }

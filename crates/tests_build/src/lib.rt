@@ -23,6 +23,8 @@
 //! | A row ends at 2^31 - 1 items and none past it; rows are cut to all and to none | `nested` |
 //! | Arrays and builders of items of one size: a validity exactly where one is null, size 0 and items of another size refused; bytes written over | `makers` |
 //! | Any one request for memory refused: no row is added at any level, and a freeze empties | `lists::refused_rows_change_nothing`, `nested::all_levels_take_three_rows_or_none`, `nested::a_boxed_child_keeps_what_it_took` |
+//! | In a table of hashes 0, 0, 0, 8, 8 number 2 is found by hash 0 and not by 8; cut to two hashes it is gone. A thousand numbers of one hash, and numbers around the end of the places, are found | `key_tables` |
+//! | Any one request for memory refused: a table of hashes is as it was | `key_tables::a_refused_push_changes_nothing` |
 #![tactic(auto)]
 
 #[cfg(test)]
@@ -33,6 +35,8 @@ mod fixed_size_binaries;
 mod fixed_size_lists;
 #[cfg(test)]
 mod flat;
+#[cfg(test)]
+mod key_tables;
 #[cfg(test)]
 mod lists;
 #[cfg(test)]

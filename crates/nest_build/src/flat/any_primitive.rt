@@ -1,11 +1,15 @@
 //! The builder of native values of any kind.
 ghost use Rattle.std.specs.Prelude.{◌≡◌};
-ghost use Rattle.nest_build.specs.Words.{built_layout};
+ghost use Rattle.nest_memory.specs.declared.datatypes.physical_type.PhysicalType.TheVariants as physical;
+ghost use Rattle.nest_build.specs.Words.{built_kind, built_layout, layout_type, physical_type};
 
+use crate::child::same_types;
 use crate::flat::FlatBuilder;
 use nest_array::AnyArray;
+use nest_flat::any_primitive::Native;
 use nest_flat::any_primitive::mutable::AnyMutablePrimitive;
 use nest_flat::plain::Plain;
+use nest_flat::primitive::mutable::MutablePrimitiveArray;
 use nest_memory::bitmap::mutable::MutableBitmap;
 use nest_memory::datatypes::DataType;
 use nest_memory::error::{Argument, Error};
@@ -30,26 +34,73 @@ macro_rules! each_kind {
     };
 }
 
-// What is the same for each kind, where the other is of the same kind.
+// What is the same for two builders of each kind.
 macro_rules! each_pair {
     ($any:expr, $other:expr, $builder:ident, $more:ident => $body:expr) => {
-        match ($any, $other) {
-            (AnyMutablePrimitive::Int8($builder), AnyMutablePrimitive::Int8($more)) => $body,
-            (AnyMutablePrimitive::Int16($builder), AnyMutablePrimitive::Int16($more)) => $body,
-            (AnyMutablePrimitive::Int32($builder), AnyMutablePrimitive::Int32($more)) => $body,
-            (AnyMutablePrimitive::Int64($builder), AnyMutablePrimitive::Int64($more)) => $body,
-            (AnyMutablePrimitive::Int128($builder), AnyMutablePrimitive::Int128($more)) => $body,
-            (AnyMutablePrimitive::Int256($builder), AnyMutablePrimitive::Int256($more)) => $body,
-            (AnyMutablePrimitive::UInt8($builder), AnyMutablePrimitive::UInt8($more)) => $body,
-            (AnyMutablePrimitive::UInt16($builder), AnyMutablePrimitive::UInt16($more)) => $body,
-            (AnyMutablePrimitive::UInt32($builder), AnyMutablePrimitive::UInt32($more)) => $body,
-            (AnyMutablePrimitive::UInt64($builder), AnyMutablePrimitive::UInt64($more)) => $body,
-            (AnyMutablePrimitive::DaysMs($builder), AnyMutablePrimitive::DaysMs($more)) => $body,
-            (AnyMutablePrimitive::MonthDayNano($builder), AnyMutablePrimitive::MonthDayNano($more)) =>
-                $body,
-            _ => Err(Error::InvalidArgumentError(Argument::ItemType)),
+        match $any {
+            AnyMutablePrimitive::Int8($builder) => match $other {
+                AnyMutablePrimitive::Int8($more) => $body,
+                _ => unreachable!(),
+            },
+            AnyMutablePrimitive::Int16($builder) => match $other {
+                AnyMutablePrimitive::Int16($more) => $body,
+                _ => unreachable!(),
+            },
+            AnyMutablePrimitive::Int32($builder) => match $other {
+                AnyMutablePrimitive::Int32($more) => $body,
+                _ => unreachable!(),
+            },
+            AnyMutablePrimitive::Int64($builder) => match $other {
+                AnyMutablePrimitive::Int64($more) => $body,
+                _ => unreachable!(),
+            },
+            AnyMutablePrimitive::Int128($builder) => match $other {
+                AnyMutablePrimitive::Int128($more) => $body,
+                _ => unreachable!(),
+            },
+            AnyMutablePrimitive::Int256($builder) => match $other {
+                AnyMutablePrimitive::Int256($more) => $body,
+                _ => unreachable!(),
+            },
+            AnyMutablePrimitive::UInt8($builder) => match $other {
+                AnyMutablePrimitive::UInt8($more) => $body,
+                _ => unreachable!(),
+            },
+            AnyMutablePrimitive::UInt16($builder) => match $other {
+                AnyMutablePrimitive::UInt16($more) => $body,
+                _ => unreachable!(),
+            },
+            AnyMutablePrimitive::UInt32($builder) => match $other {
+                AnyMutablePrimitive::UInt32($more) => $body,
+                _ => unreachable!(),
+            },
+            AnyMutablePrimitive::UInt64($builder) => match $other {
+                AnyMutablePrimitive::UInt64($more) => $body,
+                _ => unreachable!(),
+            },
+            AnyMutablePrimitive::DaysMs($builder) => match $other {
+                AnyMutablePrimitive::DaysMs($more) => $body,
+                _ => unreachable!(),
+            },
+            AnyMutablePrimitive::MonthDayNano($builder) => match $other {
+                AnyMutablePrimitive::MonthDayNano($more) => $body,
+                _ => unreachable!(),
+            },
         }
     };
+}
+
+// The data type of a builder is of its kind.
+fn typed<T: Native>(builder: &MutablePrimitiveArray<T>)
+    ensures { physical_type (layout_type builder.now) ≡ physical.Primitive T.PRIMITIVE }
+{
+    builder.known();
+}
+
+fn known(any: &AnyMutablePrimitive)
+    ensures { physical_type (layout_type (built_layout any.now)) ≡ physical.Primitive (built_kind any.now) }
+{
+    each_kind!(any, builder => typed(builder))
 }
 
 impl FlatBuilder for AnyMutablePrimitive {
@@ -84,6 +135,11 @@ impl FlatBuilder for AnyMutablePrimitive {
     }
 
     fn join(&mut self, other: &AnyMutablePrimitive) -> Result<(), Error> {
+        if !same_types(self.data_type(), other.data_type()) {
+            return Err(Error::InvalidArgumentError(Argument::ItemType));
+        }
+        known(self);
+        known(other);
         each_pair!(self, other, builder, more => builder.join(more))
     }
 
