@@ -1,3 +1,4 @@
 mod Each
 mod Nulls
+mod Over
 mod Weights

@@ -39,9 +39,10 @@ impl Model for ListBuilder {
 
     ghost size = { weight };
 
+    ghost use Rattle.std.proofs.Common.{arith};
     ghost use Rattle.nest_any.specs.Falls.{lists-fall};
 
-    ghost size_decreases = { λ a h. lists-fall a.rows a.values.value };
+    ghost size_decreases = { λ a h. Prim.omega (arith, lists-fall a.rows a.values.value) };
 }
 
 impl ListBuilder {
