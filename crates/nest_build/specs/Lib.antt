@@ -1,5 +1,6 @@
 pub mod Children
 pub mod FlatTree
+pub mod Keys
 pub mod Lists
 pub mod NumberRows
 pub mod Rows

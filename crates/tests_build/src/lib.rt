@@ -29,6 +29,8 @@
 #[cfg(test)]
 mod bytes;
 #[cfg(test)]
+mod dictionaries;
+#[cfg(test)]
 mod fixed_size_binaries;
 #[cfg(test)]
 mod fixed_size_lists;
