@@ -2,12 +2,13 @@ mod BytesTrees
 mod FixedLists
 mod FixedTrees
 mod FlatTrees
+mod Hashes
 mod Lists
 mod NullTrees
 mod Nulled
 mod Nulls
 mod Rows
+mod Seats
 mod Slices
 mod Spelled
 mod Trials
-mod Seats

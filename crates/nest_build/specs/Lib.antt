@@ -1,5 +1,6 @@
 pub mod Children
 pub mod FlatTree
+pub mod Hashes
 pub mod Keys
 pub mod Lists
 pub mod NumberRows
