@@ -1,5 +1,5 @@
-//! Arrays in arrays by their worked slots. A failed `expect` ends the test, and what has a data type is let go in generic
-//! helpers and by `drop`, which keeps the proofs short.
+//! Arrays in arrays by their worked slots. Helpers ask an array what a test wants of it and let it go, so that no value with
+//! a data type is left where an assertion may end the test: that keeps the proofs short.
 mod kinds;
 pub(crate) mod lists;
 pub(crate) mod memory;
@@ -35,6 +35,88 @@ pub(crate) fn are_same<A: PartialEq + Drop>(
 ) -> Result<bool, Error> {
     let (x, y) = both(x, y)?;
     Ok(x == y)
+}
+
+/// Whether a call gave a value of which this holds; the value is let go.
+pub(crate) fn holds<A: Drop, F: FnOnce(&A) -> bool>(given: Result<A, Error>, ask: F) -> bool
+    requires { F.IsAlwaysCallable ask }
+{
+    match given {
+        Ok(value) => {
+            let found = ask(&value);
+            drop(value);
+            found
+        }
+        Err(_) => false,
+    }
+}
+
+/// The same of what takes memory.
+pub(crate) fn holds_in<A: Drop, F: FnOnce(Global, &A) -> bool>(
+    alloc: Global,
+    given: Result<A, Error>,
+    ask: F,
+) -> bool
+    requires { F.IsAlwaysCallable ask }
+{
+    match given {
+        Ok(value) => {
+            let found = ask(alloc, &value);
+            drop(value);
+            found
+        }
+        Err(_) => false,
+    }
+}
+
+/// The same of what takes memory and changes the value.
+pub(crate) fn holds_changed<A: Drop, F: FnOnce(Global, &mut A) -> bool>(
+    alloc: Global,
+    given: Result<A, Error>,
+    ask: F,
+) -> bool
+    requires { F.IsAlwaysCallable ask }
+{
+    match given {
+        Ok(mut value) => {
+            let found = ask(alloc, &mut value);
+            drop(value);
+            found
+        }
+        Err(_) => false,
+    }
+}
+
+/// Whether a call gave an array that is equal; it is let go.
+pub(crate) fn is_equal<A: PartialEq + Drop>(given: Result<A, Error>, array: &A) -> bool {
+    match given {
+        Ok(given) => {
+            let same = given == *array;
+            drop(given);
+            same
+        }
+        Err(_) => false,
+    }
+}
+
+/// How long an array is, which is let go.
+pub(crate) fn len_of(array: Result<AnyArray, Error>) -> Option<usize> {
+    match array {
+        Ok(array) => {
+            let len = array.len();
+            drop(array);
+            Some(len)
+        }
+        Err(_) => None,
+    }
+}
+
+/// The array, and why its new validity was refused.
+pub(crate) fn kept<A, B>(changed: Result<A, (A, B)>) -> (A, Option<B>) {
+    match changed {
+        Ok(array) => (array, None),
+        Err((array, error)) => (array, Some(error)),
+    }
 }
 
 /// Both items, or the first refusal.

@@ -2,7 +2,9 @@
 use crate::arrays::lists::by_large_offsets;
 use crate::arrays::sizes::pairs;
 use crate::arrays::structs::four;
-use crate::arrays::{both, buffer, lists_of_lists, numbers, offsets_of, truths, validity};
+use crate::arrays::{
+    both, buffer, holds_in, lists_of_lists, numbers, offsets_of, truths, validity,
+};
 use crate::dictionaries::four_texts;
 use crate::maps::two_maps;
 use nest_array::{AnyArray, Array, FixedSizeBinaryArray, NullArray};
@@ -16,7 +18,6 @@ use nest_memory::error::Error;
 use nest_memory::offset::Offset;
 use nest_memory::types::{NativeType, days_ms, i256, months_days_ns};
 use std::alloc::Global;
-use std::process::Abort;
 
 /// How many slots an array has and how many are null, where all its calls agree on that.
 fn counts<A: Array>(array: &A) -> Option<(usize, usize)> {
@@ -60,46 +61,61 @@ fn has_type(array: Result<AnyArray, Error>, data_type: &DataType) -> bool {
     }
 }
 
-/// The calls that give an array answer one, of the same type, and not want of memory.
-fn expect_given<A: Array>(rt: &impl Abort, alloc: Global, array: &A, found: (usize, usize)) {
-    assert!(rt; counts_of(array.to_boxed(alloc)) == Some(found));
-    assert!(rt; has_type(array.to_boxed(alloc), array.data_type()));
-    if 1 <= array.len() {
-        let cut = counts_of(array.sliced(alloc, 0, 1)).expect(rt, "a cut");
-        assert!(rt; cut.0 == 1);
-        assert!(rt; has_type(array.sliced(alloc, 0, 1), array.data_type()));
+/// Whether the calls that give an array answer one, of the same type, and not want of memory.
+fn gives<A: Array>(alloc: Global, array: &A, found: (usize, usize)) -> bool {
+    if counts_of(array.to_boxed(alloc)) != Some(found) {
+        return false;
+    }
+    let typed = has_type(array.to_boxed(alloc), array.data_type());
+    if array.len() == 0 {
+        return typed;
+    }
+    match counts_of(array.sliced(alloc, 0, 1)) {
+        Some((1, _)) => typed && has_type(array.sliced(alloc, 0, 1), array.data_type()),
+        _ => false,
     }
 }
 
-/// Under a validity whose first bit alone is unset, the first slot alone is null.
-fn expect_taken<A: Array>(rt: &impl Abort, alloc: Global, array: &A, n: usize) {
+/// Whether under a validity whose first bit alone is unset, the first slot alone is null, and under none no slot.
+fn takes<A: Array>(alloc: Global, array: &A, n: usize) -> bool {
+    let bare = counts_of(array.with_validity(alloc, None)) == Some((n, 0));
     let all = [false, true, true, true];
-    if n <= all.len() {
-        let bits = validity(alloc, Some(&all[0..n])).expect(rt, "bits");
-        assert!(rt; counts_of(array.with_validity(alloc, bits)) == Some((n, 1)));
+    if n > all.len() {
+        return bare;
     }
-    assert!(rt; counts_of(array.with_validity(alloc, None)) == Some((n, 0)));
+    match validity(alloc, Some(&all[0..n])) {
+        Ok(bits) => {
+            let masked = counts_of(array.with_validity(alloc, bits));
+            bare && masked == Some((n, 1))
+        }
+        Err(_) => false,
+    }
 }
 
-/// Each call of an array with these counts that takes a validity.
-fn expect_array<A: Array + Drop>(
-    rt: &impl Abort,
-    alloc: Global,
-    array: Result<A, Error>,
-    found: (usize, usize),
-) {
-    let mut array = array.expect(rt, "an array");
-    assert!(rt; counts(&array) == Some(found));
-    expect_given(rt, alloc, &array, found);
-    expect_taken(rt, alloc, &array, found.0);
+/// Whether a cut without the first slot is as long as it should be, and has a validity where the array had one.
+fn is_cut<A: Array>(array: &mut A) -> bool {
     let masked = array.validity().is_some();
     let n = array.len();
-    if n >= 1 {
-        array.slice(1, n - 1);
-        assert!(rt; array.len().saturating_add(1) == n);
-        assert!(rt; array.validity().is_some() == masked);
+    if n == 0 {
+        return true;
     }
-    drop(array);
+    array.slice(1, n - 1);
+    array.len() == n - 1 && array.validity().is_some() == masked
+}
+
+/// Each call of an array with these counts that takes a validity; the array is let go.
+fn answers<A: Array + Drop>(alloc: Global, array: Result<A, Error>, found: (usize, usize)) -> bool {
+    match array {
+        Ok(mut array) => {
+            let counted = counts(&array) == Some(found);
+            let given = gives(alloc, &array, found);
+            let taken = takes(alloc, &array, found.0);
+            let cut = is_cut(&mut array);
+            drop(array);
+            counted && given && taken && cut
+        }
+        Err(_) => false,
+    }
 }
 
 /// Two values 0.
@@ -121,23 +137,23 @@ fn zeros<T: NativeType>(alloc: Global) -> Result<PrimitiveArray<T>, Error> {
 #[test]
 fn native_arrays(rt: HostRuntime) {
     let alloc = rt.alloc();
-    expect_array(&rt, alloc, zeros::<i8>(alloc), (2, 0));
-    expect_array(&rt, alloc, zeros::<i16>(alloc), (2, 0));
-    expect_array(&rt, alloc, zeros::<i32>(alloc), (2, 0));
-    expect_array(&rt, alloc, zeros::<i64>(alloc), (2, 0));
-    expect_array(&rt, alloc, zeros::<i128>(alloc), (2, 0));
-    expect_array(&rt, alloc, zeros::<i256>(alloc), (2, 0));
+    assert!(rt; answers(alloc, zeros::<i8>(alloc), (2, 0)));
+    assert!(rt; answers(alloc, zeros::<i16>(alloc), (2, 0)));
+    assert!(rt; answers(alloc, zeros::<i32>(alloc), (2, 0)));
+    assert!(rt; answers(alloc, zeros::<i64>(alloc), (2, 0)));
+    assert!(rt; answers(alloc, zeros::<i128>(alloc), (2, 0)));
+    assert!(rt; answers(alloc, zeros::<i256>(alloc), (2, 0)));
 }
 
 #[test]
 fn native_arrays_of_other_kinds(rt: HostRuntime) {
     let alloc = rt.alloc();
-    expect_array(&rt, alloc, zeros::<u8>(alloc), (2, 0));
-    expect_array(&rt, alloc, zeros::<u16>(alloc), (2, 0));
-    expect_array(&rt, alloc, zeros::<u32>(alloc), (2, 0));
-    expect_array(&rt, alloc, zeros::<u64>(alloc), (2, 0));
-    expect_array(&rt, alloc, zeros::<days_ms>(alloc), (2, 0));
-    expect_array(&rt, alloc, zeros::<months_days_ns>(alloc), (2, 0));
+    assert!(rt; answers(alloc, zeros::<u8>(alloc), (2, 0)));
+    assert!(rt; answers(alloc, zeros::<u16>(alloc), (2, 0)));
+    assert!(rt; answers(alloc, zeros::<u32>(alloc), (2, 0)));
+    assert!(rt; answers(alloc, zeros::<u64>(alloc), (2, 0)));
+    assert!(rt; answers(alloc, zeros::<days_ms>(alloc), (2, 0)));
+    assert!(rt; answers(alloc, zeros::<months_days_ns>(alloc), (2, 0)));
 }
 
 /// The slots a and bc as bytes.
@@ -173,38 +189,40 @@ pub(crate) fn texts<O: Offset>(
 #[test]
 fn flat_arrays(rt: HostRuntime) {
     let alloc = rt.alloc();
-    expect_array(&rt, alloc, truths(alloc, &[true, false]), (2, 0));
+    assert!(rt; answers(alloc, truths(alloc, &[true, false]), (2, 0)));
     let binary = bytes(alloc, DataType::Binary, &[0i32, 1, 3]);
-    expect_array(&rt, alloc, binary, (2, 0));
+    assert!(rt; answers(alloc, binary, (2, 0)));
     let large_binary = bytes(alloc, DataType::LargeBinary, &[0i64, 1, 3]);
-    expect_array(&rt, alloc, large_binary, (2, 0));
+    assert!(rt; answers(alloc, large_binary, (2, 0)));
     let utf8 = texts(alloc, DataType::Utf8, &[0i32, 1, 3]);
-    expect_array(&rt, alloc, utf8, (2, 0));
+    assert!(rt; answers(alloc, utf8, (2, 0)));
     let large_utf8 = texts(alloc, DataType::LargeUtf8, &[0i64, 1, 3]);
-    expect_array(&rt, alloc, large_utf8, (2, 0));
+    assert!(rt; answers(alloc, large_utf8, (2, 0)));
     let rows = FixedSizeBinaryArray::from_slice(alloc, [*b"ab", *b"cd"].as_slice());
-    expect_array(&rt, alloc, rows, (2, 0));
+    assert!(rt; answers(alloc, rows, (2, 0)));
 }
 
 #[test]
 fn nested_arrays(rt: HostRuntime) {
     let alloc = rt.alloc();
-    expect_array(&rt, alloc, pairs(alloc), (3, 0));
-    expect_array(&rt, alloc, lists_of_lists(alloc), (3, 0));
-    expect_array(&rt, alloc, by_large_offsets(alloc), (3, 0));
-    expect_array(&rt, alloc, four(alloc, &[1, 2, 3, 4]), (4, 1));
-    expect_array(&rt, alloc, two_maps(alloc), (2, 0));
-    expect_array(&rt, alloc, four_texts(alloc), (4, 1));
-    expect_array(&rt, alloc, numbers(alloc, &[1, 2]), (2, 0));
+    assert!(rt; answers(alloc, pairs(alloc), (3, 0)));
+    assert!(rt; answers(alloc, lists_of_lists(alloc), (3, 0)));
+    assert!(rt; answers(alloc, by_large_offsets(alloc), (3, 0)));
+    assert!(rt; answers(alloc, four(alloc, &[1, 2, 3, 4]), (4, 1)));
+    assert!(rt; answers(alloc, two_maps(alloc), (2, 0)));
+    assert!(rt; answers(alloc, four_texts(alloc), (4, 1)));
+    assert!(rt; answers(alloc, numbers(alloc, &[1, 2]), (2, 0)));
+}
+
+fn are_three_nulls(alloc: Global, array: &NullArray) -> bool {
+    let counted = counts(array) == Some((3, 3));
+    counted && gives(alloc, array, (3, 3)) && Array::validity(array).is_none()
 }
 
 #[test]
 fn null_arrays(rt: HostRuntime) {
-    let array = NullArray::new(DataType::Null, 3);
-    assert!(rt; counts(&array) == Some((3, 3)));
-    expect_given(&rt, rt.alloc(), &array, (3, 3));
-    assert!(rt; Array::validity(&array).is_none());
-    drop(array);
+    let array = NullArray::try_new(DataType::Null, 3);
+    assert!(rt; holds_in(rt.alloc(), array, are_three_nulls));
 }
 
 /// The array in the variant of its kind.
@@ -227,31 +245,46 @@ fn in_variant(array: &AnyArray) -> &str {
     }
 }
 
-fn variant_of<A: Array + Drop>(
-    rt: &impl Abort,
-    alloc: Global,
-    array: Result<A, Error>,
-    kind: &str,
-) {
-    let array = array.expect(rt, "an array");
-    let copy = array.to_boxed(alloc).expect(rt, "a copy");
-    assert!(rt; in_variant(&copy) == kind);
-    drop(copy);
-    drop(array);
+/// Whether a copy of an array is in the variant of this kind.
+fn is_copied_to<A: Array>(alloc: Global, array: &A, kind: &str) -> bool {
+    match array.to_boxed(alloc) {
+        Ok(copy) => {
+            let same = in_variant(&copy) == kind;
+            drop(copy);
+            same
+        }
+        Err(_) => false,
+    }
+}
+
+/// The same of an array that a call gave; it is let go.
+fn goes_to<A: Array + Drop>(alloc: Global, array: Result<A, Error>, kind: &str) -> bool {
+    match array {
+        Ok(array) => {
+            let same = is_copied_to(alloc, &array, kind);
+            drop(array);
+            same
+        }
+        Err(_) => false,
+    }
 }
 
 #[test]
 fn copies_are_in_their_variant(rt: HostRuntime) {
     let alloc = rt.alloc();
-    variant_of(&rt, alloc, NullArray::try_new(DataType::Null, 1), "nulls");
-    variant_of(&rt, alloc, truths(alloc, &[true]), "truths");
-    variant_of(&rt, alloc, zeros::<i32>(alloc), "numbers of 32 bits");
-    variant_of(&rt, alloc, zeros::<u8>(alloc), "natives");
-    let utf8 = texts(alloc, DataType::Utf8, &[0i32, 1, 3]);
-    variant_of(&rt, alloc, utf8, "texts");
-    variant_of(&rt, alloc, pairs(alloc), "lists of one size");
-    variant_of(&rt, alloc, by_large_offsets(alloc), "large lists");
-    variant_of(&rt, alloc, four(alloc, &[1, 2, 3, 4]), "records");
-    variant_of(&rt, alloc, two_maps(alloc), "maps");
-    variant_of(&rt, alloc, four_texts(alloc), "values by keys");
+    assert!(rt; goes_to(alloc, NullArray::try_new(DataType::Null, 1), "nulls"));
+    assert!(rt; goes_to(alloc, truths(alloc, &[true]), "truths"));
+    assert!(rt; goes_to(alloc, zeros::<i32>(alloc), "numbers of 32 bits"));
+    assert!(rt; goes_to(alloc, zeros::<u8>(alloc), "natives"));
+    assert!(rt; goes_to(alloc, texts(alloc, DataType::Utf8, &[0i32, 1, 3]), "texts"));
+}
+
+#[test]
+fn copies_of_nested_arrays_are_in_their_variant(rt: HostRuntime) {
+    let alloc = rt.alloc();
+    assert!(rt; goes_to(alloc, pairs(alloc), "lists of one size"));
+    assert!(rt; goes_to(alloc, by_large_offsets(alloc), "large lists"));
+    assert!(rt; goes_to(alloc, four(alloc, &[1, 2, 3, 4]), "records"));
+    assert!(rt; goes_to(alloc, two_maps(alloc), "maps"));
+    assert!(rt; goes_to(alloc, four_texts(alloc), "values by keys"));
 }

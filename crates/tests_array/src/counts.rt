@@ -133,7 +133,7 @@ fn each_node_of_lists_of_lists(rt: HostRuntime) {
 }
 
 /// Four records, of which the third is null.
-fn any_records(alloc: Global, items: &[i32]) -> Result<AnyArray, Error> {
+pub(crate) fn any_records(alloc: Global, items: &[i32]) -> Result<AnyArray, Error> {
     four(alloc, items).map(|array| array.boxed())
 }
 

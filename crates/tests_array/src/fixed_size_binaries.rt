@@ -1,5 +1,6 @@
 //! Arrays of byte strings by their worked rows. Values with a data type are let go by `drop`, which keeps the proofs short.
 
+use crate::arrays::{are_same, holds, holds_in, is_equal};
 use nest_array::{Array, FixedSizeBinaryArray};
 use nest_memory::bitmap::immutable::Bitmap;
 use nest_memory::buffer::Buffer;
@@ -103,14 +104,19 @@ fn holds_the_rest(array: FixedSizeBinaryArray) -> bool {
     under_null && holds && empty
 }
 
+fn begin_with_ab(array: &FixedSizeBinaryArray) -> bool {
+    has(array, 0, b"ab")
+}
+
 #[test]
-fn rows_are_the_slots(rt: HostRuntime) -> Result<(), Fail> {
-    let array = pairs(rt.alloc(), ROWS.as_slice(), [true, false, true].as_slice())?;
-    assert!(rt; has(&array, 0, b"ab"));
-    assert!(rt; holds_the_rest(array));
-    let short = pairs(rt.alloc(), ROWS.as_slice(), [true, false].as_slice());
+fn rows_are_the_slots(rt: HostRuntime) {
+    let alloc = rt.alloc();
+    let bits = [true, false, true].as_slice();
+    assert!(rt; holds(pairs(alloc, ROWS.as_slice(), bits), begin_with_ab));
+    let rest = pairs(alloc, ROWS.as_slice(), bits).map(holds_the_rest);
+    assert!(rt; rest == Ok(true));
+    let short = pairs(alloc, ROWS.as_slice(), &[true, false]);
     assert!(rt; refusal(short) == Some(Error::OutOfSpec(Spec::ValidityLength)));
-    Ok(())
 }
 
 /// A type of the user's over byte strings of two bytes.
@@ -142,31 +148,30 @@ fn extended(alloc: Global, array: &FixedSizeBinaryArray) -> Result<FixedSizeBina
     }
 }
 
-/// Whether the other array is equal, and then let go.
-fn is_same(array: &FixedSizeBinaryArray, other: Result<FixedSizeBinaryArray, Error>) -> bool {
-    match other {
-        Err(_) => false,
+fn is_its_clone(alloc: Global, array: &FixedSizeBinaryArray) -> bool {
+    is_equal(array.clone(alloc), array)
+}
+
+/// Whether a clone under a type of the user's differs.
+fn is_no_extension(alloc: Global, array: &FixedSizeBinaryArray) -> bool {
+    match extended(alloc, array) {
         Ok(other) => {
             let same = *array == other;
             drop(other);
-            same
+            !same
         }
+        Err(_) => false,
     }
 }
 
 #[test]
-fn nulls_and_types_tell_arrays_apart(rt: HostRuntime) -> Result<(), Fail> {
+fn nulls_and_types_tell_arrays_apart(rt: HostRuntime) {
+    let alloc = rt.alloc();
     let bits = [true, false, true].as_slice();
-    let array = pairs(rt.alloc(), ROWS.as_slice(), bits)?;
-    assert!(rt; is_same(&array, array.clone(rt.alloc())));
-    assert!(rt; is_same(&array, pairs(rt.alloc(), OTHER_ROWS.as_slice(), bits)));
-    assert!(rt;
-        !is_same(
-            &array,
-            pairs(rt.alloc(), ROWS.as_slice(), [true, true, true].as_slice())
-        )
-    );
-    assert!(rt; !is_same(&array, extended(rt.alloc(), &array)));
-    drop(array);
-    Ok(())
+    let array = || pairs(alloc, ROWS.as_slice(), bits);
+    assert!(rt; holds_in(alloc, array(), is_its_clone));
+    assert!(rt; are_same(array(), pairs(alloc, OTHER_ROWS.as_slice(), bits)) == Ok(true));
+    let valid = pairs(alloc, ROWS.as_slice(), &[true, true, true]);
+    assert!(rt; are_same(array(), valid) == Ok(false));
+    assert!(rt; holds_in(alloc, array(), is_no_extension));
 }

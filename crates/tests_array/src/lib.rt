@@ -17,7 +17,7 @@
 //! | Each refusal of maps, where all later checks fail too | `maps::refusals::first_of_the_checks` |
 //! | Maps are the same whatever lies under a null or before their first entry; each of their calls with memory, and with any one request refused | `maps::equality::entries_under_a_null`, `maps::equality::rebuilt_maps_are_equal`, `maps::memory::copies_are_equal_or_refused`, `maps::memory::parts_are_told_or_refused` |
 //! | A cut to nothing at the end, of each kind | `arrays::kinds::flat_arrays_end_empty`, `arrays::kinds::nested_arrays_end_empty` |
-//! | Each call of the trait `Array` on each kind, the twelve natives one by one | `calls::native_arrays`, `calls::native_arrays_of_other_kinds`, `calls::flat_arrays`, `calls::nested_arrays`, `calls::null_arrays`, `calls::copies_are_in_their_variant` |
+//! | Each call of the trait `Array` on each kind, the twelve natives one by one | `calls::native_arrays`, `calls::native_arrays_of_other_kinds`, `calls::flat_arrays`, `calls::nested_arrays`, `calls::null_arrays`, `calls::copies_are_in_their_variant`, `calls::copies_of_nested_arrays_are_in_their_variant` |
 //! | Clones, shared arrays and new validities are there where memory is | `copies::clones_are_equal`, `copies::arrays_are_shared`, `copies::lists_take_new_validities`, `copies::pairs_and_records_take_new_validities` |
 //! | What list types tell of their fields | `refusals::fields_of_list_types`, `refusals::fields_of_large_list_types` |
 //! | Unions: of two fields of numbers by the ids 5 and 7; numbers and texts in turn, cut and cut again; one number at an offset | `unions::fields_by_ids`, `unions::a_cut_begins_at_its_place`, `unions::dense_slots_are_there` |
@@ -28,7 +28,7 @@
 //! | The scalar of what a slot picks, also after a cut, and of the pick itself, which tells its field | `unions::scalars::what_is_picked`, `unions::scalars::picks_by_themselves`, `unions::scalars::picks_are_told_apart_by_their_fields` |
 //! | Copies and cuts of unions with memory; what their types tell | `unions::copies_with_memory`, `unions::what_a_type_tells` |
 //! | Windows over arrays and in windows | `arrays::windows::windows_in_windows`, `arrays::reads::lists_of_other_kinds_lend_their_items` |
-//! | What a slot of each kind holds as a scalar, a null among them | `scalars::whole_numbers`, `scalars::wide_numbers_and_spans`, `scalars::nulls`, `scalars::truths_texts_and_bytes`, `scalars::lists_of_each_kind`, `scalars::records` |
+//! | What a slot of each kind holds as a scalar, a null among them | `scalars::whole_numbers`, `scalars::whole_numbers_without_a_sign`, `scalars::wide_numbers_and_spans`, `scalars::nulls`, `scalars::truths_texts_and_bytes`, `scalars::lists_of_each_kind`, `scalars::records` |
 //! | Scalars are equal by data type and slot, whatever the offsets, and whatever lies under a null | `scalars::equality` |
 //! | Copies, values and scalars for which memory is refused leave their array, of lists, records, maps, unions and dictionaries | `scalars::memory::refused_memory`, `arrays::memory::refused_memory`, `maps::memory`, `unions::refused_memory`, `dictionaries::refused_memory` |
 //! | Comparisons that are told: of natives by blocks of 16 and a rest (0, 1, 15, 16, 17, 33 values; the last or the first differs) | `counts::native_values_by_blocks_and_a_rest`, `counts::last_value_of_blocks_and_of_a_rest`, `counts::first_value_of_a_block` |
@@ -37,7 +37,7 @@
 //! | No comparison for other types and lengths, one where the first slot alone is null, two where the second item of bytes differs | `counts::nothing_for_other_lengths_and_types`, `counts::a_null_in_the_first_place`, `counts::a_null_list_in_the_first_place`, `counts::bytes_up_to_the_first_that_differ` |
 //! | What is read of a count stops at 2^64 - 1 | `counts::a_count_stops_at_the_largest_number` |
 //! | Keys 0, 1, 0 over a and b cut to the last two, against keys 1, 0 over a, b, a: equal | `dictionaries::equality::other_keys_of_the_same_values` |
-//! | A null key against a key to a null value, and the same below another key: equal, but only the key is a null place | `dictionaries::equality::a_null_key_and_a_null_value`, `dictionaries::equality::nulls_by_each_key_and_by_the_value` |
+//! | A null key against a key to a null value, and the same below another key: equal, but only the key is a null place | `dictionaries::equality::a_null_key_and_a_null_value`, `dictionaries::equality::nulls_are_no_text`, `dictionaries::equality::nulls_by_each_key_and_by_the_value` |
 //! | Keys that are all null with raw keys 9, 9 over one text: taken, not in range, and never valid, also after a cut | `dictionaries::null_keys_may_be_any_raw_keys` |
 //! | Keys under the type of texts over values of a type of the user's over texts: equal | `dictionaries::equality::values_are_told_by_their_logical_type` |
 //! | A raw key 9 under a null beside a valid key, the keys -1 and 2^64 - 1: refused; each refusal before the next | `dictionaries::refusals::raw_keys_under_nulls_and_negative_ones`, `dictionaries::refusals::each_check_before_the_next` |

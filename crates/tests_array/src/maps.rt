@@ -1,11 +1,11 @@
-//! Arrays of maps by worked entries: what is refused, cut, copied and compared. A failed `expect` ends the test, and what has
-//! a data type is let go in generic helpers and by `drop`, which keeps the proofs short.
+//! Arrays of maps by worked entries: what is refused, cut, copied and compared. What has a data type is asked and let go in
+//! helpers, which keeps the proofs short.
 mod cuts;
 mod equality;
 mod memory;
 mod refusals;
 
-use crate::arrays::{both, buffer, offsets_of, two, type_of, validity};
+use crate::arrays::{both, buffer, holds, holds_in, offsets_of, two, type_of, validity};
 use nest_array::{AnyArray, MapArray, StructArray};
 use nest_flat::utf8::Utf8Array;
 use nest_memory::datatypes::DataType;
@@ -125,22 +125,31 @@ fn has_entry(entries: Result<AnyArray, Error>, key: &str, value: &str) -> bool {
     }
 }
 
+/// The two maps, over three entries.
+fn are_two_maps(alloc: Global, array: &MapArray) -> bool {
+    if array.len() != 2 {
+        return false;
+    }
+    let first = has_entry(array.value(alloc, 0), "a", "b");
+    let second = has_entry(array.value(alloc, 1), "aa", "bb");
+    let offsets = array.offsets().as_slice() == [0, 1, 2].as_slice();
+    first && second && offsets && array.field().len() == 3
+}
+
 #[test]
 fn two_maps_entry_by_entry(rt: HostRuntime) {
-    let array = two_maps(rt.alloc()).expect(&rt, "two maps");
-    assert!(rt; array.len() == 2);
-    assert!(rt; has_entry(array.value(rt.alloc(), 0), "a", "b"));
-    assert!(rt; has_entry(array.value(rt.alloc(), 1), "aa", "bb"));
-    assert!(rt; array.offsets().as_slice() == [0, 1, 2].as_slice());
-    assert!(rt; array.field().len() == 3);
-    drop(array);
+    assert!(rt; holds_in(rt.alloc(), two_maps(rt.alloc()), are_two_maps));
+}
+
+/// The second of two maps lends one entry from place 1.
+fn lend_one(array: &MapArray) -> bool {
+    if array.len() != 2 {
+        return false;
+    }
+    array.window(1).offset() == 1 && array.window(1).len() == 1
 }
 
 #[test]
 fn maps_lend_their_entries(rt: HostRuntime) {
-    let array = two_maps(rt.alloc()).expect(&rt, "two maps");
-    assert!(rt; array.len() == 2);
-    assert!(rt; array.window(1).offset() == 1);
-    assert!(rt; array.window(1).len() == 1);
-    drop(array);
+    assert!(rt; holds(two_maps(rt.alloc()), lend_one));
 }

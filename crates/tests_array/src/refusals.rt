@@ -1,9 +1,12 @@
 //! What constructors of nested arrays refuse, and what types tell of their lists.
-use crate::arrays::{both, buffer, list_type, lists_under, numbers, offsets_of, two, validity};
+use crate::arrays::{
+    both, buffer, holds, list_type, lists_under, numbers, offsets_of, two, validity,
+};
 use nest_array::{AnyArray, FixedSizeListArray, LargeListArray, ListArray, StructArray};
 use nest_flat::utf8::Utf8Array;
 use nest_memory::datatypes::DataType;
 use nest_memory::datatypes::field::Field;
+use nest_memory::datatypes::physical_type::PhysicalType;
 use nest_memory::error::{Error, Spec};
 use std::alloc::Global;
 
@@ -110,25 +113,36 @@ fn children_of_two_lengths_before_the_validity(rt: HostRuntime) {
     assert!(rt; refused == Some(Error::OutOfSpec(Spec::ChildLength)));
 }
 
+/// Lists of nullable items by offsets of 32 bits.
+fn is_type_of_lists(data_type: &DataType) -> bool {
+    let of_lists = data_type.to_physical_type() == PhysicalType::List;
+    if !of_lists {
+        return false;
+    }
+    let field = ListArray::get_child_field(data_type);
+    let item = field.name.as_str() == "item" && field.is_nullable;
+    item && LargeListArray::try_get_child(data_type).err() == WRONG_TYPE
+}
+
 #[test]
 fn fields_of_list_types(rt: HostRuntime) {
     let lists = ListArray::default_datatype(rt.alloc(), DataType::Int32);
-    let data_type = lists.expect(&rt, "a type of lists");
-    let field = ListArray::get_child_field(&data_type);
-    assert!(rt; field.name.as_str() == "item");
-    assert!(rt; field.is_nullable);
-    assert!(rt; LargeListArray::try_get_child(&data_type).err() == WRONG_TYPE);
-    drop(data_type);
+    assert!(rt; holds(lists, is_type_of_lists));
+}
+
+/// Lists of numbers by offsets of 64 bits.
+fn is_type_of_large_lists(data_type: &DataType) -> bool {
+    let of_lists = data_type.to_physical_type() == PhysicalType::LargeList;
+    if !of_lists {
+        return false;
+    }
+    let item = LargeListArray::get_child_field(data_type).name.as_str() == "item";
+    let numbers = matches!(LargeListArray::get_child_type(data_type), DataType::Int32);
+    item && numbers && ListArray::try_get_child(data_type).err() == WRONG_TYPE
 }
 
 #[test]
 fn fields_of_large_list_types(rt: HostRuntime) {
     let large = LargeListArray::default_datatype(rt.alloc(), DataType::Int32);
-    let data_type = large.expect(&rt, "a type of large lists");
-    assert!(rt; LargeListArray::get_child_field(&data_type).name.as_str() == "item");
-    let items = DataType::Int32;
-    assert!(rt; *LargeListArray::get_child_type(&data_type) == items);
-    assert!(rt; ListArray::try_get_child(&data_type).err() == WRONG_TYPE);
-    drop(items);
-    drop(data_type);
+    assert!(rt; holds(large, is_type_of_large_lists));
 }

@@ -85,7 +85,7 @@ fn spell(scalar: &AnyScalar, text: &mut String) -> Result<(), Error> {
 
 /// The spelling of a scalar that a call gave; the scalar is let go. A refused one has none, nor has one that is valid where
 /// it is spelled null, or the other way round.
-pub(crate) fn spelled(alloc: Global, scalar: Result<AnyScalar, Error>) -> String {
+fn spelled(alloc: Global, scalar: Result<AnyScalar, Error>) -> String {
     let mut text = String::new(alloc);
     if let Ok(scalar) = scalar {
         let done = spell(&scalar, &mut text);
@@ -97,9 +97,19 @@ pub(crate) fn spelled(alloc: Global, scalar: Result<AnyScalar, Error>) -> String
     text
 }
 
-/// Slot i of an array that a call gave, as text.
-pub(crate) fn slot<A: Array + Drop>(alloc: Global, array: Result<A, Error>, i: usize) -> String {
-    spelled(alloc, scalar_of(alloc, array, i))
+/// Whether a scalar that a call gave is spelled so; it is let go.
+pub(crate) fn is_spelled(alloc: Global, scalar: Result<AnyScalar, Error>, expected: &str) -> bool {
+    spelled(alloc, scalar).as_str() == expected
+}
+
+/// Whether slot i of an array that a call gave is spelled so.
+pub(crate) fn slot_is<A: Array + Drop>(
+    alloc: Global,
+    array: Result<A, Error>,
+    i: usize,
+    expected: &str,
+) -> bool {
+    is_spelled(alloc, scalar_of(alloc, array, i), expected)
 }
 
 /// One native value, of the type that stands for its kind.
@@ -113,79 +123,84 @@ fn single<T: NativeType>(alloc: Global, value: T) -> Result<PrimitiveArray<T>, E
 #[test]
 fn whole_numbers(rt: HostRuntime) {
     let alloc = rt.alloc();
-    assert!(rt; slot(alloc, single(alloc, -1i8), 0).as_str() == "Int8(-1)");
-    assert!(rt; slot(alloc, single(alloc, -2i16), 0).as_str() == "Int16(-2)");
-    assert!(rt; slot(alloc, single(alloc, -3i32), 0).as_str() == "Int32(-3)");
-    assert!(rt; slot(alloc, single(alloc, -4i64), 0).as_str() == "Int64(-4)");
-    assert!(rt; slot(alloc, single(alloc, 5u8), 0).as_str() == "UInt8(5)");
-    assert!(rt; slot(alloc, single(alloc, 6u16), 0).as_str() == "UInt16(6)");
-    assert!(rt; slot(alloc, single(alloc, 7u32), 0).as_str() == "UInt32(7)");
-    assert!(rt; slot(alloc, single(alloc, 8u64), 0).as_str() == "UInt64(8)");
+    assert!(rt; slot_is(alloc, single(alloc, -1i8), 0, "Int8(-1)"));
+    assert!(rt; slot_is(alloc, single(alloc, -2i16), 0, "Int16(-2)"));
+    assert!(rt; slot_is(alloc, single(alloc, -3i32), 0, "Int32(-3)"));
+    assert!(rt; slot_is(alloc, single(alloc, -4i64), 0, "Int64(-4)"));
+}
+
+#[test]
+fn whole_numbers_without_a_sign(rt: HostRuntime) {
+    let alloc = rt.alloc();
+    assert!(rt; slot_is(alloc, single(alloc, 5u8), 0, "UInt8(5)"));
+    assert!(rt; slot_is(alloc, single(alloc, 6u16), 0, "UInt16(6)"));
+    assert!(rt; slot_is(alloc, single(alloc, 7u32), 0, "UInt32(7)"));
+    assert!(rt; slot_is(alloc, single(alloc, 8u64), 0, "UInt64(8)"));
 }
 
 #[test]
 fn wide_numbers_and_spans(rt: HostRuntime) {
     let alloc = rt.alloc();
-    assert!(rt; slot(alloc, single(alloc, -9i128), 0).as_str() == "Int128(-9)");
-    let wide = slot(alloc, single(alloc, i256::from_words(1, 2)), 0);
-    assert!(rt; wide.as_str() == "Int256(i256 { high: 1, low: 2 })");
+    assert!(rt; slot_is(alloc, single(alloc, -9i128), 0, "Int128(-9)"));
+    let wide = single(alloc, i256::from_words(1, 2));
+    assert!(rt; slot_is(alloc, wide, 0, "Int256(i256 { high: 1, low: 2 })"));
     let days = days_ms {
         days: 3,
         milliseconds: 4,
     };
-    let span = slot(alloc, single(alloc, days), 0);
-    assert!(rt; span.as_str() == "DaysMs(days_ms { days: 3, milliseconds: 4 })");
+    let span = "DaysMs(days_ms { days: 3, milliseconds: 4 })";
+    assert!(rt; slot_is(alloc, single(alloc, days), 0, span));
     let months = months_days_ns {
         months: 5,
         days: 6,
         ns: 7,
     };
-    let span = slot(alloc, single(alloc, months), 0);
-    assert!(rt; span.as_str() == "MonthDayNano(months_days_ns { months: 5, days: 6, ns: 7 })");
+    let span = "MonthDayNano(months_days_ns { months: 5, days: 6, ns: 7 })";
+    assert!(rt; slot_is(alloc, single(alloc, months), 0, span));
 }
 
 #[test]
 fn nulls(rt: HostRuntime) {
     let alloc = rt.alloc();
-    assert!(rt; slot(alloc, NullArray::try_new(DataType::Null, 3), 1).as_str() == "null");
+    assert!(rt; slot_is(alloc, NullArray::try_new(DataType::Null, 3), 1, "null"));
     let bits = Some([true, false].as_slice());
-    assert!(rt; slot(alloc, int32s(alloc, &[1, 2], bits), 0).as_str() == "Int32(1)");
-    assert!(rt; slot(alloc, int32s(alloc, &[1, 2], bits), 1).as_str() == "null");
+    assert!(rt; slot_is(alloc, int32s(alloc, &[1, 2], bits), 0, "Int32(1)"));
+    assert!(rt; slot_is(alloc, int32s(alloc, &[1, 2], bits), 1, "null"));
     let lists = || list_array(alloc, numbers(alloc, &[1, 2, 3]), &[0, 2, 3], bits);
-    assert!(rt; slot(alloc, lists(), 0).as_str() == "[1, 2]");
-    assert!(rt; slot(alloc, lists(), 1).as_str() == "null");
+    assert!(rt; slot_is(alloc, lists(), 0, "[1, 2]"));
+    assert!(rt; slot_is(alloc, lists(), 1, "null"));
 }
 
 #[test]
 fn truths_texts_and_bytes(rt: HostRuntime) {
     let alloc = rt.alloc();
-    assert!(rt; slot(alloc, truths(alloc, &[false, true]), 1).as_str() == "true");
+    assert!(rt; slot_is(alloc, truths(alloc, &[false, true]), 1, "true"));
     let array = texts(alloc, DataType::Utf8, &[0i32, 1, 3]);
-    assert!(rt; slot(alloc, array, 1).as_str() == "'bc'");
+    assert!(rt; slot_is(alloc, array, 1, "'bc'"));
     let array = texts(alloc, DataType::LargeUtf8, &[0i64, 1, 3]);
-    assert!(rt; slot(alloc, array, 0).as_str() == "'a'");
+    assert!(rt; slot_is(alloc, array, 0, "'a'"));
     let array = bytes(alloc, DataType::Binary, &[0i32, 1, 3]);
-    assert!(rt; slot(alloc, array, 1).as_str() == "[98, 99]");
+    assert!(rt; slot_is(alloc, array, 1, "[98, 99]"));
     let array = bytes(alloc, DataType::LargeBinary, &[0i64, 1, 3]);
-    assert!(rt; slot(alloc, array, 0).as_str() == "[97]");
+    assert!(rt; slot_is(alloc, array, 0, "[97]"));
     let array = FixedSizeBinaryArray::from_slice(alloc, [*b"ab", *b"cd"].as_slice());
-    assert!(rt; slot(alloc, array, 1).as_str() == "[99, 100]");
+    assert!(rt; slot_is(alloc, array, 1, "[99, 100]"));
 }
 
 #[test]
 fn lists_of_each_kind(rt: HostRuntime) {
     let alloc = rt.alloc();
-    assert!(rt; slot(alloc, pairs(alloc), 1).as_str() == "[3, 4]");
-    assert!(rt; slot(alloc, by_large_offsets(alloc), 1).as_str() == "[]");
-    assert!(rt; slot(alloc, by_large_offsets(alloc), 2).as_str() == "[2, 3]");
-    assert!(rt; slot(alloc, lists_of_lists(alloc), 1).as_str() == "3 items");
+    assert!(rt; slot_is(alloc, pairs(alloc), 1, "[3, 4]"));
+    assert!(rt; slot_is(alloc, by_large_offsets(alloc), 1, "[]"));
+    assert!(rt; slot_is(alloc, by_large_offsets(alloc), 2, "[2, 3]"));
+    assert!(rt; slot_is(alloc, lists_of_lists(alloc), 1, "3 items"));
 }
 
 #[test]
 fn records(rt: HostRuntime) {
     let alloc = rt.alloc();
     let items = [42, 28, 19, 31];
-    assert!(rt; slot(alloc, four(alloc, &items), 1).as_str() == "false Int32(28) ");
-    assert!(rt; slot(alloc, four(alloc, &items), 2).as_str() == "null");
-    assert!(rt; slot(alloc, four(alloc, &items), 3).as_str() == "true Int32(31) ");
+    assert!(rt; slot_is(alloc, four(alloc, &items), 1, "false Int32(28) "));
+    assert!(rt; slot_is(alloc, four(alloc, &items), 2, "null"));
+    assert!(rt; slot_is(alloc, four(alloc, &items), 3, "true Int32(31) "));
 }

@@ -2,13 +2,16 @@
 mod counts;
 mod scalars;
 
-use crate::arrays::memory::unless_refused;
+use crate::arrays::memory::{refused_or, refused_or_equal, refused_or_shared, refused_or_taken};
 use crate::arrays::{
-    any_list, are_same, both, buffer, list_array, numbers, offsets_of, two, validity,
+    any_list, are_same, both, buffer, holds, holds_changed, holds_in, is_equal, list_array,
+    numbers, offsets_of, two, validity,
 };
-use nest_array::{AnyArray, Array, UnionArray};
+use crate::copies::shared_len;
+use nest_array::{AnyArray, AnyScalar, Array, UnionArray};
 use nest_flat::any_primitive::AnyPrimitive;
 use nest_flat::utf8::Utf8Array;
+use nest_memory::bitmap::immutable::Bitmap;
 use nest_memory::buffer::Buffer;
 use nest_memory::datatypes::field::Field;
 use nest_memory::datatypes::physical_type::PhysicalType;
@@ -217,17 +220,39 @@ const NO_SLOT: Option<Error> = Some(Error::OutOfSpec(Spec::UnionSlot));
 
 const NO_ID: Option<Error> = Some(Error::OutOfSpec(Spec::IdRange));
 
+/// Whether slot i picks its own place of this field, for each of them.
+fn pick_in_place(array: &UnionArray, fields: &[usize]) -> bool {
+    let mut i = 0usize;
+    for field in fields {
+        if pick(array, i) != Some((*field, i)) {
+            return false;
+        }
+        i = i.saturating_add(1);
+    }
+    array.len() == fields.len()
+}
+
+/// Eleven picks, of the first field where the id is 5 and of the second where it is 7.
+fn pick_by_ids(array: &UnionArray) -> bool {
+    pick_in_place(array, [0, 1, 0, 1, 1, 1, 0, 1, 1, 0, 0].as_slice())
+}
+
 #[test]
 fn fields_by_ids(rt: HostRuntime) {
     let alloc = rt.alloc();
     let types = [5, 7, 5, 7, 7, 7, 5, 7, 7, 5, 5].as_slice();
     let items = [0, 1, 2, 3, 4, 5, 6, 7, 8, 9, 10].as_slice();
-    let array = sparse(alloc, Some(&[5, 7]), types, items, items).expect(&rt, "eleven picks");
-    let fields = [0usize, 1, 0, 1, 1, 1, 0, 1, 1, 0, 0];
-    for i in 0..11 {
-        assert!(rt; pick(&array, i) == Some((fields[i], i)));
-    }
-    drop(array);
+    assert!(rt;
+        holds(
+            sparse(alloc, Some(&[5, 7]), types, items, items),
+            pick_by_ids
+        )
+    );
+}
+
+/// The numbers 1 and 4.
+fn pick_one_and_four(array: &UnionArray) -> bool {
+    number_at(array, 0) == Some(1) && number_at(array, 1) == Some(4)
 }
 
 #[test]
@@ -240,22 +265,31 @@ fn ids_out_of_range(rt: HostRuntime) {
     let refused = sparse(alloc, Some(&[-1, 5]), &[5], &[1], &[1]);
     assert!(rt; refusal(refused) == NO_ID);
     let array = sparse(alloc, Some(&[0, 127]), &[0, 127], &[1, 2], &[3, 4]);
-    let array = array.expect(&rt, "two picks");
-    assert!(rt; number_at(&array, 0) == Some(1));
-    assert!(rt; number_at(&array, 1) == Some(4));
-    drop(array);
+    assert!(rt; holds(array, pick_one_and_four));
+}
+
+/// The text b and the number 12.
+fn are_middle(cut: &UnionArray) -> bool {
+    let first = pick(cut, 0) == Some((1, 1)) && is_text_at(cut, 0, "b");
+    first && cut.len() == 2 && number_at(cut, 1) == Some(12)
+}
+
+fn is_twelve(cut: &UnionArray) -> bool {
+    cut.len() == 1 && number_at(cut, 0) == Some(12)
 }
 
 #[test]
 fn a_cut_begins_at_its_place(rt: HostRuntime) {
-    let cut = middle(rt.alloc()).expect(&rt, "two picks");
-    assert!(rt; cut.len() == 2);
-    assert!(rt; pick(&cut, 0) == Some((1, 1)));
-    assert!(rt; is_text_at(&cut, 0, "b"));
-    assert!(rt; number_at(&cut, 1) == Some(12));
-    let cut = cut.sliced(1, 1);
-    assert!(rt; number_at(&cut, 0) == Some(12));
-    drop(cut);
+    assert!(rt; holds(middle(rt.alloc()), are_middle));
+    assert!(rt; holds(cut(middle(rt.alloc()), 1, 1), is_twelve));
+}
+
+fn begin_with_seven(array: &UnionArray) -> bool {
+    array.len() == 2 && number_at(array, 0) == Some(7)
+}
+
+fn is_dense_eight(cut: &UnionArray) -> bool {
+    number_at(cut, 0) == Some(8) && cut.offsets().is_some()
 }
 
 #[test]
@@ -263,23 +297,27 @@ fn dense_slots_are_there(rt: HostRuntime) {
     let alloc = rt.alloc();
     assert!(rt; refusal(single(alloc, None, &[0], &[7], Some(&[1]))) == NO_SLOT);
     assert!(rt; refusal(single(alloc, None, &[0], &[7], Some(&[-1]))) == NO_SLOT);
-    let array = single(alloc, None, &[0, 0], &[8, 7], Some(&[1, 0])).expect(&rt, "two picks");
-    assert!(rt; array.len() == 2);
-    assert!(rt; number_at(&array, 0) == Some(7));
-    let cut = array.sliced(1, 1);
-    assert!(rt; number_at(&cut, 0) == Some(8));
-    assert!(rt; cut.offsets().is_some());
-    drop(cut);
+    let array = single(alloc, None, &[0, 0], &[8, 7], Some(&[1, 0]));
+    assert!(rt; holds(array, begin_with_seven));
+    let array = single(alloc, None, &[0, 0], &[8, 7], Some(&[1, 0]));
+    assert!(rt; holds(cut(array, 1, 1), is_dense_eight));
+}
+
+/// The text a, by the second field.
+fn picks_the_later(array: &UnionArray) -> bool {
+    pick(array, 0) == Some((1, 0)) && is_text_at(array, 0, "a")
 }
 
 #[test]
 fn the_later_of_two_fields_with_one_id(rt: HostRuntime) {
     let alloc = rt.alloc();
     let texts = letters(alloc, &[0, 1], b"a");
-    let array = mixed(alloc, Some(&[5, 5]), &[5], &[1], texts).expect(&rt, "a pick");
-    assert!(rt; pick(&array, 0) == Some((1, 0)));
-    assert!(rt; is_text_at(&array, 0, "a"));
-    drop(array);
+    assert!(rt;
+        holds(
+            mixed(alloc, Some(&[5, 5]), &[5], &[1], texts),
+            picks_the_later
+        )
+    );
 }
 
 #[test]
@@ -289,12 +327,14 @@ fn each_field_covers_a_sparse_union(rt: HostRuntime) {
     assert!(rt; refusal(mixed(alloc, None, &[0, 0], &[1, 2], texts)) == NO_SLOT);
 }
 
+fn picks_seven(array: &UnionArray) -> bool {
+    number_at(array, 0) == Some(7)
+}
+
 #[test]
 fn types_at_the_ends(rt: HostRuntime) {
     let alloc = rt.alloc();
-    let array = single(alloc, Some(&[127]), &[127], &[7], None).expect(&rt, "a pick");
-    assert!(rt; number_at(&array, 0) == Some(7));
-    drop(array);
+    assert!(rt; holds(single(alloc, Some(&[127]), &[127], &[7], None), picks_seven));
     assert!(rt; refusal(single(alloc, Some(&[127]), &[-1], &[7], None)) == NO_TYPE);
     assert!(rt; refusal(single(alloc, None, &[-1], &[7], None)) == NO_TYPE);
     assert!(rt; refusal(single(alloc, None, &[1], &[7], None)) == NO_TYPE);
@@ -416,86 +456,111 @@ fn unions_of_unions(rt: HostRuntime) {
     assert!(rt; are_same(last, cut(nested(alloc, &[1, 1]), 1, 1)) == Ok(true));
 }
 
-/// Whether a call gave an array that is equal; it is let go.
-fn is_given<A: PartialEq + Drop>(given: Result<A, Error>, array: &A) -> bool {
-    match given {
-        Ok(given) => {
-            let same = given == *array;
-            drop(given);
-            same
-        }
-        Err(_) => false,
+/// A cut of the second and the third slot, neither of them null.
+fn are_two_picks(cut: &AnyArray) -> bool {
+    cut.len() == 2 && !cut.is_null(0)
+}
+
+/// Whether a copy and a cut of four picks are there.
+fn are_copied_and_cut(alloc: Global, array: &UnionArray) -> bool {
+    if array.len() != 4 {
+        return false;
     }
+    let copied = is_equal(array.clone(alloc), array);
+    copied && holds(Array::sliced(array, alloc, 1, 2), are_two_picks)
+}
+
+/// Picks in their variant and their copy: none is null, and they have no validity.
+fn have_no_null(alloc: Global, any: &AnyArray) -> bool {
+    let copied = is_equal(any.clone(alloc), any);
+    copied && any.null_count() == 0 && any.validity().is_none()
+}
+
+fn boxed_copy(alloc: Global) -> Result<AnyArray, Error> {
+    let array = in_turn(alloc)?;
+    let copy = array.to_boxed(alloc);
+    drop(array);
+    copy
+}
+
+fn shared_picks(alloc: Global) -> Result<usize, Error> {
+    shared_len(in_turn(alloc)?.arced(alloc))
 }
 
 #[test]
 fn copies_with_memory(rt: HostRuntime) {
     let alloc = rt.alloc();
-    let array = in_turn(alloc).expect(&rt, "four picks");
-    assert!(rt; is_given(array.clone(alloc), &array));
-    let any = array.to_boxed(alloc).expect(&rt, "a copy");
-    assert!(rt; is_given(any.clone(alloc), &any));
-    assert!(rt; any.null_count() == 0);
-    assert!(rt; any.validity().is_none());
-    drop(any);
-    assert!(rt; array.len() == 4);
-    let cut = Array::sliced(&array, alloc, 1, 2).expect(&rt, "a cut");
-    assert!(rt; cut.len() == 2);
-    assert!(rt; !cut.is_null(0));
-    drop(cut);
-    let shared = array.arced(alloc).expect(&rt, "a shared array");
-    assert!(rt; shared.len() == 4);
-    drop(shared);
+    assert!(rt; holds_in(alloc, in_turn(alloc), are_copied_and_cut));
+    assert!(rt; holds_in(alloc, boxed_copy(alloc), have_no_null));
+    assert!(rt; shared_picks(alloc) == Ok(4));
+}
+
+fn is_valid(scalar: &AnyScalar) -> bool {
+    scalar.is_valid()
+}
+
+/// Whether a copy, the scalar of a pick and a shared array are there or refused, and the array stays.
+fn keep_or_share(alloc: Global, array: UnionArray) -> bool {
+    let copied = refused_or_equal(array.clone(alloc), &array);
+    let mut scalar = false;
+    if array.len() == 4 {
+        scalar = refused_or(array.value(alloc, 1), is_valid);
+    }
+    let shared = refused_or_shared(array.arced(alloc), 4);
+    copied && scalar && shared
 }
 
 // The test passes whichever request for memory is refused.
 #[test]
 fn refused_memory(rt: HostRuntime) {
-    let Some(array) = unless_refused(&rt, in_turn(rt.alloc())) else {
-        return;
-    };
-    if let Some(copy) = unless_refused(&rt, array.clone(rt.alloc())) {
-        assert!(rt; copy == array);
-        drop(copy);
-    }
-    assert!(rt; array.len() == 4);
-    if let Some(scalar) = unless_refused(&rt, array.value(rt.alloc(), 1)) {
-        assert!(rt; scalar.is_valid());
-        drop(scalar);
-    }
-    if let Some(shared) = unless_refused(&rt, array.arced(rt.alloc())) {
-        assert!(rt; shared.len() == 4);
-        drop(shared);
-    }
+    assert!(rt; refused_or_taken(rt.alloc(), in_turn(rt.alloc()), keep_or_share));
+}
+
+const NO_VALIDITY: Error = Error::InvalidArgumentError(Argument::NoValidity);
+
+fn take_not_even_none(alloc: Global, array: &UnionArray) -> bool {
+    array.with_validity(alloc, None).err() == Some(NO_VALIDITY)
+}
+
+/// Whether four bits are refused, and four picks stay.
+fn refuse_bits(_alloc: Global, parts: &mut (AnyArray, Option<Bitmap>)) -> bool {
+    let (any, bits) = parts;
+    any.set_validity(bits.take()).err() == Some(NO_VALIDITY) && any.len() == 4
 }
 
 #[test]
 fn a_union_takes_no_validity(rt: HostRuntime) {
     let alloc = rt.alloc();
-    let refused = Some(Error::InvalidArgumentError(Argument::NoValidity));
-    let array = in_turn(alloc).expect(&rt, "four picks");
-    assert!(rt; array.with_validity(alloc, None).err() == refused);
-    let bits = validity(alloc, Some(&[true; 4])).expect(&rt, "four bits");
-    let mut any = array.boxed();
-    assert!(rt; any.set_validity(bits).err() == refused);
-    assert!(rt; any.len() == 4);
-    drop(any);
+    assert!(rt; holds_in(alloc, in_turn(alloc), take_not_even_none));
+    let any = in_turn(alloc).map(|array| array.boxed());
+    let parts = both(any, validity(alloc, Some(&[true; 4])));
+    assert!(rt; holds_changed(alloc, parts, refuse_bits));
+}
+
+/// A type of sparse unions of two fields, and four picks.
+fn are_sparse_picks(array: &UnionArray) -> bool {
+    let data_type = array.data_type();
+    let of_unions = data_type.to_physical_type() == PhysicalType::Union;
+    if !of_unions {
+        return false;
+    }
+    let told = UnionArray::is_sparse(data_type) && UnionArray::get_fields(data_type).len() == 2;
+    told && array.types().len() == 4 && array.fields().len() == 2
+}
+
+/// A type of dense unions.
+fn is_dense(array: &UnionArray) -> bool {
+    let data_type = array.data_type();
+    let of_unions = data_type.to_physical_type() == PhysicalType::Union;
+    if !of_unions {
+        return false;
+    }
+    !UnionArray::is_sparse(data_type)
 }
 
 #[test]
 fn what_a_type_tells(rt: HostRuntime) {
     let alloc = rt.alloc();
-    let array = in_turn(alloc).expect(&rt, "four picks");
-    let data_type = array.data_type();
-    assert!(rt; data_type.to_physical_type() == PhysicalType::Union);
-    assert!(rt; UnionArray::is_sparse(data_type));
-    assert!(rt; UnionArray::get_fields(data_type).len() == 2);
-    assert!(rt; array.types().len() == 4);
-    assert!(rt; array.fields().len() == 2);
-    drop(array);
-    let array = single(alloc, None, &[0], &[7], Some(&[0])).expect(&rt, "a pick");
-    let data_type = array.data_type();
-    assert!(rt; data_type.to_physical_type() == PhysicalType::Union);
-    assert!(rt; !UnionArray::is_sparse(data_type));
-    drop(array);
+    assert!(rt; holds(in_turn(alloc), are_sparse_picks));
+    assert!(rt; holds(single(alloc, None, &[0], &[7], Some(&[0])), is_dense));
 }

@@ -1,43 +1,45 @@
 //! Dictionaries of nulls: their keys are null, over one null value.
-use crate::types::{dictionary, extension, list, none, nulls, records, refusal, two};
+use crate::types::{
+    dictionary, extension, has_or_refused, holds, is_of, list, none, nulls, records, refusal, two,
+};
 use nest_array::{AnyArray, DictionaryArray};
 use nest_memory::datatypes::{DataType, IntegerType};
 use nest_memory::error::{Error, Spec};
-use std::alloc::{AllocError, Global};
+use std::alloc::Global;
 
 fn lists_by_keys(alloc: Global) -> Result<DataType, Error> {
     dictionary(alloc, IntegerType::Int8, list(alloc, Ok(DataType::Int32)))
 }
 
-fn dictionary_of(array: Result<AnyArray, Error>) -> Option<DictionaryArray> {
+/// Two null keys over one null value.
+fn are_two_null_keys(array: &AnyArray) -> bool {
     match array {
-        Ok(AnyArray::Dictionary(array)) => Some(array),
-        Ok(other) => {
-            drop(other);
-            None
+        AnyArray::Dictionary(array) => {
+            let keys = array.len() == 2 && array.null_count() == 2;
+            keys && is_of(array.values(), 1, 1)
         }
-        Err(_error) => None,
+        _ => false,
     }
 }
 
 #[test]
 fn null_keys_over_one_null_value(rt: HostRuntime) {
     let made = nulls(rt.alloc(), lists_by_keys(rt.alloc()), 2);
-    let array = dictionary_of(made).expect(&rt, "a dictionary");
-    assert!(rt; array.len() == 2);
-    assert!(rt; array.null_count() == 2);
-    assert!(rt; array.values().len() == 1);
-    assert!(rt; array.values().null_count() == 1);
-    drop(array);
+    assert!(rt; holds(made, are_two_null_keys));
+}
+
+/// No key and no value.
+fn is_empty_dictionary(array: &AnyArray) -> bool {
+    match array {
+        AnyArray::Dictionary(array) => array.len() == 0 && array.values().len() == 0,
+        _ => false,
+    }
 }
 
 #[test]
 fn an_empty_dictionary_has_no_value(rt: HostRuntime) {
     let made = none(rt.alloc(), extension(rt.alloc(), lists_by_keys(rt.alloc())));
-    let array = dictionary_of(made).expect(&rt, "a dictionary");
-    assert!(rt; array.len() == 0);
-    assert!(rt; array.values().len() == 0);
-    drop(array);
+    assert!(rt; holds(made, is_empty_dictionary));
 }
 
 #[test]
@@ -76,12 +78,5 @@ fn lists_and_names(alloc: Global) -> Result<DataType, Error> {
 // Passes whichever request for memory is refused.
 #[test]
 fn refused_memory(rt: HostRuntime) {
-    match nulls(rt.alloc(), lists_and_names(rt.alloc()), 3) {
-        Ok(array) => {
-            assert!(rt; array.len() == 3);
-            assert!(rt; array.null_count() == 3);
-            drop(array);
-        }
-        Err(error) => assert!(rt; error == Error::Memory(AllocError)),
-    }
+    assert!(rt; has_or_refused(nulls(rt.alloc(), lists_and_names(rt.alloc()), 3), 3, 3));
 }

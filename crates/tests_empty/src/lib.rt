@@ -15,7 +15,7 @@
 //! | Lists and texts of 2^64 - 1 slots have too many offsets | `refusals::one_offset_more_than_slots` |
 //! | 2^64 - 1 slots of nulls are counted | `values::as_many_nulls_as_a_length_can_be` |
 //! | Keys of 8 bits over lists of numbers, two slots: two null keys over one null value; none: no value | `dictionaries::null_keys_over_one_null_value`, `dictionaries::an_empty_dictionary_has_no_value` |
-//! | 128 fields, two ids of one field, the id 200 | `unions::refused_types` |
+//! | 128 fields, two ids of one field, the id 200 | `unions::refused_types`, `unions::refused_ids` |
 //! | Entries that are no records of two fields, also where they are an extension of such; extensions at every level | `refusals::entries_of_maps`, `values::extensions_at_every_level` |
 //! | The constructors of each kind refuse another kind first | `kinds` |
 //! | Nothing is lost where any one request for memory is refused | `values::refused_memory`, `dictionaries::refused_memory` |

@@ -1,9 +1,10 @@
-//! Data types, each made of parts that may be refused.
+//! Data types, each made of parts that may be refused, and what is asked of arrays of them. An array is asked and let go in
+//! helpers, so that none is left where an assertion may end the test: that keeps the proofs short.
 use nest_array::AnyArray;
 use nest_memory::datatypes::field::Field;
 use nest_memory::datatypes::{DataType, IntegerType, UnionMode};
 use nest_memory::error::Error;
-use std::alloc::Global;
+use std::alloc::{AllocError, Global};
 
 /// A field of this type.
 pub fn field(alloc: Global, data_type: Result<DataType, Error>) -> Result<Field, Error> {
@@ -122,5 +123,66 @@ pub fn none(alloc: Global, data_type: Result<DataType, Error>) -> Result<AnyArra
     match data_type {
         Ok(data_type) => nest_array::new_empty_array(alloc, data_type),
         Err(error) => Err(error),
+    }
+}
+
+/// Both values, or the first refusal.
+pub fn both<A: Drop, B: Drop>(a: Result<A, Error>, b: Result<B, Error>) -> Result<(A, B), Error> {
+    Ok((a?, b?))
+}
+
+/// Whether a call gave a value of which this holds; the value is let go.
+pub fn holds<A: Drop, F: FnOnce(&A) -> bool>(given: Result<A, Error>, ask: F) -> bool
+    requires { F.IsAlwaysCallable ask }
+{
+    match given {
+        Ok(value) => {
+            let found = ask(&value);
+            drop(value);
+            found
+        }
+        Err(_) => false,
+    }
+}
+
+/// The same of what takes memory.
+pub fn holds_in<A: Drop, F: FnOnce(Global, &A) -> bool>(
+    alloc: Global,
+    given: Result<A, Error>,
+    ask: F,
+) -> bool
+    requires { F.IsAlwaysCallable ask }
+{
+    match given {
+        Ok(value) => {
+            let found = ask(alloc, &value);
+            drop(value);
+            found
+        }
+        Err(_) => false,
+    }
+}
+
+pub fn is_of(array: &AnyArray, length: usize, nulls: usize) -> bool {
+    array.len() == length && array.null_count() == nulls
+}
+
+/// Whether a call gave an array of so many slots and nulls, which is let go.
+pub fn has(array: Result<AnyArray, Error>, length: usize, nulls: usize) -> bool {
+    match array {
+        Ok(array) => {
+            let same = is_of(&array, length, nulls);
+            drop(array);
+            same
+        }
+        Err(_) => false,
+    }
+}
+
+/// The same, or memory was refused.
+pub fn has_or_refused(array: Result<AnyArray, Error>, length: usize, nulls: usize) -> bool {
+    match array {
+        Ok(array) => has(Ok(array), length, nulls),
+        Err(error) => error == Error::Memory(AllocError),
     }
 }

@@ -1,5 +1,7 @@
 //! Unions of nulls: which field they pick, and which are refused.
-use crate::types::{extension, list, none, nulls, numbers, one, refusal, two, union};
+use crate::types::{
+    extension, holds, holds_in, list, none, nulls, numbers, one, refusal, two, union,
+};
 use nest_array::{AnyArray, AnyScalar, UnionArray};
 use nest_memory::datatypes::{DataType, UnionMode};
 use nest_memory::error::{Error, Spec};
@@ -8,23 +10,6 @@ use std::alloc::Global;
 fn number_or_text(alloc: Global, ids: Option<&[i32]>) -> Result<DataType, Error> {
     let fields = two(alloc, Ok(DataType::Int32), Ok(DataType::Utf8));
     union(alloc, fields, ids, UnionMode::Sparse)
-}
-
-fn as_union(array: AnyArray) -> Option<UnionArray> {
-    match array {
-        AnyArray::Union(union) => Some(union),
-        other => {
-            drop(other);
-            None
-        }
-    }
-}
-
-fn union_of(array: Result<AnyArray, Error>) -> Option<UnionArray> {
-    match array {
-        Ok(array) => as_union(array),
-        Err(_error) => None,
-    }
 }
 
 // The type of what slot i picks, where it is a null.
@@ -44,42 +29,69 @@ fn is_null_of(scalar: AnyScalar, data_type: &DataType) -> bool {
     null
 }
 
+/// Two picks of null numbers by the type 5.
+fn pick_null_numbers(alloc: Global, array: &AnyArray) -> bool {
+    match array {
+        AnyArray::Union(union) => {
+            let types = union.types().as_slice() == [5, 5].as_slice();
+            let sparse = union.null_count() == 0 && union.offsets().is_none();
+            let first = picks_null_of(alloc, union, 0, &DataType::Int32);
+            let second = picks_null_of(alloc, union, 1, &DataType::Int32);
+            types && sparse && first && second
+        }
+        _ => false,
+    }
+}
+
 #[test]
 fn the_first_id_is_the_type(rt: HostRuntime) {
     let made = nulls(rt.alloc(), number_or_text(rt.alloc(), Some(&[5, 7])), 2);
-    let union = union_of(made).expect(&rt, "a union");
-    assert!(rt; union.types().as_slice() == [5, 5].as_slice());
-    assert!(rt; union.null_count() == 0);
-    assert!(rt; union.offsets().is_none());
-    assert!(rt; picks_null_of(rt.alloc(), &union, 0, &DataType::Int32));
-    assert!(rt; picks_null_of(rt.alloc(), &union, 1, &DataType::Int32));
-    drop(union);
+    assert!(rt; holds_in(rt.alloc(), made, pick_null_numbers));
+}
+
+/// What both slots pick.
+fn picks(union: &UnionArray) -> Option<((usize, usize), (usize, usize))> {
+    if union.len() != 2 {
+        return None;
+    }
+    Some((union.index(0), union.index(1)))
+}
+
+/// Two picks of null texts by the type 5.
+fn pick_null_texts(alloc: Global, array: &AnyArray) -> bool {
+    match array {
+        AnyArray::Union(union) => {
+            let types = union.types().as_slice() == [5, 5].as_slice();
+            let places = picks(union) == Some(((1, 0), (1, 1)));
+            let second = picks_null_of(alloc, union, 1, &DataType::Utf8);
+            types && places && second
+        }
+        _ => false,
+    }
 }
 
 #[test]
 fn the_later_of_two_fields_with_one_id(rt: HostRuntime) {
     let made = nulls(rt.alloc(), number_or_text(rt.alloc(), Some(&[5, 5])), 2);
-    let union = union_of(made).expect(&rt, "a union");
-    assert!(rt; union.types().as_slice() == [5, 5].as_slice());
-    if union.len() == 2 {
-        assert!(rt; union.index(0) == (1, 0));
-        assert!(rt; union.index(1) == (1, 1));
+    assert!(rt; holds_in(rt.alloc(), made, pick_null_texts));
+}
+
+/// A pick of a null number by the type 0.
+fn picks_the_first_field(alloc: Global, array: &AnyArray) -> bool {
+    match array {
+        AnyArray::Union(union) => {
+            let types = union.types().as_slice() == [0].as_slice();
+            let first = picks_null_of(alloc, union, 0, &DataType::Int32);
+            types && first
+        }
+        _ => false,
     }
-    assert!(rt; picks_null_of(rt.alloc(), &union, 1, &DataType::Utf8));
-    drop(union);
 }
 
 #[test]
 fn without_ids_the_first_field(rt: HostRuntime) {
-    let made = nulls(
-        rt.alloc(),
-        extension(rt.alloc(), number_or_text(rt.alloc(), None)),
-        1,
-    );
-    let union = union_of(made).expect(&rt, "a union");
-    assert!(rt; union.types().as_slice() == [0].as_slice());
-    assert!(rt; picks_null_of(rt.alloc(), &union, 0, &DataType::Int32));
-    drop(union);
+    let of = extension(rt.alloc(), number_or_text(rt.alloc(), None));
+    assert!(rt; holds_in(rt.alloc(), nulls(rt.alloc(), of, 1), picks_the_first_field));
 }
 
 #[test]
@@ -94,26 +106,32 @@ fn without_fields(rt: HostRuntime) {
     assert!(rt; refusal(nulls(alloc, empty, 1)) == nothing);
 }
 
+/// The type of dense unions of one field of numbers.
+fn dense_numbers(alloc: Global) -> Result<DataType, Error> {
+    let fields = one(alloc, Ok(DataType::Int32));
+    union(alloc, fields, None, UnionMode::Dense)
+}
+
+/// Two slots at 0 and 1.
+fn lie_at_zero_and_one(array: &AnyArray) -> bool {
+    match array {
+        AnyArray::Union(union) => {
+            let types = union.types().as_slice() == [0, 0].as_slice();
+            match union.offsets() {
+                Some(offsets) => types && offsets.as_slice() == [0, 1].as_slice(),
+                None => false,
+            }
+        }
+        _ => false,
+    }
+}
+
 #[test]
 fn dense_slots_one_after_another(rt: HostRuntime) {
     let alloc = rt.alloc();
-    let dense = union(
-        alloc,
-        one(alloc, Ok(DataType::Int32)),
-        None,
-        UnionMode::Dense,
-    );
-    assert!(rt; refusal(nulls(alloc, dense, 2147483649)) == Some(Error::Overflow));
-    let dense = union(
-        alloc,
-        one(alloc, Ok(DataType::Int32)),
-        None,
-        UnionMode::Dense,
-    );
-    let union = union_of(nulls(alloc, dense, 2)).expect(&rt, "a union");
-    assert!(rt; union.types().as_slice() == [0, 0].as_slice());
-    assert!(rt; union.offsets().map(|offsets| offsets.as_slice()) == Some([0, 1].as_slice()));
-    drop(union);
+    let many = nulls(alloc, dense_numbers(alloc), 2147483649);
+    assert!(rt; refusal(many) == Some(Error::Overflow));
+    assert!(rt; holds(nulls(alloc, dense_numbers(alloc), 2), lie_at_zero_and_one));
 }
 
 #[test]
@@ -123,6 +141,11 @@ fn refused_types(rt: HostRuntime) {
     assert!(rt; refusal(none(alloc, many)) == Some(Error::OutOfSpec(Spec::TooManyFields)));
     let most = union(alloc, numbers(alloc, 127), None, UnionMode::Sparse);
     assert!(rt; refusal(nulls(alloc, most, 1)) == None);
+}
+
+#[test]
+fn refused_ids(rt: HostRuntime) {
+    let alloc = rt.alloc();
     let ids = union(alloc, numbers(alloc, 1), Some(&[1, 2]), UnionMode::Sparse);
     assert!(rt; refusal(nulls(alloc, ids, 0)) == Some(Error::OutOfSpec(Spec::IdCount)));
     let ids = union(alloc, numbers(alloc, 1), Some(&[200]), UnionMode::Sparse);

@@ -1,12 +1,13 @@
 //! What null and empty arrays hold.
 use crate::types::{
-    extension, large_list, list, map, none, nulls, records, refusal, sized, two, union,
+    both, extension, has, has_or_refused, holds, is_of, large_list, list, map, none, nulls,
+    records, refusal, sized, two, union,
 };
 use nest_array::equal::equal_counted;
 use nest_array::{AnyArray, Steps};
 use nest_memory::datatypes::{DataType, UnionMode};
 use nest_memory::error::Error;
-use std::alloc::{AllocError, Global};
+use std::alloc::Global;
 
 fn pair(alloc: Global) -> Result<DataType, Error> {
     records(two(alloc, Ok(DataType::Utf8), Ok(DataType::Int64)))
@@ -42,24 +43,19 @@ fn deep_extension(alloc: Global) -> Result<DataType, Error> {
     )
 }
 
-fn is_of(array: &AnyArray, length: usize, nulls: usize) -> bool {
-    array.len() == length && array.null_count() == nulls
+fn are_three_dates(dates: &AnyArray) -> bool {
+    is_of(dates, 3, 3) && matches!(dates.data_type(), DataType::Date32)
 }
 
 #[test]
 fn three_dates(rt: HostRuntime) {
-    let dates = nulls(rt.alloc(), Ok(DataType::Date32), 3).expect(&rt, "dates");
-    assert!(rt; is_of(&dates, 3, 3));
-    assert!(rt; *dates.data_type() == DataType::Date32);
-    drop(dates);
+    assert!(rt; holds(nulls(rt.alloc(), Ok(DataType::Date32), 3), are_three_dates));
 }
 
 #[test]
 fn as_many_nulls_as_a_length_can_be(rt: HostRuntime) {
-    let alloc = rt.alloc();
-    let most = nulls(alloc, Ok(DataType::Null), usize::MAX).expect(&rt, "nulls");
-    assert!(rt; is_of(&most, usize::MAX, usize::MAX));
-    drop(most);
+    let most = nulls(rt.alloc(), Ok(DataType::Null), usize::MAX);
+    assert!(rt; has(most, usize::MAX, usize::MAX));
 }
 
 // Whether the array is of fixed-size lists over a child of so many items.
@@ -70,14 +66,15 @@ fn holds_items(array: &AnyArray, items: usize) -> bool {
     }
 }
 
+fn is_the_longest(one: &AnyArray) -> bool {
+    is_of(one, 1, 1) && holds_items(one, usize::MAX)
+}
+
 #[test]
 fn the_longest_product(rt: HostRuntime) {
     let alloc = rt.alloc();
     let of = sized(alloc, Ok(DataType::Null), usize::MAX);
-    let one = nulls(alloc, of, 1).expect(&rt, "one list");
-    assert!(rt; is_of(&one, 1, 1));
-    assert!(rt; holds_items(&one, usize::MAX));
-    drop(one);
+    assert!(rt; holds(nulls(alloc, of, 1), is_the_longest));
     let of = sized(alloc, Ok(DataType::Null), usize::MAX);
     assert!(rt; refusal(nulls(alloc, of, 2)) == Some(Error::Overflow));
 }
@@ -90,17 +87,21 @@ fn child_is_empty(array: &AnyArray) -> bool {
     }
 }
 
+fn are_five_over_nothing(array: &AnyArray) -> bool {
+    is_of(array, 5, 5) && child_is_empty(array)
+}
+
 #[test]
 fn below_lists_and_maps_lies_nothing(rt: HostRuntime) {
     let alloc = rt.alloc();
-    let lists = nulls(alloc, list(alloc, Ok(DataType::Int32)), 5).expect(&rt, "lists");
-    assert!(rt; is_of(&lists, 5, 5));
-    assert!(rt; child_is_empty(&lists));
-    drop(lists);
-    let maps = nulls(alloc, map(alloc, pair(alloc)), 5).expect(&rt, "maps");
-    assert!(rt; is_of(&maps, 5, 5));
-    assert!(rt; child_is_empty(&maps));
-    drop(maps);
+    let lists = nulls(alloc, list(alloc, Ok(DataType::Int32)), 5);
+    assert!(rt; holds(lists, are_five_over_nothing));
+    assert!(rt;
+        holds(
+            nulls(alloc, map(alloc, pair(alloc)), 5),
+            are_five_over_nothing
+        )
+    );
 }
 
 // Whether the slots of an array from its end are those of the empty one, which takes no comparison.
@@ -114,42 +115,43 @@ fn ends_empty(array: AnyArray, empty: AnyArray) -> bool {
     same
 }
 
+/// The same of two nulls and of the empty array, which calls gave.
+fn both_end_empty(array: Result<AnyArray, Error>, empty: Result<AnyArray, Error>) -> bool {
+    match both(array, empty) {
+        Ok((array, empty)) => ends_empty(array, empty),
+        Err(_) => false,
+    }
+}
+
 #[test]
 fn a_cut_to_nothing_is_the_empty_array(rt: HostRuntime) {
     let alloc = rt.alloc();
-    let array = nulls(alloc, deep(alloc), 2).expect(&rt, "two nulls");
-    let empty = none(alloc, deep(alloc)).expect(&rt, "none");
-    assert!(rt; ends_empty(array, empty));
-    let array = nulls(alloc, deep_extension(alloc), 2).expect(&rt, "two nulls");
-    let empty = none(alloc, deep_extension(alloc)).expect(&rt, "none");
-    assert!(rt; ends_empty(array, empty));
+    let array = nulls(alloc, deep(alloc), 2);
+    assert!(rt; both_end_empty(array, none(alloc, deep(alloc))));
+    let array = nulls(alloc, deep_extension(alloc), 2);
+    assert!(rt; both_end_empty(array, none(alloc, deep_extension(alloc))));
+}
+
+// Whether two valid slots have this type.
+fn are_two_of(parts: &(AnyArray, DataType)) -> bool {
+    let (array, same_type) = parts;
+    is_of(array, 2, 0) && *array.data_type() == *same_type
 }
 
 #[test]
 fn extensions_at_every_level(rt: HostRuntime) {
-    let array = nulls(rt.alloc(), deep_extension(rt.alloc()), 2).expect(&rt, "an extension");
-    assert!(rt; is_of(&array, 2, 0));
-    let same_type = deep_extension(rt.alloc()).expect(&rt, "an extension");
-    assert!(rt; *array.data_type() == same_type);
-    drop(same_type);
-    drop(array);
+    let alloc = rt.alloc();
+    let array = nulls(alloc, deep_extension(alloc), 2);
+    assert!(rt; holds(both(array, deep_extension(alloc)), are_two_of));
 }
 
 #[test]
 fn every_kind_below_records(rt: HostRuntime) {
-    let array = nulls(rt.alloc(), deep(rt.alloc()), 3).expect(&rt, "records");
-    assert!(rt; is_of(&array, 3, 3));
-    drop(array);
+    assert!(rt; has(nulls(rt.alloc(), deep(rt.alloc()), 3), 3, 3));
 }
 
 // Passes whichever request for memory is refused.
 #[test]
 fn refused_memory(rt: HostRuntime) {
-    match nulls(rt.alloc(), deep(rt.alloc()), 3) {
-        Ok(array) => {
-            assert!(rt; is_of(&array, 3, 3));
-            drop(array);
-        }
-        Err(error) => assert!(rt; error == Error::Memory(AllocError)),
-    }
+    assert!(rt; has_or_refused(nulls(rt.alloc(), deep(rt.alloc()), 3), 3, 3));
 }

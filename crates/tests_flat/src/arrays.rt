@@ -1,5 +1,5 @@
-//! Flat arrays by their worked slots. A failed `expect` ends the test, and what has a data type is let go in generic
-//! helpers and by `drop`, which keeps the proofs short.
+//! Flat arrays by their worked slots. Helpers ask an array what a test wants of it and let it go, so that no value with a
+//! data type is left where an assertion may end the test: that keeps the proofs short.
 mod blocks;
 mod cuts;
 mod iterators;
@@ -9,6 +9,7 @@ mod nulls;
 mod refusals;
 mod same;
 
+use nest_flat::any_primitive::{AnyPrimitive, NativeArray};
 use nest_flat::binary::BinaryArray;
 use nest_flat::boolean::BooleanArray;
 use nest_flat::primitive::PrimitiveArray;
@@ -24,6 +25,34 @@ use std::alloc::Global;
 /// Both values, or the first refusal.
 fn both<A: Drop, B: Drop>(a: Result<A, Error>, b: Result<B, Error>) -> Result<(A, B), Error> {
     Ok((a?, b?))
+}
+
+/// Whether a call gave a value of which this holds; the value is let go.
+fn holds<A: Drop, F: FnOnce(&A) -> bool>(given: Result<A, Error>, ask: F) -> bool
+    requires { F.IsAlwaysCallable ask }
+{
+    match given {
+        Ok(value) => {
+            let found = ask(&value);
+            drop(value);
+            found
+        }
+        Err(_) => false,
+    }
+}
+
+/// The same of what changes the value.
+fn holds_changed<A: Drop, F: FnOnce(&mut A) -> bool>(given: Result<A, Error>, ask: F) -> bool
+    requires { F.IsAlwaysCallable ask }
+{
+    match given {
+        Ok(mut value) => {
+            let found = ask(&mut value);
+            drop(value);
+            found
+        }
+        Err(_) => false,
+    }
 }
 
 fn buffer<T: Copy + Drop>(alloc: Global, items: &[T]) -> Result<Buffer<T>, Error> {
@@ -54,6 +83,19 @@ fn numbers(
             drop(data_type);
             Err(error)
         }
+    }
+}
+
+/// Numbers as an array of any native kind.
+fn any_numbers(alloc: Global, items: &[i32], bits: Option<&[bool]>) -> Result<AnyPrimitive, Error> {
+    numbers(alloc, DataType::Int32, items, bits).map(|numbers| i32::wrap(numbers))
+}
+
+/// How many bits a validity has.
+fn bits_in(validity: Option<&Bitmap>) -> Option<usize> {
+    match validity {
+        Some(bits) => Some(bits.len()),
+        None => None,
     }
 }
 

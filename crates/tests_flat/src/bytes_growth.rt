@@ -126,6 +126,47 @@ fn bytes_are_frozen(rt: HostRuntime) -> Result<(), Fail> {
     Ok(())
 }
 
+/// How many slots and bytes a builder has.
+fn sizes(texts: &MutableUtf8Array<i32>) -> (usize, usize) {
+    (texts.len(), texts.values().len())
+}
+
+/// Whether an item is taken, or refused for want of memory with nothing changed.
+fn is_pushed_or_refused(texts: &mut MutableUtf8Array<i32>, item: Option<&str>) -> bool {
+    let (slots, bytes) = sizes(texts);
+    let more = match item {
+        Some(text) => text.len(),
+        None => 0,
+    };
+    match texts.try_push(item) {
+        Ok(()) => sizes(texts) == (slots.saturating_add(1), bytes.saturating_add(more)),
+        Err(error) => error == Error::Memory(AllocError) && sizes(texts) == (slots, bytes),
+    }
+}
+
+/// The same of twelve items, every third of them a null.
+fn are_pushed_or_refused(texts: &mut MutableUtf8Array<i32>) -> bool {
+    for turn in 0..12u32 {
+        let item = if turn % 3 == 2 { None } else { Some("text") };
+        if !is_pushed_or_refused(texts, item) {
+            return false;
+        }
+    }
+    true
+}
+
+/// The same of three items, all of them or none.
+fn are_extended_or_refused(alloc: Global, texts: &mut MutableUtf8Array<i32>) -> bool {
+    let before = sizes(texts);
+    let Ok(items) = vec![in alloc; Some("a"), None, Some("b")] else {
+        return true;
+    };
+    match texts.try_extend(items) {
+        Ok(()) => true,
+        Err(error) => error == Error::Memory(AllocError) && sizes(texts) == before,
+    }
+}
+
 // Holds where any one request for memory is refused: a refused call adds no slot and no byte, and a freeze empties the
 // builder.
 #[test]
@@ -133,30 +174,13 @@ fn refused_texts_change_nothing(rt: HostRuntime) {
     let Ok(mut texts) = MutableUtf8Array::<i32>::new(rt.alloc()) else {
         return;
     };
-    let mut accepted = (0usize, 0usize);
-    for turn in 0..12u32 {
-        let item = if turn % 3 == 2 { None } else { Some("text") };
-        match texts.try_push(item) {
-            Ok(()) => {
-                let more = if item.is_some() { 4 } else { 0 };
-                accepted = (
-                    accepted.0.saturating_add(1),
-                    accepted.1.saturating_add(more),
-                );
-            }
-            Err(error) => assert!(rt; error == Error::Memory(AllocError)),
-        }
-        assert!(rt; (texts.len(), texts.values().len()) == accepted);
-    }
-    if let Ok(items) = vec![in rt.alloc(); Some("a"), None, Some("b")] {
-        if let Err(error) = texts.try_extend(items) {
-            assert!(rt; error == Error::Memory(AllocError));
-            assert!(rt; (texts.len(), texts.values().len()) == accepted);
-        }
-    }
+    let pushed = are_pushed_or_refused(&mut texts);
+    let extended = are_extended_or_refused(rt.alloc(), &mut texts);
     if let Ok(array) = texts.freeze() {
         drop(array);
     }
-    assert!(rt; (texts.len(), texts.values().len()) == (0, 0));
+    let left = sizes(&texts);
     drop(texts);
+    assert!(rt; pushed && extended);
+    assert!(rt; left == (0, 0));
 }

@@ -69,89 +69,147 @@ fn push_numbers(builder: &mut MutablePrimitiveArray<i64>) -> Result<(), Error> {
     Ok(())
 }
 
+/// Whether 1, null and 3 are there before a freeze and in its array, and nothing after it.
+fn push_and_freeze(alloc: Global, builder: &mut MutablePrimitiveArray<i64>) -> Result<bool, Error> {
+    push_numbers(builder)?;
+    let pushed = builder.values().as_slice() == [1i64, 0, 3].as_slice();
+    let validity = builder.validity().is_some();
+    let frozen = is_text(frozen_numbers(alloc, builder), "1 null 3 ");
+    let left = builder.is_empty() && builder.validity().is_none();
+    Ok(pushed && validity && frozen && left && matches!(builder.data_type(), DataType::Int64))
+}
+
 #[test]
 fn pushed_numbers_are_frozen(rt: HostRuntime) {
     let mut builder = MutablePrimitiveArray::new(rt.alloc());
-    assert!(rt; push_numbers(&mut builder) == Ok(()));
-    assert!(rt; builder.values().as_slice() == [1i64, 0, 3].as_slice());
-    assert!(rt; builder.validity().is_some());
-    assert!(rt; is_text(frozen_numbers(rt.alloc(), &mut builder), "1 null 3 "));
-    assert!(rt; builder.is_empty());
-    assert!(rt; builder.validity().is_none());
-    assert!(rt; matches!(builder.data_type(), DataType::Int64));
+    let found = push_and_freeze(rt.alloc(), &mut builder);
     drop(builder);
+    assert!(rt; found == Ok(true));
+}
+
+/// The text of 5 and of another builder's numbers, of which the last is cut off.
+fn extend_and_cut(
+    alloc: Global,
+    builder: &mut MutablePrimitiveArray<i64>,
+    more: &mut MutablePrimitiveArray<i64>,
+) -> Result<String, Error> {
+    builder.try_extend([Some(5i64)])?;
+    more.try_extend(NUMBERS)?;
+    builder.try_extend_from_self(more)?;
+    builder.reserve(4)?;
+    builder.shrink_to_fit();
+    if builder.len() == 4 {
+        builder.truncate(3);
+    }
+    frozen_numbers(alloc, builder)
 }
 
 #[test]
 fn numbers_are_extended_and_cut(rt: HostRuntime) {
     let mut builder = MutablePrimitiveArray::new(rt.alloc());
     let mut more = MutablePrimitiveArray::new(rt.alloc());
-    assert!(rt; builder.try_extend([Some(5i64)]) == Ok(()));
-    assert!(rt; more.try_extend(NUMBERS) == Ok(()));
-    assert!(rt; builder.try_extend_from_self(&more) == Ok(()));
+    let text = extend_and_cut(rt.alloc(), &mut builder, &mut more);
     drop(more);
-    assert!(rt; builder.reserve(4) == Ok(()));
-    builder.shrink_to_fit();
-    if builder.len() == 4 {
-        builder.truncate(3);
-    }
-    assert!(rt; is_text(frozen_numbers(rt.alloc(), &mut builder), "5 1 null "));
     drop(builder);
+    assert!(rt; is_text(text, "5 1 null "));
+}
+
+/// Whether true and another builder's truths were joined, and the last of them cut off.
+fn join_and_cut(
+    alloc: Global,
+    builder: &mut MutableBooleanArray,
+    more: &mut MutableBooleanArray,
+) -> Result<bool, Error> {
+    builder.try_push(Some(true))?;
+    let bare = builder.validity().is_none();
+    more.try_extend(TRUTHS)?;
+    builder.try_extend_from_self(more)?;
+    if builder.len() != 4 {
+        return Ok(false);
+    }
+    let joined = builder.values().unset_bits() == 2 && !builder.is_valid(2);
+    builder.truncate(3);
+    let frozen = is_text(frozen_truths(alloc, builder), "true true null ");
+    Ok(bare && joined && frozen && builder.is_empty())
 }
 
 #[test]
 fn truths_are_extended_and_cut(rt: HostRuntime) {
     let mut builder = MutableBooleanArray::new(rt.alloc());
     let mut more = MutableBooleanArray::new(rt.alloc());
-    assert!(rt; builder.try_push(Some(true)) == Ok(()));
-    assert!(rt; builder.validity().is_none());
-    assert!(rt; more.try_extend(TRUTHS) == Ok(()));
-    assert!(rt; builder.try_extend_from_self(&more) == Ok(()));
+    let found = join_and_cut(rt.alloc(), &mut builder, &mut more);
     drop(more);
-    assert!(rt; builder.values().unset_bits() == 2);
-    if builder.len() == 4 {
-        assert!(rt; !builder.is_valid(2));
-        builder.truncate(3);
-    }
-    assert!(rt; is_text(frozen_truths(rt.alloc(), &mut builder), "true true null "));
-    assert!(rt; builder.is_empty());
     drop(builder);
+    assert!(rt; found == Ok(true));
+}
+
+/// Whether a date is taken, and plain numbers are not.
+fn take_a_date(
+    dates: &mut MutablePrimitiveArray<i32>,
+    plain: &MutablePrimitiveArray<i32>,
+) -> Result<bool, Error> {
+    let typed = matches!(dates.data_type(), DataType::Date32);
+    dates.try_push(Some(19000))?;
+    let refused = Err(Error::InvalidArgumentError(Argument::ItemType));
+    Ok(typed && dates.try_extend_from_self(plain) == refused && dates.len() == 1)
 }
 
 #[test]
 fn dates_take_no_plain_numbers(rt: HostRuntime) {
     let plain: MutablePrimitiveArray<i32> = MutablePrimitiveArray::new(rt.alloc());
     let mut dates = MutablePrimitiveArray::<i32>::new(rt.alloc()).to(DataType::Date32);
-    assert!(rt; matches!(dates.data_type(), DataType::Date32));
-    assert!(rt; dates.try_push(Some(19000)) == Ok(()));
-    let refused = dates.try_extend_from_self(&plain);
-    assert!(rt; refused == Err(Error::InvalidArgumentError(Argument::ItemType)));
-    assert!(rt; dates.len() == 1);
+    let found = take_a_date(&mut dates, &plain);
     drop(plain);
     drop(dates);
+    assert!(rt; found == Ok(true));
+}
+
+/// Whether items were taken, so many more, or refused for want of memory, with nothing changed.
+fn is_taken_or_refused(
+    taken: Result<(), Error>,
+    builder: &MutablePrimitiveArray<i64>,
+    before: usize,
+    more: usize,
+) -> bool {
+    match taken {
+        Ok(()) => builder.len() == before.saturating_add(more),
+        Err(error) => error == Error::Memory(AllocError) && builder.len() == before,
+    }
+}
+
+/// Extends and pushes a null.
+fn grow(builder: &mut MutablePrimitiveArray<i64>) -> bool {
+    for _turn in 0..6u32 {
+        let before = builder.len();
+        let taken = builder.try_extend(NUMBERS);
+        if !is_taken_or_refused(taken, builder, before, 3) {
+            return false;
+        }
+        if builder.validity().is_some() == builder.is_empty() {
+            return false;
+        }
+    }
+    let before = builder.len();
+    let taken = builder.try_push(None);
+    is_taken_or_refused(taken, builder, before, 1)
+}
+
+/// Whether a freeze empties the builder, also where memory is refused.
+fn freeze_empties(alloc: Global, builder: &mut MutablePrimitiveArray<i64>) -> bool {
+    let frozen = match frozen_numbers(alloc, builder) {
+        Ok(_) => true,
+        Err(error) => error == Error::Memory(AllocError),
+    };
+    frozen && builder.is_empty()
 }
 
 // Holds where any one request for memory is refused: a refused call changes nothing, and a freeze empties the builder.
 #[test]
 fn refused_items_change_nothing(rt: HostRuntime) {
     let mut builder = MutablePrimitiveArray::new(rt.alloc());
-    let mut accepted = 0usize;
-    for _turn in 0..6u32 {
-        match builder.try_extend(NUMBERS) {
-            Ok(()) => accepted = accepted.saturating_add(3),
-            Err(error) => assert!(rt; error == Error::Memory(AllocError)),
-        }
-        assert!(rt; builder.len() == accepted);
-        assert!(rt; builder.validity().is_some() == (accepted > 0));
-    }
-    match builder.try_push(None) {
-        Ok(()) => accepted = accepted.saturating_add(1),
-        Err(error) => assert!(rt; error == Error::Memory(AllocError)),
-    }
-    assert!(rt; builder.len() == accepted);
-    if let Err(error) = frozen_numbers(rt.alloc(), &mut builder) {
-        assert!(rt; error == Error::Memory(AllocError));
-    }
-    assert!(rt; builder.is_empty());
+    let grown = grow(&mut builder);
+    let emptied = freeze_empties(rt.alloc(), &mut builder);
     drop(builder);
+    assert!(rt; grown);
+    assert!(rt; emptied);
 }

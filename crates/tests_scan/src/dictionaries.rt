@@ -1,16 +1,17 @@
 //! Dictionaries gone through from both ends, by their keys and by their texts.
 use crate::maps::texts;
 use crate::parts::{
-    both, buffer, gave_nothing, gave_null, not_null, numbers, offsets_of, validity,
+    both, buffer, gave_nothing, gave_null, holds_in, not_null, numbers, offsets_of, validity,
 };
-use crate::scalars::spelled;
+use crate::scalars::gave_scalar;
 use nest_array::{AnyArray, AnyKeys, DictionaryArray};
 use nest_flat::primitive::PrimitiveArray;
 use nest_flat::utf8::Utf8Array;
 use nest_memory::datatypes::DataType;
 use nest_memory::error::{Argument, Error};
 use nest_scan::{
-    DictionaryIterTyped, DictionaryValuesIterTyped, Scan, ScanKeys, ScanValues, TextOffset,
+    DictionaryIterTyped, DictionaryValuesIterTyped, KeysIter, Scan, ScanKeys, ScanValues,
+    TextOffset,
 };
 use std::alloc::Global;
 
@@ -43,66 +44,79 @@ fn four_keys(alloc: Global) -> Result<DictionaryArray, Error> {
     dictionary(alloc, &[0, 1, 1, 2], Some(bits), values)
 }
 
+/// Whether C and a null come from the back, A and B from the front, and then nothing.
+fn give_scalars(alloc: Global, array: &DictionaryArray) -> bool {
+    let mut slots = array.iter(alloc);
+    let last = gave_scalar(alloc, not_null(slots.next_back()), "'C' ");
+    let null = gave_null(slots.next_back());
+    let two = slots.len() == 2;
+    let first = gave_scalar(alloc, not_null(slots.next()), "'A' ");
+    let second = gave_scalar(alloc, not_null(slots.next()), "'B' ");
+    let front = gave_nothing(slots.next());
+    let back = gave_nothing(slots.next_back());
+    drop(slots);
+    last && null && two && first && second && front && back
+}
+
 #[test]
 fn scalars_from_both_ends(rt: HostRuntime) {
-    let alloc = rt.alloc();
-    let array = four_keys(alloc).expect(&rt, "four keys");
-    let mut slots = array.iter(alloc);
-    let last = spelled(alloc, not_null(slots.next_back()));
-    assert!(rt; last.as_str() == "'C' ");
-    assert!(rt; gave_null(slots.next_back()));
-    assert!(rt; slots.len() == 2);
-    let first = spelled(alloc, not_null(slots.next()));
-    assert!(rt; first.as_str() == "'A' ");
-    let second = spelled(alloc, not_null(slots.next()));
-    assert!(rt; second.as_str() == "'B' ");
-    assert!(rt; gave_nothing(slots.next()));
-    assert!(rt; gave_nothing(slots.next_back()));
-    drop(slots);
-    drop(array);
+    assert!(rt; holds_in(rt.alloc(), four_keys(rt.alloc()), give_scalars));
+}
+
+/// Whether C comes from the back, and then the B under the null.
+fn give_scalars_under_nulls(alloc: Global, array: &DictionaryArray) -> bool {
+    if !array.all_in_range() {
+        return false;
+    }
+    let mut values = array.values_iter(alloc);
+    let last = gave_scalar(alloc, values.next_back(), "'C' ");
+    let under_the_null = gave_scalar(alloc, values.next_back(), "'B' ");
+    let left = values.size_hint() == (2, Some(2));
+    drop(values);
+    last && under_the_null && left
 }
 
 #[test]
 fn scalars_under_nulls(rt: HostRuntime) {
-    let alloc = rt.alloc();
-    let array = four_keys(alloc).expect(&rt, "four keys");
-    if array.all_in_range() {
-        let mut values = array.values_iter(alloc);
-        let last = spelled(alloc, values.next_back());
-        assert!(rt; last.as_str() == "'C' ");
-        let under_the_null = spelled(alloc, values.next_back());
-        assert!(rt; under_the_null.as_str() == "'B' ");
-        assert!(rt; values.size_hint() == (2, Some(2)));
-        drop(values);
+    assert!(rt; holds_in(rt.alloc(), four_keys(rt.alloc()), give_scalars_under_nulls));
+}
+
+/// Whether the keys 1, a null and 2 come after the first, and a clone goes on from there too.
+fn give_keys(keys: &mut KeysIter<'_>) -> bool {
+    let first = keys.next() == Some(Some(0));
+    let Ok(mut rest) = keys.clone() else {
+        return false;
+    };
+    let last = rest.next_back() == Some(Some(2)) && rest.len() == 2;
+    let more = keys.next() == Some(Some(1)) && keys.next() == Some(None);
+    let end = keys.len() == 1 && keys.next() == Some(Some(2)) && keys.next() == None;
+    first && last && more && end
+}
+
+fn give_four_keys(_alloc: Global, array: &DictionaryArray) -> bool {
+    let mut keys = array.keys_iter();
+    let found = give_keys(&mut keys);
+    drop(keys);
+    found
+}
+
+/// Whether the raw keys 2 and 1 come from the back, and 0 from the front.
+fn give_raw_keys(_alloc: Global, array: &DictionaryArray) -> bool {
+    if !array.all_in_range() {
+        return false;
     }
-    drop(array);
+    let mut raw = array.keys_values_iter();
+    let back = raw.next_back() == Some(2) && raw.next_back() == Some(1);
+    let front = raw.next() == Some(0) && raw.len() == 1;
+    drop(raw);
+    back && front
 }
 
 #[test]
 fn keys_and_nulls(rt: HostRuntime) {
     let alloc = rt.alloc();
-    let array = four_keys(alloc).expect(&rt, "four keys");
-    let mut keys = array.keys_iter();
-    assert!(rt; keys.next() == Some(Some(0)));
-    let mut rest = keys.clone().expect(&rt, "the same keys once more");
-    assert!(rt; rest.next_back() == Some(Some(2)));
-    assert!(rt; keys.next() == Some(Some(1)));
-    assert!(rt; keys.next() == Some(None));
-    assert!(rt; keys.len() == 1);
-    assert!(rt; keys.next() == Some(Some(2)));
-    assert!(rt; keys.next() == None);
-    assert!(rt; rest.len() == 2);
-    drop(keys);
-    drop(rest);
-    if array.all_in_range() {
-        let mut raw = array.keys_values_iter();
-        assert!(rt; raw.next_back() == Some(2));
-        assert!(rt; raw.next_back() == Some(1));
-        assert!(rt; raw.next() == Some(0));
-        assert!(rt; raw.len() == 1);
-        drop(raw);
-    }
-    drop(array);
+    assert!(rt; holds_in(alloc, four_keys(alloc), give_four_keys));
+    assert!(rt; holds_in(alloc, four_keys(alloc), give_raw_keys));
 }
 
 /// Whether this text came.
@@ -218,21 +232,33 @@ fn texts_without_nulls(rt: HostRuntime) {
     assert!(rt; typed_values::<i32>(other) == Err(NO_TEXTS));
 }
 
+/// Whether two nulls come, and then nothing.
+fn give_two_nulls(alloc: Global, array: &DictionaryArray) -> bool {
+    let mut slots = array.iter(alloc);
+    let first = gave_null(slots.next());
+    let second = gave_null(slots.next());
+    let over = gave_nothing(slots.next());
+    drop(slots);
+    first && second && over && !array.all_in_range()
+}
+
+/// Whether the last key is null, and one is left.
+fn give_a_null_key(_alloc: Global, array: &DictionaryArray) -> bool {
+    let mut keys = array.keys_iter();
+    let last = keys.next_back() == Some(None) && keys.len() == 1;
+    drop(keys);
+    last
+}
+
+/// The keys 9 and 9, both null, over one text.
+fn null_keys(alloc: Global) -> Result<DictionaryArray, Error> {
+    let bits = [false, false].as_slice();
+    dictionary(alloc, &[9, 9], Some(bits), texts(alloc, &[0, 1], b"x"))
+}
+
 #[test]
 fn null_keys_past_the_values(rt: HostRuntime) {
     let alloc = rt.alloc();
-    let bits = [false, false].as_slice();
-    let values = texts(alloc, &[0, 1], b"x");
-    let array = dictionary(alloc, &[9, 9], Some(bits), values).expect(&rt, "two null keys");
-    assert!(rt; !array.all_in_range());
-    let mut slots = array.iter(alloc);
-    assert!(rt; gave_null(slots.next()));
-    assert!(rt; gave_null(slots.next()));
-    assert!(rt; gave_nothing(slots.next()));
-    drop(slots);
-    let mut keys = array.keys_iter();
-    assert!(rt; keys.next_back() == Some(None));
-    assert!(rt; keys.len() == 1);
-    drop(keys);
-    drop(array);
+    assert!(rt; holds_in(alloc, null_keys(alloc), give_two_nulls));
+    assert!(rt; holds_in(alloc, null_keys(alloc), give_a_null_key));
 }

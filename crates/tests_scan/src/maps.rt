@@ -1,5 +1,7 @@
 //! Maps gone through from both ends.
-use crate::parts::{both, buffer, gave_nothing, gave_null, not_null, offsets_of, two, validity};
+use crate::parts::{
+    both, buffer, gave_nothing, gave_null, holds_in, not_null, offsets_of, two, validity,
+};
 use nest_array::{AnyArray, MapArray, StructArray};
 use nest_flat::utf8::Utf8Array;
 use nest_memory::datatypes::DataType;
@@ -85,37 +87,62 @@ fn gave_entry(item: Option<Result<AnyArray, Error>>, key: &str, value: &str) -> 
     }
 }
 
+/// Whether the first map comes, and then nothing, from both ends.
+fn give_the_first(rest: &mut MapValuesIter<'_>) -> bool {
+    let one = rest.len() == 1;
+    let first = gave_entry(rest.next(), "a", "b");
+    let front = gave_nothing(rest.next());
+    let back = gave_nothing(rest.next_back());
+    one && first && front && back
+}
+
+/// Whether the second map comes from the back, and a clone goes on from there too.
+fn give_both(values: &mut MapValuesIter<'_>) -> bool {
+    let last = gave_entry(values.next_back(), "aa", "bb");
+    let Ok(mut rest) = values.clone() else {
+        return false;
+    };
+    let cloned = give_the_first(&mut rest);
+    drop(rest);
+    let one = values.len() == 1;
+    last && cloned && one && gave_entry(values.next_back(), "a", "b")
+}
+
+fn come_from_both_ends(alloc: Global, maps: &MapArray) -> bool {
+    let mut values = maps.values_iter(alloc);
+    let found = give_both(&mut values);
+    drop(values);
+    found
+}
+
 #[test]
 fn maps_from_both_ends(rt: HostRuntime) {
-    let alloc = rt.alloc();
-    let maps = two_maps(alloc, None).expect(&rt, "two maps");
-    let mut values = maps.values_iter(alloc);
-    assert!(rt; gave_entry(values.next_back(), "aa", "bb"));
-    let mut rest = values.clone().expect(&rt, "the same map once more");
-    assert!(rt; rest.len() == 1);
-    assert!(rt; gave_entry(rest.next(), "a", "b"));
-    assert!(rt; gave_nothing(rest.next()));
-    assert!(rt; gave_nothing(rest.next_back()));
-    assert!(rt; values.len() == 1);
-    assert!(rt; gave_entry(values.next_back(), "a", "b"));
-    drop(rest);
+    assert!(rt; holds_in(rt.alloc(), two_maps(rt.alloc(), None), come_from_both_ends));
+}
+
+/// Whether a null comes, the second map, and then nothing.
+fn come_with_a_null(alloc: Global, maps: &MapArray) -> bool {
+    let mut slots = maps.iter(alloc);
+    let null = gave_null(slots.next());
+    let second = gave_entry(not_null(slots.next()), "aa", "bb");
+    let over = gave_nothing(slots.next());
+    drop(slots);
+    null && second && over
+}
+
+/// Whether the map under the null comes, and one is left.
+fn come_under_a_null(alloc: Global, maps: &MapArray) -> bool {
+    let mut values = MapValuesIter::new(alloc, maps);
+    let first = gave_entry(values.next(), "a", "b");
+    let left = values.size_hint() == (1, Some(1));
     drop(values);
-    drop(maps);
+    first && left
 }
 
 #[test]
 fn nulls_among_maps(rt: HostRuntime) {
     let alloc = rt.alloc();
-    let bits = [false, true].as_slice();
-    let maps = two_maps(alloc, Some(bits)).expect(&rt, "two maps");
-    let mut slots = maps.iter(alloc);
-    assert!(rt; gave_null(slots.next()));
-    assert!(rt; gave_entry(not_null(slots.next()), "aa", "bb"));
-    assert!(rt; gave_nothing(slots.next()));
-    drop(slots);
-    let mut values = MapValuesIter::new(alloc, &maps);
-    assert!(rt; gave_entry(values.next(), "a", "b"));
-    assert!(rt; values.size_hint() == (1, Some(1)));
-    drop(values);
-    drop(maps);
+    let bits = Some([false, true].as_slice());
+    assert!(rt; holds_in(alloc, two_maps(alloc, bits), come_with_a_null));
+    assert!(rt; holds_in(alloc, two_maps(alloc, bits), come_under_a_null));
 }

@@ -3,20 +3,26 @@
 use crate::lists::four_lists;
 use crate::parts::{gave_nothing, list_array};
 use crate::records::four_records;
-use nest_array::{AnyArray, ListArray};
+use nest_array::{AnyArray, ListArray, StructArray};
 use nest_memory::error::Error;
-use nest_scan::{Scan, ScanValues};
+use nest_scan::{Scan, ScanValues, StructIter};
 use std::alloc::{AllocError, Global};
-use std::process::Abort;
 
-/// What a call gave, or `None` where memory was refused; nothing else may be.
-fn unless_refused<T>(rt: &impl Abort, outcome: Result<T, Error>) -> Option<T> {
-    match outcome {
-        Ok(value) => Some(value),
-        Err(error) => {
-            assert!(rt; error == Error::Memory(AllocError));
-            None
+/// Whether memory was refused and nothing else, or this holds of what a call gave; that is let go.
+fn refused_or_in<A: Drop, F: FnOnce(Global, &A) -> bool>(
+    alloc: Global,
+    given: Result<A, Error>,
+    ask: F,
+) -> bool
+    requires { F.IsAlwaysCallable ask }
+{
+    match given {
+        Ok(array) => {
+            let found = ask(alloc, &array);
+            drop(array);
+            found
         }
+        Err(error) => error == Error::Memory(AllocError),
     }
 }
 
@@ -26,58 +32,74 @@ fn lists_of_lists(alloc: Global) -> Result<ListArray, Error> {
     list_array(alloc, items, &[0, 2, 2, 3, 4], None)
 }
 
-/// That so many lists came, or want of memory alone.
-fn expect_lists(rt: &impl Abort, item: Option<Result<AnyArray, Error>>, n: usize) {
-    assert!(rt; item.is_some());
-    if let Some(item) = item {
-        if let Some(array) = unless_refused(rt, item) {
-            assert!(rt; array.len() == n);
+/// Whether so many lists came, or want of memory alone.
+fn gave_lists(item: Option<Result<AnyArray, Error>>, n: usize) -> bool {
+    match item {
+        Some(Ok(array)) => {
+            let len = array.len();
             drop(array);
+            len == n
         }
+        Some(Err(error)) => error == Error::Memory(AllocError),
+        None => false,
     }
+}
+
+/// Whether four places come from both ends, each a list or passed, and then nothing.
+fn pass_refused_lists(alloc: Global, lists: &ListArray) -> bool {
+    let mut values = lists.values_iter(alloc);
+    let first = gave_lists(values.next(), 2) && values.len() == 3;
+    let last = gave_lists(values.next_back(), 1) && values.len() == 2;
+    let third = gave_lists(values.next_back(), 1) && values.len() == 1;
+    let second = gave_lists(values.next(), 0) && values.size_hint() == (0, Some(0));
+    let front = gave_nothing(values.next());
+    let back = gave_nothing(values.next_back());
+    drop(values);
+    first && last && third && second && front && back
 }
 
 #[test]
 fn a_refused_list_is_passed(rt: HostRuntime) {
-    let alloc = rt.alloc();
-    let Some(lists) = unless_refused(&rt, lists_of_lists(alloc)) else {
-        return;
-    };
-    let mut values = lists.values_iter(alloc);
-    expect_lists(&rt, values.next(), 2);
-    assert!(rt; values.len() == 3);
-    expect_lists(&rt, values.next_back(), 1);
-    assert!(rt; values.len() == 2);
-    expect_lists(&rt, values.next_back(), 1);
-    assert!(rt; values.len() == 1);
-    expect_lists(&rt, values.next(), 0);
-    assert!(rt; values.size_hint() == (0, Some(0)));
-    assert!(rt; gave_nothing(values.next()));
-    assert!(rt; gave_nothing(values.next_back()));
-    drop(values);
-    drop(lists);
+    assert!(rt; refused_or_in(rt.alloc(), lists_of_lists(rt.alloc()), pass_refused_lists));
 }
 
-/// That a place came, or want of memory alone.
-fn expect_item<T: Drop>(rt: &impl Abort, item: Option<Result<T, Error>>) {
-    assert!(rt; item.is_some());
-    if let Some(item) = item {
-        drop(unless_refused(rt, item));
+/// Whether a place came, or want of memory alone.
+fn gave_item<T: Drop>(item: Option<Result<T, Error>>) -> bool {
+    match item {
+        Some(Ok(item)) => {
+            drop(item);
+            true
+        }
+        Some(Err(error)) => error == Error::Memory(AllocError),
+        None => false,
     }
+}
+
+/// Whether four places come, each a record or passed.
+fn give_four(slots: &mut StructIter<'_>) -> bool {
+    for left in 0..4 {
+        if slots.len() != 4 - left || !gave_item(slots.next()) {
+            return false;
+        }
+    }
+    true
+}
+
+fn pass_refused_records(alloc: Global, records: &StructArray) -> bool {
+    let mut slots = records.iter(alloc);
+    let given = give_four(&mut slots);
+    let over = gave_nothing(slots.next());
+    drop(slots);
+    given && over
 }
 
 #[test]
 fn a_refused_record_is_passed(rt: HostRuntime) {
-    let alloc = rt.alloc();
-    let Some(records) = unless_refused(&rt, four_records(alloc, None)) else {
-        return;
-    };
-    let mut slots = records.iter(alloc);
-    for left in 0..4 {
-        assert!(rt; slots.len() == 4 - left);
-        expect_item(&rt, slots.next());
-    }
-    assert!(rt; gave_nothing(slots.next()));
-    drop(slots);
-    drop(records);
+    assert!(rt;
+        refused_or_in(
+            rt.alloc(),
+            four_records(rt.alloc(), None),
+            pass_refused_records
+        )
+    );
 }

@@ -1,5 +1,5 @@
-//! Parts of arrays, and what an iterator gave. What has a data type is let go in generic helpers and by `drop`, which keeps the
-//! proofs short.
+//! Parts of arrays, and what an iterator gave. An array is gone through and let go in helpers, so that none is left where an
+//! assertion may end the test: that keeps the proofs short.
 use nest_array::{AnyArray, ListArray};
 use nest_flat::any_primitive::{AnyPrimitive, NativeArray};
 use nest_flat::primitive::PrimitiveArray;
@@ -29,6 +29,24 @@ pub(crate) fn two<T: Drop>(
     items.push(first?)?;
     items.push(second?)?;
     Ok(items)
+}
+
+/// Whether a call gave an array of which this holds; the array is let go.
+pub(crate) fn holds_in<A: Drop, F: FnOnce(Global, &A) -> bool>(
+    alloc: Global,
+    given: Result<A, Error>,
+    ask: F,
+) -> bool
+    requires { F.IsAlwaysCallable ask }
+{
+    match given {
+        Ok(array) => {
+            let found = ask(alloc, &array);
+            drop(array);
+            found
+        }
+        Err(_) => false,
+    }
 }
 
 pub(crate) fn buffer<T: Copy + Drop>(alloc: Global, items: &[T]) -> Result<Buffer<T>, Error> {

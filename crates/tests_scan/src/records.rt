@@ -1,6 +1,6 @@
 //! Records gone through from both ends.
-use crate::parts::{both, gave_nothing, gave_null, not_null, numbers, two, validity};
-use crate::scalars::record;
+use crate::parts::{both, gave_nothing, gave_null, holds_in, not_null, numbers, two, validity};
+use crate::scalars::gave_record;
 use nest_array::{AnyArray, StructArray};
 use nest_flat::boolean::BooleanArray;
 use nest_memory::bitmap::immutable::Bitmap;
@@ -34,47 +34,57 @@ pub(crate) fn four_records(alloc: Global, bits: Option<&[bool]>) -> Result<Struc
     }
 }
 
+/// Whether four records come, the last of them second, and then nothing.
+fn come_row_by_row(alloc: Global, records: &StructArray) -> bool {
+    let mut slots = records.iter(alloc);
+    let four = slots.len() == 4;
+    let first = gave_record(alloc, not_null(slots.next()), "false Int32(42) ");
+    let last = gave_record(alloc, not_null(slots.next_back()), "true Int32(31) ");
+    let second = gave_record(alloc, not_null(slots.next()), "false Int32(28) ");
+    let third = gave_record(alloc, not_null(slots.next()), "true Int32(19) ");
+    let none = slots.len() == 0;
+    let front = gave_nothing(slots.next());
+    let back = gave_nothing(slots.next_back());
+    drop(slots);
+    four && first && last && second && third && none && front && back
+}
+
 #[test]
 fn two_scalars_a_row(rt: HostRuntime) {
-    let alloc = rt.alloc();
-    let records = four_records(alloc, None).expect(&rt, "four records");
+    assert!(rt; holds_in(rt.alloc(), four_records(rt.alloc(), None), come_row_by_row));
+}
+
+/// Whether the last record comes from the back, and then a null.
+fn come_with_a_null(alloc: Global, records: &StructArray) -> bool {
     let mut slots = records.iter(alloc);
-    assert!(rt; slots.len() == 4);
-    let first = record(alloc, not_null(slots.next()));
-    assert!(rt; first.as_str() == "false Int32(42) ");
-    let last = record(alloc, not_null(slots.next_back()));
-    assert!(rt; last.as_str() == "true Int32(31) ");
-    let second = record(alloc, not_null(slots.next()));
-    assert!(rt; second.as_str() == "false Int32(28) ");
-    let third = record(alloc, not_null(slots.next()));
-    assert!(rt; third.as_str() == "true Int32(19) ");
-    assert!(rt; slots.len() == 0);
-    assert!(rt; gave_nothing(slots.next()));
-    assert!(rt; gave_nothing(slots.next_back()));
+    let last = gave_record(alloc, not_null(slots.next_back()), "true Int32(31) ");
+    let third = gave_null(slots.next_back());
+    let left = slots.len() == 2;
     drop(slots);
-    drop(records);
+    last && third && left
+}
+
+/// Whether the last two records come from the back, the one under the null too.
+fn come_under_a_null(alloc: Global, records: &StructArray) -> bool {
+    let mut values = StructValueIter::new(alloc, records);
+    let last = gave_record(alloc, values.next_back(), "true Int32(31) ");
+    let under_the_null = gave_record(alloc, values.next_back(), "true Int32(19) ");
+    drop(values);
+    last && under_the_null
+}
+
+fn begin_with_the_first(alloc: Global, records: &StructArray) -> bool {
+    let mut values = records.values_iter(alloc);
+    let first = gave_record(alloc, values.next(), "false Int32(42) ");
+    drop(values);
+    first
 }
 
 #[test]
 fn nulls_among_records(rt: HostRuntime) {
     let alloc = rt.alloc();
-    let bits = [true, true, false, true].as_slice();
-    let records = four_records(alloc, Some(bits)).expect(&rt, "four records");
-    let mut slots = records.iter(alloc);
-    let last = record(alloc, not_null(slots.next_back()));
-    assert!(rt; last.as_str() == "true Int32(31) ");
-    assert!(rt; gave_null(slots.next_back()));
-    assert!(rt; slots.len() == 2);
-    drop(slots);
-    let mut values = StructValueIter::new(alloc, &records);
-    let last = record(alloc, values.next_back());
-    assert!(rt; last.as_str() == "true Int32(31) ");
-    let under_the_null = record(alloc, values.next_back());
-    assert!(rt; under_the_null.as_str() == "true Int32(19) ");
-    drop(values);
-    let mut values = records.values_iter(alloc);
-    let first = record(alloc, values.next());
-    assert!(rt; first.as_str() == "false Int32(42) ");
-    drop(values);
-    drop(records);
+    let bits = Some([true, true, false, true].as_slice());
+    assert!(rt; holds_in(alloc, four_records(alloc, bits), come_with_a_null));
+    assert!(rt; holds_in(alloc, four_records(alloc, bits), come_under_a_null));
+    assert!(rt; holds_in(alloc, four_records(alloc, bits), begin_with_the_first));
 }

@@ -22,7 +22,7 @@ fn spell_all(scalars: &[AnyScalar], text: &mut String) -> Result<(), Error> {
 }
 
 /// Spells the scalar that came, and a space; nothing came, or memory was refused, spells nothing.
-pub(crate) fn spelled(alloc: Global, item: Option<Result<AnyScalar, Error>>) -> String {
+fn spelled(alloc: Global, item: Option<Result<AnyScalar, Error>>) -> String {
     let mut text = String::new(alloc);
     if let Some(Ok(scalar)) = item {
         if spell(&scalar, &mut text).is_err() {
@@ -34,7 +34,7 @@ pub(crate) fn spelled(alloc: Global, item: Option<Result<AnyScalar, Error>>) -> 
 }
 
 /// Spells the scalars of a record that came.
-pub(crate) fn record(alloc: Global, item: Option<Result<Vec<AnyScalar>, Error>>) -> String {
+fn record(alloc: Global, item: Option<Result<Vec<AnyScalar>, Error>>) -> String {
     let mut text = String::new(alloc);
     if let Some(Ok(scalars)) = item {
         if spell_all(&scalars, &mut text).is_err() {
@@ -43,4 +43,22 @@ pub(crate) fn record(alloc: Global, item: Option<Result<Vec<AnyScalar>, Error>>)
         drop(scalars);
     }
     text
+}
+
+/// Whether a scalar that is spelled so came.
+pub(crate) fn gave_scalar(
+    alloc: Global,
+    item: Option<Result<AnyScalar, Error>>,
+    expected: &str,
+) -> bool {
+    spelled(alloc, item).as_str() == expected
+}
+
+/// Whether a record that is spelled so came.
+pub(crate) fn gave_record(
+    alloc: Global,
+    item: Option<Result<Vec<AnyScalar>, Error>>,
+    expected: &str,
+) -> bool {
+    record(alloc, item).as_str() == expected
 }

@@ -1,6 +1,6 @@
 //! Lists of one size, and byte strings of one size, gone through from both ends.
 use crate::parts::{
-    both, buffer, gave_nothing, gave_null, gave_numbers, not_null, numbers, validity,
+    both, buffer, gave_nothing, gave_null, gave_numbers, holds_in, not_null, numbers, validity,
 };
 use nest_array::{AnyArray, FixedSizeBinaryArray, FixedSizeListArray};
 use nest_memory::error::Error;
@@ -30,26 +30,36 @@ fn pairs(alloc: Global, bits: Option<&[bool]>) -> Result<FixedSizeListArray, Err
     numbers(alloc, &[1, 2, 3, 4, 5, 6]).and_then(|items| lists_of_two(alloc, items, bits))
 }
 
+/// Whether three pairs come from both ends, also the one under the null, and then nothing.
+fn give_pairs(alloc: Global, array: &FixedSizeListArray) -> bool {
+    let mut values = FixedSizeListValuesIter::new(alloc, array);
+    let last = gave_numbers(values.next_back(), &[5, 6]);
+    let first = gave_numbers(values.next(), &[1, 2]);
+    let one = values.len() == 1;
+    let second = gave_numbers(values.next_back(), &[3, 4]);
+    let back = gave_nothing(values.next_back());
+    let front = gave_nothing(values.next());
+    drop(values);
+    last && first && one && second && back && front
+}
+
+/// Whether two pairs come with a null between them, and then nothing.
+fn give_pairs_and_a_null(alloc: Global, array: &FixedSizeListArray) -> bool {
+    let mut slots = array.iter(alloc);
+    let first = gave_numbers(not_null(slots.next()), &[1, 2]);
+    let second = gave_null(slots.next());
+    let third = gave_numbers(not_null(slots.next()), &[5, 6]);
+    let over = gave_nothing(slots.next());
+    drop(slots);
+    first && second && third && over
+}
+
 #[test]
 fn pairs_from_both_ends(rt: HostRuntime) {
     let alloc = rt.alloc();
-    let bits = [true, false, true].as_slice();
-    let array = pairs(alloc, Some(bits)).expect(&rt, "three pairs");
-    let mut values = FixedSizeListValuesIter::new(alloc, &array);
-    assert!(rt; gave_numbers(values.next_back(), &[5, 6]));
-    assert!(rt; gave_numbers(values.next(), &[1, 2]));
-    assert!(rt; values.len() == 1);
-    assert!(rt; gave_numbers(values.next_back(), &[3, 4]));
-    assert!(rt; gave_nothing(values.next_back()));
-    assert!(rt; gave_nothing(values.next()));
-    drop(values);
-    let mut slots = array.iter(alloc);
-    assert!(rt; gave_numbers(not_null(slots.next()), &[1, 2]));
-    assert!(rt; gave_null(slots.next()));
-    assert!(rt; gave_numbers(not_null(slots.next()), &[5, 6]));
-    assert!(rt; gave_nothing(slots.next()));
-    drop(slots);
-    drop(array);
+    let bits = Some([true, false, true].as_slice());
+    assert!(rt; holds_in(alloc, pairs(alloc, bits), give_pairs));
+    assert!(rt; holds_in(alloc, pairs(alloc, bits), give_pairs_and_a_null));
 }
 
 /// The byte strings ab, cd and ef.
@@ -87,33 +97,40 @@ fn gave_null_slot(item: Option<Option<&[u8]>>) -> bool {
     }
 }
 
+/// Whether ef comes from the back, ab and cd from the front, and then nothing.
+fn give_strings(alloc: Global, array: &FixedSizeBinaryArray) -> bool {
+    let mut values = array.values_iter(alloc);
+    let last = gave_bytes(values.next_back(), b"ef") && values.len() == 2;
+    let rest = gave_bytes(values.next(), b"ab") && gave_bytes(values.next(), b"cd");
+    let over = values.next().is_none() && values.next_back().is_none();
+    drop(values);
+    last && rest && over
+}
+
 #[test]
 fn values_of_byte_strings(rt: HostRuntime) {
-    let alloc = rt.alloc();
-    let bits = [true, false, true].as_slice();
-    let array = three_strings(alloc, Some(bits)).expect(&rt, "three strings");
-    let mut values = array.values_iter(alloc);
-    assert!(rt; gave_bytes(values.next_back(), b"ef"));
-    assert!(rt; values.len() == 2);
-    assert!(rt; gave_bytes(values.next(), b"ab"));
-    assert!(rt; gave_bytes(values.next(), b"cd"));
-    assert!(rt; values.next().is_none());
-    assert!(rt; values.next_back().is_none());
-    drop(values);
-    drop(array);
+    let bits = Some([true, false, true].as_slice());
+    assert!(rt; holds_in(rt.alloc(), three_strings(rt.alloc(), bits), give_strings));
+}
+
+/// Whether ab comes, a null, and ef from the back, and then nothing.
+fn give_strings_and_a_null(alloc: Global, array: &FixedSizeBinaryArray) -> bool {
+    let mut slots = array.iter(alloc);
+    let front = gave_slot(slots.next(), b"ab") && gave_null_slot(slots.next());
+    let back = gave_slot(slots.next_back(), b"ef") && slots.size_hint() == (0, Some(0));
+    let over = slots.next_back().is_none();
+    drop(slots);
+    front && back && over
 }
 
 #[test]
 fn nulls_among_byte_strings(rt: HostRuntime) {
-    let alloc = rt.alloc();
-    let bits = [true, false, true].as_slice();
-    let array = three_strings(alloc, Some(bits)).expect(&rt, "three strings");
-    let mut slots = array.iter(alloc);
-    assert!(rt; gave_slot(slots.next(), b"ab"));
-    assert!(rt; gave_null_slot(slots.next()));
-    assert!(rt; gave_slot(slots.next_back(), b"ef"));
-    assert!(rt; slots.size_hint() == (0, Some(0)));
-    assert!(rt; slots.next_back().is_none());
-    drop(slots);
-    drop(array);
+    let bits = Some([true, false, true].as_slice());
+    assert!(rt;
+        holds_in(
+            rt.alloc(),
+            three_strings(rt.alloc(), bits),
+            give_strings_and_a_null
+        )
+    );
 }

@@ -1,7 +1,7 @@
 //! What the slots of unions pick, one after another.
 use crate::maps::texts;
-use crate::parts::{both, buffer, gave_nothing, numbers, two};
-use crate::scalars::spelled;
+use crate::parts::{both, buffer, gave_nothing, holds_in, numbers, two};
+use crate::scalars::gave_scalar;
 use nest_array::{AnyArray, UnionArray};
 use nest_memory::datatypes::field::Field;
 use nest_memory::datatypes::{DataType, UnionMode};
@@ -45,24 +45,41 @@ fn eleven(alloc: Global) -> Result<UnionArray, Error> {
     sparse(alloc, fields, Some(&[5, 7]), types.as_slice(), children)
 }
 
-#[test]
-fn eleven_picks_and_none_left(rt: HostRuntime) {
-    let alloc = rt.alloc();
-    let array = eleven(alloc).expect(&rt, "eleven slots");
-    let mut slots = UnionIter::new(alloc, &array);
-    let wanted = [0, 101, 2, 103, 104, 105, 6, 107, 108, 9, 10];
-    let mut left = 11usize;
+/// Whether the next pick is this number.
+fn gives_number(alloc: Global, slots: &mut UnionIter<'_>, number: i32) -> bool {
+    match format!(in alloc; "Int32({number}) ") {
+        Ok(text) => gave_scalar(alloc, slots.next(), text.as_str()),
+        Err(_) => false,
+    }
+}
+
+/// Whether these numbers come, as many as are left.
+fn give_numbers(alloc: Global, slots: &mut UnionIter<'_>, wanted: &[i32]) -> bool {
+    let mut left = wanted.len();
     for number in wanted {
-        assert!(rt; slots.len() == left);
-        let text = format!(in alloc; "Int32({number}) ").expect(&rt, "a short text");
-        assert!(rt; spelled(alloc, slots.next()).as_str() == text.as_str());
+        if slots.len() != left || !gives_number(alloc, slots, *number) {
+            return false;
+        }
         left = left.saturating_sub(1);
     }
-    assert!(rt; slots.size_hint() == (0, Some(0)));
-    assert!(rt; gave_nothing(slots.next()));
-    assert!(rt; gave_nothing(slots.next()));
+    true
+}
+
+/// Whether eleven picks come by their ids, and then nothing.
+fn give_eleven(alloc: Global, array: &UnionArray) -> bool {
+    let wanted = [0, 101, 2, 103, 104, 105, 6, 107, 108, 9, 10];
+    let mut slots = UnionIter::new(alloc, array);
+    let given = give_numbers(alloc, &mut slots, wanted.as_slice());
+    let none = slots.size_hint() == (0, Some(0));
+    let over = gave_nothing(slots.next());
+    let again = gave_nothing(slots.next());
     drop(slots);
-    drop(array);
+    given && none && over && again
+}
+
+#[test]
+fn eleven_picks_and_none_left(rt: HostRuntime) {
+    assert!(rt; holds_in(rt.alloc(), eleven(rt.alloc()), give_eleven));
 }
 
 /// The numbers from 10 to 13 and the letters from a to d in turn.
@@ -74,20 +91,41 @@ fn in_turn(alloc: Global) -> Result<UnionArray, Error> {
     sparse(alloc, fields, None, &[0, 1, 0, 1], children)
 }
 
+/// The second and the third of four picks.
+fn middle(alloc: Global) -> Result<UnionArray, Error> {
+    match in_turn(alloc) {
+        Ok(array) => {
+            if array.len() != 4 {
+                drop(array);
+                return Err(Error::Overflow);
+            }
+            Ok(array.sliced(1, 2))
+        }
+        Err(error) => Err(error),
+    }
+}
+
+/// Whether b is followed by 12, also in a clone, and 12 by nothing.
+fn give_letter_and_number(alloc: Global, slots: &mut UnionIter<'_>) -> bool {
+    let first = gave_scalar(alloc, slots.next(), "'b' ");
+    let Ok(mut again) = slots.clone() else {
+        return false;
+    };
+    let cloned = gave_scalar(alloc, again.next(), "Int32(12) ");
+    let over = gave_nothing(again.next());
+    drop(again);
+    let second = gave_scalar(alloc, slots.next(), "Int32(12) ");
+    first && cloned && over && second && gave_nothing(slots.next())
+}
+
+fn give_picks_of_a_cut(alloc: Global, array: &UnionArray) -> bool {
+    let mut slots = array.iter(alloc);
+    let found = give_letter_and_number(alloc, &mut slots);
+    drop(slots);
+    found
+}
+
 #[test]
 fn picks_of_a_cut(rt: HostRuntime) {
-    let alloc = rt.alloc();
-    let array = in_turn(alloc).expect(&rt, "four slots");
-    assert!(rt; array.len() == 4);
-    let array = array.sliced(1, 2);
-    let mut slots = array.iter(alloc);
-    assert!(rt; spelled(alloc, slots.next()).as_str() == "'b' ");
-    let mut again = slots.clone().expect(&rt, "the same slot once more");
-    assert!(rt; spelled(alloc, again.next()).as_str() == "Int32(12) ");
-    assert!(rt; gave_nothing(again.next()));
-    assert!(rt; spelled(alloc, slots.next()).as_str() == "Int32(12) ");
-    assert!(rt; gave_nothing(slots.next()));
-    drop(again);
-    drop(slots);
-    drop(array);
+    assert!(rt; holds_in(rt.alloc(), middle(rt.alloc()), give_picks_of_a_cut));
 }

@@ -1,15 +1,12 @@
 //! What each kind of array does by the trait of arrays.
-use super::{
-    are_same, both, buffer, int32s, lists_of_lists, numbers, offsets_of, sizes, structs, truths,
-};
+use super::{are_same, holds_in, int32s, lists_of_lists, numbers, sizes, structs, truths};
+use crate::calls::{bytes, texts};
+use crate::counts::any_records;
 use crate::dictionaries::four_texts;
 use crate::maps::two_maps;
-use nest_array::{Array, FixedSizeBinaryArray, NullArray};
-use nest_flat::binary::BinaryArray;
-use nest_flat::utf8::Utf8Array;
+use nest_array::{Array, FixedSizeBinaryArray, NullArray, StructArray};
 use nest_memory::datatypes::DataType;
 use nest_memory::error::Error;
-use nest_memory::offset::Offset;
 use std::alloc::Global;
 
 /// Whether the array was made, has a slot, and cut to nothing at its end has none.
@@ -21,36 +18,6 @@ fn ends_empty<A: Array + Drop>(array: Result<A, Error>) -> bool {
             n > 0 && array.is_empty() && array.null_count() == 0
         }
         Err(_) => false,
-    }
-}
-
-/// The slots a and bc as bytes.
-fn bytes<O: Offset>(
-    alloc: Global,
-    data_type: DataType,
-    offsets: &[O],
-) -> Result<BinaryArray<O>, Error> {
-    match both(offsets_of(alloc, offsets), buffer(alloc, b"abc")) {
-        Ok((offsets, values)) => BinaryArray::try_new(data_type, offsets, values, None),
-        Err(error) => {
-            drop(data_type);
-            Err(error)
-        }
-    }
-}
-
-/// The slots a and bc as texts.
-fn texts<O: Offset>(
-    alloc: Global,
-    data_type: DataType,
-    offsets: &[O],
-) -> Result<Utf8Array<O>, Error> {
-    match both(offsets_of(alloc, offsets), buffer(alloc, b"abc")) {
-        Ok((offsets, values)) => Utf8Array::try_new(data_type, offsets, values, None),
-        Err(error) => {
-            drop(data_type);
-            Err(error)
-        }
     }
 }
 
@@ -92,21 +59,21 @@ fn counts_of<A: Array + Drop>(array: Result<A, Error>) -> Option<(usize, usize)>
     }
 }
 
-#[test]
-fn arrays_in_their_variants(rt: HostRuntime) {
-    let array = structs::four(rt.alloc(), &[1, 2, 3, 4]).expect(&rt, "four records");
-    assert!(rt; array.len() == 4);
-    assert!(rt; counts(&array) == (4, 1));
-    assert!(rt; counts_of(array.to_boxed(rt.alloc())) == Some((4, 1)));
-    assert!(rt; counts_of(Array::sliced(&array, rt.alloc(), 3, 1)) == Some((1, 0)));
-    let same = structs::four(rt.alloc(), &[1, 2, 3, 4]).map(|array| array.boxed());
-    assert!(rt; are_same(same, Ok(array.boxed())) == Ok(true));
+/// Whether four records, their copy and a cut have their counts.
+fn are_copied_and_cut(alloc: Global, array: &StructArray) -> bool {
+    if array.len() != 4 {
+        return false;
+    }
+    let copied = counts_of(array.to_boxed(alloc)) == Some((4, 1));
+    let cut = counts_of(Array::sliced(array, alloc, 3, 1)) == Some((1, 0));
+    copied && cut && counts(array) == (4, 1)
 }
 
 #[test]
-fn arrays_that_are_shared(rt: HostRuntime) {
-    let array = lists_of_lists(rt.alloc()).expect(&rt, "three lists");
-    let shared = array.arced(rt.alloc()).expect(&rt, "a shared array");
-    assert!(rt; shared.len() == 3);
-    drop(shared);
+fn arrays_in_their_variants(rt: HostRuntime) {
+    let alloc = rt.alloc();
+    let array = structs::four(alloc, &[1, 2, 3, 4]);
+    assert!(rt; holds_in(alloc, array, are_copied_and_cut));
+    let array = any_records(alloc, &[1, 2, 3, 4]);
+    assert!(rt; are_same(array, any_records(alloc, &[1, 2, 3, 4])) == Ok(true));
 }

@@ -1,7 +1,7 @@
 //! Lists of numbers and lists of lists, by offsets of both widths.
 use super::{
-    any_list, are_same, has_numbers, list_array, list_type, lists_of_lists, lists_under, numbers,
-    offsets_of,
+    any_list, are_same, has_numbers, holds, holds_changed, holds_in, len_of, list_array, list_type,
+    lists_of_lists, lists_under, numbers, offsets_of,
 };
 use nest_array::{AnyArray, LargeListArray, ListArray};
 use nest_memory::datatypes::DataType;
@@ -9,17 +9,15 @@ use nest_memory::datatypes::physical_type::PhysicalType;
 use nest_memory::error::{Error, Spec};
 use std::alloc::Global;
 
+/// Three lists, the second of three lists.
+fn have_three_in_the_middle(alloc: Global, array: &ListArray) -> bool {
+    array.len() == 3 && len_of(array.value(alloc, 1)) == Some(3)
+}
+
 #[test]
 fn lists_in_lists(rt: HostRuntime) {
-    let array = lists_of_lists(rt.alloc()).expect(&rt, "three lists");
-    assert!(rt; array.len() == 3);
-    let items = array
-        .value(rt.alloc(), 1)
-        .expect(&rt, "three lists of numbers");
-    assert!(rt; items.len() == 3);
-    drop(items);
-    drop(array);
     let alloc = rt.alloc();
+    assert!(rt; holds_in(alloc, lists_of_lists(alloc), have_three_in_the_middle));
     assert!(rt; are_same(lists_of_lists(alloc), lists_of_lists(alloc)) == Ok(true));
 }
 
@@ -40,12 +38,14 @@ fn of_five(alloc: Global, offsets: &[i32]) -> Result<ListArray, Error> {
     list_array(alloc, numbers(alloc, &[1, 2, 3, 4, 5]), offsets, None)
 }
 
+/// One list, of 1 and 2.
+fn is_one_list(alloc: Global, array: &ListArray) -> bool {
+    array.len() == 1 && has_numbers(array.value(alloc, 0), &[1, 2])
+}
+
 #[test]
 fn offsets_within_the_child(rt: HostRuntime) {
-    let array = of_five(rt.alloc(), &[0, 2]).expect(&rt, "one list");
-    assert!(rt; array.len() == 1);
-    assert!(rt; has_numbers(array.value(rt.alloc(), 0), &[1, 2]));
-    drop(array);
+    assert!(rt; holds_in(rt.alloc(), of_five(rt.alloc(), &[0, 2]), is_one_list));
     let past = of_five(rt.alloc(), &[0, 6]).err();
     assert!(rt; past == Some(Error::OutOfSpec(Spec::OffsetPastChild)));
 }
@@ -58,16 +58,20 @@ fn children_of_their_type(rt: HostRuntime) {
     assert!(rt; refused == Some(Error::OutOfSpec(Spec::ChildType)));
 }
 
+/// Two lists, of which the second is a null over 3.
+fn is_null_over_three(alloc: Global, array: &ListArray) -> bool {
+    if array.len() != 2 || array.null_count() != 1 {
+        return false;
+    }
+    array.is_null(1) && has_numbers(array.value(alloc, 1), &[3])
+}
+
 #[test]
 fn nulls_keep_their_items(rt: HostRuntime) {
     let bits = Some([true, false].as_slice());
     let items = numbers(rt.alloc(), &[1, 2, 3]);
-    let array = list_array(rt.alloc(), items, &[0, 2, 3], bits).expect(&rt, "two lists");
-    assert!(rt; array.len() == 2);
-    assert!(rt; array.is_null(1));
-    assert!(rt; array.null_count() == 1);
-    assert!(rt; has_numbers(array.value(rt.alloc(), 1), &[3]));
-    drop(array);
+    let array = list_array(rt.alloc(), items, &[0, 2, 3], bits);
+    assert!(rt; holds_in(rt.alloc(), array, is_null_over_three));
 }
 
 /// Lists of the items by offsets of 64 bits.
@@ -88,26 +92,33 @@ pub(crate) fn by_large_offsets(alloc: Global) -> Result<LargeListArray, Error> {
     numbers(alloc, &[1, 2, 3]).and_then(|items| large_lists(alloc, items, &[0, 1, 1, 3]))
 }
 
+/// Three lists, of which the last is 2 and 3; cut to the last two, the first is empty.
+fn are_cut_to_two(alloc: Global, array: &mut LargeListArray) -> bool {
+    if array.len() != 3 || array.null_count() != 0 {
+        return false;
+    }
+    let last = has_numbers(array.value(alloc, 2), &[2, 3]);
+    array.slice(1, 2);
+    last && array.len() == 2 && has_numbers(array.value(alloc, 0), &[])
+}
+
 #[test]
 fn lists_by_large_offsets(rt: HostRuntime) {
-    let mut array = by_large_offsets(rt.alloc()).expect(&rt, "three lists");
-    assert!(rt; array.len() == 3);
-    assert!(rt; array.null_count() == 0);
-    assert!(rt; has_numbers(array.value(rt.alloc(), 2), &[2, 3]));
-    array.slice(1, 2);
-    assert!(rt; array.len() == 2);
-    assert!(rt; has_numbers(array.value(rt.alloc(), 0), &[]));
-    drop(array);
+    assert!(rt; holds_changed(rt.alloc(), by_large_offsets(rt.alloc()), are_cut_to_two));
+}
+
+/// Lists of numbers of 32 bits, and no large lists.
+fn is_type_of_lists(data_type: &DataType) -> bool {
+    let of_lists = data_type.to_physical_type() == PhysicalType::List;
+    if !of_lists {
+        return false;
+    }
+    let numbers = matches!(ListArray::get_child_type(data_type), DataType::Int32);
+    let refused = LargeListArray::try_get_child(data_type).err();
+    numbers && refused == Some(Error::OutOfSpec(Spec::WrongType))
 }
 
 #[test]
 fn types_of_lists(rt: HostRuntime) {
-    let data_type = list_type(rt.alloc(), Ok(DataType::Int32)).expect(&rt, "a type");
-    assert!(rt; data_type.to_physical_type() == PhysicalType::List);
-    let items = DataType::Int32;
-    assert!(rt; *ListArray::get_child_type(&data_type) == items);
-    let refused = LargeListArray::try_get_child(&data_type).err();
-    assert!(rt; refused == Some(Error::OutOfSpec(Spec::WrongType)));
-    drop(items);
-    drop(data_type);
+    assert!(rt; holds(list_type(rt.alloc(), Ok(DataType::Int32)), is_type_of_lists));
 }

@@ -2,31 +2,43 @@
 use super::lists::by_large_offsets;
 use super::sizes::pairs;
 use super::structs::four;
-use super::{has_numbers, list_type, lists_of_lists, numbers, offsets_of, validity};
-use nest_array::{AnyArray, ListArray, ListOffset, StructArray};
+use super::{
+    both, has_numbers, holds, holds_changed, len_of, list_type, lists_of_lists, numbers,
+    offsets_of, validity,
+};
+use nest_array::{
+    AnyArray, FixedSizeListArray, LargeListArray, ListArray, ListOffset, StructArray,
+};
+use nest_memory::bitmap::immutable::Bitmap;
 use nest_memory::datatypes::DataType;
 use nest_memory::error::Error;
 use std::alloc::Global;
 
+/// Three lists, of which the second lends three items from place 2.
+fn lend_three(array: &ListArray) -> bool {
+    if array.len() != 3 {
+        return false;
+    }
+    array.window(1).offset() == 2 && array.window(1).len() == 3
+}
+
 #[test]
 fn lists_lend_their_items(rt: HostRuntime) {
-    let array = lists_of_lists(rt.alloc()).expect(&rt, "three lists");
-    assert!(rt; array.len() == 3);
-    assert!(rt; array.window(1).offset() == 2);
-    assert!(rt; array.window(1).len() == 3);
-    drop(array);
+    assert!(rt; holds(lists_of_lists(rt.alloc()), lend_three));
+}
+
+fn lend_two(array: &LargeListArray) -> bool {
+    array.len() == 3 && array.window(2).len() == 2
+}
+
+fn lend_from_four(array: &FixedSizeListArray) -> bool {
+    array.len() == 3 && array.window(2).offset() == 4
 }
 
 #[test]
 fn lists_of_other_kinds_lend_their_items(rt: HostRuntime) {
-    let array = by_large_offsets(rt.alloc()).expect(&rt, "three lists");
-    assert!(rt; array.len() == 3);
-    assert!(rt; array.window(2).len() == 2);
-    drop(array);
-    let array = pairs(rt.alloc()).expect(&rt, "three pairs");
-    assert!(rt; array.len() == 3);
-    assert!(rt; array.window(2).offset() == 4);
-    drop(array);
+    assert!(rt; holds(by_large_offsets(rt.alloc()), lend_two));
+    assert!(rt; holds(pairs(rt.alloc()), lend_from_four));
 }
 
 /// Whether there are no items, for a null.
@@ -49,43 +61,56 @@ fn are_numbers(items: Result<Option<AnyArray>, Error>, numbers: &[i32]) -> bool 
     }
 }
 
+/// Whether the bits are taken, the second pair then a null, and the third is 5 and 6.
+fn take_a_null(alloc: Global, parts: &mut (FixedSizeListArray, Option<Bitmap>)) -> bool {
+    let (array, bits) = parts;
+    let taken = array.set_validity(bits.take()) == Ok(());
+    if array.len() != 3 {
+        return false;
+    }
+    taken && are_none(array.get(alloc, 1)) && are_numbers(array.get(alloc, 2), &[5, 6])
+}
+
 #[test]
 fn pairs_under_a_null(rt: HostRuntime) {
-    let mut array = pairs(rt.alloc()).expect(&rt, "three pairs");
     let bits = [true, false, true].as_slice();
-    let bits = validity(rt.alloc(), Some(bits)).expect(&rt, "three bits");
-    assert!(rt; array.len() == 3);
-    assert!(rt; array.set_validity(bits) == Ok(()));
-    assert!(rt; array.len() == 3);
-    assert!(rt; are_none(array.get(rt.alloc(), 1)));
-    assert!(rt; are_numbers(array.get(rt.alloc(), 2), &[5, 6]));
-    drop(array);
+    let parts = both(pairs(rt.alloc()), validity(rt.alloc(), Some(bits)));
+    assert!(rt; holds_changed(rt.alloc(), parts, take_a_null));
+}
+
+fn tell_two_fields(array: &StructArray) -> bool {
+    array.known();
+    StructArray::get_fields(array.data_type()).len() == 2
 }
 
 #[test]
 fn fields_that_types_tell(rt: HostRuntime) {
-    let array = four(rt.alloc(), &[42, 28, 19, 31]).expect(&rt, "four records");
-    array.known();
-    assert!(rt; StructArray::get_fields(array.data_type()).len() == 2);
-    drop(array);
+    assert!(rt; holds(four(rt.alloc(), &[42, 28, 19, 31]), tell_two_fields));
+}
+
+/// Whether the items of lists of this type may be null.
+fn tells_nullable_items(data_type: &DataType) -> bool {
+    match ListArray::try_get_child(data_type) {
+        Ok(field) => field.is_nullable,
+        Err(_) => false,
+    }
 }
 
 #[test]
 fn items_that_types_tell(rt: HostRuntime) {
-    let data_type = list_type(rt.alloc(), Ok(DataType::Int32)).expect(&rt, "a type");
-    let nullable = match ListArray::try_get_child(&data_type) {
-        Ok(field) => field.is_nullable,
-        Err(_) => false,
-    };
-    drop(data_type);
-    assert!(rt; nullable);
+    assert!(rt;
+        holds(
+            list_type(rt.alloc(), Ok(DataType::Int32)),
+            tells_nullable_items
+        )
+    );
 }
 
 /// The lists 1, and 2 and 3, by the trait of their offsets.
 fn by_offsets(alloc: Global) -> Result<AnyArray, Error> {
     let data_type = list_type(alloc, Ok(DataType::Int32));
-    let parts = super::both(data_type, numbers(alloc, &[1, 2, 3]));
-    match super::both(parts, offsets_of(alloc, &[0, 1, 3])) {
+    let parts = both(data_type, numbers(alloc, &[1, 2, 3]));
+    match both(parts, offsets_of(alloc, &[0, 1, 3])) {
         Ok(((data_type, items), offsets)) => {
             i32::list(alloc, data_type, offsets, items, None).map(|list| i32::any(list))
         }
@@ -95,7 +120,5 @@ fn by_offsets(alloc: Global) -> Result<AnyArray, Error> {
 
 #[test]
 fn lists_by_the_trait_of_offsets(rt: HostRuntime) {
-    let array = by_offsets(rt.alloc()).expect(&rt, "two lists");
-    assert!(rt; array.len() == 2);
-    drop(array);
+    assert!(rt; len_of(by_offsets(rt.alloc())) == Some(2));
 }

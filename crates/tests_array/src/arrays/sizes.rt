@@ -1,6 +1,7 @@
 //! Lists of one size, and arrays of nulls.
-use super::{has_numbers, numbers, validity};
+use super::{both, has_numbers, holds_changed, holds_in, kept, numbers, validity};
 use nest_array::{AnyArray, Array, FixedSizeListArray, NullArray};
+use nest_memory::bitmap::immutable::Bitmap;
 use nest_memory::datatypes::DataType;
 use nest_memory::error::{Argument, Error, Spec};
 use std::alloc::Global;
@@ -26,45 +27,76 @@ pub(crate) fn pairs(alloc: Global) -> Result<FixedSizeListArray, Error> {
     items.and_then(|items| fixed_lists(alloc, items, 2))
 }
 
-#[test]
-fn cut_pairs_under_a_validity(rt: HostRuntime) {
-    let array = pairs(rt.alloc()).expect(&rt, "three pairs");
-    assert!(rt; array.len() == 3);
-    let mut cut = array.sliced(1, 2);
-    let bits = validity(rt.alloc(), Some(&[false, true])).expect(&rt, "two bits");
-    assert!(rt; cut.set_validity(bits) == Ok(()));
-    assert!(rt; cut.len() == 2);
-    assert!(rt; cut.is_null(0));
-    assert!(rt; cut.is_valid(1));
-    assert!(rt; has_numbers(cut.value(rt.alloc(), 1), &[5, 6]));
-    assert!(rt; has_numbers(cut.value(rt.alloc(), 0), &[3, 4]));
-    drop(cut);
+/// The pairs 3, 4 and 5, 6.
+fn last_pairs(alloc: Global) -> Result<FixedSizeListArray, Error> {
+    match pairs(alloc) {
+        Ok(array) => {
+            if array.len() != 3 {
+                drop(array);
+                return Err(Error::Overflow);
+            }
+            Ok(array.sliced(1, 2))
+        }
+        Err(error) => Err(error),
+    }
 }
 
-/// The array, and why its new validity was refused.
-fn kept<A, B>(changed: Result<A, (A, B)>) -> (A, Option<B>) {
-    match changed {
-        Ok(array) => (array, None),
-        Err((array, error)) => (array, Some(error)),
+/// Whether the bits are taken, under which the pair 3, 4 lies and 5, 6 is valid.
+fn take_a_null(alloc: Global, parts: &mut (FixedSizeListArray, Option<Bitmap>)) -> bool {
+    let (cut, bits) = parts;
+    let taken = cut.set_validity(bits.take()) == Ok(());
+    if cut.len() != 2 {
+        return false;
     }
+    let nulls = taken && cut.is_null(0) && cut.is_valid(1);
+    let last = has_numbers(cut.value(alloc, 1), &[5, 6]);
+    nulls && last && has_numbers(cut.value(alloc, 0), &[3, 4])
+}
+
+#[test]
+fn cut_pairs_under_a_validity(rt: HostRuntime) {
+    let bits = validity(rt.alloc(), Some(&[false, true]));
+    let parts = both(last_pairs(rt.alloc()), bits);
+    assert!(rt; holds_changed(rt.alloc(), parts, take_a_null));
+}
+
+const TOO_LONG: Error = Error::OutOfSpec(Spec::ValidityLength);
+
+/// Whether the bits are refused, and the pairs stay.
+fn refuse_in_place(alloc: Global, parts: &mut (FixedSizeListArray, Option<Bitmap>)) -> bool {
+    let (cut, bits) = parts;
+    let refused = cut.set_validity(bits.take()) == Err(TOO_LONG);
+    if cut.len() != 2 {
+        return false;
+    }
+    refused && cut.null_count() == 0 && has_numbers(cut.value(alloc, 0), &[3, 4])
+}
+
+/// Why the bits are refused by value, and the array, which comes back.
+fn refused_by_value(
+    parts: (FixedSizeListArray, Option<Bitmap>),
+) -> (FixedSizeListArray, Option<Error>) {
+    let (cut, bits) = parts;
+    kept(cut.with_validity(bits))
+}
+
+/// Whether the bits were refused, and the pairs are as before.
+fn are_as_before(alloc: Global, refused: &(FixedSizeListArray, Option<Error>)) -> bool {
+    let (cut, error) = refused;
+    if cut.len() != 2 {
+        return false;
+    }
+    *error == Some(TOO_LONG) && has_numbers(cut.value(alloc, 0), &[3, 4])
 }
 
 #[test]
 fn long_validity_refused(rt: HostRuntime) {
-    let array = pairs(rt.alloc()).expect(&rt, "three pairs");
-    assert!(rt; array.len() == 3);
-    let cut = array.sliced(1, 2);
+    let alloc = rt.alloc();
     let bits = [false, true, true].as_slice();
-    let long = validity(rt.alloc(), Some(bits)).expect(&rt, "three bits");
-    let (mut cut, refused) = kept(cut.with_validity(long));
-    assert!(rt; refused == Some(Error::OutOfSpec(Spec::ValidityLength)));
-    let long = validity(rt.alloc(), Some(bits)).expect(&rt, "three bits");
-    let refused = Err(Error::OutOfSpec(Spec::ValidityLength));
-    assert!(rt; cut.set_validity(long) == refused);
-    assert!(rt; cut.len() == 2);
-    assert!(rt; cut.null_count() == 0);
-    assert!(rt; has_numbers(cut.value(rt.alloc(), 0), &[3, 4]));
-    drop(cut);
+    let parts = both(last_pairs(alloc), validity(alloc, Some(bits)));
+    assert!(rt; holds_changed(alloc, parts, refuse_in_place));
+    let parts = both(last_pairs(alloc), validity(alloc, Some(bits)));
+    assert!(rt; holds_in(alloc, parts.map(refused_by_value), are_as_before));
 }
 
 /// Why lists of so many of six numbers are refused.
@@ -83,13 +115,18 @@ fn sizes_that_divide(rt: HostRuntime) {
     assert!(rt; refusal(rt.alloc(), 6).is_none());
 }
 
+/// Whether three nulls are counted, and neither these bits nor none are taken.
+fn take_no_validity(alloc: Global, parts: &mut (NullArray, Option<Bitmap>)) -> bool {
+    let (array, bits) = parts;
+    let no_validity = Some(Error::InvalidArgumentError(Argument::NoValidity));
+    let refused = array.with_validity(alloc, bits.take()).err() == no_validity;
+    let none = array.with_validity(alloc, None).err() == no_validity;
+    refused && none && array.null_count() == 3
+}
+
 #[test]
 fn nulls_take_no_validity(rt: HostRuntime) {
-    let array = NullArray::new(DataType::Null, 3);
-    assert!(rt; array.null_count() == 3);
-    let refused = Some(Error::InvalidArgumentError(Argument::NoValidity));
-    let bits = validity(rt.alloc(), Some(&[true, true, true])).expect(&rt, "three bits");
-    assert!(rt; array.with_validity(rt.alloc(), bits).err() == refused);
-    assert!(rt; array.with_validity(rt.alloc(), None).err() == refused);
-    drop(array);
+    let bits = validity(rt.alloc(), Some(&[true, true, true]));
+    let parts = both(NullArray::try_new(DataType::Null, 3), bits);
+    assert!(rt; holds_changed(rt.alloc(), parts, take_no_validity));
 }

@@ -1,6 +1,7 @@
 //! Records of a truth and a number.
-use super::{are_same, both, numbers, truths, two, validity};
+use super::{are_same, both, holds, numbers, truths, two, validity};
 use nest_array::{AnyArray, Array, StructArray};
+use nest_memory::bitmap::immutable::Bitmap;
 use nest_memory::datatypes::DataType;
 use nest_memory::datatypes::field::Field;
 use nest_memory::error::{Error, Spec};
@@ -49,18 +50,32 @@ pub(crate) fn four(alloc: Global, items: &[i32]) -> Result<StructArray, Error> {
     records(alloc, &[false, false, true, true], items, Some(bits))
 }
 
+fn has_a_null_third(array: &StructArray) -> bool {
+    if array.len() != 4 || array.null_count() != 1 {
+        return false;
+    }
+    array.is_null(2) && array.fields().len() == 2
+}
+
+/// The last two of four records, the first of them null.
+fn has_a_null_first(cut: &StructArray) -> bool {
+    cut.len() == 2 && cut.is_null(0) && cut.is_valid(1)
+}
+
+fn last_two(array: StructArray) -> Result<StructArray, Error> {
+    if array.len() != 4 {
+        drop(array);
+        return Err(Error::Overflow);
+    }
+    Ok(array.sliced(2, 2))
+}
+
 #[test]
 fn records_of_two_fields(rt: HostRuntime) {
-    let array = four(rt.alloc(), &[42, 28, 19, 31]).expect(&rt, "four records");
-    assert!(rt; array.len() == 4);
-    assert!(rt; array.is_null(2));
-    assert!(rt; array.null_count() == 1);
-    assert!(rt; array.fields().len() == 2);
-    let cut = array.sliced(2, 2);
-    assert!(rt; cut.len() == 2);
-    assert!(rt; cut.is_null(0));
-    assert!(rt; cut.is_valid(1));
-    drop(cut);
+    let items = [42, 28, 19, 31].as_slice();
+    assert!(rt; holds(four(rt.alloc(), items), has_a_null_third));
+    let cut = four(rt.alloc(), items).and_then(last_two);
+    assert!(rt; holds(cut, has_a_null_first));
 }
 
 #[test]
@@ -105,16 +120,29 @@ fn a_child_for_each_field(rt: HostRuntime) {
     assert!(rt; refused == Some(Error::OutOfSpec(Spec::FieldCount)));
 }
 
+/// What records of two fields are made of.
+type Parts = (Vec<Field>, Vec<AnyArray>, Option<Bitmap>);
+
+fn into_parts(array: StructArray) -> Parts {
+    array.into_data()
+}
+
+fn are_parts_of_four(parts: &Parts) -> bool {
+    let (fields, children, validity) = parts;
+    if fields.len() != 2 || children.len() != 2 {
+        return false;
+    }
+    let named = fields[1].name.as_str() == "i";
+    let numbers = super::is_numbers(&children[1], &[42, 28, 19, 31]);
+    let nulls = match validity {
+        Some(bits) => bits.unset_bits(),
+        None => 0,
+    };
+    named && numbers && nulls == 1
+}
+
 #[test]
 fn parts_of_records(rt: HostRuntime) {
-    let array = four(rt.alloc(), &[42, 28, 19, 31]).expect(&rt, "four records");
-    let (fields, children, validity) = array.into_data();
-    assert!(rt; fields.len() == 2);
-    assert!(rt; fields[1].name.as_str() == "i");
-    assert!(rt; children.len() == 2);
-    assert!(rt; super::is_numbers(&children[1], &[42, 28, 19, 31]));
-    assert!(rt; validity.as_ref().map(|bits| bits.unset_bits()) == Some(1));
-    drop(fields);
-    drop(children);
-    drop(validity);
+    let parts = four(rt.alloc(), &[42, 28, 19, 31]).map(into_parts);
+    assert!(rt; holds(parts, are_parts_of_four));
 }

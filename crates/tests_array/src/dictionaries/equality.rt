@@ -1,6 +1,6 @@
 //! Slots that are looked up by keys are equal by their values: keys, unused values and the place of a null don't count.
 use super::{by_keys, int32_keys, texts, texts_by};
-use crate::arrays::{are_same, both, buffer, offsets_of};
+use crate::arrays::{are_same, both, buffer, holds, offsets_of};
 use nest_array::{AnyArray, DictionaryArray};
 use nest_flat::utf8::Utf8Array;
 use nest_memory::datatypes::{DataType, IntegerType};
@@ -37,23 +37,42 @@ fn other_keys_of_the_same_values(rt: HostRuntime) {
     assert!(rt; are_same(x, y) == Ok(false));
 }
 
+/// A null by its key.
+fn null_key(alloc: Global) -> Result<DictionaryArray, Error> {
+    texts_by(alloc, &[0], Some(&[false]), &[Some("x")])
+}
+
+/// A null by its value.
+fn null_value(alloc: Global) -> Result<DictionaryArray, Error> {
+    texts_by(alloc, &[0], None, &[None])
+}
+
+/// Whether there is one place, which is null.
+fn is_null_place(array: &DictionaryArray) -> bool {
+    array.len() == 1 && array.is_null(0)
+}
+
+/// Whether there is one place, which isn't null.
+fn is_valid_place(array: &DictionaryArray) -> bool {
+    array.len() == 1 && !array.is_null(0)
+}
+
 #[test]
 fn a_null_key_and_a_null_value(rt: HostRuntime) {
     let alloc = rt.alloc();
-    let by_key = texts_by(alloc, &[0], Some(&[false]), &[Some("x")]).expect(&rt, "a null key");
-    let by_value = texts_by(alloc, &[0], None, &[None]).expect(&rt, "a null value");
-    assert!(rt; by_key.len() == 1);
-    assert!(rt; by_value.len() == 1);
-    assert!(rt; by_key.is_null(0));
-    assert!(rt; !by_value.is_null(0));
-    assert!(rt; by_key == by_value);
-    assert!(rt; by_value == by_key);
-    let text = texts_by(alloc, &[0], None, &[Some("x")]).expect(&rt, "a text");
-    assert!(rt; by_key != text);
-    assert!(rt; text != by_value);
-    drop(text);
-    drop(by_key);
-    drop(by_value);
+    assert!(rt; holds(null_key(alloc), is_null_place));
+    assert!(rt; holds(null_value(alloc), is_valid_place));
+    assert!(rt; are_same(null_key(alloc), null_value(alloc)) == Ok(true));
+    assert!(rt; are_same(null_value(alloc), null_key(alloc)) == Ok(true));
+}
+
+#[test]
+fn nulls_are_no_text(rt: HostRuntime) {
+    let alloc = rt.alloc();
+    let text = texts_by(alloc, &[0], None, &[Some("x")]);
+    assert!(rt; are_same(null_key(alloc), text) == Ok(false));
+    let text = texts_by(alloc, &[0], None, &[Some("x")]);
+    assert!(rt; are_same(text, null_value(alloc)) == Ok(false));
 }
 
 /// Texts by keys as an array of any kind.

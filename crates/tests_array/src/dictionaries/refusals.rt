@@ -1,6 +1,6 @@
 //! What constructors of dictionaries refuse, and in which order.
 use super::{by_keys, int32_keys, keys, texts};
-use crate::arrays::both;
+use crate::arrays::{are_same, both, holds};
 use nest_array::{AnyArray, AnyKeys, DictionaryArray, DictionaryKey};
 use nest_memory::datatypes::{DataType, IntegerType};
 use nest_memory::error::{Error, Spec};
@@ -81,24 +81,29 @@ fn one_text(alloc: Global, ordered: bool) -> Result<DictionaryArray, Error> {
     )
 }
 
+fn is_ordered(array: &DictionaryArray) -> bool {
+    array.is_ordered()
+}
+
+fn is_unordered(array: &DictionaryArray) -> bool {
+    !array.is_ordered()
+}
+
 #[test]
 fn the_type_says_whether_values_are_ordered(rt: HostRuntime) {
     let alloc = rt.alloc();
-    let ordered = one_text(alloc, true).expect(&rt, "an ordered text");
-    let unordered = one_text(alloc, false).expect(&rt, "a text");
-    assert!(rt; ordered.is_ordered());
-    assert!(rt; !unordered.is_ordered());
-    assert!(rt; ordered != unordered);
-    drop(ordered);
-    drop(unordered);
+    assert!(rt; holds(one_text(alloc, true), is_ordered));
+    assert!(rt; holds(one_text(alloc, false), is_unordered));
+    assert!(rt; are_same(one_text(alloc, true), one_text(alloc, false)) == Ok(false));
+}
+
+fn are_two(array: &DictionaryArray) -> bool {
+    array.len() == 2
 }
 
 #[test]
 fn parts_that_fit(rt: HostRuntime) {
     let alloc = rt.alloc();
-    let values = texts(alloc, &[Some("x")]).expect(&rt, "a text");
-    let keys = int32_keys(alloc, &[0, 0], None).expect(&rt, "two keys");
-    let array = DictionaryArray::try_from_keys(alloc, keys, values).expect(&rt, "two texts");
-    assert!(rt; array.len() == 2);
-    drop(array);
+    let keys = int32_keys(alloc, &[0, 0], None);
+    assert!(rt; holds(by_keys(alloc, keys, texts(alloc, &[Some("x")])), are_two));
 }

@@ -1,7 +1,8 @@
 //! What a slot that is looked up by a key holds as a scalar, and the value that a raw key names by itself.
 use super::equality::{by_two_keys, inner};
 use super::{four_texts, texts_by};
-use crate::scalars::{slot, spelled};
+use crate::arrays::holds_in;
+use crate::scalars::{is_spelled, slot_is};
 use nest_array::{AnyScalar, DictionaryArray, new_scalar};
 use nest_memory::datatypes::DataType;
 use nest_memory::error::Error;
@@ -26,29 +27,29 @@ fn named(
 #[test]
 fn slots_are_values_or_null(rt: HostRuntime) {
     let alloc = rt.alloc();
-    assert!(rt; slot(alloc, four_texts(alloc), 0).as_str() == "'A'");
-    assert!(rt; slot(alloc, four_texts(alloc), 2).as_str() == "null");
-    assert!(rt; slot(alloc, four_texts(alloc), 3).as_str() == "'C'");
+    assert!(rt; slot_is(alloc, four_texts(alloc), 0, "'A'"));
+    assert!(rt; slot_is(alloc, four_texts(alloc), 2, "null"));
+    assert!(rt; slot_is(alloc, four_texts(alloc), 3, "'C'"));
     let by_value = texts_by(alloc, &[1, 0], None, &[Some("x"), None]);
-    assert!(rt; slot(alloc, by_value, 0).as_str() == "null");
+    assert!(rt; slot_is(alloc, by_value, 0, "null"));
 }
 
 #[test]
 fn slots_behind_two_keys(rt: HostRuntime) {
     let alloc = rt.alloc();
     let values = inner(alloc, &[1, 0], None, &[Some("x"), Some("y")]);
-    assert!(rt; slot(alloc, by_two_keys(alloc, &[0, 1], None, values), 1).as_str() == "'x'");
+    assert!(rt; slot_is(alloc, by_two_keys(alloc, &[0, 1], None, values), 1, "'x'"));
     let values = inner(alloc, &[0], Some(&[false]), &[Some("x")]);
-    assert!(rt; slot(alloc, by_two_keys(alloc, &[0], None, values), 0).as_str() == "null");
+    assert!(rt; slot_is(alloc, by_two_keys(alloc, &[0], None, values), 0, "null"));
 }
 
 #[test]
 fn values_at_raw_keys_also_under_nulls(rt: HostRuntime) {
     let alloc = rt.alloc();
-    assert!(rt; spelled(alloc, named(alloc, four_texts(alloc), 1)).as_str() == "'B'");
-    assert!(rt; spelled(alloc, named(alloc, four_texts(alloc), 2)).as_str() == "'A'");
+    assert!(rt; is_spelled(alloc, named(alloc, four_texts(alloc), 1), "'B'"));
+    assert!(rt; is_spelled(alloc, named(alloc, four_texts(alloc), 2), "'A'"));
     let by_value = texts_by(alloc, &[1], None, &[Some("x"), None]);
-    assert!(rt; spelled(alloc, named(alloc, by_value, 0)).as_str() == "null");
+    assert!(rt; is_spelled(alloc, named(alloc, by_value, 0), "null"));
 }
 
 /// Whether the scalar of the first slot has the array's type, and the value that its key names that of texts.
@@ -77,10 +78,12 @@ fn same_type(scalar: Result<AnyScalar, Error>, array: &DictionaryArray) -> Resul
     Ok(same)
 }
 
+/// The same, where all memory is there.
+fn are_told_by_their_types(alloc: Global, array: &DictionaryArray) -> bool {
+    have_their_types(alloc, array) == Ok(true)
+}
+
 #[test]
 fn slots_and_values_have_their_own_types(rt: HostRuntime) {
-    let array = four_texts(rt.alloc()).expect(&rt, "four texts");
-    let answer = have_their_types(rt.alloc(), &array);
-    drop(array);
-    assert!(rt; answer == Ok(true));
+    assert!(rt; holds_in(rt.alloc(), four_texts(rt.alloc()), are_told_by_their_types));
 }

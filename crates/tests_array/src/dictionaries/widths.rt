@@ -1,63 +1,71 @@
 //! Keys of each width.
-use super::{by_keys, expect_texts, keys, texts};
+use super::{are_texts, by_keys, keys, texts};
 use nest_array::{AnyKeys, DictionaryKey};
 use nest_memory::error::Error;
 use std::alloc::Global;
 use std::process::Abort;
 
-/// b and a by these keys.
-fn expect_pair(rt: &impl Abort, alloc: Global, keys: Result<AnyKeys, Error>) {
+/// Whether b and a are named by these keys, 1 and 0.
+fn are_pair(alloc: Global, keys: Result<AnyKeys, Error>) -> bool {
     let array = by_keys(alloc, keys, texts(alloc, &[Some("a"), Some("b")]));
-    expect_texts(rt, alloc, array, " b a");
+    are_texts(alloc, array, " b a")
 }
 
 #[test]
 fn signed_keys_name_values(rt: HostRuntime) {
     let alloc = rt.alloc();
-    expect_pair(
-        &rt,
-        alloc,
-        keys(alloc, &[1i8, 0], None).map(|keys| i8::wrap(keys)),
+    assert!(rt;
+        are_pair(
+            alloc,
+            keys(alloc, &[1i8, 0], None).map(|keys| i8::wrap(keys))
+        )
     );
-    expect_pair(
-        &rt,
-        alloc,
-        keys(alloc, &[1i16, 0], None).map(|keys| i16::wrap(keys)),
+    assert!(rt;
+        are_pair(
+            alloc,
+            keys(alloc, &[1i16, 0], None).map(|keys| i16::wrap(keys))
+        )
     );
-    expect_pair(
-        &rt,
-        alloc,
-        keys(alloc, &[1i32, 0], None).map(|keys| i32::wrap(keys)),
+    assert!(rt;
+        are_pair(
+            alloc,
+            keys(alloc, &[1i32, 0], None).map(|keys| i32::wrap(keys))
+        )
     );
-    expect_pair(
-        &rt,
-        alloc,
-        keys(alloc, &[1i64, 0], None).map(|keys| i64::wrap(keys)),
+    assert!(rt;
+        are_pair(
+            alloc,
+            keys(alloc, &[1i64, 0], None).map(|keys| i64::wrap(keys))
+        )
     );
 }
 
 #[test]
 fn unsigned_keys_name_values(rt: HostRuntime) {
     let alloc = rt.alloc();
-    expect_pair(
-        &rt,
-        alloc,
-        keys(alloc, &[1u8, 0], None).map(|keys| u8::wrap(keys)),
+    assert!(rt;
+        are_pair(
+            alloc,
+            keys(alloc, &[1u8, 0], None).map(|keys| u8::wrap(keys))
+        )
     );
-    expect_pair(
-        &rt,
-        alloc,
-        keys(alloc, &[1u16, 0], None).map(|keys| u16::wrap(keys)),
+    assert!(rt;
+        are_pair(
+            alloc,
+            keys(alloc, &[1u16, 0], None).map(|keys| u16::wrap(keys))
+        )
     );
-    expect_pair(
-        &rt,
-        alloc,
-        keys(alloc, &[1u32, 0], None).map(|keys| u32::wrap(keys)),
+    assert!(rt;
+        are_pair(
+            alloc,
+            keys(alloc, &[1u32, 0], None).map(|keys| u32::wrap(keys))
+        )
     );
-    expect_pair(
-        &rt,
-        alloc,
-        keys(alloc, &[1u64, 0], None).map(|keys| u64::wrap(keys)),
+    assert!(rt;
+        are_pair(
+            alloc,
+            keys(alloc, &[1u64, 0], None).map(|keys| u64::wrap(keys))
+        )
     );
 }
 

@@ -3,21 +3,14 @@
 ghost use Rattle.std.specs.Prelude.{◌≡◌, IfOk};
 ghost use Rattle.nest_model.specs.Accessors.{validity_of};
 
-use super::{has_entry, two_maps};
-use crate::arrays::memory::unless_refused;
-use nest_array::{Array, MapArray};
+use super::{is_entry, two_maps};
+use crate::arrays::memory::{
+    refused_or, refused_or_equal, refused_or_long, refused_or_shared, refused_or_taken,
+};
+use nest_array::{AnyArray, Array, MapArray};
 use nest_memory::bitmap::immutable::Bitmap;
 use nest_memory::error::Error;
 use std::alloc::Global;
-use std::process::Abort;
-
-/// Whether a call gave an array that is equal; it is let go.
-fn gives<A: PartialEq + Drop>(rt: &impl Abort, given: Result<A, Error>, array: &A) {
-    if let Some(given) = unless_refused(rt, given) {
-        assert!(rt; given == *array);
-        drop(given);
-    }
-}
 
 /// The array of the parts that an array shows.
 fn of_its_parts(alloc: Global, array: &MapArray) -> Result<MapArray, Error> {
@@ -43,40 +36,58 @@ fn bits_of(array: &MapArray) -> Result<Option<Bitmap>, Error>
     }
 }
 
+/// Whether copies, of the array and of the parts that it shows, are equal or refused.
+fn are_copied(alloc: Global, array: MapArray) -> bool {
+    let copied = refused_or_equal(array.clone(alloc), &array);
+    let made = refused_or_equal(of_its_parts(alloc, &array), &array);
+    drop(array);
+    copied && made
+}
+
+/// The same of an array in its variant.
+fn any_are_copied(alloc: Global, any: AnyArray) -> bool {
+    let copied = refused_or_equal(any.clone(alloc), &any);
+    let boxed = refused_or_equal(any.to_boxed(alloc), &any);
+    drop(any);
+    copied && boxed
+}
+
 #[test]
 fn copies_are_equal_or_refused(rt: HostRuntime) {
     let alloc = rt.alloc();
-    let Some(array) = unless_refused(&rt, two_maps(alloc)) else {
-        return;
-    };
-    gives(&rt, array.clone(alloc), &array);
-    gives(&rt, of_its_parts(alloc, &array), &array);
-    let any = array.boxed();
-    gives(&rt, any.clone(alloc), &any);
-    gives(&rt, any.to_boxed(alloc), &any);
-    drop(any);
+    assert!(rt; refused_or_taken(alloc, two_maps(alloc), are_copied));
+    let any = two_maps(alloc).map(|array| array.boxed());
+    assert!(rt; refused_or_taken(alloc, any, any_are_copied));
+}
+
+/// The one entry from aa to bb.
+fn is_second_entry(entries: &AnyArray) -> bool {
+    is_entry(entries, "aa", "bb")
+}
+
+fn has_no_nulls(array: &AnyArray) -> bool {
+    array.null_count() == 0
+}
+
+/// Whether the second map, a cut, and the maps without a validity are there or refused.
+fn tell_their_parts(alloc: Global, array: &MapArray) -> bool {
+    if array.len() != 2 {
+        return false;
+    }
+    let entries = refused_or(array.value(alloc, 1), is_second_entry);
+    let cut = refused_or_long(Array::sliced(array, alloc, 1, 1), 1);
+    let bare = refused_or(Array::with_validity(array, alloc, None), has_no_nulls);
+    entries && cut && bare
+}
+
+/// The same, and of a shared array.
+fn tell_and_share(alloc: Global, array: MapArray) -> bool {
+    let told = tell_their_parts(alloc, &array);
+    let shared = refused_or_shared(array.arced(alloc), 2);
+    told && shared
 }
 
 #[test]
 fn parts_are_told_or_refused(rt: HostRuntime) {
-    let alloc = rt.alloc();
-    let Some(array) = unless_refused(&rt, two_maps(alloc)) else {
-        return;
-    };
-    assert!(rt; array.len() == 2);
-    if let Some(entries) = unless_refused(&rt, array.value(alloc, 1)) {
-        assert!(rt; has_entry(Ok(entries), "aa", "bb"));
-    }
-    if let Some(cut) = unless_refused(&rt, Array::sliced(&array, alloc, 1, 1)) {
-        assert!(rt; cut.len() == 1);
-        drop(cut);
-    }
-    if let Some(bare) = unless_refused(&rt, Array::with_validity(&array, alloc, None)) {
-        assert!(rt; bare.null_count() == 0);
-        drop(bare);
-    }
-    if let Some(shared) = unless_refused(&rt, array.arced(alloc)) {
-        assert!(rt; shared.len() == 2);
-        drop(shared);
-    }
+    assert!(rt; refused_or_taken(rt.alloc(), two_maps(rt.alloc()), tell_and_share));
 }

@@ -1,6 +1,7 @@
 //! What the constructor of maps refuses, and which refusal is the first.
 use super::{entries, map_type, maps_of, maps_under, pair_type, text_field};
-use crate::arrays::{list_type, numbers, two};
+use crate::arrays::{holds, list_type, numbers, two};
+use nest_array::MapArray;
 use nest_memory::datatypes::DataType;
 use nest_memory::error::{Argument, Error, Spec};
 use std::alloc::Global;
@@ -24,14 +25,16 @@ fn extension_of_records_inside(rt: HostRuntime) {
     assert!(rt; refused == MAP_INNER);
 }
 
+fn are_two(array: &MapArray) -> bool {
+    array.len() == 2
+}
+
 #[test]
 fn extension_of_maps(rt: HostRuntime) {
     let alloc = rt.alloc();
     let data_type = extension(alloc, map_type(alloc, pair_type(alloc)));
     let array = maps_under(alloc, data_type, entries(alloc), &[0, 1, 2], None);
-    let array = array.expect(&rt, "two maps");
-    assert!(rt; array.len() == 2);
-    drop(array);
+    assert!(rt; holds(array, are_two));
 }
 
 /// The type of records of three texts.

@@ -1,7 +1,7 @@
 //! Scalars of unions: a pick by itself, and the scalar of what is picked.
 use super::{in_turn, middle, sparse};
 use crate::arrays::are_same;
-use crate::scalars::{scalar_of, slot, spelled};
+use crate::scalars::{is_spelled, scalar_of, slot_is};
 use nest_array::{AnyScalar, UnionArray};
 use nest_memory::error::Error;
 use std::alloc::Global;
@@ -21,20 +21,20 @@ fn picked(alloc: Global, array: Result<UnionArray, Error>, i: usize) -> Result<A
 fn what_is_picked(rt: HostRuntime) {
     let alloc = rt.alloc();
     let first = picked(alloc, in_turn(alloc), 0);
-    assert!(rt; spelled(alloc, first).as_str() == "Int32(10)");
+    assert!(rt; is_spelled(alloc, first, "Int32(10)"));
     let last = picked(alloc, in_turn(alloc), 3);
-    assert!(rt; spelled(alloc, last).as_str() == "'d'");
+    assert!(rt; is_spelled(alloc, last, "'d'"));
     let text = picked(alloc, middle(alloc), 0);
-    assert!(rt; spelled(alloc, text).as_str() == "'b'");
+    assert!(rt; is_spelled(alloc, text, "'b'"));
     let number = picked(alloc, middle(alloc), 1);
-    assert!(rt; spelled(alloc, number).as_str() == "Int32(12)");
+    assert!(rt; is_spelled(alloc, number, "Int32(12)"));
 }
 
 #[test]
 fn picks_by_themselves(rt: HostRuntime) {
     let alloc = rt.alloc();
-    assert!(rt; slot(alloc, in_turn(alloc), 0).as_str() == "field 0");
-    assert!(rt; slot(alloc, middle(alloc), 0).as_str() == "field 1");
+    assert!(rt; slot_is(alloc, in_turn(alloc), 0, "field 0"));
+    assert!(rt; slot_is(alloc, middle(alloc), 0, "field 1"));
 }
 
 /// A pick of one of two fields that both hold the number 7.

@@ -1,7 +1,9 @@
 //! Blocks of raw values: what lies under a null counts, and whether a slot is null doesn't.
-use super::numbers;
+use super::{both, numbers};
 use nest_flat::primitive::PrimitiveArray;
 use nest_memory::datatypes::DataType;
+use nest_memory::error::Error;
+use std::alloc::Global;
 
 /// Whether blocks within both arrays are equal.
 fn are_equal(
@@ -18,49 +20,93 @@ fn are_equal(
     Some(x.equal_block(o, y, p, n))
 }
 
+/// Whether each block, by its two places and its length, is equal or not as told.
+fn are_as_told(
+    x: &PrimitiveArray<i32>,
+    y: &PrimitiveArray<i32>,
+    blocks: &[(usize, usize, usize, bool)],
+) -> bool {
+    for (o, p, n, equal) in blocks {
+        if are_equal(x, *o, y, *p, *n) != Some(*equal) {
+            return false;
+        }
+    }
+    true
+}
+
+/// The same of arrays of these numbers.
+fn blocks_are(
+    alloc: Global,
+    x: &[i32],
+    y: &[i32],
+    blocks: &[(usize, usize, usize, bool)],
+) -> Result<bool, Error> {
+    let x = numbers(alloc, DataType::Int32, x, None);
+    let y = numbers(alloc, DataType::Int32, y, None);
+    match both(x, y) {
+        Ok((x, y)) => {
+            let found = are_as_told(&x, &y, blocks);
+            drop(x);
+            drop(y);
+            Ok(found)
+        }
+        Err(error) => Err(error),
+    }
+}
+
 const ITEMS: [i32; 18] = [0, 1, 2, 3, 4, 5, 6, 7, 8, 9, 10, 11, 12, 13, 14, 15, 16, 17];
 
 #[test]
 fn blocks_of_every_length(rt: HostRuntime) {
-    let alloc = rt.alloc();
-    let x = numbers(alloc, DataType::Int32, &ITEMS, None).expect(&rt, "eighteen numbers");
-    let y = numbers(alloc, DataType::Int32, &ITEMS[1..], None).expect(&rt, "seventeen numbers");
-    assert!(rt; are_equal(&x, 3, &y, 9, 0) == Some(true));
-    assert!(rt; are_equal(&x, 18, &y, 17, 0) == Some(true));
-    assert!(rt; are_equal(&x, 4, &y, 3, 1) == Some(true));
-    assert!(rt; are_equal(&x, 4, &y, 4, 1) == Some(false));
-    assert!(rt; are_equal(&x, 1, &y, 0, 16) == Some(true));
-    assert!(rt; are_equal(&x, 2, &y, 1, 16) == Some(true));
-    assert!(rt; are_equal(&x, 1, &y, 0, 17) == Some(true));
-    assert!(rt; are_equal(&x, 1, &y, 1, 16) == Some(false));
-    drop(x);
-    drop(y);
+    let blocks = [
+        (3, 9, 0, true),
+        (18, 17, 0, true),
+        (4, 3, 1, true),
+        (4, 4, 1, false),
+        (1, 0, 16, true),
+        (2, 1, 16, true),
+        (1, 0, 17, true),
+        (1, 1, 16, false),
+    ];
+    let found = blocks_are(rt.alloc(), &ITEMS, &ITEMS[1..], blocks.as_slice());
+    assert!(rt; found == Ok(true));
 }
 
 #[test]
 fn blocks_that_differ_in_one_value(rt: HostRuntime) {
-    let alloc = rt.alloc();
-    let x = numbers(alloc, DataType::Int32, &[1, 2, 3, 4, 5], None).expect(&rt, "numbers");
-    let y = numbers(alloc, DataType::Int32, &[9, 2, 3, 4, 9], None).expect(&rt, "numbers");
-    assert!(rt; are_equal(&x, 1, &y, 1, 3) == Some(true));
-    assert!(rt; are_equal(&x, 1, &y, 1, 4) == Some(false));
-    assert!(rt; are_equal(&x, 0, &y, 0, 4) == Some(false));
-    drop(x);
-    drop(y);
+    let blocks = [(1, 1, 3, true), (1, 1, 4, false), (0, 0, 4, false)];
+    let found = blocks_are(
+        rt.alloc(),
+        &[1, 2, 3, 4, 5],
+        &[9, 2, 3, 4, 9],
+        blocks.as_slice(),
+    );
+    assert!(rt; found == Ok(true));
+}
+
+/// Whether 1, 2 and 3, of which the second may be null, are equal to another array, and whether their blocks are.
+fn compared(
+    alloc: Global,
+    bits: Option<&[bool]>,
+    other: Result<PrimitiveArray<i32>, Error>,
+) -> Result<(bool, Option<bool>), Error> {
+    match both(numbers(alloc, DataType::Int32, &[1, 2, 3], bits), other) {
+        Ok((x, y)) => {
+            let found = (x == y, are_equal(&x, 0, &y, 0, 3));
+            drop(x);
+            drop(y);
+            Ok(found)
+        }
+        Err(error) => Err(error),
+    }
 }
 
 #[test]
 fn raw_values_alone_count(rt: HostRuntime) {
     let alloc = rt.alloc();
     let bits = Some([true, false, true].as_slice());
-    let x = numbers(alloc, DataType::Int32, &[1, 2, 3], bits).expect(&rt, "three numbers");
-    let y = numbers(alloc, DataType::Int32, &[1, 7, 3], bits).expect(&rt, "three numbers");
-    let valid = numbers(alloc, DataType::Int32, &[1, 2, 3], None).expect(&rt, "three numbers");
-    assert!(rt; x == y);
-    assert!(rt; are_equal(&x, 0, &y, 0, 3) == Some(false));
-    assert!(rt; x != valid);
-    assert!(rt; are_equal(&x, 0, &valid, 0, 3) == Some(true));
-    drop(x);
-    drop(y);
-    drop(valid);
+    let other = numbers(alloc, DataType::Int32, &[1, 7, 3], bits);
+    assert!(rt; compared(alloc, bits, other) == Ok((true, Some(false))));
+    let valid = numbers(alloc, DataType::Int32, &[1, 2, 3], None);
+    assert!(rt; compared(alloc, bits, valid) == Ok((false, Some(true))));
 }

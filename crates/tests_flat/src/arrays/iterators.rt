@@ -1,41 +1,51 @@
 //! Slots and raw values from both ends, and how many are left.
-use super::{binaries, numbers, texts, truths};
+use super::{binaries, holds, numbers, texts, truths};
+use nest_flat::binary::BinaryArray;
+use nest_flat::boolean::BooleanArray;
+use nest_flat::primitive::PrimitiveArray;
+use nest_flat::utf8::Utf8Array;
 use nest_memory::datatypes::DataType;
+
+/// The slots 1, a null and 3.
+fn give_numbers(array: &PrimitiveArray<i32>) -> bool {
+    let mut slots = array.iter();
+    let three = slots.len() == 3;
+    let ends = slots.next_back() == Some(Some(3)) && slots.next() == Some(Some(1));
+    let last = slots.len() == 1 && slots.next_back() == Some(None);
+    three && ends && last && slots.next().is_none() && slots.next_back().is_none()
+}
+
+/// The raw values 1, 2 and 3.
+fn give_raw_numbers(array: &PrimitiveArray<i32>) -> bool {
+    let mut values = array.values_iter();
+    values.next_back() == Some(3) && values.next_back() == Some(2) && values.len() == 1
+}
 
 #[test]
 fn numbers_from_both_ends(rt: HostRuntime) {
     let bits = Some([true, false, true].as_slice());
-    let array = numbers(rt.alloc(), DataType::Int32, &[1, 2, 3], bits).expect(&rt, "three slots");
+    let array = numbers(rt.alloc(), DataType::Int32, &[1, 2, 3], bits);
+    assert!(rt; holds(array, give_numbers));
+    let array = numbers(rt.alloc(), DataType::Int32, &[1, 2, 3], bits);
+    assert!(rt; holds(array, give_raw_numbers));
+}
+
+/// A null over true, and false.
+fn give_truths(array: &BooleanArray) -> bool {
     let mut slots = array.iter();
-    assert!(rt; slots.len() == 3);
-    assert!(rt; slots.next_back() == Some(Some(3)));
-    assert!(rt; slots.next() == Some(Some(1)));
-    assert!(rt; slots.len() == 1);
-    assert!(rt; slots.next_back() == Some(None));
-    assert!(rt; slots.next().is_none());
-    assert!(rt; slots.next_back().is_none());
-    let mut values = array.values_iter();
-    assert!(rt; values.next_back() == Some(3));
-    assert!(rt; values.next_back() == Some(2));
-    assert!(rt; values.len() == 1);
-    drop(array);
+    let last = slots.next_back() == Some(Some(false)) && slots.len() == 1;
+    let first = slots.next() == Some(None) && slots.next().is_none();
+    last && first && array.values_iter().next() == Some(true)
 }
 
 #[test]
 fn truths_from_both_ends(rt: HostRuntime) {
     let bits = Some([false, true].as_slice());
-    let array = truths(rt.alloc(), &[true, false], bits).expect(&rt, "two slots");
-    let mut slots = array.iter();
-    assert!(rt; slots.next_back() == Some(Some(false)));
-    assert!(rt; slots.len() == 1);
-    assert!(rt; slots.next() == Some(None));
-    assert!(rt; slots.next().is_none());
-    assert!(rt; array.values_iter().next() == Some(true));
-    drop(array);
+    assert!(rt; holds(truths(rt.alloc(), &[true, false], bits), give_truths));
 }
 
 /// Whether the item is a slot of these bytes.
-fn holds(item: Option<Option<&[u8]>>, bytes: &[u8]) -> bool {
+fn is_slot(item: Option<Option<&[u8]>>, bytes: &[u8]) -> bool {
     match item {
         Some(Some(item)) => item == bytes,
         _ => false,
@@ -46,31 +56,33 @@ fn is_null(item: Option<Option<&[u8]>>) -> bool {
     matches!(item, Some(None))
 }
 
+/// A null over d, and ef.
+fn give_bytes(array: &BinaryArray<i64>) -> bool {
+    let mut slots = array.iter();
+    let two = slots.len() == 2;
+    let ends = is_slot(slots.next_back(), b"ef") && is_null(slots.next());
+    let none = slots.len() == 0 && slots.next().is_none();
+    let first = array.values_iter().next();
+    two && ends && none && is_slot(Some(first), b"d")
+}
+
 #[test]
 fn bytes_from_both_ends(rt: HostRuntime) {
     let bits = Some([false, true].as_slice());
-    let array = binaries(rt.alloc(), b"def", &[0, 1, 3], bits).expect(&rt, "two slots");
+    assert!(rt; holds(binaries(rt.alloc(), b"def", &[0, 1, 3], bits), give_bytes));
+}
+
+/// A null over one, and two.
+fn give_texts(array: &Utf8Array<i32>) -> bool {
     let mut slots = array.iter();
-    assert!(rt; slots.len() == 2);
-    assert!(rt; holds(slots.next_back(), b"ef"));
-    assert!(rt; is_null(slots.next()));
-    assert!(rt; slots.len() == 0);
-    assert!(rt; slots.next().is_none());
-    let first = array.values_iter().next();
-    assert!(rt; holds(Some(first), b"d"));
-    drop(array);
+    let two = slots.len() == 2;
+    let ends = slots.next_back() == Some(Some("two")) && slots.next() == Some(None);
+    let none = slots.len() == 0 && slots.next_back().is_none();
+    two && ends && none && array.values_iter().next() == Some("one")
 }
 
 #[test]
 fn texts_from_both_ends(rt: HostRuntime) {
     let bits = Some([false, true].as_slice());
-    let array = texts(rt.alloc(), b"onetwo", &[0, 3, 6], bits).expect(&rt, "two slots");
-    let mut slots = array.iter();
-    assert!(rt; slots.len() == 2);
-    assert!(rt; slots.next_back() == Some(Some("two")));
-    assert!(rt; slots.next() == Some(None));
-    assert!(rt; slots.len() == 0);
-    assert!(rt; slots.next_back().is_none());
-    assert!(rt; array.values_iter().next() == Some("one"));
-    drop(array);
+    assert!(rt; holds(texts(rt.alloc(), b"onetwo", &[0, 3, 6], bits), give_texts));
 }

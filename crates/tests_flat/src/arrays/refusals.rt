@@ -1,7 +1,13 @@
 //! The first check that fails is the one that is answered.
-use super::{binaries, numbers, texts, truths};
+use super::{binaries, holds, numbers, texts, truths};
+use nest_flat::primitive::PrimitiveArray;
+use nest_flat::utf8::Utf8Array;
 use nest_memory::datatypes::DataType;
 use nest_memory::error::{Error, Spec};
+
+fn is_one_letter(array: &Utf8Array<i32>) -> bool {
+    array.len() == 1 && array.get(0) == Some("é")
+}
 
 #[test]
 fn texts_end_with_characters(rt: HostRuntime) {
@@ -14,10 +20,11 @@ fn texts_end_with_characters(rt: HostRuntime) {
         let refused = texts(rt.alloc(), bytes, offsets, None).err();
         assert!(rt; refused == Some(Error::OutOfSpec(fault)));
     }
-    let one = texts(rt.alloc(), bytes, &[1, 3], None).expect(&rt, "one slot");
-    assert!(rt; one.len() == 1);
-    assert!(rt; one.get(0) == Some("é"));
-    drop(one);
+    assert!(rt; holds(texts(rt.alloc(), bytes, &[1, 3], None), is_one_letter));
+}
+
+fn are_two_dates(array: &PrimitiveArray<i32>) -> bool {
+    array.len() == 2 && matches!(array.data_type(), DataType::Date32)
 }
 
 #[test]
@@ -27,12 +34,8 @@ fn natives_of_their_data_type(rt: HostRuntime) {
     assert!(rt; refused == Some(Error::OutOfSpec(Spec::WrongType)));
     let refused = numbers(rt.alloc(), DataType::Int64, &[7, 8], long).err();
     assert!(rt; refused == Some(Error::OutOfSpec(Spec::ValidityLength)));
-    let dates = numbers(rt.alloc(), DataType::Date32, &[7, 8], None).expect(&rt, "two days");
-    let date = DataType::Date32;
-    assert!(rt; *dates.data_type() == date);
-    assert!(rt; dates.len() == 2);
-    drop(date);
-    drop(dates);
+    let dates = numbers(rt.alloc(), DataType::Date32, &[7, 8], None);
+    assert!(rt; holds(dates, are_two_dates));
 }
 
 #[test]

@@ -1,11 +1,15 @@
 //! Arrays are equal where their data types and their slots are; what lies under a null does not count.
-use super::{binaries, numbers, texts, truths};
+use super::{binaries, both, holds, numbers, texts, truths};
+use nest_flat::binary::BinaryArray;
+use nest_flat::boolean::BooleanArray;
+use nest_flat::primitive::PrimitiveArray;
+use nest_flat::utf8::Utf8Array;
 use nest_memory::datatypes::DataType;
 use nest_memory::error::Error;
 
 /// Whether both were made and are equal; both are let go.
 fn are_same<A: PartialEq + Drop>(x: Result<A, Error>, y: Result<A, Error>) -> Result<bool, Error> {
-    let (x, y) = super::both(x, y)?;
+    let (x, y) = both(x, y)?;
     Ok(x == y)
 }
 
@@ -77,41 +81,44 @@ fn a_null_is_no_value(rt: HostRuntime) {
     assert!(rt; are_same(hello(), under_null) == Ok(true));
 }
 
+/// Whether 1, a null and 3 have these runs in common with 9, a null and 1.
+fn have_runs_in_common(arrays: &(PrimitiveArray<i32>, PrimitiveArray<i32>)) -> bool {
+    let (x, y) = arrays;
+    if x.len() != 3 || y.len() != 3 {
+        return false;
+    }
+    let same = x.same_run(0, y, 2, 0) && x.same_run(1, y, 1, 1) && x.same_run(0, y, 2, 1);
+    same && !x.same_run(0, y, 0, 2)
+}
+
 #[test]
 fn runs_of_slots(rt: HostRuntime) {
-    let alloc = rt.alloc();
     let bits = Some([true, false, true].as_slice());
-    let x = numbers(alloc, DataType::Int32, &[1, 2, 3], bits).expect(&rt, "three numbers");
-    let y = numbers(alloc, DataType::Int32, &[9, 3, 1], bits).expect(&rt, "three numbers");
-    if x.len() == 3 && y.len() == 3 {
-        assert!(rt; x.same_run(0, &y, 2, 0));
-        assert!(rt; x.same_run(1, &y, 1, 1));
-        assert!(rt; x.same_run(0, &y, 2, 1));
-        assert!(rt; !x.same_run(0, &y, 0, 2));
-    }
-    drop(x);
-    drop(y);
+    let x = numbers(rt.alloc(), DataType::Int32, &[1, 2, 3], bits);
+    let y = numbers(rt.alloc(), DataType::Int32, &[9, 3, 1], bits);
+    assert!(rt; holds(both(x, y), have_runs_in_common));
+}
+
+/// Whether the last of three slots is the first, and the second is not.
+fn truths_come_back(x: &BooleanArray) -> bool {
+    x.len() == 3 && x.same_run(0, x, 2, 1) && !x.same_run(0, x, 1, 2)
+}
+
+/// The same of bytes.
+fn bytes_come_back(x: &BinaryArray<i64>) -> bool {
+    x.len() == 3 && x.same_run(0, x, 2, 1) && !x.same_run(0, x, 1, 2)
+}
+
+/// The same of texts.
+fn texts_come_back(x: &Utf8Array<i32>) -> bool {
+    x.len() == 3 && x.same_run(0, x, 2, 1) && !x.same_run(0, x, 1, 2)
 }
 
 #[test]
 fn runs_of_other_kinds(rt: HostRuntime) {
     let alloc = rt.alloc();
-    let x = truths(alloc, &[true, false, true], None).expect(&rt, "three truths");
-    if x.len() == 3 {
-        assert!(rt; x.same_run(0, &x, 2, 1));
-        assert!(rt; !x.same_run(0, &x, 1, 2));
-    }
-    drop(x);
-    let x = binaries(alloc, &[4, 5, 4], &[0, 1, 2, 3], None).expect(&rt, "three slots");
-    if x.len() == 3 {
-        assert!(rt; x.same_run(0, &x, 2, 1));
-        assert!(rt; !x.same_run(0, &x, 1, 2));
-    }
-    drop(x);
-    let x = texts(alloc, b"aba", &[0, 1, 2, 3], None).expect(&rt, "three texts");
-    if x.len() == 3 {
-        assert!(rt; x.same_run(0, &x, 2, 1));
-        assert!(rt; !x.same_run(0, &x, 1, 2));
-    }
-    drop(x);
+    assert!(rt; holds(truths(alloc, &[true, false, true], None), truths_come_back));
+    let bytes = binaries(alloc, &[4, 5, 4], &[0, 1, 2, 3], None);
+    assert!(rt; holds(bytes, bytes_come_back));
+    assert!(rt; holds(texts(alloc, b"aba", &[0, 1, 2, 3], None), texts_come_back));
 }
