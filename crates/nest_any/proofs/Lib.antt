@@ -1,0 +1,4 @@
+mod Each
+mod Nulls
+mod Over
+mod Weights
