@@ -1,4 +1,10 @@
 mod Each
+mod Frozen
+mod ListNulls
 mod Nulls
 mod Over
+mod Records
+mod Rooms
+mod StructNulls
 mod Weights
+mod Wholes
