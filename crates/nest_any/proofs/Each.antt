@@ -1,8 +1,10 @@
 -- The builders in a list, as part of a tree: what holds of all of them and of each.
-use Rattle.std.specs.Prelude.{List as Seq, [], ◌∷◌, Bool, true, false, ◌||◌, ◌⊎◌, replicate}
+use Rattle.std.specs.Prelude.{List as Seq, [], ◌∷◌, Bool, true, false, ◌||◌, ◌⊎◌, replicate, alloc_error}
 use Rattle.std.proofs.Common.{◌≡◌, ℕ, zero, suc, ◌+◌, ◌<◌, ◌≤◌, ltb, length, get_or, set, take, refl, sym, ap, ◌∙◌, arith, inl, inr}
 use Rattle.std.proofs.lemmas.List.{get_or-set_same, get_or-set_other, get_or_default, length-set}
 use Rattle.std.proofs.lemmas.Bool.{ltb-true, ltb-false}
+use Rattle.nest_memory.specs.declared.error.Error.{Error}
+use Rattle.nest_memory.specs.declared.error.Error.TheVariants.{Memory, Overflow}
 use Rattle.nest_model.specs.BuilderTree.{BuilderTree, BuilderTrees, no_builders, more_builders, builder_len}
 use Rattle.nest_model.specs.BuilderWhole.{IsWhole, AreWhole, cut_builder, cut_builders, emptied, emptied_each}
 use Rattle.nest_model.specs.BuilderCutLaws.{cut-whole}
@@ -27,6 +29,12 @@ same-all f (x ∷ xs) (y ∷ ys) e h =
     let a : f x ≡ f y = h 0 x (omega arith) in
     let b = same-all f xs ys (omega arith) (λ k d l. h (suc k) d (omega arith)) in
     cc
+
+-- one builder in the place of another of the same tree
+pub each-set : {A : Type 0} (f : A → BuilderTree) (xs : Seq A) (i : ℕ) (y d : A) → f y ≡ f (get_or xs i d) → each f (set xs i y) ≡ each f xs
+each-set f [] i y d h = refl
+each-set f (x ∷ xs) zero y d h = ap (λ t. more_builders t (each f xs)) h
+each-set f (x ∷ xs) (suc i) y d h = ap (more_builders (f x)) (each-set f xs i y d h)
 
 pub cut-all : {A : Type 0} (f : A → BuilderTree) (xs ys : Seq A) (n : ℕ) → length xs ≡ length ys → ((k : ℕ) (d : A) → k < length ys → f (get_or xs k d) ≡ cut_builder (f (get_or ys k d)) n) → each f xs ≡ cut_builders (each f ys) n
 cut-all f [] [] n e h = refl
@@ -74,6 +82,10 @@ pub each_whole-at : {A : Type 0} (f : A → BuilderTree) (xs : Seq A) (k : ℕ) 
 each_whole-at f [] k d h l = absurd (omega arith)
 each_whole-at f (x ∷ xs) zero d h l = h.0
 each_whole-at f (x ∷ xs) (suc k) d h l = each_whole-at f xs k d h.1 (omega arith)
+
+pub whole-each : (cs : BuilderTrees) (n : ℕ) → AreWhole cs n → AreEachWhole cs
+whole-each no_builders n w = tt
+whole-each (more_builders c cs) n w = (w.0, whole-each cs n w.2)
 
 pub long-at : {A : Type 0} (f : A → BuilderTree) (xs : Seq A) (n k : ℕ) (d : A) → AreEachLong (each f xs) n → k < length xs → IsWhole (f (get_or xs k d)) × (n ≤ builder_len (f (get_or xs k d)))
 long-at f [] n k d h l = absurd (omega arith)
@@ -147,3 +159,9 @@ pass-none f (x ∷ xs) n h =
     let a : nulls_pass n (f x) ≡ false = h 0 x (omega arith) in
     let b = pass-none f xs n (λ k d l. h (suc k) d (omega arith)) in
     rw (a, b) refl
+
+-- one child has no place for a null
+pub child-passes : {A : Type 0} (f : A → BuilderTree) (xs : Seq A) (i : ℕ) (d : A) (t : BuilderTree) (e : Error) → i < length xs → t ≡ f (get_or xs i d) → (e ≡ Memory alloc_error) ⊎ ((e ≡ Overflow) × (nulls_pass 1 t ≡ true))
+    → (e ≡ Memory alloc_error) ⊎ ((e ≡ Overflow) × (nulls_pass_each 1 (each f xs) ≡ true))
+child-passes f xs i d t e l s (inl m) = inl m
+child-passes f xs i d t e l s (inr p) = inr (p.0, pass-at f xs 1 i d (ap (nulls_pass 1) (sym s) ∙ p.1) l)

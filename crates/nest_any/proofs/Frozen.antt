@@ -1,5 +1,6 @@
 -- The arrays of the children of records, and the array of the records.
-use Rattle.std.specs.Prelude.{List as Seq, [], ◌∷◌, Bool, Some, ◌++◌}
+use Rattle.std.specs.Prelude.{List as Seq, [], ◌∷◌, Bool, true, false, Some, ◌++◌, Result, Ok, Err, IfOk, IsOk}
+use Rattle.std.specs.declared.vec.Vec.{Vec}
 use Rattle.std.proofs.Common.{◌≡◌, ℕ, zero, suc, ◌+◌, ◌<◌, ◌≤◌, length, get_or, take, refl, sym, ap, subst, ◌∙◌, arith}
 use Rattle.std.proofs.lemmas.List.{take_more}
 use Rattle.nest_array.specs.declared.any.AnyArray.{AnyArray}
@@ -7,6 +8,7 @@ use Rattle.nest_array.specs.Seen.{layout_of, layouts_of}
 use Rattle.nest_memory.specs.TypeTree.{TypeTree, FieldTrees, no_fields, more_fields, field_type, count_fields, fields_of}
 use Rattle.nest_memory.specs.Physical.{physical_type}
 use Rattle.nest_memory.specs.declared.datatypes.physical_type.PhysicalType.TheVariants as physical
+use Rattle.nest_memory.specs.declared.error.Error.{Error}
 use Rattle.nest_model.specs.Part.{Validity}
 use Rattle.nest_model.specs.Layout as layouts
 use Rattle.nest_model.specs.Layout.{Layout, Layouts, no_layouts, more_layouts, layout_type, count_layouts}
@@ -84,3 +86,11 @@ frozen-push f (w ∷ ws) v (y ∷ ys) x h s t = (h.0, h.1, frozen-push f ws v ys
 pub frozen-more : {A : Type 0} (f : A → BuilderTree) (vs us : Seq AnyArray) (v : AnyArray) (xs : Seq A) (i : ℕ) (d : A) → i < length xs → us ≡ vs ++ v ∷ [] → AreFrozen (layouts_of vs) (each f (take i xs))
     → slots_of (layout_of v) ≡ own_slots (f (get_or xs i d)) → layout_type (layout_of v) ≡ builder_type (f (get_or xs i d)) → AreFrozen (layouts_of us) (each f (take (i + 1) xs))
 frozen-more f vs us v xs i d l e h s t = rw (e, take_more xs i d l) (frozen-push f vs v (take i xs) (get_or xs i d) h s t)
+
+pub arrays-more : {A G : Type 0} (f : A → BuilderTree) (xs : Seq A) (i : ℕ) (d : A) (r arrays : Result (Vec AnyArray G) Error) (array : Result AnyArray Error) → i < length xs → IfOk arrays (λ v. AreFrozen (layouts_of v.items) (each f (take i xs)))
+    → IfOk array (λ a. slots_of (layout_of a) ≡ own_slots (f (get_or xs i d))) → IfOk array (λ a. layout_type (layout_of a) ≡ builder_type (f (get_or xs i d)))
+    → IfOk r (λ v. IfOk arrays (λ old. IfOk array (λ a. v.items ≡ old.items ++ a ∷ []))) → IfOk r (λ v. IsOk arrays × IsOk array) → IfOk r (λ v. AreFrozen (layouts_of v.items) (each f (take (i + 1) xs)))
+arrays-more f xs i d (Err e) arrays array l h s t k b = tt
+arrays-more f xs i d (Ok v) (Err e) array l h s t k b = absurd (let q : false ≡ true = b.0 in cc)
+arrays-more f xs i d (Ok v) (Ok old) (Err e) l h s t k b = absurd (let q : false ≡ true = b.1 in cc)
+arrays-more f xs i d (Ok v) (Ok old) (Ok a) l h s t k b = frozen-more f old.items v.items a xs i d l k h s t

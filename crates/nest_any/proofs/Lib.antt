@@ -6,5 +6,6 @@ mod Over
 mod Records
 mod Rooms
 mod StructNulls
+mod Types
 mod Weights
 mod Wholes

@@ -1,8 +1,10 @@
 -- Room for more rows, and nulls, that pass a limit in one of some builders or in none.
-use Rattle.std.specs.Prelude.{List as Seq, [], ◌∷◌, Bool, true, false, ◌||◌}
+use Rattle.std.specs.Prelude.{List as Seq, [], ◌∷◌, Bool, true, false, ◌||◌, ◌⊎◌, alloc_error}
 use Rattle.std.specs.List.{list_any}
-use Rattle.std.proofs.Common.{◌≡◌, ℕ, zero, suc, ◌+◌, ◌<◌, length, get_or, refl, sym, ap, ◌∙◌, arith}
+use Rattle.std.proofs.Common.{◌≡◌, ℕ, zero, suc, ◌+◌, ◌<◌, length, get_or, refl, sym, ap, ◌∙◌, inl, inr, arith}
 use Rattle.std.proofs.lemmas.List.Folds.{list_any_at}
+use Rattle.nest_memory.specs.declared.error.Error.{Error}
+use Rattle.nest_memory.specs.declared.error.Error.TheVariants.{Memory, Overflow}
 use Rattle.nest_model.specs.BuilderTree.{BuilderTree}
 use Rattle.nest_build.specs.Told.{reserve_passes, reserve_passes_each}
 use Rattle.nest_any.specs.Each.{each}
@@ -22,3 +24,9 @@ reserve-at f xs n i d h l = reserve-any f n xs ∙ list_any_at (λ x. reserve_pa
 
 pub reserve-none : {A : Type 0} (f : A → BuilderTree) (xs : Seq A) (n : ℕ) → ((k : ℕ) (d : A) → k < length xs → reserve_passes n (f (get_or xs k d)) ≡ false) → reserve_passes_each n (each f xs) ≡ false
 reserve-none f xs n h = reserve-any f n xs ∙ any-none (λ x. reserve_passes n (f x)) xs h
+
+-- one child has none
+pub child-lacks_room : {A : Type 0} (f : A → BuilderTree) (xs : Seq A) (n i : ℕ) (d : A) (t : BuilderTree) (e : Error) → i < length xs → t ≡ f (get_or xs i d) → (e ≡ Memory alloc_error) ⊎ ((e ≡ Overflow) × (reserve_passes n t ≡ true))
+    → (e ≡ Memory alloc_error) ⊎ ((e ≡ Overflow) × (reserve_passes_each n (each f xs) ≡ true))
+child-lacks_room f xs n i d t e l s (inl m) = inl m
+child-lacks_room f xs n i d t e l s (inr p) = inr (p.0, reserve-at f xs n i d (ap (reserve_passes n) (sym s) ∙ p.1) l)

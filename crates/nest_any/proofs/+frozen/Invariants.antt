@@ -1,15 +1,11 @@
 use Rattle.std.specs.Prelude.{IfOk, IsOkUnless, alloc_error}
-use Rattle.std.proofs.Common.{◌≡◌, ℕ, ◌+◌, ◌*◌, ◌<◌, ◌≤◌, length, get_or}
-use Rattle.nest_array.specs.declared.any.AnyArray.{AnyArray}
-use Rattle.nest_array.specs.Seen.{layout_of}
+use Rattle.std.proofs.Common.{◌≡◌, ℕ, ◌+◌, ◌*◌, ◌<◌, ◌≤◌, length, get_or, take}
+use Rattle.nest_array.specs.Seen.{layouts_of}
 use Rattle.nest_memory.specs.declared.error.Error.TheVariants.{Memory}
-use Rattle.nest_model.specs.BuilderLevels.{own_slots}
-use Rattle.nest_model.specs.BuilderTree.{builder_type}
 use Rattle.nest_model.specs.BuilderWhole.{emptied}
-use Rattle.nest_model.specs.Layout.{layout_type}
-use Rattle.nest_model.specs.Meaning.{slots_of}
 use Rattle.nest_any.specs.declared.any.AnyMutableArray.{AnyMutableArray}
 use Rattle.nest_any.specs.BuilderCode.{weight, weight_all}
+use Rattle.nest_any.specs.Refusals.{AreFrozen}
 use Rattle.nest_any.specs.Trees.{tree_of, trees_of}
 use Rattle.nest_any.proofs.+frozen.Given as goal
 
@@ -33,7 +29,7 @@ invariant-children::frozen_each-loop-i l =
     record {
       same_length : length l.children ≡ length l.fn.children;
       memory : IsOkUnless l.arrays (Memory alloc_error);
-      arrays : IfOk l.arrays (λ v. (length v.items ≡ l.i) × ((k : ℕ) (d : AnyArray) (e : AnyMutableArray) → k < l.i → (slots_of (layout_of (get_or v.items k d)) ≡ own_slots (tree_of (get_or l.fn.children k e))) × (layout_type (layout_of (get_or v.items k d)) ≡ builder_type (tree_of (get_or l.fn.children k e)))));
+      arrays : IfOk l.arrays (λ v. AreFrozen (layouts_of v.items) (trees_of (take l.i l.fn.children)));
       done : (k : ℕ) (d : AnyMutableArray) → k < l.i → tree_of (get_or l.children k d) ≡ emptied (tree_of (get_or l.fn.children k d));
       left : (k : ℕ) (d : AnyMutableArray) → l.i ≤ k → get_or l.children k d ≡ get_or l.fn.children k d;
     }

@@ -9,4 +9,4 @@ children::each_is_whole-whole-requires t c =
     let d = c.index-children-i.result in
     let w = weight-at tree_of c.args.children.now c.loop-i.i d (omega arith) in
     let e = ap (λ x. weight (tree_of x)) c.index-children-i.is in
-    omega (arith, w, e)
+    (omega (arith, w, e), tt)

@@ -1,0 +1,33 @@
+use Rattle.std.proofs.Common.{◌≡◌, ◌+◌, ◌*◌, length, ap, ◌∙◌, arith}
+use Rattle.nest_any.specs.BuilderCode.{weight, weight_all}
+use Rattle.nest_any.specs.Trees.{tree_of, trees_of}
+use Rattle.nest_any.proofs.Each.{weight-at, each-set, same-all}
+use Rattle.nest_any.proofs.Over.{weight-over}
+use Rattle.nest_any.proofs.Rooms.{reserve-none, child-lacks_room}
+use Rattle.nest_any.proofs.+room.Goals as goal
+
+pub children::room_each-room-requires : goal.children::room_each-room-requires
+children::room_each-room-requires t c =
+    let d = c.index-children-i.result in
+    let s = ap weight (c.loop-i.invariant.same c.loop-i.i d) in
+    let w = weight-at tree_of c.args.children.now c.loop-i.i d (omega arith) in
+    let e = ap (λ x. weight (tree_of x)) c.index-children-i.is in
+    (omega (arith, w, s, e), tt)
+
+pub children::room_each-returns-clause-same : goal.children::room_each-returns-clause-same
+children::room_each-returns-clause-same t c = same-all tree_of c.loop-i.children c.args.children.now c.loop-i.invariant.same_length (λ k d h. c.loop-i.invariant.same k d)
+
+pub children::room_each-returns-clause-room : goal.children::room_each-returns-clause-room
+children::room_each-returns-clause-room t c = reserve-none tree_of c.args.children.now c.args.additional (λ k d h. c.loop-i.invariant.fits k d (omega arith))
+
+pub lists::ListBuilder::room-room-requires : goal.lists::ListBuilder::room-room-requires
+lists::ListBuilder::room-room-requires t c =
+    let s = ap weight c.self.view_is in
+    let k = ap (λ x. weight (tree_of x)) c.deref_mut.ensures.value in
+    (omega (arith, weight-over c.self.inside.rows (tree_of c.self.inside.values.value), s, k), tt)
+
+pub struct_::MutableStructArray::room-room_each-requires : goal.struct_::MutableStructArray::room-room_each-requires
+struct_::MutableStructArray::room-room_each-requires t c =
+    let s = ap weight c.self.view_is in
+    let k = ap (λ xs. weight_all (trees_of xs)) c.deref_mut.ensures.value in
+    (omega (arith, s, k), tt)
