@@ -36,6 +36,34 @@ each-set f [] i y d h = refl
 each-set f (x ∷ xs) zero y d h = ap (λ t. more_builders t (each f xs)) h
 each-set f (x ∷ xs) (suc i) y d h = ap (more_builders (f x)) (each-set f xs i y d h)
 
+pub set-at : {A : Type 0} (f : A → BuilderTree) (xs : Seq A) (i k : ℕ) (y d e : A) → i < length xs → f y ≡ f (get_or xs i e) → f (get_or (set xs i y) k d) ≡ f (get_or xs k d)
+set-at f [] i k y d e l h = absurd (omega arith)
+set-at f (x ∷ xs) zero zero y d e l h = h
+set-at f (x ∷ xs) zero (suc k) y d e l h = refl
+set-at f (x ∷ xs) (suc i) zero y d e l h = refl
+set-at f (x ∷ xs) (suc i) (suc k) y d e l h = set-at f xs i k y d e (omega arith) h
+
+-- what holds of each tree before place i, and there
+pub below-next : {A : Type 0} (f : A → BuilderTree) (P : BuilderTree → Type 0) (xs : Seq A) (i : ℕ) (x : A) → i < length xs → ((k : ℕ) (d : A) → k < i → P (f (get_or xs k d))) → P (f (get_or xs i x)) → (k : ℕ) (d : A) → k < i + 1 → P (f (get_or xs k d))
+below-next f P [] i x l h q k d b = absurd (omega arith)
+below-next f P (y ∷ ys) zero x l h q zero d b = q
+below-next f P (y ∷ ys) zero x l h q (suc k) d b = absurd (omega (arith, b))
+below-next f P (y ∷ ys) (suc i) x l h q zero d b = h zero d (omega arith)
+below-next f P (y ∷ ys) (suc i) x l h q (suc k) d b = below-next f P ys i x (omega arith) (λ j e c. h (suc j) e (omega (arith, c))) q k d (omega (arith, b))
+
+pub done-next : {A : Type 0} (f : A → BuilderTree) (g : BuilderTree → BuilderTree) (xs ys : Seq A) (i : ℕ) (y x : A) → length xs ≡ length ys → i < length ys → ((k : ℕ) (d : A) → k < i → f (get_or xs k d) ≡ g (f (get_or ys k d)))
+    → f y ≡ g (f (get_or ys i x)) → (k : ℕ) (d : A) → k < i + 1 → f (get_or (set xs i y) k d) ≡ g (f (get_or ys k d))
+done-next f g [] [] i y x e l h q k d b = absurd (omega arith)
+done-next f g [] (v ∷ ys) i y x e l h q k d b = absurd (omega arith)
+done-next f g (u ∷ xs) [] i y x e l h q k d b = absurd (omega arith)
+done-next f g (u ∷ xs) (v ∷ ys) zero y x e l h q zero d b = q
+done-next f g (u ∷ xs) (v ∷ ys) zero y x e l h q (suc k) d b = absurd (omega (arith, b))
+done-next f g (u ∷ xs) (v ∷ ys) (suc i) y x e l h q zero d b = h zero d (omega arith)
+done-next f g (u ∷ xs) (v ∷ ys) (suc i) y x e l h q (suc k) d b = done-next f g xs ys i y x (omega arith) (omega arith) (λ j a c. h (suc j) a (omega (arith, c))) q k d (omega (arith, b))
+
+pub left-next : {A : Type 0} (xs ys : Seq A) (i : ℕ) (y : A) → ((k : ℕ) (d : A) → i ≤ k → get_or xs k d ≡ get_or ys k d) → (k : ℕ) (d : A) → i + 1 ≤ k → get_or (set xs i y) k d ≡ get_or ys k d
+left-next xs ys i y h k d b = get_or-set_other xs i k y d (λ r. omega (arith, b, r)) ∙ h k d (omega (arith, b))
+
 pub cut-all : {A : Type 0} (f : A → BuilderTree) (xs ys : Seq A) (n : ℕ) → length xs ≡ length ys → ((k : ℕ) (d : A) → k < length ys → f (get_or xs k d) ≡ cut_builder (f (get_or ys k d)) n) → each f xs ≡ cut_builders (each f ys) n
 cut-all f [] [] n e h = refl
 cut-all f [] (y ∷ ys) n e h = absurd (omega arith)

@@ -53,3 +53,10 @@ row-refuses r c e (inl m) = inl m
 row-refuses (List t rows) c e (inr p) = inr (p.0, past (length rows + 1) p.1)
 row-refuses (LargeList t rows) c e (inr p) = inr (p.0, past (length rows + 1) p.1)
 row-refuses (FixedSizeList t bits) c e (inr p) = inr (p.0, rw (past (length bits + 1) p.1) refl)
+
+-- the same of a child and of lists that are those by an equation
+pub child-refuses_at : (r : TypedRows) (c d s : BuilderTree) (n : ℕ) (e : Error) → lists_over r c ≡ s → n ≡ child_nulls r → d ≡ c → (e ≡ Memory alloc_error) ⊎ ((e ≡ Overflow) × (nulls_pass n d ≡ true) × (0 < n))
+    → (e ≡ Memory alloc_error) ⊎ ((e ≡ Overflow) × (nulls_pass 1 s ≡ true))
+child-refuses_at r c d s n e v q p (inl m) = inl m
+child-refuses_at r c d s n e v q p (inr h) =
+    subst (λ t. (e ≡ Memory alloc_error) ⊎ ((e ≡ Overflow) × (nulls_pass 1 t ≡ true))) v (child-refuses r c e (inr (h.0, ap (λ m. nulls_pass m c) (sym q) ∙ ap (nulls_pass n) (sym p) ∙ h.1, omega (arith, q, h.2))))

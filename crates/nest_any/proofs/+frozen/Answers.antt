@@ -7,13 +7,16 @@ use Rattle.nest_any.proofs.Each.{weight-at, each_whole-at, whole-each, emptied-a
 use Rattle.nest_any.proofs.Over.{child-whole, weight-over}
 use Rattle.nest_any.proofs.+frozen.Goals as goal
 
-pub children::frozen_each-frozen-requires : goal.children::frozen_each-frozen-requires
-children::frozen_each-frozen-requires t c =
+pub children::frozen_each-frozen-array-requires : goal.children::frozen_each-frozen-array-requires
+children::frozen_each-frozen-array-requires t c =
     let d = c.index-children-i.result in
     let same = c.loop-i.invariant.left c.loop-i.i d (omega arith) in
     let w = weight-at tree_of c.args.children.now c.loop-i.i d (omega arith) in
     let h = each_whole-at tree_of c.args.children.now c.loop-i.i d c.requires (omega arith) in
     rw same (omega arith, h)
+
+pub children::frozen_each-returns-clause-emptied : goal.children::frozen_each-returns-clause-emptied
+children::frozen_each-returns-clause-emptied t c = emptied-all tree_of c.loop-i.children c.args.children.now c.loop-i.invariant.same_length (λ k d h. c.loop-i.invariant.done k d (omega arith))
 
 pub lists::ListBuilder::frozen-frozen-requires : goal.lists::ListBuilder::frozen-frozen-requires
 lists::ListBuilder::frozen-frozen-requires t c =

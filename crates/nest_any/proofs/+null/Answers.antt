@@ -1,11 +1,15 @@
-use Rattle.std.proofs.Common.{◌≡◌, ◌+◌, ◌*◌, ◌≤◌, length, ap, sym, ◌∙◌, subst, arith}
+use Rattle.std.proofs.Common.{◌≡◌, ◌+◌, ◌*◌, ◌≤◌, false, length, get_or, ap, sym, ◌∙◌, subst, arith}
+use Rattle.std.proofs.lemmas.List.{length-set}
 use Rattle.nest_model.specs.BuilderTree.{builder_len}
 use Rattle.nest_model.specs.BuilderWhole.{IsWhole, AreWhole, cut_builder}
 use Rattle.nest_model.specs.BuilderAppend.{nulls_appended}
+use Rattle.nest_model.specs.BuilderAppendLaws.{nulls-zero}
+use Rattle.nest_model.specs.BuilderRefusals.{nulls_pass}
 use Rattle.nest_model.specs.BuilderAcceptLaws.{whole-nulls, len-nulls}
 use Rattle.nest_any.specs.BuilderCode.{weight, weight_all}
 use Rattle.nest_any.specs.Trees.{tree_of, trees_of}
-use Rattle.nest_any.proofs.Each.{weight-at, whole-at, refused, nulls-all, pass-none, child-passes, nulls-undone}
+use Rattle.nest_any.proofs.Each.{weight-at, whole-at, refused, nulls-all, pass-none, child-passes, nulls-undone, done-next, below-next, left-next}
+use Rattle.nest_any.proofs.ListNulls.{child-refuses_at}
 use Rattle.nest_any.proofs.Nulls.{one_more, fits_more, refused_after}
 use Rattle.nest_any.proofs.Over.{child-whole, weight-over}
 use Rattle.nest_any.proofs.Weights.{weight-nulls}
@@ -41,4 +45,68 @@ struct_::MutableStructArray::add_null-add_null_each-requires t c =
     let v = ap trees_of c.deref_mut.ensures.value in
     let s = ap weight c.self.view_is in
     let k = ap weight_all v in
-    (omega (arith, s, k), subst (λ cs. AreWhole cs (length c.self.inside.rows)) (sym v) w.0)
+    (omega (arith, s, k), subst (AreWhole (trees_of c.deref_mut.result.now)) (sym c.len-len.ensures) (subst (λ cs. AreWhole cs (length c.self.inside.rows)) (sym v) w.0))
+
+pub children::add_nulls-loop-i-init : goal.children::add_nulls-loop-i-init
+children::add_nulls-loop-i-init t c = record { added = sym (nulls-zero (tree_of c.args.child.now)); fits = λ h. absurd (omega (arith, h)) }
+
+pub children::add_nulls-loop-i-preserved : goal.children::add_nulls-loop-i-preserved
+children::add_nulls-loop-i-preserved t c =
+    let b = tree_of c.args.child.now in
+    record {
+      added = one_more b (tree_of c.loop-i.child) (tree_of c.add_null.new.self) c.loop-i._i c.loop-i.invariant.added c.in-Ok.ensures.ok;
+      fits = λ h. fits_more b (tree_of c.loop-i.child) c.loop-i._i c.loop-i.invariant.added c.loop-i.invariant.fits c.in-Ok.ensures.room;
+    }
+
+pub children::add_nulls-cut-requires-clause-whole : goal.children::add_nulls-cut-requires-clause-whole
+children::add_nulls-cut-requires-clause-whole t c = subst IsWhole (sym (c.in-Err.ensures.err ∙ c.loop-i.invariant.added)) (whole-nulls c.loop-i._i (tree_of c.args.child.now) c.requires)
+
+pub children::add_nulls-returns-in-Err-clause-err : goal.children::add_nulls-returns-in-Err-clause-err
+children::add_nulls-returns-in-Err-clause-err t c =
+    let b = tree_of c.args.child.now in
+    c.cut.ensures
+    ∙ (ap (λ x. cut_builder x c.len-len.result) (c.in-Err.ensures.err ∙ c.loop-i.invariant.added)
+    ∙ (ap (cut_builder (nulls_appended c.loop-i._i b)) c.len-len.ensures ∙ nulls-undone c.loop-i._i b c.requires))
+
+pub children::add_nulls-returns-in-Err-clause-cause : goal.children::add_nulls-returns-in-Err-clause-cause
+children::add_nulls-returns-in-Err-clause-cause t c = refused_after (tree_of c.args.child.now) (tree_of c.loop-i.child) c.loop-i._i c.args.n c.in-Err.error (omega arith) c.loop-i.invariant.added c.in-Err.ensures.cause
+
+pub children::add_nulls-returns-clause-room : goal.children::add_nulls-returns-clause-room
+children::add_nulls-returns-clause-room t c = λ h.
+    let e : c.loop-i._i ≡ c.args.n = omega arith in
+    ap (λ m. nulls_pass m (tree_of c.args.child.now)) (sym e) ∙ c.loop-i.invariant.fits (omega (arith, h, e))
+
+pub children::add_null_each-cut_each-requires : goal.children::add_null_each-cut_each-requires
+children::add_null_each-cut_each-requires t c =
+    (refused tree_of c.args.children.now c.loop-i.children c.loop-i.i c.args.n c.index-children-i.result c.add_null.new.self c.loop-i.invariant.same_length (omega arith) c.requires c.loop-i.invariant.left c.loop-i.invariant.done c.index-children-i.is (c.in-Err.ensures.err ∙ sym (ap tree_of c.index-children-i.is))).0
+
+pub children::add_null_each-returns-in-Err-clause-err : goal.children::add_null_each-returns-in-Err-clause-err
+children::add_null_each-returns-in-Err-clause-err t c =
+    c.cut_each.ensures
+    ∙ (refused tree_of c.args.children.now c.loop-i.children c.loop-i.i c.args.n c.index-children-i.result c.add_null.new.self c.loop-i.invariant.same_length (omega arith) c.requires c.loop-i.invariant.left c.loop-i.invariant.done c.index-children-i.is (c.in-Err.ensures.err ∙ sym (ap tree_of c.index-children-i.is))).1
+
+pub children::add_null_each-returns-in-Err-clause-cause : goal.children::add_null_each-returns-in-Err-clause-cause
+children::add_null_each-returns-in-Err-clause-cause t c =
+    let d = c.index-children-i.result in
+    child-passes tree_of c.args.children.now c.loop-i.i d (tree_of (get_or c.loop-i.children c.loop-i.i d)) c.in-Err.error (omega arith) (ap tree_of (c.loop-i.invariant.left c.loop-i.i d (omega arith))) c.in-Err.ensures.cause
+
+pub children::add_null_each-loop-i-preserved : goal.children::add_null_each-loop-i-preserved
+children::add_null_each-loop-i-preserved t c =
+    let d = c.index-children-i.result in
+    let e = ap tree_of (c.loop-i.invariant.left c.loop-i.i d (omega arith)) in
+    record {
+      same_length = length-set c.loop-i.children c.loop-i.i c.add_null.new.self ∙ c.loop-i.invariant.same_length;
+      done = done-next tree_of (nulls_appended 1) c.loop-i.children c.args.children.now c.loop-i.i c.add_null.new.self d c.loop-i.invariant.same_length (omega arith) c.loop-i.invariant.done (c.in-Ok.ensures.ok ∙ ap (nulls_appended 1) e);
+      fits = below-next tree_of (λ b. nulls_pass 1 b ≡ false) c.args.children.now c.loop-i.i d (omega arith) c.loop-i.invariant.fits (ap (nulls_pass 1) (sym e) ∙ c.in-Ok.ensures.room);
+      left = left-next c.loop-i.children c.args.children.now c.loop-i.i c.add_null.new.self c.loop-i.invariant.left;
+    }
+
+pub children::add_null_each-returns-clause-ok : goal.children::add_null_each-returns-clause-ok
+children::add_null_each-returns-clause-ok t c = nulls-all tree_of c.loop-i.children c.args.children.now 1 c.loop-i.invariant.same_length (λ k d h. c.loop-i.invariant.done k d (omega arith))
+
+pub children::add_null_each-returns-clause-room : goal.children::add_null_each-returns-clause-room
+children::add_null_each-returns-clause-room t c = pass-none tree_of c.args.children.now 1 (λ k d h. c.loop-i.invariant.fits k d (omega arith))
+
+pub lists::ListBuilder::add_null-returns-in-Err-clause-cause : goal.lists::ListBuilder::add_null-returns-in-Err-clause-cause
+lists::ListBuilder::add_null-returns-in-Err-clause-cause t c =
+    child-refuses_at c.self.inside.rows (tree_of c.self.inside.values.value) (tree_of c.deref_mut.result.now) _ c.child_nulls-nulls.result c.in-Err.refusal c.self.view_is c.child_nulls-nulls.ensures.value (ap tree_of c.deref_mut.ensures.value) c.in-Err.ensures.cause

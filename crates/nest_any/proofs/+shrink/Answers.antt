@@ -16,6 +16,11 @@ children::shrink_each-shrink-requires t c =
 pub children::shrink_each-returns-clause-same : goal.children::shrink_each-returns-clause-same
 children::shrink_each-returns-clause-same t c = same-all tree_of c.loop-i.children c.args.children.now c.loop-i.invariant.same_length (λ k d h. c.loop-i.invariant.same k d)
 
+pub children::shrink_each-returns-in-Err-clause-same : goal.children::shrink_each-returns-in-Err-clause-same
+children::shrink_each-returns-in-Err-clause-same t c =
+    each-set tree_of c.loop-i.children c.loop-i.i c.shrink.new.self c.index-children-i.result c.shrink.ensures.same
+    ∙ same-all tree_of c.loop-i.children c.args.children.now c.loop-i.invariant.same_length (λ k d h. c.loop-i.invariant.same k d)
+
 pub lists::ListBuilder::shrink-shrink-requires : goal.lists::ListBuilder::shrink-shrink-requires
 lists::ListBuilder::shrink-shrink-requires t c =
     let s = ap weight c.self.view_is in
