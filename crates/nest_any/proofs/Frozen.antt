@@ -75,6 +75,22 @@ records-frozen t bits cs ls va s w f v =
     let count = as-many ls (fields_of t) (each-type ls cs (fields_of t) f w.1) in
     struct-frozen t bits cs ls va (first ls (length bits) (omega (arith, count, s)) (each-len ls cs (length bits) f w.0)) w (each-frozen ls cs f) v
 
+array-of : (b : BuilderTree) → b ≡ struct (builder_type b) (struct_bits b) (struct_children b) → IsWhole b → IsWhole (struct (builder_type b) (struct_bits b) (struct_children b))
+array-of b k w = subst IsWhole k w
+
+-- the same of the parts that a builder of records froze to
+pub array-fits : (b : BuilderTree) (t : TypeTree) (ls : Layouts) (va : Validity) → b ≡ struct (builder_type b) (struct_bits b) (struct_children b) → physical_type (builder_type b) ≡ physical.Struct → 0 < count_fields (fields_of (builder_type b)) → IsWhole b → IsFrozenAs t ls va b
+    → Fits (layouts.struct t ls va)
+array-fits b t ls va k p s w f =
+    subst (λ u. Fits (layouts.struct u ls va)) (sym f.same_type)
+    (records-fit (builder_type b) (struct_bits b) (struct_children b) ls va p s (array-of b k w) f.children (subst (ValidityFits va) (ap builder_len k) f.fits))
+
+pub array-slots : (b : BuilderTree) (t : TypeTree) (ls : Layouts) (va : Validity) → b ≡ struct (builder_type b) (struct_bits b) (struct_children b) → 0 < count_fields (fields_of (builder_type b)) → IsWhole b → IsFrozenAs t ls va b
+    → slots_of (layouts.struct t ls va) ≡ own_slots b
+array-slots b t ls va k s w f =
+    ap (λ u. slots_of (layouts.struct u ls va)) f.same_type
+    ∙ (records-frozen (builder_type b) (struct_bits b) (struct_children b) ls va s (array-of b k w) f.children f.bits ∙ sym (ap own_slots k))
+
 -- the arrays of the first children, and of one child more
 frozen-push : {A : Type 0} (f : A → BuilderTree) (vs : Seq AnyArray) (v : AnyArray) (xs : Seq A) (x : A) → AreFrozen (layouts_of vs) (each f xs) → slots_of (layout_of v) ≡ own_slots (f x) → layout_type (layout_of v) ≡ builder_type (f x)
     → AreFrozen (layouts_of (vs ++ v ∷ [])) (each f (xs ++ x ∷ []))

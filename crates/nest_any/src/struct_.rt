@@ -1,9 +1,11 @@
 //! The builder of arrays of records.
 ghost use Rattle.std.specs.Prelude.{◌≡◌, ◌≢◌, ◌≤◌, ◌<◌, ◌+◌, ◌↔◌, ◌⊎◌, Bool, List, ℕ, IsTrue, OnOk, OnErr, IfOk, IfErr, IsErrOf, IsOkUnless, MatchResult, MatchOption, None, Some, true, false, option_map, alloc_error};
+ghost use Rattle.nest_memory.specs.TypeTree.{count_fields, fields_of};
+ghost use Rattle.nest_memory.specs.declared.datatypes.physical_type.PhysicalType.TheVariants as physical;
 ghost use Rattle.nest_model.specs.BuilderTree as builders;
 ghost use Rattle.nest_model.specs.Slot as slots;
 ghost use Rattle.nest_any.specs.Trees.{tree_of, trees_of};
-ghost use Rattle.nest_any.specs.Words.{AreEachWhole, FailFirst, HasWholeChildren, InvalidArgumentError, IsFrozenAs, IsWhole, Memory, Overflow, Pass, SpellsBits, TellsNulls, Told, Unfinished, ValidityFits, bits_told, builder_len, builder_type, count_builders, cut_builder, emptied, first_rows, largest_length, layout_of, layout_type, layouts_of, nulls_appended, nulls_pass, own_slot, own_slots, reserve_passes, row_checks, slots_of, struct_bits, struct_checks, struct_children, type_of};
+ghost use Rattle.nest_any.specs.Words.{AreEachWhole, FailFirst, HasWholeChildren, InvalidArgumentError, IsFrozenAs, IsWhole, Memory, Overflow, Pass, SpellsBits, TellsNulls, Told, Unfinished, ValidityFits, bits_told, builder_len, builder_type, count_builders, cut_builder, emptied, first_rows, largest_length, layout_of, layout_type, layouts_of, nulls_appended, nulls_pass, own_slot, own_slots, physical_type, reserve_passes, row_checks, slots_of, struct_bits, struct_checks, struct_children, type_of};
 
 use crate::any::AnyMutableArray;
 use crate::children::{
@@ -139,9 +141,11 @@ impl MutableStructArray {
 
     /// What holds of every such builder.
     pub fn known(&self)
-        ensures { self.now ≡ builders.struct (builder_type self.now) (struct_bits self.now) (struct_children self.now) }
+        ensures kind { self.now ≡ builders.struct (builder_type self.now) (struct_bits self.now) (struct_children self.now) }
+        ensures records { physical_type (builder_type self.now) ≡ physical.Struct }
+        ensures some { 0 < count_fields (fields_of (builder_type self.now)) }
     {
-        let _ = &self.data_type;
+        let _records = self.data_type.get();
     }
 
     /// Whether the children are whole; then a row of what waits there may be told.
@@ -326,6 +330,7 @@ impl MutableStructArray {
         ensures emptied { self.new ≡ emptied self.old }
         ensures memory { IsOkUnless result (Memory alloc_error) }
     {
+        self.known();
         match self.frozen_parts() {
             Ok((data_type, values, validity)) => {
                 Ok(StructArray::new(data_type, values, validity).into_any())
@@ -350,6 +355,7 @@ impl MutableStructArray {
         if !self.whole() {
             return Err(Error::InvalidArgumentError(Argument::Unfinished));
         }
+        self.known();
         match self.frozen_parts() {
             Ok((data_type, values, validity)) => {
                 Ok(StructArray::new(data_type, values, without_full(validity)))
