@@ -1,7 +1,14 @@
 -- Which rows of a builder of records are null.
-use Rattle.std.specs.Prelude.{List as Seq, [], ◌∷◌, ◌≢◌, ◌↔◌, IsTrue, Some, None}
-use Rattle.std.proofs.Common.{◌≡◌, ℕ, zero, suc, ◌+◌, ◌<◌, Bool, true, false, length, get_or, refl, sym, ap, ◌∙◌, inr, arith}
+use Rattle.std.specs.Prelude.{List as Seq, [], ◌∷◌, ◌≢◌, ◌↔◌, ◌⊎◌, ◌++◌, IsTrue, Some, None, alloc_error}
+use Rattle.std.proofs.Common.{◌≡◌, ℕ, zero, suc, ◌+◌, ◌<◌, ◌≤◌, Bool, true, false, length, get_or, refl, sym, ap, subst, ◌∙◌, inl, inr, arith}
 use Rattle.nest_memory.specs.TypeTree.{TypeTree}
+use Rattle.nest_memory.specs.declared.error.Error.{Error}
+use Rattle.nest_memory.specs.declared.error.Error.TheVariants.{Memory, Overflow}
+use Rattle.nest_model.specs.Checks.{Pass, largest_length}
+use Rattle.nest_model.specs.BuilderAppend.{Told}
+use Rattle.nest_model.specs.BuilderRowChecks.{HasWholeChildren, row_checks}
+use Rattle.nest_model.specs.BuilderRowCheckLaws.{pass-ready}
+use Rattle.nest_model.specs.BuilderToldLaws.{struct_told}
 use Rattle.nest_model.specs.Part.{Validity}
 use Rattle.nest_model.specs.Slot as slots
 use Rattle.nest_model.specs.Slot.{Slot, Slots}
@@ -44,3 +51,14 @@ records-tell (Some vs) t bits cs s = (
       let e = ap (λ bs. get_or bs i true) s in
       (λ z. k.0 (sym e ∙ z), λ z. e ∙ k.1 z),
 )
+
+-- a told record
+pub record-told : (valid : Bool) (t : TypeTree) (bits new : Seq Bool) (cs : BuilderTrees) (old : BuilderTree) → struct t bits cs ≡ old → HasWholeChildren old → Pass (row_checks old) → new ≡ bits ++ valid ∷ [] → Told valid old (struct t new cs)
+record-told valid t bits new cs old v w p e =
+    let q = subst (λ b. Pass (row_checks b)) (sym v) p in
+    let h = subst HasWholeChildren (sym v) w in
+    subst (λ b. Told valid b (struct t new cs)) v (struct_told valid t bits new cs e (pass-ready (struct t bits cs) h q).0)
+
+pub memory-alone : (n : ℕ) (e : Error) → n + 1 ≤ largest_length → (e ≡ Memory alloc_error) ⊎ ((e ≡ Overflow) × (largest_length < n + 1)) → e ≡ Memory alloc_error
+memory-alone n e l (inl m) = m
+memory-alone n e l (inr p) = absurd (omega (arith, l, p.1))
