@@ -1,4 +1,5 @@
 mod Each
 mod Nulls
 mod Over
+mod RowLaws
 mod Weights
