@@ -1,6 +1,7 @@
 -- What the calls on rows of lists come to, over any child.
-use Rattle.std.specs.Prelude.{◌⊎◌, ◌≢◌, ◌↔◌, ◌||◌, IsTrue, Some, alloc_error}
+use Rattle.std.specs.Prelude.{◌⊎◌, ◌≢◌, ◌↔◌, ◌||◌, IsTrue, Some, nat_eq, alloc_error}
 use Rattle.std.proofs.Common.{◌≡◌, ℕ, ◌+◌, ◌*◌, ◌<◌, ◌≤◌, Bool, true, false, List as Seq, [], ◌∷◌, ◌++◌, length, get_or, refl, sym, ap, ◌∙◌, inl, inr, arith}
+use Rattle.std.proofs.lemmas.Bool.Decides.{Decides-eqb}
 use Rattle.std.proofs.lemmas.List.{length-map}
 use Rattle.std.proofs.lemmas.Nat.{mul-le}
 use Rattle.nest_memory.specs.TypeTree.{TypeTree, item_type, size_of}
@@ -11,10 +12,10 @@ use Rattle.nest_memory.specs.declared.datatypes.physical_type.PhysicalType.TheVa
 use Rattle.nest_memory.specs.declared.error.Error.{Error}
 use Rattle.nest_memory.specs.declared.error.Error.TheVariants.{Memory, Overflow, InvalidArgumentError}
 use Rattle.nest_memory.specs.declared.error.Argument.TheVariants.{ItemSize, Unfinished}
-use Rattle.nest_model.specs.Checks.{Pass, FailFirst, largest_length}
+use Rattle.nest_model.specs.Checks.{Pass, FailFirst, is_past, largest_length}
 use Rattle.nest_model.specs.Part.{Validity}
 use Rattle.nest_model.specs.Slot as slots
-use Rattle.nest_model.specs.BuilderRow.{Row, told_row, end_from}
+use Rattle.nest_model.specs.BuilderRow.{Row, RisesFrom, told_row, end_from}
 use Rattle.nest_model.specs.BuilderTree.{BuilderTree, BuilderTrees, flat, list, fixed_size_list, dictionary, struct, no_builders, more_builders, builder_len, builder_type}
 use Rattle.nest_model.specs.BuilderLevels.{own_slots}
 use Rattle.nest_model.specs.BuilderFreeze.{SpellsBits, row_bits}
@@ -22,6 +23,9 @@ use Rattle.nest_model.specs.BuilderAppend.{nulls_appended, told}
 use Rattle.nest_model.specs.BuilderAppendLaws.{nulls-zero}
 use Rattle.nest_model.specs.BuilderRefusals.{bytes_pass}
 use Rattle.nest_model.specs.BuilderRowChecks.{CoversRows, row_checks}
+use Rattle.nest_any.specs.declared.rows.TypedRows.{TypedRows}
+use Rattle.nest_any.specs.declared.rows.TypedRows.TheVariants.{List, LargeList, FixedSizeList}
+use Rattle.nest_any.specs.TypedRows.{Fitting, FitsOffsets, lists_over}
 use Rattle.nest_build.specs.Nulled.{items-slot, size-slot, valid_or_not, lists-tell}
 use Rattle.nest_build.specs.Told.{TellsNulls, own_slot, reserve_passes, reserve_passes_each}
 
@@ -41,6 +45,24 @@ pub fixed_valid : (t : TypeTree) (bits : Seq Bool) (c : BuilderTree) (i : ℕ) (
 fixed_valid t bits c i b l e =
     let y = size-slot 0 (size_of t) i bits (own_slots c) l in
     valid_or_not (get_or bits i true) b _ y.0 y.1 e
+
+-- a child that has just the rows' items
+pub list_fits : (t : TypeTree) (rows : Seq Row) (c : BuilderTree) (u : TypeTree) (count last : ℕ) → item_type t ≡ Some u → u ≡ builder_type c → count ≡ builder_len c → last ≡ end_from 0 rows → RisesFrom 0 rows → IsTrue (nat_eq count last) ↔ FitsOffsets t rows c
+list_fits t rows c u count last i e n l r =
+    (λ h. (i ∙ ap Some e, (sym n ∙ (Decides-eqb count last).0 h ∙ l, r)), λ w. (Decides-eqb count last).1 (n ∙ w.1 ∙ sym l))
+
+pub fixed_fits : (t : TypeTree) (bits : Seq Bool) (c : BuilderTree) (u : TypeTree) (count end : ℕ) → item_type t ≡ Some u → u ≡ builder_type c → count ≡ builder_len c → end ≡ length bits * size_of t → IsTrue (nat_eq count end) ↔ ((item_type t ≡ Some (builder_type c)) × (builder_len c ≡ length bits * size_of t))
+fixed_fits t bits c u count end i e n l =
+    (λ h. (i ∙ ap Some e, sym n ∙ (Decides-eqb count end).0 h ∙ l), λ w. (Decides-eqb count end).1 (n ∙ w.1 ∙ sym l))
+
+fitting-typed : (r : TypedRows) (c : BuilderTree) → Fitting r c → item_type (builder_type (lists_over r c)) ≡ Some (builder_type c)
+fitting-typed (List t rows) c w = w.0
+fitting-typed (LargeList t rows) c w = w.0
+fitting-typed (FixedSizeList t bits) c w = w.0
+
+pub not_fitting : (r : TypedRows) (c : BuilderTree) (b : Bool) (t u : TypeTree) → (IsTrue b ↔ (item_type t ≡ Some u)) → t ≡ builder_type (lists_over r c) → u ≡ builder_type c → b ≡ false → IsTrue b ↔ Fitting r c
+not_fitting r c b t u k e f h =
+    (λ x. let z : true ≡ false = sym x ∙ h in cc, λ w. k.1 (ap item_type e ∙ fitting-typed r c w ∙ ap Some (sym f)))
 
 -- a null row
 pub list_null : (large : Bool) (t : TypeTree) (rows new : Seq Row) (c : BuilderTree) (end : ℕ) → end ≡ end_from 0 rows → new ≡ rows ++ told_row false end ∷ [] → list large t new (nulls_appended 0 c) ≡ nulls_appended 1 (list large t rows c)
@@ -109,9 +131,13 @@ bytes-none (physical.Dictionary k) = refl
 
 mutual
   pub reserve-none : (c : BuilderTree) → reserve_passes 0 c ≡ false
-  reserve-none (flat t xs) = bytes-none (physical_type t)
+  reserve-none (flat t xs) =
+      let z : 0 * size_of t ≡ 0 = omega arith in
+      ap (λ n. bytes_pass (physical_type t) n 0) z ∙ bytes-none (physical_type t)
   reserve-none (list large t rows c) = refl
-  reserve-none (fixed_size_list t bits c) = reserve-none c
+  reserve-none (fixed_size_list t bits c) =
+      let z : 0 * size_of t ≡ 0 = omega arith in
+      ap (λ n. is_past n || reserve_passes n c) z ∙ reserve-none c
   reserve-none (dictionary k t keys c) = refl
   reserve-none (struct t bits cs) = reserve-none-each cs
 
