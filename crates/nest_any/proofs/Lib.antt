@@ -2,4 +2,5 @@ mod Each
 mod Nulls
 mod Over
 mod RowLaws
+mod TellLaws
 mod Weights
