@@ -1,6 +1,12 @@
 mod Each
+mod Frozen
+mod ListNulls
 mod Nulls
 mod Over
+mod Records
+mod Rooms
 mod RowLaws
+mod StructNulls
 mod TellLaws
 mod Weights
+mod Wholes

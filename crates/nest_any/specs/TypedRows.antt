@@ -1,5 +1,5 @@
 -- The rows of lists of any kind with their data type, over any child.
-use Rattle.std.specs.Prelude.{List as Seq, ◌≡◌, ℕ, ◌*◌, ◌≤◌, false, true, take, length, Some}
+use Rattle.std.specs.Prelude.{List as Seq, ◌≡◌, ℕ, ◌*◌, ◌<◌, ◌≤◌, false, true, take, length, Some}
 use Rattle.nest_any.specs.declared.rows.TypedRows.{TypedRows}
 use Rattle.nest_any.specs.declared.rows.TypedRows.TheVariants.{List, LargeList, FixedSizeList}
 use Rattle.nest_memory.specs.TypeTree.{TypeTree, item_type, size_of}
@@ -46,3 +46,9 @@ abbrev pub HasItems : TypedRows → Layout → Type 0
 HasItems (List t rows) a = (item_type t ≡ Some (layout_type a)) × (end_from 0 rows ≤ len a)
 HasItems (LargeList t rows) a = (item_type t ≡ Some (layout_type a)) × (end_from 0 rows ≤ len a)
 HasItems (FixedSizeList t bits) a = (item_type t ≡ Some (layout_type a)) × (len a ≡ length bits * size_of t)
+
+-- lists of one size have an item at least
+abbrev pub HasSize : TypedRows → Type 0
+HasSize (List t rows) = Unit {0}
+HasSize (LargeList t rows) = Unit {0}
+HasSize (FixedSizeList t bits) = 0 < size_of t

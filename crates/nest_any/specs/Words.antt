@@ -1,7 +1,7 @@
 -- The words of this crate's contracts, by one name.
 pub use Rattle.nest_array.specs.Seen.{layout_of, layouts_of}
 pub use Rattle.nest_any.specs.Refusals.{AreEachLong, AreFrozen, IsFrozenAs, count_builders, first_rows, nested_checks, nested_over, struct_bits, struct_checks, struct_children}
-pub use Rattle.nest_any.specs.TypedRows.{Fitting, HasItems, child_nulls, items_needed, lists_over, rows_len}
+pub use Rattle.nest_any.specs.TypedRows.{Fitting, HasItems, HasSize, child_nulls, items_needed, lists_over, rows_len}
 pub use Rattle.nest_build.specs.Children.{list_child}
 pub use Rattle.nest_build.specs.Rows.{bits_told}
 pub use Rattle.nest_build.specs.Told.{TellsNulls, own_slot, reserve_passes, reserve_passes_each}

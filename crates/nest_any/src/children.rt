@@ -2,7 +2,7 @@
 ghost use Rattle.std.specs.Prelude.{◌≡◌, ◌≤◌, ◌<◌, ◌+◌, ◌++◌, ◌∷◌, [], ◌↔◌, ◌⊎◌, IsTrue, OnOk, OnErr, IfOk, IfErr, IsOk, IsOkUnless, true, false, alloc_error};
 ghost use Rattle.nest_memory.specs.TypeOf.{field_list_of};
 ghost use Rattle.nest_any.specs.Trees.{tree_of, trees_of};
-ghost use Rattle.nest_any.specs.Words.{AreEachLong, AreEachWhole, AreFrozen, AreWhole, HaveRows, IsWhole, Memory, Overflow, builder_types, cut_builders, emptied_each, field_types, first_rows, layouts_of, nulls_appended, nulls_appended_each, nulls_pass, nulls_pass_each, reserve_passes_each};
+ghost use Rattle.nest_any.specs.Words.{AreEachLong, AreEachWhole, AreFrozen, AreWhole, HaveRows, IsWhole, Memory, Overflow, builder_types, count_builders, cut_builders, emptied_each, field_types, first_rows, largest_length, layouts_of, nulls_appended, nulls_appended_each, nulls_pass, nulls_pass_each, reserve_passes_each};
 
 use crate::any::AnyMutableArray;
 use nest_array::AnyArray;
@@ -51,7 +51,8 @@ pub(crate) fn have_rows(children: &[AnyMutableArray], n: usize) -> bool
 
 /// Whether each child has a row more than n.
 pub(crate) fn have_row_more(children: &[AnyMutableArray], n: usize) -> bool
-    ensures { IsTrue result ↔ HaveRows (trees_of children.now) (n + 1) }
+    ensures rows { IsTrue result ↔ HaveRows (trees_of children.now) (n + 1) }
+    ensures room { IsTrue result → 0 < count_builders (trees_of children.now) → n + 1 ≤ largest_length }
 {
     for i in 0..children.len() {
         if children[i].len().checked_sub(1) != Some(n) {

@@ -2,7 +2,7 @@
 ghost use Rattle.std.specs.Prelude.{◌≡◌, ◌≢◌, ◌≤◌, ◌<◌, ◌↔◌, ◌⊎◌, IsTrue, OnOk, OnErr, IfOk, IfErr, IsOkUnless, MatchOption, Some, None, true, false, ◌+◌, ◌++◌, ◌∷◌, [], option_map, alloc_error};
 ghost use Rattle.nest_model.specs.BuilderTree as builders;
 ghost use Rattle.nest_model.specs.Slot as slots;
-ghost use Rattle.nest_any.specs.Words.{BuilderTree, FailFirst, Fitting, HasWholeChildren, HasItems, IsWhole, Memory, Overflow, Pass, TellsNulls, told, builder_len, builder_type, child_nulls, cut_builder, emptied, item_type, items_needed, largest_length, layout_of, layout_type, lists_over, nested_checks, nested_over, nulls_appended, own_slot, own_slots, reserve_passes, row_checks, rows_len, slots_of, type_of};
+ghost use Rattle.nest_any.specs.Words.{BuilderTree, FailFirst, Fitting, HasItems, HasSize, HasWholeChildren, IsWhole, Memory, Overflow, Pass, TellsNulls, told, builder_len, builder_type, child_nulls, cut_builder, emptied, item_type, items_needed, largest_length, layout_of, layout_type, lists_over, nested_checks, nested_over, nulls_appended, own_slot, own_slots, reserve_passes, row_checks, rows_len, slots_of, type_of};
 
 use nest_array::AnyArray;
 use nest_array::array::Variant;
@@ -101,7 +101,8 @@ impl TypedRows {
 
     /// How many nulls a null row has in the child.
     pub(crate) fn child_nulls(&self) -> usize
-        ensures { result ≡ child_nulls self.now }
+        ensures value { result ≡ child_nulls self.now }
+        ensures some { HasSize self.now }
     {
         match self {
             TypedRows::List(_, _) => 0,
