@@ -49,7 +49,7 @@ fixed_valid t bits c i b l e =
 -- a child that has just the rows' items
 pub list_fits : (t : TypeTree) (rows : Seq Row) (c : BuilderTree) (u : TypeTree) (count last : ℕ) → item_type t ≡ Some u → u ≡ builder_type c → count ≡ builder_len c → last ≡ end_from 0 rows → RisesFrom 0 rows → IsTrue (nat_eq count last) ↔ FitsOffsets t rows c
 list_fits t rows c u count last i e n l r =
-    (λ h. (i ∙ ap Some e, (sym n ∙ (Decides-eqb count last).0 h ∙ l, r)), λ w. (Decides-eqb count last).1 (n ∙ w.1 ∙ sym l))
+    (λ h. (i ∙ ap Some e, sym n ∙ (Decides-eqb count last).0 h ∙ l, r), λ w. (Decides-eqb count last).1 (n ∙ w.1 ∙ sym l))
 
 pub fixed_fits : (t : TypeTree) (bits : Seq Bool) (c : BuilderTree) (u : TypeTree) (count end : ℕ) → item_type t ≡ Some u → u ≡ builder_type c → count ≡ builder_len c → end ≡ length bits * size_of t → IsTrue (nat_eq count end) ↔ ((item_type t ≡ Some (builder_type c)) × (builder_len c ≡ length bits * size_of t))
 fixed_fits t bits c u count end i e n l =
