@@ -1,5 +1,5 @@
 -- What builders of lists tell, from what their rows tell over the child.
-use Rattle.std.specs.Prelude.{◌↔◌, IsTrue}
+use Rattle.std.specs.Prelude.{OnOk, Result, Ok, Err}
 use Rattle.std.proofs.Common.{◌≡◌, ℕ, Bool, List as Seq, length, refl, sym, subst}
 use Rattle.nest_model.specs.Checks.{Pass}
 use Rattle.nest_model.specs.BuilderTree.{BuilderTree, builder_len}
@@ -27,3 +27,7 @@ pub row_told : (valid : Bool) (r s : TypedRows) (c old : BuilderTree) → lists_
 row_told valid r s c old v w e p =
     let t = lists_over r c in
     subst (λ x. Told valid x (lists_over s c)) v (subst (Told valid t) (sym e) (told-ready valid t (pass-ready t (subst HasWholeChildren (sym v) w) p).0))
+
+pub on_ok_both : {T E : Type 0} {A B C : Type 0} (r : Result T E) → (A → B → C) → OnOk r A → OnOk r B → OnOk r C
+on_ok_both (Ok x) f a b = f a b
+on_ok_both (Err e) f a b = tt
