@@ -5,7 +5,9 @@ mod Nulls
 mod Over
 mod Records
 mod Rooms
+mod RowLaws
 mod StructNulls
+mod TellLaws
 mod Types
 mod Weights
 mod Wholes

@@ -19,7 +19,7 @@ use nest_flat::utf8::mutable::MutableUtf8Array;
 use nest_memory::bitmap::mutable::MutableBitmap;
 use nest_memory::datatypes::DataType;
 use nest_memory::error::{Argument, Error};
-use std::alloc::{AllocError, Global};
+use std::alloc::Global;
 use std::rc::Rc;
 
 /// A builder, in the variant of its kind. Lists of all kinds are one variant: by offsets of 32 bits, of 64, or of one
@@ -79,12 +79,9 @@ impl AnyMutableArray {
     {
         let count = child.len();
         match TypedRows::try_new(alloc, data_type, child.data_type(), count) {
-            Ok(rows) => match Box::new(alloc, child) {
-                Ok(child) => Ok(AnyMutableArray::List(ListBuilder::over(alloc, rows, child))),
-                Err(_) => {
-                    drop(rows);
-                    Err(Error::Memory(AllocError))
-                }
+            Ok(rows) => match ListBuilder::boxed(alloc, rows, child) {
+                Ok(lists) => Ok(AnyMutableArray::List(lists)),
+                Err(error) => Err(error),
             },
             Err(error) => {
                 drop(child);

@@ -12,7 +12,7 @@ use nest_build::array::MutableArray;
 use nest_memory::bitmap::mutable::MutableBitmap;
 use nest_memory::datatypes::DataType;
 use nest_memory::error::Error;
-use std::alloc::Global;
+use std::alloc::{AllocError, Global};
 use std::marker::Model;
 
 /// Lists over a builder of their items: by offsets of 32 or of 64 bits, or of one size. Items that are pushed into the
@@ -59,6 +59,24 @@ impl ListBuilder {
             rows,
             values,
             alloc,
+        }
+    }
+
+    /// Rows over a child that is no box yet.
+    pub(crate) fn boxed(
+        alloc: Global,
+        rows: TypedRows,
+        values: AnyMutableArray,
+    ) -> Result<ListBuilder, Error>
+        ensures ok { IfOk result (λ b. b ≡ lists_over rows (tree_of values)) }
+        ensures memory { IsOkUnless result (Memory alloc_error) }
+    {
+        match Box::new(alloc, values) {
+            Ok(values) => Ok(ListBuilder::over(alloc, rows, values)),
+            Err(_) => {
+                drop(rows);
+                Err(Error::Memory(AllocError))
+            }
         }
     }
 

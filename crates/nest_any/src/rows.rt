@@ -287,8 +287,9 @@ fn tell_fixed(
     ensures err { OnErr result (rows.new ≡ rows.old) }
     ensures cause { IfErr result (λ e. (c : BuilderTree) → (IsTrue typed ↔ (item_type data_type.now ≡ Some (builder_type c))) → count ≡ builder_len c → (e ≡ Memory alloc_error) ⊎ FailFirst e (row_checks (builders.fixed_size_list data_type.now rows.old c))) }
 {
+    let size = data_type.size();
     let end = match rows.len().checked_add(1) {
-        Some(rows) => rows.checked_mul(data_type.size()),
+        Some(rows) => rows.checked_mul(size),
         None => None,
     };
     let Some(end) = end else {

@@ -4,7 +4,6 @@ mod FixedTrees
 mod FlatTrees
 mod Lists
 mod NullTrees
-mod Nulled
 mod Nulls
 mod Rows
 mod Slices

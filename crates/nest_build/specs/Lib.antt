@@ -2,6 +2,7 @@ pub mod BuiltKind
 pub mod Children
 pub mod FlatTree
 pub mod Lists
+pub mod Nulled
 pub mod NumberRows
 pub mod Rows
 pub mod Seats
