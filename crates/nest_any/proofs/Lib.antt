@@ -6,8 +6,6 @@ mod Over
 mod Records
 mod Rooms
 mod RowLaws
-mod StructNulls
 mod TellLaws
 mod Types
 mod Weights
-mod Wholes

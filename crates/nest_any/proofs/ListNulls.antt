@@ -2,7 +2,6 @@
 use Rattle.std.specs.Prelude.{List as Seq, ◌⊎◌, ◌||◌, alloc_error}
 use Rattle.std.proofs.Common.{◌≡◌, ℕ, suc, ◌+◌, ◌*◌, ◌<◌, ◌≤◌, Bool, true, false, length, refl, sym, ap, subst, ◌∙◌, inl, inr, arith}
 use Rattle.std.proofs.Math.Nat.{add-mul}
-use Rattle.std.proofs.lemmas.Bool.{le-leb}
 use Rattle.nest_memory.specs.TypeTree.{size_of}
 use Rattle.nest_memory.specs.declared.error.Error.{Error}
 use Rattle.nest_memory.specs.declared.error.Error.TheVariants.{Memory, Overflow}
@@ -16,9 +15,6 @@ use Rattle.nest_model.specs.BuilderRefusalLaws.{within}
 use Rattle.nest_any.specs.declared.rows.TypedRows.{TypedRows}
 use Rattle.nest_any.specs.declared.rows.TypedRows.TheVariants.{List, LargeList, FixedSizeList}
 use Rattle.nest_any.specs.TypedRows.{lists_over, rows_len, child_nulls, HasSize}
-
-past : (n : ℕ) → largest_length < n → is_past n ≡ true
-past n l = le-leb (suc largest_length) n (omega (arith, l))
 
 or-true : (b : Bool) → (b || true) ≡ true
 or-true true = refl
@@ -37,7 +33,7 @@ null-fits (FixedSizeList t bits) c d n w s p e l m k =
     let end : (length bits + 1) * size_of t ≤ largest_length = omega (arith, long, same, l, m, w.2, add-mul (length bits) 1 (size_of t)) in
     rw (within (length bits + 1) k, within ((length bits + 1) * size_of t) end, once (size_of t), p s) refl
 
--- why there is none: the child's nulls, or the row
+-- why there is none: the child's nulls
 pub child-refuses : (r : TypedRows) (c : BuilderTree) (e : Error) → (e ≡ Memory alloc_error) ⊎ ((e ≡ Overflow) × (nulls_pass (child_nulls r) c ≡ true) × (0 < child_nulls r))
     → (e ≡ Memory alloc_error) ⊎ ((e ≡ Overflow) × (nulls_pass 1 (lists_over r c) ≡ true))
 child-refuses r c e (inl m) = inl m
@@ -46,13 +42,6 @@ child-refuses (LargeList t rows) c e (inr p) = absurd (omega (arith, p.2))
 child-refuses (FixedSizeList t bits) c e (inr p) =
     let below : nulls_pass (1 * size_of t) c ≡ true = ap (λ n. nulls_pass n c) (once (size_of t)) ∙ p.1 in
     inr (p.0, ap (λ b. (is_past (length bits + 1) || is_past ((length bits + 1) * size_of t)) || b) below ∙ or-true (is_past (length bits + 1) || is_past ((length bits + 1) * size_of t)))
-
-pub row-refuses : (r : TypedRows) (c : BuilderTree) (e : Error) → (e ≡ Memory alloc_error) ⊎ ((e ≡ Overflow) × (largest_length < rows_len r + 1))
-    → (e ≡ Memory alloc_error) ⊎ ((e ≡ Overflow) × (nulls_pass 1 (lists_over r c) ≡ true))
-row-refuses r c e (inl m) = inl m
-row-refuses (List t rows) c e (inr p) = inr (p.0, past (length rows + 1) p.1)
-row-refuses (LargeList t rows) c e (inr p) = inr (p.0, past (length rows + 1) p.1)
-row-refuses (FixedSizeList t bits) c e (inr p) = inr (p.0, rw (past (length bits + 1) p.1) refl)
 
 -- the same of a child and of lists that are those by an equation
 pub child-refuses_at : (r : TypedRows) (c d s : BuilderTree) (n : ℕ) (e : Error) → lists_over r c ≡ s → n ≡ child_nulls r → d ≡ c → (e ≡ Memory alloc_error) ⊎ ((e ≡ Overflow) × (nulls_pass n d ≡ true) × (0 < n))
