@@ -91,6 +91,10 @@ array-slots b t ls va k s w f =
     ap (λ u. slots_of (layouts.struct u ls va)) f.same_type
     ∙ (records-frozen (builder_type b) (struct_bits b) (struct_children b) ls va s (array-of b k w) f.children f.bits ∙ sym (ap own_slots k))
 
+-- the same with another validity that tells the same bits
+pub with-validity : (b : BuilderTree) (t : TypeTree) (ls : Layouts) (va vb : Validity) → IsFrozenAs t ls va b → SpellsBits vb (struct_bits b) → ValidityFits vb (builder_len b) → IsFrozenAs t ls vb b
+with-validity b t ls va vb f s v = record { same_type = f.same_type; children = f.children; bits = s; fits = v }
+
 -- the arrays of the first children, and of one child more
 frozen-push : {A : Type 0} (f : A → BuilderTree) (vs : Seq AnyArray) (v : AnyArray) (xs : Seq A) (x : A) → AreFrozen (layouts_of vs) (each f xs) → slots_of (layout_of v) ≡ own_slots (f x) → layout_type (layout_of v) ≡ builder_type (f x)
     → AreFrozen (layouts_of (vs ++ v ∷ [])) (each f (xs ++ x ∷ []))
