@@ -71,11 +71,11 @@ impl ListBuilder {
         ensures ok { IfOk result (λ b. b ≡ lists_over rows (tree_of values)) }
         ensures memory { IsOkUnless result (Memory alloc_error) }
     {
-        match Box::new(alloc, values) {
+        match boxed_child(alloc, values) {
             Ok(values) => Ok(ListBuilder::over(alloc, rows, values)),
-            Err(_) => {
+            Err(error) => {
                 drop(rows);
-                Err(Error::Memory(AllocError))
+                Err(error)
             }
         }
     }
@@ -212,5 +212,16 @@ impl ListBuilder {
         ensures value { tree_of result.now ≡ list_child self.old }
     {
         &mut self.values
+    }
+}
+
+// A child in its box.
+fn boxed_child(alloc: Global, child: AnyMutableArray) -> Result<Box<AnyMutableArray>, Error>
+    ensures ok { IfOk result (λ b. b.value ≡ child) }
+    ensures memory { IsOkUnless result (Memory alloc_error) }
+{
+    match Box::new(alloc, child) {
+        Ok(child) => Ok(child),
+        Err(_) => Err(Error::Memory(AllocError)),
     }
 }
