@@ -2,6 +2,7 @@ mod BytesTrees
 mod FixedLists
 mod FixedTrees
 mod FlatTrees
+mod Keys
 mod Lists
 mod NullTrees
 mod Nulled

@@ -1,6 +1,7 @@
 pub mod BuiltKind
 pub mod Children
 pub mod FlatTree
+pub mod Keys
 pub mod Lists
 pub mod NumberRows
 pub mod Rows
