@@ -1,5 +1,5 @@
 -- Rows of dictionaries by the array of their keys.
-use Rattle.std.specs.Prelude.{Option, Some, None, map, is_some, if◌then◌else◌, slice_get, ◌^◌}
+use Rattle.std.specs.Prelude.{Option, Some, None, Result, Ok, Err, IfOk, map, is_some, if◌then◌else◌, slice_get, ◌^◌}
 use Rattle.std.specs.Option.{unwrap_or}
 use Rattle.std.proofs.Common.{◌≡◌, ℕ, zero, suc, ℤ, pos, negsuc, ◌+◌, ◌<◌, ◌≤◌, max, Bool, true, false, List, [], ◌∷◌, ◌++◌, length, get_or, take, drop, replicate, refl, sym, ap, subst, ◌∙◌, arith}
 use Rattle.std.proofs.lemmas.List.{map_push, length-map, take-map}
@@ -21,7 +21,7 @@ use Rattle.nest_model.specs.Fits.{ValidityFits, KeysInRange, EachNames, Names, S
 use Rattle.nest_model.specs.Reads.{slots-length, slot-place}
 use Rattle.nest_model.specs.BuilderFreeze.{SpellsBits, SpellsKey, SpellsKeys}
 use Rattle.nest_model.specs.BuilderRow.{values_needed}
-use Rattle.nest_model.specs.BuilderRowLaws.{values_needed-push, values_needed-nulls, values_needed-front, values_needed-above}
+use Rattle.nest_model.specs.BuilderRowLaws.{values_needed-push, values_needed-nulls, values_needed-front, values_needed-above, values_needed-next, values_needed-next_none}
 use Rattle.nest_build.specs.Keys.{key_of_slot, keys_told, raw_key, AreKept}
 
 pub told-length : (a : Layout) → length (keys_told a) ≡ len a
@@ -183,3 +183,23 @@ pub frozen_range : (a m b : Layout) (keys : List (Option ℕ)) (k : PrimitiveTyp
 frozen_range a m b keys k u e f g h r =
     range_again a b (values_needed keys) k k (layout_type a) u (natives_of a) (validity_of a) e (g ∙ ap (λ x. primitive k u (natives_of x) (validity_of x)) f)
     (subst (λ ks. KeysInRange a (values_needed ks)) h (in_range a k (layout_type a) (natives_of a) (validity_of a) e r))
+
+pub if_ok_so : {T E : Type 0} {A B : T → Type 0} (r : Result T E) → ((x : T) → A x → B x) → IfOk r A → IfOk r B
+if_ok_so (Ok x) f a = f x a
+if_ok_so (Err e) f a = tt
+
+-- the raw key at a place, by the native values
+pub raw_at : {A : Type 0} (f : A → List ℤ) (xs : List A) (vs : List (List ℤ)) (i : ℕ) (x : A) → map f xs ≡ vs → i < length vs → x ≡ get_or xs i x → get_or (map whole vs) i (pos 0) ≡ whole (f x)
+raw_at f [] vs i x e l g = absurd (let n : length vs ≡ 0 = sym (ap length e) in omega arith)
+raw_at f (y ∷ xs) vs zero x e l g = rw (← e) (ap (λ z. whole (f z)) (sym g))
+raw_at f (y ∷ xs) vs (suc i) x e l g = rw (← e) (raw_at f xs (map f xs) i x refl (let n : length vs ≡ suc (length (map f xs)) = sym (ap length e) in omega arith) g)
+
+pub natives-length : (a : Layout) (k : PrimitiveType) (t : TypeTree) (vs : List (List ℤ)) (va : Validity) → a ≡ primitive k t vs va → len a ≡ length (natives_of a)
+natives-length a k t vs va e = rw e refl
+
+-- one row more is looked at
+pub needed_more : (ks : List (Option ℕ)) (i k n m : ℕ) → i < length ks → Some k ≡ get_or ks i None → n ≡ values_needed (take i ks) → m ≡ max n (k + 1) → m ≡ values_needed (take (i + 1) ks)
+needed_more ks i k n m l e h g = omega (arith, values_needed-next ks i k l (sym e), h, g)
+
+pub needed_same : (ks : List (Option ℕ)) (i n : ℕ) → i < length ks → None ≡ get_or ks i None → n ≡ values_needed (take i ks) → n ≡ values_needed (take (i + 1) ks)
+needed_same ks i n l e h = h ∙ sym (values_needed-next_none ks i l (sym e))

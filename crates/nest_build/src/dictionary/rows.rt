@@ -239,7 +239,7 @@ fn needed_by<K: BuilderKey>(keys: &MutablePrimitiveArray<K>) -> usize
     requires fits { values_needed (keys_told keys.now) < 2 ^ 64 }
     ensures { result ≡ values_needed (keys_told keys.now) }
 {
-    let mut needed = 0;
+    let mut needed: usize = 0;
     for i in 0..keys.len() {
         if let Some(number) = key_of(keys, i) {
             needed = needed.max(number + 1);
