@@ -1,9 +1,8 @@
 -- Rows of dictionaries by the array of their keys.
-use Rattle.std.specs.Prelude.{Option, Some, None, Result, Ok, Err, IfOk, map, is_some, if◌then◌else◌, slice_get, ◌^◌}
+use Rattle.std.specs.Prelude.{Option, Some, None, Result, Ok, Err, IfOk, map, is_some, if◌then◌else◌}
 use Rattle.std.specs.Option.{unwrap_or}
-use Rattle.std.proofs.Common.{◌≡◌, ℕ, zero, suc, ℤ, pos, negsuc, ◌+◌, ◌<◌, ◌≤◌, max, Bool, true, false, List, [], ◌∷◌, ◌++◌, length, get_or, take, drop, replicate, refl, sym, ap, subst, ◌∙◌, arith}
+use Rattle.std.proofs.Common.{◌≡◌, ℕ, zero, suc, ℤ, pos, ◌+◌, ◌<◌, ◌≤◌, max, Bool, true, false, List, [], ◌∷◌, ◌++◌, length, get_or, take, replicate, refl, sym, ap, subst, ◌∙◌, arith}
 use Rattle.std.proofs.lemmas.List.{map_push, length-map, take-map}
-use Rattle.std.proofs.lemmas.Option.{get_or_from_slice_get}
 use Rattle.nest_memory.specs.Cut.{cut}
 use Rattle.nest_memory.specs.TypeTree.{TypeTree}
 use Rattle.nest_memory.specs.declared.datatypes.physical_type.PrimitiveType.{PrimitiveType}
@@ -15,13 +14,13 @@ use Rattle.nest_model.specs.Slot.{Slot}
 use Rattle.nest_model.specs.Layout.{Layout, primitive, layout_type}
 use Rattle.nest_model.specs.Accessors.{whole, raw_keys, key_at, natives_of, validity_of}
 use Rattle.nest_model.specs.Array.{TopFits}
-use Rattle.nest_model.specs.Meaning.{len, slot, slots_of}
+use Rattle.nest_model.specs.Meaning.{len, slots_of}
 use Rattle.nest_model.specs.Cut.{cut_layout}
-use Rattle.nest_model.specs.Fits.{ValidityFits, KeysInRange, EachNames, Names, SomeValid}
+use Rattle.nest_model.specs.Fits.{ValidityFits, KeysInRange, Names}
 use Rattle.nest_model.specs.Reads.{slots-length, slot-place}
 use Rattle.nest_model.specs.BuilderFreeze.{SpellsBits, SpellsKey, SpellsKeys}
 use Rattle.nest_model.specs.BuilderRow.{values_needed}
-use Rattle.nest_model.specs.BuilderRowLaws.{values_needed-push, values_needed-nulls, values_needed-front, values_needed-above, values_needed-next, values_needed-next_none}
+use Rattle.nest_model.specs.BuilderRowLaws.{values_needed-above, values_needed-next, values_needed-next_none}
 use Rattle.nest_build.specs.Keys.{key_of_slot, keys_told, raw_key, AreKept}
 
 pub told-length : (a : Layout) → length (keys_told a) ≡ len a

@@ -1,7 +1,6 @@
-use Rattle.std.proofs.Common.{◌≡◌, ◌<◌, ◌∙◌, length, false, true, sym, arith}
-use Rattle.nest_model.specs.Accessors.{natives_of, validity_of}
+use Rattle.std.proofs.Common.{◌<◌, ◌∙◌, length, sym, arith}
+use Rattle.nest_model.specs.Accessors.{natives_of}
 use Rattle.nest_model.specs.Meaning.{len}
-use Rattle.nest_model.specs.Part.{valid_at}
 use Rattle.nest_build.proofs.Keys.{told-length, natives-length, raw_at, row_null, row_index}
 use Rattle.nest_build.proofs.dictionary.rows.key_of.Goals as goal
 

@@ -1,5 +1,4 @@
 use Rattle.nest_array.specs.SeenKeys.{keys_layout}
-use Rattle.nest_array.specs.declared.dictionary.keys.AnyKeys.{AnyKeys}
 use Rattle.nest_build.proofs.Keys.{frozen_keys, frozen_range, if_ok_so}
 use Rattle.nest_build.proofs.dictionary.rows.DictionaryRows.freeze.Goals as goal
 

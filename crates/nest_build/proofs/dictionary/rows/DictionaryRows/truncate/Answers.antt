@@ -1,4 +1,4 @@
-use Rattle.std.proofs.Common.{◌≡◌, ◌∙◌, sym, ap, take, arith}
+use Rattle.std.proofs.Common.{◌∙◌, ap, take, arith}
 use Rattle.nest_model.specs.BuilderRow.{values_needed}
 use Rattle.nest_model.specs.BuilderRowLaws.{values_needed-front}
 use Rattle.nest_build.specs.Keys.{keys_told}
