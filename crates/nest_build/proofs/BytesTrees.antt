@@ -1,5 +1,5 @@
 -- Builders of bytes and of texts as trees of one level: their bytes end at the largest offset.
-use Rattle.std.specs.Prelude.{◌⊎◌, ◌↔◌, ◌≢◌, ◌||◌, Option, Some, None, IsTrue, option_map, alloc_error, ltb}
+use Rattle.std.specs.Prelude.{◌⊎◌, ◌↔◌, ◌≢◌, ◌||◌, Option, Some, None, IsTrue, Result, OnOk, option_map, alloc_error, not, ltb}
 use Rattle.std.proofs.Common.{◌≡◌, ℕ, suc, ◌+◌, ◌*◌, ◌<◌, ◌≤◌, Bool, true, false, List, [], ◌∷◌, ◌++◌, length, refl, sym, ap, subst, ◌∙◌, inl, inr, arith}
 use Rattle.std.proofs.lemmas.Bool.{le-leb}
 use Rattle.std.proofs.lemmas.Bool.Decides.{leb_tells}

@@ -1,6 +1,6 @@
 -- Builders of byte strings of one size as trees of one level.
-use Rattle.std.specs.Prelude.{◌⊎◌, ◌↔◌, Option, Some, None, IsTrue, option_map, alloc_error, not, count_by}
-use Rattle.std.proofs.Common.{◌≡◌, ℕ, ◌+◌, ◌*◌, ◌<◌, ◌≤◌, Bool, true, false, List, [], ◌∷◌, ◌++◌, length, refl, sym, ap, subst, ◌∙◌, inl, inr}
+use Rattle.std.specs.Prelude.{◌⊎◌, ◌↔◌, Option, Some, None, IsTrue, option_map, alloc_error, not, map, is_some, ◌||◌, count_by}
+use Rattle.std.proofs.Common.{◌≡◌, ℕ, ◌+◌, ◌*◌, ◌<◌, ◌≤◌, Bool, true, false, List, [], ◌∷◌, ◌++◌, length, refl, sym, ap, subst, ◌∙◌, inl, inr, suc, take, get_or, arith}
 use Rattle.std.proofs.lemmas.List.{length-append}
 use Rattle.nest_memory.specs.TypeTree.{size_of}
 use Rattle.nest_memory.specs.Physical.{physical_type}
@@ -13,6 +13,7 @@ use Rattle.nest_flat.specs.NullSlots.{NullsByValidity}
 use Rattle.nest_model.specs.Fits.{ValidityFits}
 use Rattle.nest_model.specs.Nullness.{is_null_at, null_count}
 use Rattle.nest_model.specs.NullnessLaws.{null_count-bits, null_count-none}
+use Rattle.std.proofs.Math.Seq.{take-suc}
 use Rattle.nest_model.specs.Part.{valid_at}
 use Rattle.nest_model.specs.Slot as slots
 use Rattle.nest_model.specs.Slot.{Slot}
@@ -29,7 +30,7 @@ use Rattle.nest_model.specs.BuilderAppendLaws.{flat_took, flat_took_null}
 use Rattle.nest_model.specs.BuilderRefusals.{asked_item, asked_refusal}
 use Rattle.nest_model.specs.BuilderRefusalLaws.{within, same_number, other_number}
 use Rattle.nest_model.specs.BuilderRowChecks.{join_checks}
-use Rattle.nest_array.specs.FixedBytes.{IsOtherSize}
+use Rattle.nest_array.specs.FixedBytes.{IsOtherSize, has_null}
 use Rattle.nest_build.specs.FlatTree.{flat_tree}
 use Rattle.nest_build.proofs.FlatTrees.{flat-bits, value-holds}
 use Rattle.nest_array.specs.FixedBytesLaws.{sized-equal}

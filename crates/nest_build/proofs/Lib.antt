@@ -1,7 +1,9 @@
 mod BytesTrees
+mod Dictionaries
 mod FixedLists
 mod FixedTrees
 mod FlatTrees
+mod Keyed
 mod Keys
 mod Lists
 mod NullTrees

@@ -1,4 +1,4 @@
-use Rattle.std.proofs.Common.{◌+◌, get_or, ◌∙◌}
+use Rattle.std.proofs.Common.{ℕ, ◌+◌, get_or, ◌∙◌}
 use Rattle.std.proofs.lemmas.List.{length-set}
 use Rattle.nest_build.specs.Seats.{IsFree}
 use Rattle.nest_build.proofs.Seats.{seats_step}

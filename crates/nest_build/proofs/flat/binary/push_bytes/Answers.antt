@@ -1,5 +1,6 @@
 use Rattle.std.specs.Option.{option_copied}
 use Rattle.std.proofs.Common.{Err, ap, arith}
+use Rattle.nest_flat.specs.BytesGrowth.{item_bytes}
 use Rattle.nest_build.proofs.FlatTrees.{grown-count}
 use Rattle.nest_build.proofs.BytesTrees.{at-most, binary-typed, wrapped-accepted, bounded-fits, bounded-refused}
 use Rattle.nest_model.specs.BuilderItem as items
