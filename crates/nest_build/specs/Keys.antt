@@ -7,6 +7,7 @@ use Rattle.nest_model.specs.Layout.{Layout}
 use Rattle.nest_model.specs.Accessors.{whole, raw_keys}
 use Rattle.nest_model.specs.Meaning.{slots_of}
 use Rattle.nest_model.specs.BuilderRow.{values_needed}
+use Rattle.nest_model.specs.BuilderTree.{BuilderTree, dictionary}
 
 -- the key that a slot of an array of keys is
 abbrev pub key_of_slot : Slot → Option ℕ
@@ -25,3 +26,12 @@ raw_key (Some k) = pos k
 pub record AreKept (a : Layout) (needed : ℕ) : Type 0 where
   pub raw : raw_keys a ≡ map raw_key (keys_told a)
   pub count : needed ≡ values_needed (keys_told a)
+
+-- the keys and the values of a builder of dictionaries
+abbrev pub told_keys : BuilderTree → List (Option ℕ)
+told_keys (dictionary k t keys c) = keys
+told_keys _ = []
+
+abbrev pub dictionary_child : BuilderTree → BuilderTree
+dictionary_child (dictionary k t keys c) = c
+dictionary_child t = t
