@@ -1,7 +1,7 @@
 -- Builders of dictionaries as trees.
-use Rattle.std.specs.Prelude.{◌↔◌, ◌⊎◌, ◌×◌, Option, Some, None, IsTrue, is_some, map, not, leb, if◌then◌else◌, alloc_error}
+use Rattle.std.specs.Prelude.{◌↔◌, ◌⊎◌, Option, Some, None, Result, Ok, Err, OnOk, OnErr, IfErr, IsTrue, is_some, map, alloc_error}
 use Rattle.std.proofs.Common.{◌≡◌, ◌≢◌, ℕ, zero, suc, ◌+◌, ◌<◌, ◌≤◌, Bool, true, false, List, [], ◌∷◌, ◌++◌, length, get_or, take, refl, sym, ap, subst, ◌∙◌, inl, inr, arith}
-use Rattle.std.proofs.lemmas.Bool.{le-leb}
+use Rattle.std.proofs.lemmas.Bool.{cases_lt, le-leb}
 use Rattle.std.proofs.lemmas.List.{length-map, get_or-map}
 use Rattle.nest_memory.specs.TypeTree.{TypeTree}
 use Rattle.nest_memory.specs.Physical.{physical_type}
@@ -13,11 +13,13 @@ use Rattle.nest_model.specs.Part.{Validity}
 use Rattle.nest_model.specs.Slot as slots
 use Rattle.nest_model.specs.Slot.{Slot}
 use Rattle.nest_model.specs.BuilderAppend.{Accepted}
-use Rattle.nest_model.specs.BuilderAppendLaws.{dictionary_took_null}
+use Rattle.nest_model.specs.BuilderAcceptLaws.{plain-none}
+use Rattle.nest_model.specs.BuilderAppendLaws.{dictionary_took_null, len-accepted}
+use Rattle.nest_model.specs.BuilderCutLaws.{len-cut, own-emptied}
 use Rattle.nest_model.specs.BuilderFreeze.{SpellsBits}
 use Rattle.nest_model.specs.BuilderItem as items
 use Rattle.nest_model.specs.BuilderItem.{PlainValue, slot_of_value, takes, place_of, Holds, Stands, Lacks}
-use Rattle.nest_model.specs.BuilderKeyLaws.{known-stands, stands-known, place-holds, place-lacks, dictionary_knew, dictionary_took}
+use Rattle.nest_model.specs.BuilderKeyLaws.{known-stands, stands-known, place-lacks, place-stands, dictionary_knew, dictionary_took, keys_within, keys_within-null}
 use Rattle.nest_model.specs.BuilderLevelLaws.{own-length}
 use Rattle.nest_model.specs.BuilderLevels.{value_at, own_slots}
 use Rattle.nest_model.specs.BuilderRefusalLaws.{below, within}
@@ -25,11 +27,11 @@ use Rattle.nest_model.specs.BuilderRefusals.{is_known, value_refusal, plain_refu
 use Rattle.nest_model.specs.BuilderRow.{values_needed}
 use Rattle.nest_model.specs.BuilderRowLaws.{values_needed-above}
 use Rattle.nest_model.specs.BuilderTree.{BuilderTree, dictionary, builder_len, builder_type, key_count}
-use Rattle.nest_model.specs.BuilderWhole.{IsWhole}
+use Rattle.nest_model.specs.BuilderWhole.{IsWhole, AreDifferent, cut_builder, emptied}
 use Rattle.nest_model.specs.Checks.{first_of, is_past, refuse_if, largest_length}
 use Rattle.nest_build.specs.Keyed.{AreFull}
 use Rattle.nest_build.specs.Told.{own_slot, TellsNulls}
-use Rattle.nest_build.proofs.Keyed.{value_full}
+use Rattle.nest_build.proofs.Keyed.{value_full, plain_taken}
 
 module _ (i : IntegerType) (t : TypeTree) (keys : List (Option ℕ)) (c : BuilderTree) where
   pub slot_there : (n : ℕ) → n < length keys → own_slot (dictionary i t keys c) n ≡ value_at (own_slots c) (get_or keys n None)
@@ -44,7 +46,7 @@ module _ (i : IntegerType) (t : TypeTree) (keys : List (Option ℕ)) (c : Builde
   row_full None f l e = absurd (let q : false ≡ true = e in cc)
   row_full (Some k) f l e = f k (l k refl)
 
-  key_below : values_needed keys ≤ builder_len c → (n : ℕ) → n < length keys → (k : ℕ) → get_or keys n None ≡ Some k → k < builder_len c
+  pub key_below : values_needed keys ≤ builder_len c → (n : ℕ) → n < length keys → (k : ℕ) → get_or keys n None ≡ Some k → k < builder_len c
   key_below h n l k e = let above = values_needed-above keys n k None l e in omega arith
 
   pub row_valid : (n : ℕ) (r : Bool) → AreFull c → values_needed keys ≤ builder_len c → n < length keys → r ≡ is_some (get_or keys n None) → IsTrue r ↔ (own_slot (dictionary i t keys c) n ≢ slots.null)
@@ -131,3 +133,83 @@ module _ (i : IntegerType) (t : TypeTree) (keys : List (Option ℕ)) (c : Builde
 
   pub took : (v : PlainValue) (d : BuilderTree) (new : List (Option ℕ)) → takes c v ≡ true → Lacks c v → new ≡ keys ++ Some (builder_len c) ∷ [] → IsWhole (dictionary i t keys c) → Accepted (items.plain v) c d → Accepted (items.plain v) (dictionary i t keys c) (dictionary i t new d)
   took v d new e f g w a = dictionary_took i t keys new c d v (place-lacks c v e f) g w a
+
+  -- a value of any kind
+  by_kind : (v : PlainValue) (e : Error) (b : Bool) → takes c v ≡ b → Lacks c v → builder_len c < key_count i → plain_refusal v c ≡ Some e → plain_refusal v (dictionary i t keys c) ≡ Some e
+  by_kind v e true k f l h = of_kind v k ∙ new_refused v e f l h
+  by_kind v e false k f l h = of_other_kind v k ∙ (sym (rw k refl) ∙ h)
+
+  pub kind_refused : (v : PlainValue) (e : Error) → Lacks c v → builder_len c < key_count i → plain_refusal v c ≡ Some e → plain_refusal v (dictionary i t keys c) ≡ Some e
+  kind_refused v e f l h = by_kind v e (takes c v) refl f l h
+
+  pub new_cause : (v : PlainValue) (e : Error) → Lacks c v → builder_len c < key_count i → (e ≡ Memory alloc_error) ⊎ (plain_refusal v c ≡ Some e) → (e ≡ Memory alloc_error) ⊎ (value_refusal v (dictionary i t keys c) ≡ Some e)
+  new_cause v e f l (inl m) = inl m
+  new_cause v e f l (inr h) = inr (new_refused v e f l h)
+
+  pub kind_cause : (v : PlainValue) (e : Error) → Lacks c v → builder_len c < key_count i → (e ≡ Memory alloc_error) ⊎ (plain_refusal v c ≡ Some e) → (e ≡ Memory alloc_error) ⊎ (plain_refusal v (dictionary i t keys c) ≡ Some e)
+  kind_cause v e f l (inl m) = inl m
+  kind_cause v e f l (inr h) = inr (kind_refused v e f l h)
+
+  -- a new value where no key is left
+  pub full_kind : (v : PlainValue) → Lacks c v → key_count i ≤ builder_len c → plain_refusal v c ≡ None → plain_refusal v (dictionary i t keys c) ≡ Some Overflow
+  full_kind v f l h = of_kind v (plain_taken v c h) ∙ full_refused v f l
+
+  full_by : (v : PlainValue) (e x : Error) (b : Bool) → takes c v ≡ b → Lacks c v → key_count i ≤ builder_len c → ((e ≡ InvalidArgumentError ItemType) ↔ (takes c v ≡ false)) → ((x ≡ InvalidArgumentError ItemType) ↔ (e ≡ InvalidArgumentError ItemType))
+      → (e ≢ InvalidArgumentError ItemType → x ≡ Overflow) → plain_refusal v (dictionary i t keys c) ≡ Some x
+  full_by v e x true k f l p q o = of_kind v k ∙ (full_refused v f l ∙ sym (ap (λ y. Some y) (o (λ r. let w : true ≡ false = sym k ∙ p.0 r in cc))))
+  full_by v e x false k f l p q o = of_other_kind v k ∙ sym (ap (λ y. Some y) (q.1 (p.1 k)))
+
+  pub full_cause : (v : PlainValue) (e x : Error) → Lacks c v → key_count i ≤ builder_len c → ((e ≡ InvalidArgumentError ItemType) ↔ (takes c v ≡ false)) → ((x ≡ InvalidArgumentError ItemType) ↔ (e ≡ InvalidArgumentError ItemType))
+      → (e ≢ InvalidArgumentError ItemType → x ≡ Overflow) → plain_refusal v (dictionary i t keys c) ≡ Some x
+  full_cause v e x f l p q o = full_by v e x (takes c v) refl f l p q o
+
+pub both_ways : {A B C : Type 0} → (A ↔ B) → (B ↔ C) → (A ↔ C)
+both_ways p q = (λ a. q.0 (p.0 a), λ z. p.1 (q.1 z))
+
+same_err : {T : Type 0} (r : Result T Error) (e x : Error) → r ≡ Err e → (r ≡ Err x) → e ≡ x
+same_err r e x p q = let a : Err {T} e ≡ Err x = sym p ∙ q in cc
+
+pub at_err : {T : Type 0} (r : Result T Error) (e x : Error) (B : Type 0) → r ≡ Err e → ((r ≡ Err x) ↔ B) → ((e ≡ x) ↔ B)
+at_err r e x B p q = (λ h. q.0 (p ∙ ap Err h), λ b. same_err r e x p (q.1 b))
+
+-- the place where a value stands is the first one
+pub place_only : (c : BuilderTree) (v : PlainValue) (k : ℕ) → Stands c v k → AreDifferent (own_slots c) → place_of v (own_slots c) ≡ Some k
+place_only c v k s d = place-stands c v k s (λ j m t.
+    let n = own-length c in
+    let e = d j k (omega (arith, n, t.0)) (omega (arith, n, s.0)) (t.1.1 ∙ sym s.1.1) in
+    omega (arith, e, m))
+
+-- keys stay below the number of values
+pub covered_push : {T E : Type 0} (r : Result T E) (old new : List (Option ℕ)) (k n : ℕ) → OnOk r (new ≡ old ++ Some k ∷ []) → OnErr r (new ≡ old) → values_needed old ≤ n → k < n → values_needed new ≤ n
+covered_push (Ok x) old new k n a b h l = keys_within old new k n a h l
+covered_push (Err e) old new k n a b h l = rw b h
+
+pub covered_null : {T E : Type 0} (r : Result T E) (old new : List (Option ℕ)) (n : ℕ) → OnOk r (new ≡ old ++ None ∷ []) → OnErr r (new ≡ old) → values_needed old ≤ n → values_needed new ≤ n
+covered_null (Ok x) old new n a b h = keys_within-null old new n a h
+covered_null (Err e) old new n a b h = rw b h
+
+pub covered_new : (old new : List (Option ℕ)) (v : PlainValue) (c d : BuilderTree) (n : ℕ) → Accepted (items.plain v) c d → new ≡ old ++ Some n ∷ [] → n ≡ builder_len c → values_needed old ≤ builder_len c → values_needed new ≤ builder_len d
+covered_new old new v c d n a e f h = let m = len-accepted (items.plain v) c d a in keys_within old new n (builder_len d) e (omega (arith, m, h)) (omega (arith, m, f))
+
+pub fits_new : (v : PlainValue) (c d : BuilderTree) (n : ℕ) → Accepted (items.plain v) c d → builder_len c < n → builder_len d ≤ n
+fits_new v c d n a l = let m = len-accepted (items.plain v) c d a in omega (arith, m, l)
+
+pub cut_len : (c d : BuilderTree) (m : ℕ) → m ≤ builder_len c → d ≡ cut_builder c m → builder_len d ≡ m
+cut_len c d m l e = ap builder_len e ∙ len-cut c m l
+
+pub emptied_len : (c d : BuilderTree) → d ≡ emptied c → builder_len d ≡ 0
+emptied_len c d e = sym (own-length d) ∙ ap length (ap own_slots e ∙ own-emptied c)
+
+-- a test of less
+pub is_less : (r : Bool) (n k : ℕ) → r ≡ true → (IsTrue r ↔ (n < k)) → n < k
+is_less r n k e h = h.0 e
+
+pub not_less : (r : Bool) (n k : ℕ) → r ≡ false → (IsTrue r ↔ (n < k)) → k ≤ n
+not_less r n k e h = elim (cases_lt n k) [ inl l ↦ absurd (let q : true ≡ false = sym (h.1 l) ∙ e in cc) | inr m ↦ m ]
+
+pub on_ok_so : {T E : Type 0} {A B : Type 0} (r : Result T E) → (A → B) → OnOk r A → OnOk r B
+on_ok_so (Ok x) f a = f a
+on_ok_so (Err e) f a = tt
+
+pub plain_none : (v : PlainValue) (t : BuilderTree) → value_refusal v t ≡ None → plain_refusal v t ≡ None
+plain_none v t h = plain-none v t h

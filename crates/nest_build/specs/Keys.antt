@@ -1,5 +1,5 @@
 -- Rows of builders of dictionaries by the array of their keys.
-use Rattle.std.specs.Prelude.{◌≡◌, ℕ, ℤ, pos, List, map, Option, Some, None}
+use Rattle.std.specs.Prelude.{◌≡◌, ℕ, ℤ, pos, List, [], map, Option, Some, None}
 use Rattle.nest_model.specs.Part.{place}
 use Rattle.nest_model.specs.Slot as slots
 use Rattle.nest_model.specs.Slot.{Slot}

@@ -12,7 +12,7 @@ ghost use Rattle.nest_model.specs.BuilderWhole.{AreDifferent};
 ghost use Rattle.nest_model.specs.Layout as layouts;
 ghost use Rattle.nest_array.specs.SeenKeys.{keys_layout};
 ghost use Rattle.nest_build.specs.Keys.{dictionary_child, told_keys};
-ghost use Rattle.nest_build.specs.Words.{Accepted, ChildNotEmpty, Fits, InvalidArgumentError, IsWhole, ItemType, Memory, ReadsValue, Unfinished, builder_len, builder_type, emptied, layout_of, layout_type, own_slots, plain_refusal, plain_value, slots_of, type_of};
+ghost use Rattle.nest_build.specs.Words.{Accepted, ChildNotEmpty, Fits, InvalidArgumentError, IsWhole, ItemType, Memory, Overflow, ReadsValue, Unfinished, builder_len, builder_type, emptied, layout_of, layout_type, own_slots, plain_refusal, plain_value, slots_of, type_of};
 
 use crate::array::{MutableArray, shared};
 use crate::dictionary::data_type::DictionaryType;
@@ -205,16 +205,11 @@ impl<K: BuilderKey, M: MutableArray> MutableDictionaryArray<K, M> {
         ensures cause { plain_refusal (plain_value value.entry) (⟦<MutableDictionaryArray<K, M> as MutableArray>⟧.model self.old) ≡ Some result }
     {
         let number = self.values.get().len();
-        match self.values.push(value) {
-            Ok(()) => {
-                self.values.truncate(number);
-                Error::Overflow
-            }
-            Err(Error::InvalidArgumentError(Argument::ItemType)) => {
-                Error::InvalidArgumentError(Argument::ItemType)
-            }
-            Err(_) => Error::Overflow,
+        if let Err(refusal) = self.values.push(value) {
+            return kind_first(refusal);
         }
+        self.values.truncate(number);
+        Error::Overflow
     }
 
     /// The array of the rows. The builder keeps its data type and has no row, no value and no validity then, also after
@@ -269,6 +264,19 @@ impl<K: BuilderKey, M: MutableArray> MutableDictionaryArray<K, M> {
     {
         let mut rows = self;
         rows.as_arc(alloc)
+    }
+}
+
+// What a child refuses a value by, where no key is left for it: its kind, else that.
+fn kind_first(refusal: Error) -> Error
+    ensures kind { (result ≡ InvalidArgumentError ItemType) ↔ (refusal ≡ InvalidArgumentError ItemType) }
+    ensures other { refusal ≢ InvalidArgumentError ItemType → result ≡ Overflow }
+{
+    match refusal {
+        Error::InvalidArgumentError(Argument::ItemType) => {
+            Error::InvalidArgumentError(Argument::ItemType)
+        }
+        _ => Error::Overflow,
     }
 }
 
