@@ -1,22 +1,29 @@
 -- Builders of dictionaries as trees.
-use Rattle.std.specs.Prelude.{◌↔◌, ◌⊎◌, Option, Some, None, Result, Ok, Err, OnOk, OnErr, IfErr, IsTrue, is_some, map, alloc_error}
+use Rattle.std.specs.Prelude.{IfOk, IsOk, ◌↔◌, ◌⊎◌, Option, Some, None, Result, Ok, Err, OnOk, OnErr, IfErr, IsTrue, is_some, map, alloc_error}
 use Rattle.std.proofs.Common.{◌≡◌, ◌≢◌, ℕ, zero, suc, ◌+◌, ◌<◌, ◌≤◌, Bool, true, false, List, [], ◌∷◌, ◌++◌, length, get_or, take, refl, sym, ap, subst, ◌∙◌, inl, inr, arith}
 use Rattle.std.proofs.lemmas.Bool.{cases_lt, le-leb}
 use Rattle.std.proofs.lemmas.List.{length-map, get_or-map}
-use Rattle.nest_memory.specs.TypeTree.{TypeTree}
+use Rattle.nest_memory.specs.TypeTree.{TypeTree, key_type, value_type}
 use Rattle.nest_memory.specs.Physical.{physical_type}
 use Rattle.nest_memory.specs.declared.datatypes.IntegerType.{IntegerType}
 use Rattle.nest_memory.specs.declared.error.Argument.TheVariants.{ItemType}
 use Rattle.nest_memory.specs.declared.error.Error.{Error}
 use Rattle.nest_memory.specs.declared.error.Error.TheVariants.{InvalidArgumentError, Memory, Overflow}
 use Rattle.nest_model.specs.Part.{Validity}
+use Rattle.nest_model.specs.Accessors.{key_type_of}
+use Rattle.nest_model.specs.Fits.{Fits, IsLogically, KeysInRange, is_dictionary}
+use Rattle.nest_model.specs.Layout as layouts
+use Rattle.nest_model.specs.Layout.{Layout, layout_type}
+use Rattle.nest_model.specs.Meaning.{len, slots_of}
+use Rattle.nest_model.specs.Reads.{slots-length}
 use Rattle.nest_model.specs.Slot as slots
 use Rattle.nest_model.specs.Slot.{Slot}
 use Rattle.nest_model.specs.BuilderAppend.{Accepted}
 use Rattle.nest_model.specs.BuilderAcceptLaws.{plain-none}
 use Rattle.nest_model.specs.BuilderAppendLaws.{dictionary_took_null, len-accepted}
 use Rattle.nest_model.specs.BuilderCutLaws.{len-cut, own-emptied}
-use Rattle.nest_model.specs.BuilderFreeze.{SpellsBits}
+use Rattle.nest_model.specs.BuilderFreeze.{SpellsBits, SpellsKeys}
+use Rattle.nest_model.specs.BuilderFreezeLaws.{dictionary-frozen}
 use Rattle.nest_model.specs.BuilderItem as items
 use Rattle.nest_model.specs.BuilderItem.{PlainValue, slot_of_value, takes, place_of, Holds, Stands, Lacks}
 use Rattle.nest_model.specs.BuilderKeyLaws.{known-stands, stands-known, place-lacks, place-stands, dictionary_knew, dictionary_took, keys_within, keys_within-null}
@@ -67,11 +74,10 @@ module _ (i : IntegerType) (t : TypeTree) (keys : List (Option ℕ)) (c : Builde
   rows_told (Some bits) f h v = (
     ap length v ∙ length-map keys is_some,
     λ n l.
-      let bit = ap (λ bs. get_or bs n true) v ∙ some_there keys n l in
-      (
-        (λ u. slot_there n l ∙ row_null (get_or keys n None) (sym bit ∙ u)),
-        (λ u. by_bit n l (get_or bits n true) bit u),
-      ),
+        let bit = ap (λ bs. get_or bs n true) v ∙ some_there keys n l in (
+          (λ u. slot_there n l ∙ row_null (get_or keys n None) (sym bit ∙ u)),
+          (λ u. by_bit n l (get_or bits n true) bit u),
+        ),
   )
     where
       by_bit : (n : ℕ) → n < length keys → (b : Bool) → b ≡ is_some (get_or keys n None) → own_slot (dictionary i t keys c) n ≡ slots.null → b ≡ false
@@ -167,7 +173,7 @@ pub both_ways : {A B C : Type 0} → (A ↔ B) → (B ↔ C) → (A ↔ C)
 both_ways p q = (λ a. q.0 (p.0 a), λ z. p.1 (q.1 z))
 
 same_err : {T : Type 0} (r : Result T Error) (e x : Error) → r ≡ Err e → (r ≡ Err x) → e ≡ x
-same_err r e x p q = let a : Err {T} e ≡ Err x = sym p ∙ q in cc
+same_err {T} r e x p q = let a : ◌≡◌ {A = Result T Error} (Err e) (Err x) = sym p ∙ q in cc
 
 pub at_err : {T : Type 0} (r : Result T Error) (e x : Error) (B : Type 0) → r ≡ Err e → ((r ≡ Err x) ↔ B) → ((e ≡ x) ↔ B)
 at_err r e x B p q = (λ h. q.0 (p ∙ ap Err h), λ b. same_err r e x p (q.1 b))
@@ -213,3 +219,22 @@ on_ok_so (Err e) f a = tt
 
 pub plain_none : (v : PlainValue) (t : BuilderTree) → value_refusal v t ≡ None → plain_refusal v t ≡ None
 plain_none v t h = plain-none v t h
+
+-- what keys and values freeze to
+pub if_both : {T E : Type 0} {A B C : T → Type 0} (r : Result T E) → ((x : T) → A x → B x → C x) → IfOk r A → IfOk r B → IfOk r C
+if_both (Ok x) f a b = f x a b
+if_both (Err e) f a b = tt
+
+pub frozen_fits : (i : IntegerType) (t u : TypeTree) (keys : List (Option ℕ)) (c : BuilderTree) (ks a : Layout) → t ≡ u → IsTrue (is_dictionary u) → key_type u ≡ Some i → IsWhole (dictionary i u keys c) → slots_of a ≡ own_slots c
+    → layout_type a ≡ builder_type c → key_type_of ks ≡ Some i → KeysInRange ks (values_needed keys) → Fits (layouts.dictionary t ks a)
+frozen_fits i t u keys c ks a e d k w f g h r =
+    let n : len a ≡ values_needed keys = sym (slots-length a) ∙ (ap length f ∙ (own-length c ∙ w.2)) in (
+      subst (λ x. IsTrue (is_dictionary x)) (sym e) d,
+      (ap key_type e ∙ (k ∙ sym h), (subst (λ x. IsLogically (value_type x) (layout_type a)) (sym e) (subst (λ x. IsLogically (value_type u) x) (sym g) w.1), (subst (λ m. KeysInRange ks m) (sym n) r, tt))),
+    )
+
+pub frozen_slots : {A E F : Type 0} (view : A → Layout) (r : Result Layout E) (ks : Result A F) (i : IntegerType) (t u : TypeTree) (keys : List (Option ℕ)) (c : BuilderTree) (v : Layout) → t ≡ u → IsWhole (dictionary i u keys c) → slots_of v ≡ own_slots c
+    → IfOk ks (λ k. SpellsKeys (view k) keys) → OnOk r (IsOk ks) → IfOk r (λ a. IfOk ks (λ k. a ≡ layouts.dictionary t (view k) v)) → IfOk r (λ a. slots_of a ≡ own_slots (dictionary i u keys c))
+frozen_slots view (Ok a) (Ok k) i t u keys c v e w f s o h = ap slots_of h ∙ dictionary-frozen i t keys c v (view k) (subst (λ x. IsWhole (dictionary i x keys c)) (sym e) w) f s
+frozen_slots view (Ok a) (Err x) i t u keys c v e w f s o h = absurd (let q : false ≡ true = o in cc)
+frozen_slots view (Err x) ks i t u keys c v e w f s o h = tt

@@ -136,8 +136,7 @@ module _ (hashes : List ℕ) (c d : BuilderTree) (n : ℕ) (w : IsWhole c) (l : 
   pub keyed_take : AreKeyed (take n hashes) d
   keyed_take =
       let below : (k : ℕ) → k < builder_len d → k < n = λ k m. omega (arith, m, len_cut) in
-      let inside : (k : ℕ) → k < builder_len d → k < builder_len c = λ k m. omega (arith, m, len_cut, l) in
-      (
+      let inside : (k : ℕ) → k < builder_len d → k < builder_len c = λ k m. omega (arith, m, len_cut, l) in (
         length-front n hashes (omega (arith, h.0, l)) ∙ sym len_cut,
         (λ v k s. get_or-take n hashes k 0 (below k s.0) ∙ h.1 v k (inside k s.0, (sym (takes-cut c n v) ∙ (sym (ap (λ x. takes x v) e) ∙ s.1.0), sym (at_front k (below k s.0)) ∙ s.1.1))),
         subst AreDifferent (sym (ap own_slots e ∙ own-cut c n w l)) (AreDifferent-take (own_slots c) n h.2),

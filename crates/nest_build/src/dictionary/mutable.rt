@@ -67,10 +67,7 @@ impl<K: BuilderKey, M: MutableArray> MutableDictionaryArray<K, M> {
     ///
     /// # Errors
     /// `ChildNotEmpty` where the child has rows, `Memory`.
-    pub fn try_from_values(
-        alloc: Global,
-        values: M,
-    ) -> Result<MutableDictionaryArray<K, M>, Error>
+    pub fn try_from_values(alloc: Global, values: M) -> Result<MutableDictionaryArray<K, M>, Error>
         requires { IsWhole (M.model values) }
         ensures ok { IfOk result (λ b. ⟦<MutableDictionaryArray<K, M> as MutableArray>⟧.model b ≡ builders.dictionary K.KEY_TYPE (default_dictionary_type K.KEY_TYPE (builder_type (M.model values))) [] (M.model values)) }
         ensures empty { IfOk result (λ b. builder_len (M.model values) ≡ 0) }

@@ -48,10 +48,13 @@ impl<M: MutableArray> KeyedValues<M> {
     {
         let hash = hash_of(value);
         let values = &self.values;
-        self.table.find(hash, |k: usize| -> bool
-            requires { k < builder_len (M.model values.now) }
-            ensures { IsTrue result ↔ Holds (M.model values.entry.now) k (plain_value value.entry.now) }
-        { values.holds(k, value) })
+        self.table.find(
+            hash,
+            |k: usize| -> bool
+                requires { k < builder_len (M.model values.now) }
+                ensures { IsTrue result ↔ Holds (M.model values.entry.now) k (plain_value value.entry.now) }
+            { values.holds(k, value) },
+        )
     }
 
     /// Adds a value that none of the values is.
