@@ -133,10 +133,11 @@ fn a_full_key_type_takes_known_values(rt: HostRuntime) -> Result<(), Fail> {
 
 #[test]
 fn a_value_of_another_size_leaves_no_key(rt: HostRuntime) -> Result<(), Fail> {
-    let mut pairs: MutableDictionaryArray<i8, MutableFixedSizeBinaryArray> = MutableDictionaryArray::try_from_values(
-        rt.alloc(),
-        MutableFixedSizeBinaryArray::new(rt.alloc(), 2),
-    )?;
+    let mut pairs: MutableDictionaryArray<i8, MutableFixedSizeBinaryArray> =
+        MutableDictionaryArray::try_from_values(
+            rt.alloc(),
+            MutableFixedSizeBinaryArray::new(rt.alloc(), 2),
+        )?;
     let refused = push_plain(&mut pairs, Plain::Bytes(b"abc"));
     let rows = pairs.len();
     let values = pairs.values().len();
