@@ -1,0 +1,108 @@
+-- The columns of the guide, slot by slot.
+use Rattle.std.specs.Prelude.{ℕ, pos, true, false, List, [], ◌∷◌}
+use Rattle.nest_model.specs.Slot as slots
+use Rattle.nest_model.specs.Slot.{Slot, seal}
+
+abbrev pub number : ℕ → Slot
+number n = slots.number (pos n ∷ [])
+
+abbrev pub list_slot : List Slot → Slot
+list_slot items = slots.list (seal items)
+
+abbrev pub record_slot : List Slot → Slot
+record_slot parts = slots.record_of (seal parts)
+
+-- 1, null, 3, 4
+abbrev pub four_numbers : List Slot
+four_numbers = number 1 ∷ slots.null ∷ number 3 ∷ number 4 ∷ []
+
+-- 1, null, 3
+abbrev pub three_numbers : List Slot
+three_numbers = number 1 ∷ slots.null ∷ number 3 ∷ []
+
+-- true, null, false, true
+abbrev pub four_truths : List Slot
+four_truths = slots.truth true ∷ slots.null ∷ slots.truth false ∷ slots.truth true ∷ []
+
+-- "ab", "", null, "c"
+abbrev pub four_texts : List Slot
+four_texts = slots.text (97 ∷ 98 ∷ []) ∷ slots.text [] ∷ slots.null ∷ slots.text (99 ∷ []) ∷ []
+
+-- the bytes 1, 2 and the byte 3
+abbrev pub two_bytes : List Slot
+two_bytes = slots.bytes (1 ∷ 2 ∷ []) ∷ slots.bytes (3 ∷ []) ∷ []
+
+-- null, null, null
+abbrev pub three_nulls : List Slot
+three_nulls = slots.null ∷ slots.null ∷ slots.null ∷ []
+
+-- "ab", "cd", as bytes
+abbrev pub two_codes : List Slot
+two_codes = slots.bytes (97 ∷ 98 ∷ []) ∷ slots.bytes (99 ∷ 100 ∷ []) ∷ []
+
+-- [1, null], null, [3, 4]
+abbrev pub three_lists : List Slot
+three_lists = list_slot (number 1 ∷ slots.null ∷ []) ∷ slots.null ∷ list_slot (number 3 ∷ number 4 ∷ []) ∷ []
+
+-- [1, null], [3, 4]
+abbrev pub two_pairs : List Slot
+two_pairs = list_slot (number 1 ∷ slots.null ∷ []) ∷ list_slot (number 3 ∷ number 4 ∷ []) ∷ []
+
+-- {1, "ab"}
+abbrev pub first_record : Slot
+first_record = record_slot (number 1 ∷ slots.text (97 ∷ 98 ∷ []) ∷ [])
+
+-- {null, ""}
+abbrev pub second_record : Slot
+second_record = record_slot (slots.null ∷ slots.text [] ∷ [])
+
+-- {3, null}
+abbrev pub third_record : Slot
+third_record = record_slot (number 3 ∷ slots.null ∷ [])
+
+-- {4, "c"}
+abbrev pub fourth_record : Slot
+fourth_record = record_slot (number 4 ∷ slots.text (99 ∷ []) ∷ [])
+
+abbrev pub four_records : List Slot
+four_records = first_record ∷ second_record ∷ third_record ∷ fourth_record ∷ []
+
+-- the first record, the other three
+abbrev pub two_record_lists : List Slot
+two_record_lists = list_slot (first_record ∷ []) ∷ list_slot (second_record ∷ third_record ∷ fourth_record ∷ []) ∷ []
+
+-- the first two records, the last two
+abbrev pub two_maps : List Slot
+two_maps = list_slot (first_record ∷ second_record ∷ []) ∷ list_slot (third_record ∷ fourth_record ∷ []) ∷ []
+
+-- "c", null, "ab", "c"
+abbrev pub four_keyed : List Slot
+four_keyed = slots.text (99 ∷ []) ∷ slots.null ∷ slots.text (97 ∷ 98 ∷ []) ∷ slots.text (99 ∷ []) ∷ []
+
+-- [1, 2], null, [], [3, null]
+abbrev pub four_rows : List Slot
+four_rows = list_slot (number 1 ∷ number 2 ∷ []) ∷ slots.null ∷ list_slot [] ∷ list_slot (number 3 ∷ slots.null ∷ []) ∷ []
+
+-- [], [3, null]
+abbrev pub last_two : List Slot
+last_two = list_slot [] ∷ list_slot (number 3 ∷ slots.null ∷ []) ∷ []
+
+-- true, null
+abbrev pub pushed_truths : List Slot
+pushed_truths = slots.truth true ∷ slots.null ∷ []
+
+-- "ab", null
+abbrev pub pushed_texts : List Slot
+pushed_texts = slots.text (97 ∷ 98 ∷ []) ∷ slots.null ∷ []
+
+-- "ab", null, as bytes
+abbrev pub pushed_bytes : List Slot
+pushed_bytes = slots.bytes (97 ∷ 98 ∷ []) ∷ slots.null ∷ []
+
+-- [1, 2], null
+abbrev pub pushed_pairs : List Slot
+pushed_pairs = list_slot (number 1 ∷ number 2 ∷ []) ∷ slots.null ∷ []
+
+-- "ab", "cd", as bytes
+abbrev pub pushed_codes : List Slot
+pushed_codes = two_codes
