@@ -1,5 +1,5 @@
 //! Columns compared, without memory.
-ghost use Rattle.std.specs.Prelude.{◌≡◌, ◌-◌, ◌≤◌, ◌↔◌, ◌×◌, IsTrue};
+ghost use Rattle.std.specs.Prelude.{◌≡◌, ◌-◌, ◌≤◌, ◌↔◌, IsTrue};
 ghost use Rattle.guide.specs.Words.{IsSameArray, cut, layout_of, layout_type, len, slots_of};
 
 use nest_array::equal::{equal, equal_windows};

@@ -1,5 +1,5 @@
 //! Cuts and new validities, on the memory that is there.
-ghost use Rattle.std.specs.Prelude.{◌≡◌, ◌+◌, ◌≤◌, ◌×◌, IfOk, IfErr, IsOkUnless, alloc_error};
+ghost use Rattle.std.specs.Prelude.{◌≡◌, ◌+◌, ◌≤◌, IfOk, IfErr, IsOkUnless, alloc_error};
 ghost use Rattle.guide.specs.Words.{Memory, ValidityFault, cut, layout_of, layout_type, len, slots_of, with_validity};
 
 use nest_array::{AnyArray, Array, ListArray};
