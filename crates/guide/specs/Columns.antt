@@ -1,5 +1,10 @@
 -- The columns of the guide, slot by slot.
-use Rattle.std.specs.Prelude.{ℕ, pos, true, false, List, [], ◌∷◌}
+use Rattle.std.specs.Prelude.{ℕ, pos, true, false, None, Some, List, [], ◌∷◌}
+use Rattle.nest_memory.specs.TypeTree as types
+use Rattle.nest_memory.specs.TypeTree.{TypeTree}
+use Rattle.nest_memory.specs.declared.datatypes.physical_type.PrimitiveType.TheVariants as primitives
+use Rattle.nest_model.specs.Layout as layouts
+use Rattle.nest_model.specs.Layout.{Layout, Layouts}
 use Rattle.nest_model.specs.Slot as slots
 use Rattle.nest_model.specs.Slot.{Slot, seal}
 
@@ -16,6 +21,10 @@ record_slot parts = slots.record_of (seal parts)
 abbrev pub four_numbers : List Slot
 four_numbers = number 1 ∷ slots.null ∷ number 3 ∷ number 4 ∷ []
 
+-- the parts of that column: under the null lies 2
+abbrev pub numbers_parts : Layout
+numbers_parts = layouts.primitive primitives.Int64 types.int64 ((pos 1 ∷ []) ∷ (pos 2 ∷ []) ∷ (pos 3 ∷ []) ∷ (pos 4 ∷ []) ∷ []) (Some (true ∷ false ∷ true ∷ true ∷ []))
+
 -- 1, null, 3
 abbrev pub three_numbers : List Slot
 three_numbers = number 1 ∷ slots.null ∷ number 3 ∷ []
@@ -27,6 +36,10 @@ four_truths = slots.truth true ∷ slots.null ∷ slots.truth false ∷ slots.tr
 -- "ab", "", null, "c"
 abbrev pub four_texts : List Slot
 four_texts = slots.text (97 ∷ 98 ∷ []) ∷ slots.text [] ∷ slots.null ∷ slots.text (99 ∷ []) ∷ []
+
+-- the parts of that column
+abbrev pub texts_parts : Layout
+texts_parts = layouts.text false types.utf8 (0 ∷ 2 ∷ 2 ∷ 2 ∷ 3 ∷ []) (97 ∷ 98 ∷ 99 ∷ []) (Some (true ∷ true ∷ false ∷ true ∷ []))
 
 -- the bytes 1, 2 and the byte 3
 abbrev pub two_bytes : List Slot
@@ -67,6 +80,13 @@ fourth_record = record_slot (number 4 ∷ slots.text (99 ∷ []) ∷ [])
 abbrev pub four_records : List Slot
 four_records = first_record ∷ second_record ∷ third_record ∷ fourth_record ∷ []
 
+-- the parts of that column, by the names of its fields
+abbrev pub records_children : Layouts
+records_children = layouts.more_layouts numbers_parts (layouts.more_layouts texts_parts layouts.no_layouts)
+
+abbrev pub records_parts : TypeTree → Layout
+records_parts t = layouts.struct t records_children None
+
 -- the first record, the other three
 abbrev pub two_record_lists : List Slot
 two_record_lists = list_slot (first_record ∷ []) ∷ list_slot (second_record ∷ third_record ∷ fourth_record ∷ []) ∷ []
@@ -74,6 +94,10 @@ two_record_lists = list_slot (first_record ∷ []) ∷ list_slot (second_record 
 -- the first two records, the last two
 abbrev pub two_maps : List Slot
 two_maps = list_slot (first_record ∷ second_record ∷ []) ∷ list_slot (third_record ∷ fourth_record ∷ []) ∷ []
+
+-- the number 1, the text "", a null text, the number 4
+abbrev pub four_picks : List Slot
+four_picks = slots.pick 0 types.int64 (number 1) ∷ slots.pick 1 types.utf8 (slots.text []) ∷ slots.pick 1 types.utf8 slots.null ∷ slots.pick 0 types.int64 (number 4) ∷ []
 
 -- "c", null, "ab", "c"
 abbrev pub four_keyed : List Slot

@@ -1,6 +1,6 @@
 //! Arrays without children, from parts.
 ghost use Rattle.std.specs.Prelude.{◌≡◌, IfOk};
-ghost use Rattle.guide.specs.Words.{four_numbers, four_texts, four_truths, layout_of, slots_of, three_nulls, two_bytes, two_codes};
+ghost use Rattle.guide.specs.Words.{four_numbers, four_texts, four_truths, layout_of, numbers_parts, slots_of, texts_parts, three_nulls, two_bytes, two_codes};
 
 use crate::making::parts::{buffer, offsets, validity};
 use nest_array::{AnyArray, FixedSizeBinaryArray, NullArray};
@@ -16,7 +16,8 @@ use std::alloc::Global;
 
 /// The numbers 1, null, 3, 4. What lies under the null, here 2, is in no slot.
 pub fn numbers(alloc: Global) -> Result<PrimitiveArray<i64>, Error>
-    ensures { IfOk result (λ a. slots_of a ≡ four_numbers) }
+    ensures parts { IfOk result (λ a. a ≡ numbers_parts) }
+    ensures slots { IfOk result (λ a. slots_of a ≡ four_numbers) }
 {
     let values = buffer(alloc, &[1, 2, 3, 4])?;
     let validity = validity(alloc, &[true, false, true, true])?;
@@ -25,7 +26,8 @@ pub fn numbers(alloc: Global) -> Result<PrimitiveArray<i64>, Error>
 
 /// The same as an array of any kind.
 pub fn any_numbers(alloc: Global) -> Result<AnyArray, Error>
-    ensures { IfOk result (λ a. slots_of (layout_of a) ≡ four_numbers) }
+    ensures parts { IfOk result (λ a. layout_of a ≡ numbers_parts) }
+    ensures slots { IfOk result (λ a. slots_of (layout_of a) ≡ four_numbers) }
 {
     match numbers(alloc) {
         Ok(array) => Ok(AnyArray::Primitive(AnyPrimitive::Int64(array))),
@@ -44,7 +46,8 @@ pub fn truths(alloc: Global) -> Result<BooleanArray, Error>
 
 /// The texts "ab", "", null, "c": their bytes one after another, and where each begins.
 pub fn texts(alloc: Global) -> Result<Utf8Array<i32>, Error>
-    ensures { IfOk result (λ a. slots_of a ≡ four_texts) }
+    ensures parts { IfOk result (λ a. a ≡ texts_parts) }
+    ensures slots { IfOk result (λ a. slots_of a ≡ four_texts) }
 {
     let offsets = offsets(alloc, &[0, 2, 2, 2, 3])?;
     let bytes = buffer(alloc, &[97u8, 98, 99])?;

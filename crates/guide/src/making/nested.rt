@@ -1,7 +1,7 @@
 //! Arrays over other arrays, from parts. What holds a child is made last, and what has a data type is let go by name where
 //! a later part is refused.
 ghost use Rattle.std.specs.Prelude.{◌≡◌, IfOk};
-ghost use Rattle.guide.specs.Words.{four_keyed, four_records, layout_of, slots_of, three_lists, two_maps, two_pairs, two_record_lists};
+ghost use Rattle.guide.specs.Words.{four_keyed, four_picks, four_records, layout_type, layouts_of, records_children, records_parts, slots_of, three_lists, two_maps, two_pairs, two_record_lists};
 
 use crate::making::flat::{any_numbers, texts};
 use crate::making::parts::{buffer, offsets, validity};
@@ -54,7 +54,9 @@ fn fields(alloc: Global) -> Result<Vec<Field>, Error> {
 }
 
 /// A child for each field, of four slots.
-fn children(alloc: Global) -> Result<Vec<AnyArray>, Error> {
+fn children(alloc: Global) -> Result<Vec<AnyArray>, Error>
+    ensures { IfOk result (λ v. layouts_of v.items ≡ records_children) }
+{
     let mut children = Vec::with_capacity(alloc, 2)?;
     children.push(any_numbers(alloc)?)?;
     children.push(AnyArray::Utf8(texts(alloc)?))?;
@@ -63,7 +65,8 @@ fn children(alloc: Global) -> Result<Vec<AnyArray>, Error> {
 
 /// The records {1, "ab"}, {null, ""}, {3, null}, {4, "c"}.
 pub fn records(alloc: Global) -> Result<StructArray, Error>
-    ensures { IfOk result (λ a. slots_of a ≡ four_records) }
+    ensures parts { IfOk result (λ a. a ≡ records_parts (layout_type a)) }
+    ensures slots { IfOk result (λ a. slots_of a ≡ four_records) }
 {
     let fields = fields(alloc)?;
     match children(alloc) {
@@ -119,7 +122,9 @@ pub fn maps(alloc: Global) -> Result<MapArray, Error>
 }
 
 /// Of each slot the number (type 0) or the text (type 1): 1, "", null, 4.
-pub fn picks(alloc: Global) -> Result<UnionArray, Error> {
+pub fn picks(alloc: Global) -> Result<UnionArray, Error>
+    ensures { IfOk result (λ a. slots_of a ≡ four_picks) }
+{
     let types = buffer(alloc, &[0i8, 1, 1, 0])?;
     let fields = fields(alloc)?;
     match children(alloc) {

@@ -1,6 +1,6 @@
 //! The parts that arrays are made of.
-ghost use Rattle.std.specs.Prelude.{◌≡◌, Some, IfOk};
-ghost use Rattle.guide.specs.Words.{numbers};
+ghost use Rattle.std.specs.Prelude.{◌≡◌, Some, IfOk, map};
+ghost use Rattle.guide.specs.Words.{to_nat};
 
 use nest_memory::bitmap::immutable::Bitmap;
 use nest_memory::buffer::Buffer;
@@ -22,9 +22,10 @@ pub fn validity(alloc: Global, valid: &[bool]) -> Result<Option<Bitmap>, Error>
     Ok(Some(Bitmap::from_bools(alloc, valid)?))
 }
 
+#[tactic(auto, unfolding(nest_memory::specs::Rising::numbers))]
 /// Offsets of 32 bits: where each row begins, and where the last one ends.
 pub fn offsets(alloc: Global, places: &[i32]) -> Result<OffsetsBuffer<i32>, Error>
-    ensures { IfOk result (λ o. o ≡ numbers (λ x. x) places.now) }
+    ensures { IfOk result (λ o. o ≡ map to_nat places.now) }
 {
     OffsetsBuffer::try_new(alloc, Vec::from_slice(alloc, places)?)
 }
