@@ -123,10 +123,6 @@ pushed_texts = slots.text (97 ∷ 98 ∷ []) ∷ slots.null ∷ []
 abbrev pub pushed_bytes : List Slot
 pushed_bytes = slots.bytes (97 ∷ 98 ∷ []) ∷ slots.null ∷ []
 
--- [1, 2], null
-abbrev pub pushed_pairs : List Slot
-pushed_pairs = list_slot (number 1 ∷ number 2 ∷ []) ∷ slots.null ∷ []
-
 -- "ab", "cd", as bytes
 abbrev pub pushed_codes : List Slot
 pushed_codes = two_codes

@@ -174,7 +174,6 @@ pub fn building<R: Print + AllocGlobal>(rt: &R) -> Result<()> {
     tell(rt, "codes", building::flat::codes(alloc))?;
     tell(rt, "nulls", building::flat::nulls(alloc))?;
     tell(rt, "lists", rows::four_rows(alloc))?;
-    tell(rt, "pairs", rows::pairs(alloc))?;
     println!(rt;
         "a refused row, and the rows and items there: {:?}",
         rows::refused_row(alloc)?

@@ -1,8 +1,8 @@
 //! Builders of lists, over a builder of their items.
 ghost use Rattle.std.specs.Prelude.{◌≡◌, IfOk};
-ghost use Rattle.guide.specs.Words.{four_rows, last_two, layout_of, pushed_pairs, slots_of};
+ghost use Rattle.guide.specs.Words.{four_rows, last_two, slots_of};
 
-use nest_array::{AnyArray, ListArray};
+use nest_array::ListArray;
 use nest_build::array::MutableArray;
 use nest_build::fixed_size_list::MutableFixedSizeListArray;
 use nest_build::list::MutableListArray;
@@ -38,20 +38,6 @@ pub fn two_rows(alloc: Global) -> Result<ListArray, Error>
 
 /// A builder of lists of two numbers each.
 type PairBuilder = MutableFixedSizeListArray<MutablePrimitiveArray<i64>>;
-
-/// The rows [1, 2] and null.
-pub fn pairs(alloc: Global) -> Result<AnyArray, Error>
-    ensures { IfOk result (λ a. slots_of (layout_of a) ≡ pushed_pairs) }
-{
-    let mut builder: PairBuilder = MutableFixedSizeListArray::new(
-        alloc,
-        MutablePrimitiveArray::new(alloc),
-        2,
-    )?;
-    builder.try_push(Some([Some(1), Some(2)].iter().copied()))?;
-    builder.push_null()?;
-    builder.as_box()
-}
 
 /// What pushing a row of three numbers to a builder of pairs answers, and how many rows and items it leaves there.
 pub fn refused_row(alloc: Global) -> Result<(Option<Error>, usize, usize), Error> {
