@@ -25,6 +25,10 @@ expect() {
 expect "$rows" 0 'null\n[]\n' '' 1 2
 expect '' 0 '' '' 0 0
 expect '[-9223372036854775808]\n' 0 '[-9223372036854775808]\n' '' 0 1
+expect "$rows" 0 '[3,null]\n[1,2]\n' '' take 3 0
+expect "$rows" 0 '' '' take
+expect "$rows" 1 '' 'listcut: range' take 4
+expect "$rows" 2 '' 'listcut: arguments' take x
 expect "$rows" 2 '' 'listcut: arguments' 1
 expect "$rows" 2 '' 'listcut: arguments' 1 x
 expect "$rows" 1 '' 'listcut: range' 3 2

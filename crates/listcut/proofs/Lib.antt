@@ -1,11 +1,15 @@
 pub mod Again
+pub mod ArrayKinds
+pub mod Below
 pub mod Counted
 pub mod Digits
 pub mod Faulty
+pub mod ItemCounts
 pub mod ItemTypes
 pub mod Items
 pub mod Lines
 pub mod Pieces
+pub mod Places
 pub mod ReadDigits
 pub mod RowsTree
 pub mod Sealed

@@ -82,7 +82,21 @@ rows_of bytes = rows_after 0 0 (lines_of bytes)
 
 -- ---- argument words
 
+-- what argument words ask for: the rows of a cut, by offset and length, or the rows at places
+pub data Request : Type 0 where
+  cut_of : ℕ × ℕ → Request
+  rows_at : List ℕ → Request
+
 -- the offset and the length that two words spell
 abbrev pub window_of : List (List ℕ) → Option (ℕ × ℕ)
 window_of (offset ∷ len ∷ []) = option_and_then (λ o. option_map (λ n. (o, n)) (whole_below (2 ^ 64) len)) (whole_below (2 ^ 64) offset)
 window_of words = None
+
+-- the places that words spell, one each
+abbrev pub places_of : List (List ℕ) → Option (List ℕ)
+places_of words = all_of (map (whole_below (2 ^ 64)) words)
+
+-- `take` and any number of places, or an offset and a length
+abbrev pub request_of : List (List ℕ) → Option Request
+request_of [] = None
+request_of (word ∷ words) = if bytes_eq word (codes "take") then option_map rows_at (places_of words) else option_map cut_of (window_of (word ∷ words))

@@ -4,4 +4,5 @@ pub mod Grammar
 pub mod Spelling
 pub mod Outcome
 pub mod SeenRow
+pub mod SeenRequest
 pub mod Words

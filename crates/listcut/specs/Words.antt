@@ -1,7 +1,8 @@
 -- The words of this crate's contracts, by one name.
-pub use Rattle.listcut.specs.Grammar.{has_leading_zero, item_of, items_of, lines_of, number_of, row_of, rows_of, whole_below, window_of}
-pub use Rattle.listcut.specs.Outcome.{Answers, IsInputOrMemory, ReadFault, Writes, answer_to}
-pub use Rattle.listcut.specs.Rows.{AreRows}
+pub use Rattle.listcut.specs.Grammar.{cut_of, has_leading_zero, item_of, items_of, lines_of, number_of, places_of, request_of, row_of, rows_at, rows_of, whole_below, window_of}
+pub use Rattle.listcut.specs.Outcome.{Answers, ChoiceFault, IsInputOrMemory, PassesItems, ReadFault, Writes, answer_to, asked}
+pub use Rattle.listcut.specs.Rows.{AreRows, item_count}
+pub use Rattle.listcut.specs.SeenRequest.{SpellingFault, seen_request}
 pub use Rattle.listcut.specs.SeenRow.{item_slot, seen_row}
 pub use Rattle.listcut.specs.Spelling.{IsFirstFault, IsTextOf, item_text, row_text, text_of}
 pub use Rattle.listcut.specs.declared.fault.Fault.TheVariants.{Memory}
@@ -13,6 +14,7 @@ pub use Rattle.nest_memory.specs.TypeTree.{item_type}
 pub use Rattle.nest_model.specs.BuilderLevels.{own_slots}
 pub use Rattle.nest_model.specs.BuilderTree.{builder_len, builder_type}
 pub use Rattle.nest_model.specs.BuilderWhole.{IsWhole}
+pub use Rattle.nest_model.specs.Chosen.{chosen}
 pub use Rattle.nest_model.specs.Layout.{layout_type}
 pub use Rattle.nest_model.specs.Meaning.{len, slot, slots_of}
 pub use Rattle.nest_model.specs.Slot.{Slot}

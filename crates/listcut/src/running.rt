@@ -1,13 +1,13 @@
 //! A whole run: words and bytes in, bytes out.
-ghost use Rattle.std.specs.Prelude.{◌≡◌, ℕ, ◌↔◌, None, map, length, string_bytes, IfOk, OnOk, IfErr, IfSome, IsErrOf};
+ghost use Rattle.std.specs.Prelude.{◌≡◌, ◌↔◌, None, map, string_bytes, IfOk, OnOk, IfErr, IfSome, IsErrOf};
 ghost use Rattle.std.specs.Io.KnownBytes.{IsAtEnd};
-ghost use Rattle.listcut.specs.Words.{Answers, IsInputOrMemory, answer_to, len, slots_of, window_of};
+ghost use Rattle.listcut.specs.Words.{Answers, IsInputOrMemory, answer_to, request_of};
 
+use crate::choosing::choose;
 use crate::fault::Fault;
-use crate::numbers::parse_window;
 use crate::reading::read_rows;
+use crate::request::parse_request;
 use crate::writing::write_rows;
-use nest_array::ListArray;
 use std::alloc::Global;
 use std::io::{Read, Write};
 
@@ -29,22 +29,16 @@ fn read_input<R: Read>(alloc: Global, reader: &mut R) -> Result<Vec<u8>, Fault>
     Err(Fault::Input)
 }
 
-fn count_rows(rows: &ListArray) -> u64
-    ensures slots { result ≡ length (slots_of rows.now) }
-    ensures len { result ≡ len rows.now }
-{
-    rows.len() as u64
-}
-
-/// Reads rows, and writes those of the window that the words give: `OFFSET LENGTH`, each `0` or a nonzero digit
-/// with further digits, below 2^64.
+/// Reads rows, and writes those that the words ask for: `OFFSET LENGTH` those of a window, `take` and any number of places
+/// those at the places, in that order. Each number is `0` or a nonzero digit with further digits, below 2^64.
 ///
 /// # Errors
 /// The first of these, in this order; with any but `Output` nothing was written:
-/// - `Arguments` where the words are no window; the reader is not touched.
+/// - `Arguments` where the words have neither form; the reader is not touched.
 /// - `Input` where a read fails. The whole input is read first.
 /// - `Line(k)` where line k, from 1, is the first that is no row, or with which there are 2^31 items or more.
-/// - `Range` where the window goes past the rows.
+/// - `Range` where the window, or a place, goes past the rows.
+/// - `Size` where the rows at the places have 2^31 items or more.
 /// - `Output` where a write or the flush fails, or a write takes no byte.
 ///
 /// `Memory` may come in place of any but `Arguments`.
@@ -56,22 +50,15 @@ pub fn run<R: Read, W: Write>(
 ) -> Result<(), Fault>
     ensures answers { IfSome (R.remaining reader.old) (λ input. Answers result (answer_to (map string_bytes words.now) input) (W.contents writer.old) (W.contents writer.new)) }
     ensures whole { OnOk result (IsAtEnd (R.remaining reader.new)) }
-    ensures arguments { IsErrOf result Fault.Arguments ↔ (window_of (map string_bytes words.now) ≡ None) }
-    ensures unread { window_of (map string_bytes words.now) ≡ None → R.remaining reader.new ≡ R.remaining reader.old }
+    ensures arguments { IsErrOf result Fault.Arguments ↔ (request_of (map string_bytes words.now) ≡ None) }
+    ensures unread { request_of (map string_bytes words.now) ≡ None → R.remaining reader.new ≡ R.remaining reader.old }
 {
-    let Some((offset, len)) = parse_window(words) else {
-        return Err(Fault::Arguments);
-    };
+    let request = parse_request(alloc, words)?;
     let input = read_input(alloc, reader)?;
-    let mut rows = read_rows(alloc, &input)?;
+    let rows = read_rows(alloc, &input)?;
     drop(input);
-    let count = count_rows(&rows);
-    if offset > count || len > count - offset {
-        drop(rows);
-        return Err(Fault::Range);
-    }
-    rows.slice(offset as usize, len as usize);
-    let written = write_rows(alloc, &rows, writer);
-    drop(rows);
+    let chosen = choose(alloc, rows, &request)?;
+    let written = write_rows(alloc, &chosen, writer);
+    drop(chosen);
     written
 }

@@ -103,6 +103,46 @@ fn cuts_rows(rt: HostRuntime) -> Result<(), Fail> {
 }
 
 #[test]
+fn takes_rows(rt: HostRuntime) -> Result<(), Fail> {
+    for (words, input, want) in [
+        (["take", "3", "0"].as_slice(), ROWS, "[3,null]\n[1,2]\n"),
+        (["take"].as_slice(), ROWS, ""),
+        (
+            ["take", "1", "0", "0", "1"].as_slice(),
+            ROWS,
+            "null\n[1,2]\n[1,2]\nnull\n",
+        ),
+        (
+            ["take", "1", "0"].as_slice(),
+            "[7]\n[-8,9]",
+            "[-8,9]\n[7]\n",
+        ),
+        (["take"].as_slice(), "", ""),
+    ] {
+        let out = cut(rt.alloc(), words, input)?;
+        assert!(rt; out.as_slice() == want.as_bytes(), "{want}");
+    }
+    Ok(())
+}
+
+#[test]
+fn refuses_places(rt: HostRuntime) {
+    for (words, want) in [
+        (["take", "4"], Fault::Range),
+        (["take", "18446744073709551615"], Fault::Range),
+        (["take", "x"], Fault::Arguments),
+        (["take", "01"], Fault::Arguments),
+        (["take", "18446744073709551616"], Fault::Arguments),
+        (["taken", "1"], Fault::Arguments),
+        (["1", "take"], Fault::Arguments),
+    ] {
+        assert!(rt; cut(rt.alloc(), &words, ROWS).err() == Some(want));
+    }
+    let fault = cut(rt.alloc(), &["take", "9"], "[1,2]\n[3").err();
+    assert!(rt; fault == Some(Fault::Line(2)));
+}
+
+#[test]
 fn refuses_arguments(rt: HostRuntime) {
     for words in [
         ["", "1"],
@@ -168,22 +208,28 @@ fn devices_fail(rt: HostRuntime) -> Result<(), Fail> {
 }
 
 /// With memory refused anywhere the run tells so, and writes nothing.
-#[test]
-fn memory_is_refused(rt: HostRuntime) -> Result<(), Fail> {
-    let words = words_of(rt.alloc(), &["1", "2"])?;
+fn refused_or_written(alloc: Global, words: &[&str]) -> Result<bool, AllocError> {
+    let words = words_of(alloc, words)?;
     let mut reader = ROWS.as_bytes();
     let mut writer = Narrow {
-        taken: Vec::with_capacity(rt.alloc(), 100)?,
+        taken: Vec::with_capacity(alloc, 100)?,
         room: 100,
         flushes: true,
     };
-    match run(rt.alloc(), &words, &mut reader, &mut writer) {
-        Ok(()) => assert!(rt; writer.taken.as_slice() == b"null\n[]\n".as_slice()),
-        Err(fault) => {
-            assert!(rt; fault == Fault::Memory);
-            assert!(rt; writer.taken.len() == 0);
-        }
-    }
+    let result = run(alloc, &words, &mut reader, &mut writer);
+    let want = match result {
+        Ok(()) => b"null\n[]\n".as_slice(),
+        Err(_) => b"".as_slice(),
+    };
+    Ok(result.err().unwrap_or(Fault::Memory) == Fault::Memory && writer.taken.as_slice() == want)
+}
+
+#[test]
+fn memory_is_refused(rt: HostRuntime) -> Result<(), Fail> {
+    let fine = refused_or_written(rt.alloc(), &["1", "2"])?;
+    assert!(rt; fine);
+    let fine = refused_or_written(rt.alloc(), &["take", "1", "2"])?;
+    assert!(rt; fine);
     Ok(())
 }
 
@@ -207,6 +253,7 @@ fn faults_are_printed(rt: HostRuntime) -> Result<(), Fail> {
         (Fault::Input, "listcut: input"),
         (Fault::Line(7), "listcut: line 7"),
         (Fault::Range, "listcut: range"),
+        (Fault::Size, "listcut: size"),
         (Fault::Output, "listcut: output"),
         (Fault::Memory, "listcut: memory"),
     ] {

@@ -1,7 +1,10 @@
 mod BytesTrees
+mod Dictionaries
 mod FixedLists
 mod FixedTrees
 mod FlatTrees
+mod Keyed
+mod Keys
 mod Lists
 mod NullTrees
 mod Nulls

@@ -1,6 +1,9 @@
 pub mod BuiltKind
 pub mod Children
 pub mod FlatTree
+pub mod Hashes
+pub mod Keyed
+pub mod Keys
 pub mod Lists
 pub mod Nulled
 pub mod NumberRows

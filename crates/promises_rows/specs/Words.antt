@@ -2,6 +2,7 @@
 pub use Rattle.nest_array.specs.Seen.{layout_of}
 pub use Rattle.nest_array.specs.Types.{default_field}
 pub use Rattle.nest_build.specs.Children.{list_child}
+pub use Rattle.nest_build.specs.Keys.{dictionary_child}
 pub use Rattle.nest_build.specs.Lists.{list_type, new_fixed_checks, new_list_checks}
 pub use Rattle.nest_build.specs.Rows.{rows_told, told_rows_checks}
 pub use Rattle.nest_build.specs.Slices.{row_item, row_len}
@@ -11,8 +12,9 @@ pub use Rattle.nest_memory.specs.Rising.{largest_offset}
 pub use Rattle.nest_memory.specs.TypeOf.{type_of}
 pub use Rattle.nest_memory.specs.declared.error.Argument.TheVariants.{ItemType, Unfinished}
 pub use Rattle.nest_memory.specs.declared.error.Error.TheVariants.{InvalidArgumentError, Memory, Overflow}
+pub use Rattle.nest_model.specs.Accessors.{whole}
 pub use Rattle.nest_model.specs.BuilderAppend.{Accepted, Told, ToldLengths}
-pub use Rattle.nest_model.specs.BuilderItem.{Holds, slot_of_item}
+pub use Rattle.nest_model.specs.BuilderItem.{Holds, Stands, slot_of_item}
 pub use Rattle.nest_model.specs.BuilderJoin.{Joined}
 pub use Rattle.nest_model.specs.BuilderLevels.{own_slots}
 pub use Rattle.nest_model.specs.BuilderReading.{Refused, RefusedSome, Took, TookAll, TookEach}
@@ -20,7 +22,7 @@ pub use Rattle.nest_model.specs.BuilderRefusals.{asked_item, asked_refusal, item
 pub use Rattle.nest_model.specs.BuilderRowChecks.{HasWholeChildren, join_checks, lengths_checks, row_checks}
 pub use Rattle.nest_model.specs.BuilderSpells.{CanRead}
 pub use Rattle.nest_model.specs.BuilderTree.{builder_len, builder_type}
-pub use Rattle.nest_model.specs.BuilderWhole.{IsWhole, cut_builder, emptied}
+pub use Rattle.nest_model.specs.BuilderWhole.{AreDifferent, IsWhole, cut_builder, emptied}
 pub use Rattle.nest_model.specs.Checks.{FailFirst, Pass}
 pub use Rattle.nest_model.specs.Layout.{layout_type}
 pub use Rattle.nest_model.specs.Meaning.{slots_of}

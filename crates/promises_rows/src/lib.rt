@@ -4,17 +4,17 @@
 //! a boxed one too, and then of what builders of lists do besides.
 #![tactic(auto)]
 
-ghost use Rattle.std.specs.Prelude.{◌≡◌, ◌≢◌, ◌≤◌, ◌<◌, ◌+◌, ◌⊎◌, ◌↔◌, ◌++◌, ◌∷◌, [], true, false, ℕ, map, length, slice_get, take, IsTrue, OnOk, OnErr, IfOk, IfErr, IfSome, IfNone, IsErrOf, IsOkUnless, None, Some, alloc_error};
+ghost use Rattle.std.specs.Prelude.{◌≡◌, ◌≢◌, ◌≤◌, ◌<◌, ◌+◌, ◌⊎◌, ◌↔◌, ◌++◌, ◌∷◌, [], true, false, ℕ, map, length, option_map, pos, slice_get, take, IsTrue, OnOk, OnErr, IfOk, IfErr, IfSome, IfNone, IsErrOf, IsOkUnless, None, Some, alloc_error};
 ghost use Rattle.std.specs.List.{All, items_where_true};
 ghost use Rattle.std.specs.Option.{option_copied};
 ghost use Rattle.nest_model.specs.BuilderItem.{null as null_item};
 ghost use Rattle.nest_model.specs.BuilderTree as builders;
 ghost use Rattle.nest_model.specs.Slot as slots;
-ghost use Rattle.promises_rows.specs.Words.{Accepted, CanRead, FailFirst, HasWholeChildren, Holds, InvalidArgumentError, IsOfOtherKind, IsWhole, ItemType, Joined, Memory, Overflow, Pass, Refused, RefusedSome, Told, ToldLengths, Took, TookAll, TookEach, Unfinished, asked_item, asked_refusal, builder_len, builder_type, cut_builder, emptied, item_refusal, join_checks, largest_offset, layout_of, layout_type, lengths_checks, list_child, new_fixed_checks, new_list_checks, own_slot, own_slots, plain_value, plain_values, reserve_passes, row_checks, row_item, row_len, rows_told, slot_of_item, slots_of, told_rows_checks, type_of};
+ghost use Rattle.promises_rows.specs.Words.{Accepted, AreDifferent, CanRead, FailFirst, HasWholeChildren, Holds, InvalidArgumentError, IsOfOtherKind, IsWhole, ItemType, Joined, Memory, Overflow, Pass, Refused, RefusedSome, Stands, Told, ToldLengths, Took, TookAll, TookEach, Unfinished, asked_item, asked_refusal, builder_len, builder_type, cut_builder, dictionary_child, emptied, item_refusal, join_checks, largest_offset, layout_of, layout_type, lengths_checks, list_child, new_fixed_checks, new_list_checks, own_slot, own_slots, plain_value, plain_values, reserve_passes, row_checks, row_item, row_len, rows_told, slot_of_item, slots_of, told_rows_checks, type_of, whole};
 
 use nest_array::AnyArray;
 use nest_build::array::MutableArray;
-use nest_build::dictionary::KeyTable;
+use nest_build::dictionary::{BuilderKey, KeyTable, MutableDictionaryArray};
 use nest_build::fixed_size_list::MutableFixedSizeListArray;
 use nest_build::flat::{FlatBuilder, TakesValue};
 use nest_build::list::MutableListArray;
@@ -272,7 +272,7 @@ pub fn push_values<O: ListWidth, A: AsPlain + Copy + Drop, M: FlatBuilder + Take
     lists.try_push_slice(row)
 }
 
-/// A table of hashes, by which builders of dictionaries are to find their values: a hash more has the next number. A refused
+/// A table of hashes, by which builders of dictionaries find their values: a hash more has the next number. A refused
 /// one changes nothing.
 pub fn push_hash(table: &mut KeyTable, hash: u64) -> Result<(), Error>
     ensures ok { OnOk result (table.new ≡ table.old ++ hash ∷ []) }
@@ -298,4 +298,24 @@ pub fn cut_hashes(table: &mut KeyTable, n: usize)
     ensures { table.new ≡ take n table.old }
 {
     table.truncate(n)
+}
+
+/// The values of a builder of dictionaries are pairwise different.
+pub fn different_values<K: BuilderKey, M: MutableArray>(
+    builder: &MutableDictionaryArray<K, M>,
+) -> &M
+    ensures value { M.model result.now ≡ dictionary_child (⟦<MutableDictionaryArray<K, M> as MutableArray>⟧.model builder.now) }
+    ensures different { AreDifferent (own_slots (M.model result.now)) }
+{
+    builder.values()
+}
+
+/// A value has a key exactly where the child takes it and it stands among the values; the key is its place there.
+pub fn key_of_value<K: BuilderKey, M: MutableArray, T: AsPlain>(
+    builder: &MutableDictionaryArray<K, M>,
+    value: &T,
+) -> Option<K>
+    ensures { (k : ℕ) → (option_map (λ key. whole (K.numbers key)) result ≡ Some (pos k)) ↔ Stands (dictionary_child (⟦<MutableDictionaryArray<K, M> as MutableArray>⟧.model builder.now)) (T.value value.now) k }
+{
+    builder.key_of(value)
 }

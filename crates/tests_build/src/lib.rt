@@ -25,10 +25,18 @@
 //! | Any one request for memory refused: no row is added at any level, and a freeze empties | `lists::refused_rows_change_nothing`, `nested::all_levels_take_three_rows_or_none`, `nested::a_boxed_child_keeps_what_it_took` |
 //! | In a table of hashes 0, 0, 0, 8, 8 number 2 is found by hash 0 and not by 8; cut to two hashes it is gone. A thousand numbers of one hash, and numbers around the end of the places, are found | `key_tables` |
 //! | Any one request for memory refused: a table of hashes is as it was | `key_tables::a_refused_push_changes_nothing` |
+//! | "A", "B", null, "C" are frozen to the keys 0, 1, null, 2 over these values; the emptied builder takes "C" by key 0 | `dictionaries::rows_are_the_keys_of_their_values` |
+//! | A value's key is found by its own kind alone | `dictionaries::a_key_is_of_its_own_kind` |
+//! | 128 values by keys of 8 bits with a sign, and no other; a known one is taken | `dictionaries::a_full_key_type_takes_known_values` |
+//! | A value of another size leaves no key and no value | `dictionaries::a_value_of_another_size_leaves_no_key` |
+//! | Any one request for memory refused: 40 values, so that their table grows, and as many keys as values | `dictionaries::a_refused_value_changes_nothing` |
+//! | Rows of dictionaries refuse a key past their type | `dictionaries::rows_refuse_a_key_past_their_type` |
 #![tactic(auto)]
 
 #[cfg(test)]
 mod bytes;
+#[cfg(test)]
+mod dictionaries;
 #[cfg(test)]
 mod fixed_size_binaries;
 #[cfg(test)]

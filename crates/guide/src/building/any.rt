@@ -1,0 +1,26 @@
+//! What every builder does, whatever it builds.
+ghost use Rattle.std.specs.Prelude.{◌≡◌, IfOk, OnErr};
+ghost use Rattle.nest_build.specs.Words.{IsWhole, own_slots};
+ghost use Rattle.guide.specs.Words.{layout_of, slots_of};
+
+use nest_array::AnyArray;
+use nest_build::array::MutableArray;
+use nest_flat::plain::Plain;
+use nest_memory::error::Error;
+
+/// A text more. `InvalidArgumentError(ItemType)` of a builder that takes no texts; then, as after any refusal, each of its
+/// levels is as it was.
+pub fn push_text<B: MutableArray>(builder: &mut B, text: &str) -> Result<(), Error>
+    requires { IsWhole (B.model builder.old) }
+    ensures { OnErr result (B.model builder.new ≡ B.model builder.old) }
+{
+    builder.try_push_plain(Some(Plain::Text(text)))
+}
+
+/// All that was pushed, as an array; an unfinished builder is refused, and stays as it was.
+pub fn finish<B: MutableArray>(builder: &mut B) -> Result<AnyArray, Error>
+    ensures slots { IfOk result (λ a. slots_of (layout_of a) ≡ own_slots (B.model builder.old)) }
+    ensures unchanged { ¬ IsWhole (B.model builder.old) → B.model builder.new ≡ B.model builder.old }
+{
+    builder.as_box()
+}

@@ -1,0 +1,80 @@
+//! Builders of arrays without children.
+ghost use Rattle.std.specs.Prelude.{◌≡◌, IfOk};
+ghost use Rattle.guide.specs.Words.{layout_of, pushed_bytes, pushed_codes, pushed_texts, pushed_truths, slots_of, three_nulls, three_numbers};
+
+use nest_array::AnyArray;
+use nest_build::array::MutableArray;
+use nest_build::fixed_size_binary::MutableFixedSizeBinaryArray;
+use nest_build::null::MutableNullArray;
+use nest_flat::binary::BinaryArray;
+use nest_flat::binary::mutable::MutableBinaryArray;
+use nest_flat::boolean::BooleanArray;
+use nest_flat::boolean::mutable::MutableBooleanArray;
+use nest_flat::plain::Plain;
+use nest_flat::primitive::PrimitiveArray;
+use nest_flat::primitive::mutable::MutablePrimitiveArray;
+use nest_flat::utf8::Utf8Array;
+use nest_flat::utf8::mutable::MutableUtf8Array;
+use nest_memory::datatypes::DataType;
+use nest_memory::error::Error;
+use std::alloc::Global;
+
+/// The numbers 1, null, 3.
+pub fn numbers(alloc: Global) -> Result<PrimitiveArray<i64>, Error>
+    ensures { IfOk result (λ a. slots_of a ≡ three_numbers) }
+{
+    let mut builder = MutablePrimitiveArray::<i64>::new(alloc);
+    builder.try_push(Some(1))?;
+    builder.try_push(None)?;
+    builder.try_push(Some(3))?;
+    builder.freeze()
+}
+
+/// The truths true and null.
+pub fn truths(alloc: Global) -> Result<BooleanArray, Error>
+    ensures { IfOk result (λ a. slots_of a ≡ pushed_truths) }
+{
+    let mut builder = MutableBooleanArray::new(alloc);
+    builder.try_push(Some(true))?;
+    builder.try_push(None)?;
+    builder.freeze()
+}
+
+/// The texts "ab" and null.
+pub fn texts(alloc: Global) -> Result<Utf8Array<i32>, Error>
+    ensures { IfOk result (λ a. slots_of a ≡ pushed_texts) }
+{
+    let mut builder = MutableUtf8Array::<i32>::new(alloc)?;
+    builder.try_push(Some("ab"))?;
+    builder.try_push(None)?;
+    builder.freeze()
+}
+
+/// The byte strings "ab" and null.
+pub fn bytes(alloc: Global) -> Result<BinaryArray<i32>, Error>
+    ensures { IfOk result (λ a. slots_of a ≡ pushed_bytes) }
+{
+    let mut builder = MutableBinaryArray::<i32>::new(alloc)?;
+    builder.try_push(Some(b"ab".as_slice()))?;
+    builder.try_push(None)?;
+    builder.freeze()
+}
+
+/// Byte strings of two bytes each, "ab" and "cd".
+pub fn codes(alloc: Global) -> Result<AnyArray, Error>
+    ensures { IfOk result (λ a. slots_of (layout_of a) ≡ pushed_codes) }
+{
+    let mut builder = MutableFixedSizeBinaryArray::new(alloc, 2);
+    builder.try_push_plain(Some(Plain::Bytes(b"ab".as_slice())))?;
+    builder.try_push_plain(Some(Plain::Bytes(b"cd".as_slice())))?;
+    builder.as_box()
+}
+
+/// Three nulls: a builder that begins with two, and one more.
+pub fn nulls(alloc: Global) -> Result<AnyArray, Error>
+    ensures { IfOk result (λ a. slots_of (layout_of a) ≡ three_nulls) }
+{
+    let mut builder = MutableNullArray::new(alloc, DataType::Null, 2);
+    builder.push_null()?;
+    builder.as_box()
+}

@@ -1,0 +1,51 @@
+//! Builders of lists, over a builder of their items.
+ghost use Rattle.std.specs.Prelude.{◌≡◌, IfOk};
+ghost use Rattle.guide.specs.Words.{four_rows, last_two, slots_of};
+
+use nest_array::ListArray;
+use nest_build::array::MutableArray;
+use nest_build::fixed_size_list::MutableFixedSizeListArray;
+use nest_build::list::MutableListArray;
+use nest_build::push::TryPush;
+use nest_flat::primitive::mutable::MutablePrimitiveArray;
+use nest_memory::error::Error;
+use std::alloc::Global;
+
+/// A builder of lists of numbers of 64 bits, by offsets of 32 bits.
+type ListBuilder = MutableListArray<i32, MutablePrimitiveArray<i64>>;
+
+/// The rows [1, 2], null, [] and [3, null].
+pub fn four_rows(alloc: Global) -> Result<ListArray, Error>
+    ensures { IfOk result (λ a. slots_of a ≡ four_rows) }
+{
+    let mut builder: ListBuilder = MutableListArray::new(alloc, MutablePrimitiveArray::new(alloc))?;
+    builder.try_push_slice(Some(&[Some(1), Some(2)]))?;
+    builder.try_push_slice(None)?;
+    builder.try_push_slice(Some(&[]))?;
+    builder.try_push_slice(Some(&[Some(3), None]))?;
+    builder.freeze()
+}
+
+/// The rows [] and [3, null].
+pub fn two_rows(alloc: Global) -> Result<ListArray, Error>
+    ensures { IfOk result (λ a. slots_of a ≡ last_two) }
+{
+    let mut builder: ListBuilder = MutableListArray::new(alloc, MutablePrimitiveArray::new(alloc))?;
+    builder.try_push_slice(Some(&[]))?;
+    builder.try_push_slice(Some(&[Some(3), None]))?;
+    builder.freeze()
+}
+
+/// A builder of lists of two numbers each.
+type PairBuilder = MutableFixedSizeListArray<MutablePrimitiveArray<i64>>;
+
+/// What pushing a row of three numbers to a builder of pairs answers, and how many rows and items it leaves there.
+pub fn refused_row(alloc: Global) -> Result<(Option<Error>, usize, usize), Error> {
+    let mut builder: PairBuilder = MutableFixedSizeListArray::new(
+        alloc,
+        MutablePrimitiveArray::new(alloc),
+        2,
+    )?;
+    let answer = builder.try_push(Some([Some(1), Some(2), Some(3)].iter().copied()));
+    Ok((answer.err(), builder.len(), builder.values().len()))
+}

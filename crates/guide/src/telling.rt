@@ -1,0 +1,195 @@
+//! What the program prints of each chapter of the guide.
+use crate::building::{self, any, rows};
+use crate::making::parts::validity;
+use crate::making::{flat, nested, refused};
+use crate::showing::made;
+use crate::{comparing, cutting, reading, sharing, taking};
+use anyhow::Result;
+use nest_array::{AnyArray, Array, ListArray};
+use nest_build::array::MutableArray;
+use nest_flat::primitive::mutable::MutablePrimitiveArray;
+use nest_memory::error::Error;
+use std::rc::Rc;
+
+/// Prints a name and the rows of an array, or why there is none.
+fn tell<R: Print + AllocGlobal, A: Array + Drop>(
+    rt: &R,
+    name: &str,
+    array: Result<A, Error>,
+) -> Result<()> {
+    let boxed = match array {
+        Ok(array) => {
+            let boxed = sharing::boxed(rt.alloc(), &array);
+            drop(array);
+            boxed
+        }
+        Err(error) => Err(error),
+    };
+    let text = made(rt.alloc(), boxed)?;
+    println!(rt; "{name}:{}", text.as_str())?;
+    Ok(())
+}
+
+/// Arrays from parts.
+pub fn making<R: Print + AllocGlobal>(rt: &R) -> Result<()> {
+    let alloc = rt.alloc();
+    tell(rt, "numbers", flat::numbers(alloc))?;
+    tell(rt, "truths", flat::truths(alloc))?;
+    tell(rt, "texts", flat::texts(alloc))?;
+    tell(rt, "bytes", flat::bytes(alloc))?;
+    tell(rt, "codes", flat::codes(alloc))?;
+    tell(rt, "nulls", flat::nulls())?;
+    tell(rt, "lists", nested::lists(alloc))?;
+    tell(rt, "pairs", nested::pairs(alloc))?;
+    tell(rt, "records", nested::records(alloc))?;
+    tell(rt, "lists of records", nested::record_lists(alloc))?;
+    tell(rt, "maps", nested::maps(alloc))?;
+    tell(rt, "picks", nested::picks(alloc))?;
+    tell(rt, "keyed", nested::keyed(alloc))?;
+    tell(rt, "null numbers", refused::null_numbers(alloc))?;
+    tell(rt, "a list past its items", refused::list_past_items(alloc))
+}
+
+/// Rows of lists read by each call.
+fn read_lists<R: Print + AllocGlobal>(rt: &R, lists: &ListArray) -> Result<()> {
+    if lists.len() != 3 {
+        return Ok(());
+    }
+    tell(
+        rt,
+        "items of row 2",
+        reading::items_at(rt.alloc(), lists, 2),
+    )?;
+    println!(rt;
+        "items lent of row 2: {}",
+        reading::items_lent(lists, 2).len()
+    )?;
+    tell(
+        rt,
+        "rows 1 and 2 beside",
+        cutting::rows_beside(rt.alloc(), lists, 1, 2),
+    )
+}
+
+/// A row by itself.
+fn read_slot<R: Print + AllocGlobal>(rt: &R, column: &AnyArray) -> Result<()> {
+    if column.len() > 1 {
+        let scalar = reading::slot_alone(rt.alloc(), column, 1)?;
+        println!(rt; "row 1 is valid: {}", scalar.is_valid())?;
+        drop(scalar);
+    }
+    Ok(())
+}
+
+/// Rows read.
+pub fn reading<R: Print + AllocGlobal>(rt: &R) -> Result<()> {
+    let texts = flat::texts(rt.alloc())?;
+    if texts.len() == 4 {
+        println!(rt; "text of row 0: {:?}", reading::text_at(&texts, 0))?;
+    }
+    drop(texts);
+    let column = flat::any_numbers(rt.alloc())?;
+    let sum = reading::as_numbers(&column).map(|numbers| reading::sum(numbers));
+    let told = read_slot(rt, &column);
+    drop(column);
+    told?;
+    println!(rt; "sum: {sum:?}")?;
+    let lists = nested::lists(rt.alloc())?;
+    let told = read_lists(rt, &lists);
+    drop(lists);
+    told
+}
+
+/// A column cut, and under a new validity.
+pub fn cutting<R: Print + AllocGlobal>(rt: &R) -> Result<()> {
+    let mut column = flat::any_numbers(rt.alloc())?;
+    if column.len() != 4 {
+        drop(column);
+        return Ok(());
+    }
+    cutting::keep_rows(&mut column, 1, 3);
+    let hidden = cutting::hide_rows(&mut column, validity(rt.alloc(), &[true, true, false])?);
+    let refused = cutting::hide_rows(&mut column, validity(rt.alloc(), &[true])?);
+    println!(rt; "taken: {hidden:?}, refused: {refused:?}")?;
+    tell(rt, "rows 1 to 3, the last hidden", Ok(column))
+}
+
+/// Columns compared.
+fn compare<R: Print>(rt: &R, column: AnyArray, tail: &AnyArray) -> Result<()> {
+    println!(rt; "the same: {}", comparing::are_equal(&column, tail))?;
+    if column.len() == 4 && tail.len() == 2 {
+        println!(rt; "ends with it: {}", comparing::ends_with(&column, tail))?;
+        let end = cutting::rows_of(column, 2, 2);
+        println!(rt; "so is a cut: {}", comparing::are_equal(&end, tail))?;
+        drop(end);
+    }
+    Ok(())
+}
+
+/// Four rows and their last two.
+pub fn comparing<R: Print + AllocGlobal>(rt: &R) -> Result<()> {
+    let tail = rows::two_rows(rt.alloc())?.boxed();
+    let told = match rows::four_rows(rt.alloc()) {
+        Ok(column) => compare(rt, column.boxed(), &tail),
+        Err(error) => Err(error.into()),
+    };
+    drop(tail);
+    told
+}
+
+fn take<R: Print + AllocGlobal>(rt: &R, column: &AnyArray) -> Result<()> {
+    if taking::are_places(&[3, 0, 0], column.len()) {
+        tell(
+            rt,
+            "rows 3, 0, 0",
+            taking::rows_at(rt.alloc(), column, &[3, 0, 0]),
+        )?;
+    }
+    let mask = flat::truths(rt.alloc())?;
+    if mask.len() == column.len() {
+        tell(
+            rt,
+            "rows where true",
+            taking::rows_where(rt.alloc(), column, &mask),
+        )?;
+    }
+    Ok(())
+}
+
+/// Records taken.
+pub fn taking<R: Print + AllocGlobal>(rt: &R) -> Result<()> {
+    let column = nested::records(rt.alloc())?.boxed();
+    let told = take(rt, &column);
+    drop(column);
+    told
+}
+
+/// Arrays by builders.
+pub fn building<R: Print + AllocGlobal>(rt: &R) -> Result<()> {
+    let alloc = rt.alloc();
+    tell(rt, "numbers", building::flat::numbers(alloc))?;
+    tell(rt, "truths", building::flat::truths(alloc))?;
+    tell(rt, "texts", building::flat::texts(alloc))?;
+    tell(rt, "bytes", building::flat::bytes(alloc))?;
+    tell(rt, "codes", building::flat::codes(alloc))?;
+    tell(rt, "nulls", building::flat::nulls(alloc))?;
+    tell(rt, "lists", rows::four_rows(alloc))?;
+    println!(rt;
+        "a refused row, and the rows and items there: {:?}",
+        rows::refused_row(alloc)?
+    )?;
+    let mut builder = MutablePrimitiveArray::<i64>::new(alloc);
+    if builder.is_whole() {
+        println!(rt; "a refused text: {:?}", any::push_text(&mut builder, "x"))?;
+    }
+    tell(rt, "what it left", any::finish(&mut builder))
+}
+
+/// An array with two owners.
+pub fn sharing<R: Print + AllocGlobal>(rt: &R) -> Result<()> {
+    let shared = sharing::shared(rt.alloc(), nested::lists(rt.alloc())?)?;
+    let second = Rc::clone(&shared)?;
+    drop(shared);
+    println!(rt; "the second owner's rows: {}", second.len())?;
+    Ok(())
+}

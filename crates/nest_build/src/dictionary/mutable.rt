@@ -1,0 +1,404 @@
+//! The builder of arrays of dictionaries, over any builder of their values.
+ghost use Rattle.std.specs.Prelude.{◌≡◌, ◌≢◌, ◌<◌, ◌≤◌, ◌⊎◌, ◌↔◌, [], ℕ, ⊤, pos, false, IfErr, IfOk, IsErrOf, IsOk, IsOkUnless, IsTrue, None, OnErr, OnOk, Some, alloc_error, option_map};
+ghost use Rattle.nest_array.specs.Types.{default_dictionary_type};
+ghost use Rattle.nest_model.specs.Accessors.{whole};
+ghost use Rattle.nest_model.specs.BuilderFreeze.{SpellsKeys};
+ghost use Rattle.nest_model.specs.BuilderItem.{Lacks, Stands, plain, takes};
+ghost use Rattle.nest_model.specs.BuilderRefusals.{value_refusal};
+ghost use Rattle.nest_model.specs.BuilderRow.{values_needed};
+ghost use Rattle.nest_model.specs.BuilderTree as builders;
+ghost use Rattle.nest_model.specs.BuilderTree.{key_count};
+ghost use Rattle.nest_model.specs.BuilderWhole.{AreDifferent};
+ghost use Rattle.nest_model.specs.Layout as layouts;
+ghost use Rattle.nest_array.specs.SeenKeys.{keys_layout};
+ghost use Rattle.nest_build.specs.Keys.{dictionary_child, told_keys};
+ghost use Rattle.nest_build.specs.Words.{Accepted, ChildNotEmpty, Fits, InvalidArgumentError, IsWhole, ItemType, Memory, Overflow, ReadsValue, Unfinished, builder_len, builder_type, emptied, layout_of, layout_type, own_slots, plain_refusal, plain_value, slots_of, type_of};
+
+use crate::array::{MutableArray, shared};
+use crate::dictionary::data_type::DictionaryType;
+use crate::dictionary::key::BuilderKey;
+use crate::dictionary::rows::DictionaryRows;
+use crate::dictionary::values::KeyedValues;
+use crate::push::{TryExtend, TryPush, extend_by_push};
+use nest_array::array::Variant;
+use nest_array::{AnyArray, AnyKeys, DictionaryArray};
+use nest_flat::plain::{AsPlain, Plain};
+use nest_flat::primitive::mutable::MutablePrimitiveArray;
+use nest_memory::bitmap::mutable::MutableBitmap;
+use nest_memory::datatypes::DataType;
+use nest_memory::error::{Argument, Error};
+use std::alloc::Global;
+use std::rc::Rc;
+
+/// Values that are pushed one after another, each of them once, over a builder of them, and a key for each row: arrow2's
+/// `MutableDictionaryArray`. Values are compared, not their hashes alone; they are pairwise different, in the order in
+/// which they were first accepted.
+#[derive(Drop)]
+pub struct MutableDictionaryArray<K: BuilderKey, M: MutableArray> {
+    data_type: DictionaryType<K>,
+    rows: DictionaryRows<K>,
+    values: KeyedValues<M>,
+    alloc: Global,
+    ghost covered: { values_needed rows ≤ builder_len (M.model values.values) },
+    ghost fits: { builder_len (M.model values.values) ≤ key_count K.KEY_TYPE },
+}
+
+impl<K: BuilderKey, M: MutableArray> MutableDictionaryArray<K, M> {
+    /// No row, over an empty child.
+    ///
+    /// # Errors
+    /// `Memory`.
+    pub fn new(alloc: Global, values: M) -> Result<MutableDictionaryArray<K, M>, Error>
+        requires whole { IsWhole (M.model values) }
+        requires empty { builder_len (M.model values) ≡ 0 }
+        ensures ok { IfOk result (λ b. ⟦<MutableDictionaryArray<K, M> as MutableArray>⟧.model b ≡ builders.dictionary K.KEY_TYPE (default_dictionary_type K.KEY_TYPE (builder_type (M.model values))) [] (M.model values)) }
+        ensures memory { IsOkUnless result (Memory alloc_error) }
+    {
+        let data_type = DictionaryType::of_values(alloc, values.data_type())?;
+        Ok(MutableDictionaryArray {
+            data_type,
+            rows: DictionaryRows::new(alloc),
+            values: KeyedValues::new(alloc, values),
+            alloc,
+        })
+    }
+
+    /// No row, over a child that is looked at.
+    ///
+    /// # Errors
+    /// `ChildNotEmpty` where the child has rows, `Memory`.
+    pub fn try_from_values(alloc: Global, values: M) -> Result<MutableDictionaryArray<K, M>, Error>
+        requires { IsWhole (M.model values) }
+        ensures ok { IfOk result (λ b. ⟦<MutableDictionaryArray<K, M> as MutableArray>⟧.model b ≡ builders.dictionary K.KEY_TYPE (default_dictionary_type K.KEY_TYPE (builder_type (M.model values))) [] (M.model values)) }
+        ensures empty { IfOk result (λ b. builder_len (M.model values) ≡ 0) }
+        ensures cause { IfErr result (λ e. (e ≡ Memory alloc_error) ⊎ ((e ≡ InvalidArgumentError ChildNotEmpty) × (builder_len (M.model values) ≢ 0))) }
+    {
+        if !values.is_empty() {
+            return Err(Error::InvalidArgumentError(Argument::ChildNotEmpty));
+        }
+        MutableDictionaryArray::new(alloc, values)
+    }
+
+    /// The keys, one for each row.
+    pub fn keys(&self) -> &MutablePrimitiveArray<K>
+        ensures { SpellsKeys result.now (told_keys (⟦<MutableDictionaryArray<K, M> as MutableArray>⟧.model self.now)) }
+    {
+        self.rows.keys()
+    }
+
+    /// The values.
+    pub fn values(&self) -> &M
+        ensures value { M.model result.now ≡ dictionary_child (⟦<MutableDictionaryArray<K, M> as MutableArray>⟧.model self.now) }
+        ensures different { AreDifferent (own_slots (M.model result.now)) }
+    {
+        self.values.get()
+    }
+
+    /// The key of a value, `None` where none of the values is it. No memory is taken.
+    pub fn key_of<T: AsPlain>(&self, value: &T) -> Option<K>
+        ensures { (k : ℕ) → (option_map (λ key. whole (K.numbers key)) result ≡ Some (pos k)) ↔ Stands (dictionary_child (⟦<MutableDictionaryArray<K, M> as MutableArray>⟧.model self.now)) (T.value value.now) k }
+    {
+        let value = value.as_plain();
+        match self.values.find(&value) {
+            Some(number) => K::from_index(number),
+            None => None,
+        }
+    }
+
+    // Whether there is a key for a value more.
+    fn has_key(&self) -> bool
+        ensures { IsTrue result ↔ (builder_len (dictionary_child (⟦<MutableDictionaryArray<K, M> as MutableArray>⟧.model self.now)) < key_count K.KEY_TYPE) }
+    {
+        K::from_index(self.values.get().len()).is_some()
+    }
+
+    // Adds a row of the value, which is added to the values where none of them is it.
+    fn push_value(&mut self, value: Plain<'_>) -> Result<(), Error>
+        requires { IsWhole (⟦<MutableDictionaryArray<K, M> as MutableArray>⟧.model self.old) }
+        ensures accepted { OnOk result (Accepted (plain (plain_value value.entry)) (⟦<MutableDictionaryArray<K, M> as MutableArray>⟧.model self.old) (⟦<MutableDictionaryArray<K, M> as MutableArray>⟧.model self.new)) }
+        ensures unrefused { OnOk result (value_refusal (plain_value value.entry) (⟦<MutableDictionaryArray<K, M> as MutableArray>⟧.model self.old) ≡ None) }
+        ensures err { OnErr result (⟦<MutableDictionaryArray<K, M> as MutableArray>⟧.model self.new ≡ ⟦<MutableDictionaryArray<K, M> as MutableArray>⟧.model self.old) }
+        ensures cause { IfErr result (λ e. (e ≡ Memory alloc_error) ⊎ (value_refusal (plain_value value.entry) (⟦<MutableDictionaryArray<K, M> as MutableArray>⟧.model self.old) ≡ Some e)) }
+    {
+        match self.values.find(&value) {
+            Some(number) => self.push_known(&value, number),
+            None => {
+                if !self.has_key() {
+                    return Err(Error::Overflow);
+                }
+                self.push_new(value)
+            }
+        }
+    }
+
+    // The same, but a value of another kind is refused first.
+    fn push_kind(&mut self, value: Plain<'_>) -> Result<(), Error>
+        requires { IsWhole (⟦<MutableDictionaryArray<K, M> as MutableArray>⟧.model self.old) }
+        ensures accepted { OnOk result (Accepted (plain (plain_value value.entry)) (⟦<MutableDictionaryArray<K, M> as MutableArray>⟧.model self.old) (⟦<MutableDictionaryArray<K, M> as MutableArray>⟧.model self.new)) }
+        ensures unrefused { OnOk result (plain_refusal (plain_value value.entry) (⟦<MutableDictionaryArray<K, M> as MutableArray>⟧.model self.old) ≡ None) }
+        ensures err { OnErr result (⟦<MutableDictionaryArray<K, M> as MutableArray>⟧.model self.new ≡ ⟦<MutableDictionaryArray<K, M> as MutableArray>⟧.model self.old) }
+        ensures kind { IsErrOf result (InvalidArgumentError ItemType) ↔ (takes (⟦<MutableDictionaryArray<K, M> as MutableArray>⟧.model self.old) (plain_value value.entry) ≡ false) }
+        ensures cause { IfErr result (λ e. (e ≡ Memory alloc_error) ⊎ (plain_refusal (plain_value value.entry) (⟦<MutableDictionaryArray<K, M> as MutableArray>⟧.model self.old) ≡ Some e)) }
+    {
+        match self.values.find(&value) {
+            Some(number) => self.push_known(&value, number),
+            None => {
+                if !self.has_key() {
+                    return Err(self.refusal(value));
+                }
+                self.push_new(value)
+            }
+        }
+    }
+
+    // Adds a row of a value that stands there among the values.
+    fn push_known(&mut self, _value: &Plain<'_>, number: usize) -> Result<(), Error>
+        requires whole { IsWhole (⟦<MutableDictionaryArray<K, M> as MutableArray>⟧.model self.old) }
+        requires known { Stands (dictionary_child (⟦<MutableDictionaryArray<K, M> as MutableArray>⟧.model self.old)) (plain_value _value.now) number }
+        ensures accepted { OnOk result (Accepted (plain (plain_value _value.now)) (⟦<MutableDictionaryArray<K, M> as MutableArray>⟧.model self.old) (⟦<MutableDictionaryArray<K, M> as MutableArray>⟧.model self.new)) }
+        ensures unrefused { OnOk result (value_refusal (plain_value _value.now) (⟦<MutableDictionaryArray<K, M> as MutableArray>⟧.model self.old) ≡ None) }
+        ensures err { OnErr result (⟦<MutableDictionaryArray<K, M> as MutableArray>⟧.model self.new ≡ ⟦<MutableDictionaryArray<K, M> as MutableArray>⟧.model self.old) }
+        ensures memory { IsOkUnless result (Memory alloc_error) }
+    {
+        let _count = self.values.get().len();
+        if let Err(error) = self.rows.push(Some(number)) {
+            return Err(error);
+        }
+        Ok(())
+    }
+
+    // Adds a row of a value that none of the values is, and for which there is a key.
+    fn push_new(&mut self, value: Plain<'_>) -> Result<(), Error>
+        requires whole { IsWhole (⟦<MutableDictionaryArray<K, M> as MutableArray>⟧.model self.old) }
+        requires unknown { Lacks (dictionary_child (⟦<MutableDictionaryArray<K, M> as MutableArray>⟧.model self.old)) (plain_value value) }
+        requires room { builder_len (dictionary_child (⟦<MutableDictionaryArray<K, M> as MutableArray>⟧.model self.old)) < key_count K.KEY_TYPE }
+        ensures accepted { OnOk result (Accepted (plain (plain_value value.entry)) (⟦<MutableDictionaryArray<K, M> as MutableArray>⟧.model self.old) (⟦<MutableDictionaryArray<K, M> as MutableArray>⟧.model self.new)) }
+        ensures unrefused { OnOk result (value_refusal (plain_value value.entry) (⟦<MutableDictionaryArray<K, M> as MutableArray>⟧.model self.old) ≡ None) }
+        ensures err { OnErr result (⟦<MutableDictionaryArray<K, M> as MutableArray>⟧.model self.new ≡ ⟦<MutableDictionaryArray<K, M> as MutableArray>⟧.model self.old) }
+        ensures kind { IsErrOf result (InvalidArgumentError ItemType) ↔ (takes (dictionary_child (⟦<MutableDictionaryArray<K, M> as MutableArray>⟧.model self.old)) (plain_value value.entry) ≡ false) }
+        ensures cause { IfErr result (λ e. (e ≡ Memory alloc_error) ⊎ (plain_refusal (plain_value value.entry) (dictionary_child (⟦<MutableDictionaryArray<K, M> as MutableArray>⟧.model self.old)) ≡ Some e)) }
+    {
+        let number = self.values.get().len();
+        if let Err(refusal) = self.values.push(value) {
+            return Err(refusal);
+        }
+        let _more = self.values.get().len();
+        match self.rows.push(Some(number)) {
+            Ok(()) => Ok(()),
+            Err(error) => {
+                self.values.truncate(number);
+                Err(error)
+            }
+        }
+    }
+
+    // What refuses a new value where no key is left. What the child takes is learned by asking it.
+    fn refusal(&mut self, value: Plain<'_>) -> Error
+        requires whole { IsWhole (⟦<MutableDictionaryArray<K, M> as MutableArray>⟧.model self.old) }
+        requires unknown { Lacks (dictionary_child (⟦<MutableDictionaryArray<K, M> as MutableArray>⟧.model self.old)) (plain_value value) }
+        requires full { key_count K.KEY_TYPE ≤ builder_len (dictionary_child (⟦<MutableDictionaryArray<K, M> as MutableArray>⟧.model self.old)) }
+        ensures same { ⟦<MutableDictionaryArray<K, M> as MutableArray>⟧.model self.new ≡ ⟦<MutableDictionaryArray<K, M> as MutableArray>⟧.model self.old }
+        ensures kind { (result ≡ InvalidArgumentError ItemType) ↔ (takes (dictionary_child (⟦<MutableDictionaryArray<K, M> as MutableArray>⟧.model self.old)) (plain_value value.entry) ≡ false) }
+        ensures cause { plain_refusal (plain_value value.entry) (⟦<MutableDictionaryArray<K, M> as MutableArray>⟧.model self.old) ≡ Some result }
+    {
+        let number = self.values.get().len();
+        if let Err(refusal) = self.values.push(value) {
+            return kind_first(refusal);
+        }
+        self.values.truncate(number);
+        Error::Overflow
+    }
+
+    /// The array of the rows. The builder keeps its data type and has no row, no value and no validity then, also after
+    /// `Memory`.
+    ///
+    /// # Errors
+    /// `Unfinished` where it isn't whole; then nothing changes. `Memory`.
+    pub fn freeze(&mut self) -> Result<DictionaryArray, Error>
+        ensures slots { IfOk result (λ a. slots_of a ≡ own_slots (⟦<MutableDictionaryArray<K, M> as MutableArray>⟧.model self.old)) }
+        ensures same_type { IfOk result (λ a. layout_type a ≡ builder_type (⟦<MutableDictionaryArray<K, M> as MutableArray>⟧.model self.old)) }
+        ensures unfinished { IsErrOf result (InvalidArgumentError Unfinished) ↔ ¬ IsWhole (⟦<MutableDictionaryArray<K, M> as MutableArray>⟧.model self.old) }
+        ensures unchanged { ¬ IsWhole (⟦<MutableDictionaryArray<K, M> as MutableArray>⟧.model self.old) → ⟦<MutableDictionaryArray<K, M> as MutableArray>⟧.model self.new ≡ ⟦<MutableDictionaryArray<K, M> as MutableArray>⟧.model self.old }
+        ensures emptied { IsWhole (⟦<MutableDictionaryArray<K, M> as MutableArray>⟧.model self.old) → ⟦<MutableDictionaryArray<K, M> as MutableArray>⟧.model self.new ≡ emptied (⟦<MutableDictionaryArray<K, M> as MutableArray>⟧.model self.old) }
+        ensures errors { IfErr result (λ e. (e ≡ InvalidArgumentError Unfinished) ⊎ (e ≡ Memory alloc_error)) }
+    {
+        if !self.is_whole() {
+            return Err(Error::InvalidArgumentError(Argument::Unfinished));
+        }
+        let keys = self.rows.freeze();
+        match self.values.freeze(self.alloc, self.data_type.get()) {
+            Ok((data_type, values)) => over(self.alloc, data_type, keys, values),
+            Err(error) => {
+                drop(keys);
+                Err(error)
+            }
+        }
+    }
+
+    /// The array of the rows.
+    ///
+    /// # Errors
+    /// `Unfinished` where the builder isn't whole, `Memory`. The builder is dropped.
+    pub fn into_box(self) -> Result<AnyArray, Error>
+        ensures slots { IfOk result (λ a. slots_of (layout_of a) ≡ own_slots (⟦<MutableDictionaryArray<K, M> as MutableArray>⟧.model self)) }
+        ensures same_type { IfOk result (λ a. layout_type (layout_of a) ≡ builder_type (⟦<MutableDictionaryArray<K, M> as MutableArray>⟧.model self)) }
+        ensures unfinished { IsErrOf result (InvalidArgumentError Unfinished) ↔ ¬ IsWhole (⟦<MutableDictionaryArray<K, M> as MutableArray>⟧.model self) }
+        ensures errors { IfErr result (λ e. (e ≡ InvalidArgumentError Unfinished) ⊎ (e ≡ Memory alloc_error)) }
+    {
+        let mut rows = self;
+        rows.as_box()
+    }
+
+    /// The same array, owned by what shares it.
+    ///
+    /// # Errors
+    /// As `into_box`.
+    pub fn into_arc(self, alloc: Global) -> Result<Rc<AnyArray>, Error>
+        ensures slots { IfOk result (λ r. slots_of (layout_of r.value) ≡ own_slots (⟦<MutableDictionaryArray<K, M> as MutableArray>⟧.model self)) }
+        ensures same_type { IfOk result (λ r. layout_type (layout_of r.value) ≡ builder_type (⟦<MutableDictionaryArray<K, M> as MutableArray>⟧.model self)) }
+        ensures unfinished { IsErrOf result (InvalidArgumentError Unfinished) ↔ ¬ IsWhole (⟦<MutableDictionaryArray<K, M> as MutableArray>⟧.model self) }
+        ensures errors { IfErr result (λ e. (e ≡ InvalidArgumentError Unfinished) ⊎ (e ≡ Memory alloc_error)) }
+    {
+        let mut rows = self;
+        rows.as_arc(alloc)
+    }
+}
+
+// What a child refuses a value by, where no key is left for it: its kind, else that.
+fn kind_first(refusal: Error) -> Error
+    ensures kind { (result ≡ InvalidArgumentError ItemType) ↔ (refusal ≡ InvalidArgumentError ItemType) }
+    ensures other { refusal ≢ InvalidArgumentError ItemType → result ≡ Overflow }
+{
+    match refusal {
+        Error::InvalidArgumentError(Argument::ItemType) => {
+            Error::InvalidArgumentError(Argument::ItemType)
+        }
+        _ => Error::Overflow,
+    }
+}
+
+// The array of keys and values that fit, where there are keys.
+fn over(
+    alloc: Global,
+    data_type: DataType,
+    keys: Result<AnyKeys, Error>,
+    values: AnyArray,
+) -> Result<DictionaryArray, Error>
+    requires fits { IfOk keys (λ ks. Fits (layouts.dictionary (type_of data_type) (keys_layout ks) (layout_of values))) }
+    requires memory { IsOkUnless keys (Memory alloc_error) }
+    ensures ok { IfOk result (λ a. IfOk keys (λ ks. a ≡ layouts.dictionary (type_of data_type) (keys_layout ks) (layout_of values))) }
+    ensures made { OnOk result (IsOk keys) }
+    ensures err { IsOkUnless result (Memory alloc_error) }
+{
+    match keys {
+        Ok(keys) => DictionaryArray::new(alloc, data_type, keys, values),
+        Err(error) => {
+            drop(values);
+            drop(data_type);
+            Err(error)
+        }
+    }
+}
+
+impl<K: BuilderKey, M: MutableArray> MutableArray for MutableDictionaryArray<K, M> {
+    ghost model = { λ b. builders.dictionary K.KEY_TYPE b.data_type b.rows (M.model b.values.values) };
+
+    fn data_type(&self) -> &DataType {
+        self.data_type.get()
+    }
+
+    fn len(&self) -> usize {
+        self.rows.len()
+    }
+
+    fn is_empty(&self) -> bool {
+        self.rows.len() == 0
+    }
+
+    fn validity(&self) -> Option<&MutableBitmap> {
+        self.rows.validity()
+    }
+
+    fn is_valid(&self, i: usize) -> bool {
+        self.rows.is_valid(i)
+    }
+
+    fn is_whole(&self) -> bool {
+        let values = self.values.get();
+        values.is_whole()
+            && self.data_type.has_values(values.data_type())
+            && values.len() == self.rows.needed()
+    }
+
+    fn holds(&self, i: usize, value: &Plain<'_>) -> bool {
+        match self.rows.key(i) {
+            Some(number) => self.values.get().holds(number, value),
+            None => false,
+        }
+    }
+
+    fn push_null(&mut self) -> Result<(), Error> {
+        if let Err(error) = self.rows.push(None) {
+            return Err(error);
+        }
+        Ok(())
+    }
+
+    fn try_push_plain(&mut self, value: Option<Plain<'_>>) -> Result<(), Error> {
+        match value {
+            None => self.push_null(),
+            Some(value) => self.push_kind(value),
+        }
+    }
+
+    fn truncate(&mut self, n: usize) {
+        self.rows.truncate(n);
+        let needed = self.rows.needed();
+        self.values.truncate(needed);
+    }
+
+    fn reserve(&mut self, additional: usize) -> Result<(), Error> {
+        self.rows.reserve(additional)
+    }
+
+    fn shrink_to_fit(&mut self) -> Result<(), Error> {
+        self.rows.shrink_to_fit();
+        self.values.shrink_to_fit()
+    }
+
+    fn as_box(&mut self) -> Result<AnyArray, Error> {
+        match self.freeze() {
+            Ok(dictionaries) => Ok(dictionaries.into_any()),
+            Err(error) => Err(error),
+        }
+    }
+
+    fn as_arc(&mut self, alloc: Global) -> Result<Rc<AnyArray>, Error> {
+        shared(self.as_box(), alloc)
+    }
+}
+
+impl<K: BuilderKey, M: TryPush<Option<T>>, T: AsPlain + Drop> TryPush<Option<T>>
+    for MutableDictionaryArray<K, M> {
+    ghost can_push = { λ _. ⊤ };
+
+    ghost reads = { ReadsValue T.value };
+
+    fn try_push(&mut self, item: Option<T>) -> Result<(), Error> {
+        match item {
+            None => self.push_null(),
+            Some(value) => self.push_value(value.as_plain()),
+        }
+    }
+}
+
+impl<K: BuilderKey, M: TryPush<Option<T>>, T: AsPlain + Drop> TryExtend<Option<T>>
+    for MutableDictionaryArray<K, M> {
+    ghost can_extend = { λ _. ⊤ };
+
+    ghost reads_each = { ReadsValue T.value };
+
+    fn try_extend<I: IntoIterator<Item = Option<T>>>(&mut self, items: I) -> Result<(), Error> {
+        extend_by_push(self, items)
+    }
+}

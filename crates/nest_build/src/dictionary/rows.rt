@@ -1,0 +1,249 @@
+//! The rows of a builder of dictionaries, without their values.
+ghost use Rattle.std.specs.Prelude.{◌≡◌, ◌+◌, ◌≤◌, ◌<◌, ◌⊎◌, ◌^◌, ◌++◌, ◌∷◌, [], ℕ, take, get_or, length, map, is_some, OnOk, OnErr, IfOk, IfErr, IfSome, IsOkUnless, None, Some, option_map, alloc_error};
+ghost use Rattle.nest_memory.specs.Physical.{primitive_tree};
+ghost use Rattle.nest_array.specs.SeenKeys.{keys_layout};
+ghost use Rattle.nest_model.specs.Accessors.{key_type_of, natives_of, raw_keys};
+ghost use Rattle.nest_model.specs.BuilderFreeze.{SpellsKeys};
+ghost use Rattle.nest_model.specs.BuilderRow.{values_needed};
+ghost use Rattle.nest_model.specs.BuilderTree.{key_count};
+ghost use Rattle.nest_model.specs.Fits.{KeysInRange};
+ghost use Rattle.nest_model.specs.Layout as layouts;
+ghost use Rattle.nest_build.specs.Keys.{keys_told, raw_key};
+ghost use Rattle.nest_build.specs.Words.{Memory, Overflow, SpellsBits, largest_length, len, validity_of};
+
+use crate::dictionary::key::BuilderKey;
+use nest_array::AnyKeys;
+use nest_flat::primitive::PrimitiveArray;
+use nest_flat::primitive::mutable::MutablePrimitiveArray;
+use nest_memory::bitmap::mutable::MutableBitmap;
+use nest_memory::error::Error;
+use std::alloc::Global;
+use std::marker::Model;
+
+/// The keys of rows: the Dictionary-encoded Layout of the Arrow format, without the values. A row without a key is null. A
+/// validity is made at the first null row.
+///
+/// A call that answers `Err` changes no row, but for `freeze`.
+#[derive(Drop)]
+pub struct DictionaryRows<K: BuilderKey> {
+    keys: MutablePrimitiveArray<K>,
+    // how many values the keys need
+    needed: usize,
+}
+
+impl<K: BuilderKey> Model for DictionaryRows<K> {
+    ghost use Rattle.std.specs.Prelude.{List, Option, ℕ};
+    ghost use Rattle.nest_build.specs.Keys.{AreKept, keys_told};
+
+    ghost Value = { List (Option ℕ) };
+
+    ghost view = { λ r. keys_told r.keys };
+
+    ghost invariant = { λ r. AreKept r.keys r.needed };
+}
+
+impl<K: BuilderKey> DictionaryRows<K> {
+    /// No row.
+    pub fn new(alloc: Global) -> DictionaryRows<K>
+        ensures { result ≡ [] }
+    {
+        DictionaryRows {
+            keys: MutablePrimitiveArray::new(alloc),
+            needed: 0,
+        }
+    }
+
+    /// How many rows there are.
+    pub fn len(&self) -> usize
+        ensures { result ≡ length self.now }
+    {
+        self.keys.len()
+    }
+
+    /// The keys, one for each row.
+    pub fn keys(&self) -> &MutablePrimitiveArray<K>
+        ensures { SpellsKeys result.now self.now }
+    {
+        self.keys.known();
+        &self.keys
+    }
+
+    /// How many values the keys need: one more than the greatest.
+    pub fn needed(&self) -> usize
+        ensures { result ≡ values_needed self.now }
+    {
+        self.needed
+    }
+
+    /// The key of row i.
+    pub fn key(&self, i: usize) -> Option<usize>
+        requires { i < length self.now }
+        ensures { result ≡ get_or self.now i None }
+    {
+        key_of(&self.keys, i)
+    }
+
+    /// Which rows are valid, a bit a row; without it all are.
+    pub fn validity(&self) -> Option<&MutableBitmap>
+        ensures { SpellsBits (option_map (λ b. b.now) result) (map is_some self.now) }
+    {
+        self.keys.known();
+        self.keys.validity()
+    }
+
+    /// Whether row i is valid.
+    pub fn is_valid(&self, i: usize) -> bool
+        requires { i < length self.now }
+        ensures { result ≡ is_some (get_or self.now i None) }
+    {
+        self.key(i).is_some()
+    }
+
+    /// Adds a row: the value of that key, or null.
+    ///
+    /// # Errors
+    /// `Overflow` where no key of this type is that number, or the values would be more than a length can be; `Memory`.
+    pub fn push(&mut self, key: Option<usize>) -> Result<(), Error>
+        ensures ok { OnOk result (self.new ≡ self.old ++ key ∷ []) }
+        ensures within { OnOk result (length self.old + 1 ≤ largest_length) }
+        ensures fits { OnOk result (IfSome key (λ k. k < key_count K.KEY_TYPE)) }
+        ensures err { OnErr result (self.new ≡ self.old) }
+        ensures cause { IfErr result (λ e. (e ≡ Memory alloc_error) ⊎ ((e ≡ Overflow) × (k : ℕ) × (key ≡ Some k) × ((key_count K.KEY_TYPE ≤ k) ⊎ (largest_length ≤ k)))) }
+    {
+        match key {
+            None => self.push_null(),
+            Some(number) => self.push_key(number),
+        }
+    }
+
+    fn push_null(&mut self) -> Result<(), Error>
+        ensures ok { OnOk result (self.new ≡ self.old ++ None ∷ []) }
+        ensures within { OnOk result (length self.old + 1 ≤ largest_length) }
+        ensures err { OnErr result (self.new ≡ self.old) }
+        ensures memory { IsOkUnless result (Memory alloc_error) }
+    {
+        self.keys.known();
+        if let Err(error) = self.keys.try_push(None) {
+            return Err(error);
+        }
+        let _more = self.keys.len();
+        Ok(())
+    }
+
+    fn push_key(&mut self, number: usize) -> Result<(), Error>
+        ensures ok { OnOk result (self.new ≡ self.old ++ Some number ∷ []) }
+        ensures within { OnOk result (length self.old + 1 ≤ largest_length) }
+        ensures fits { OnOk result (number < key_count K.KEY_TYPE) }
+        ensures err { OnErr result (self.new ≡ self.old) }
+        ensures cause { IfErr result (λ e. (e ≡ Memory alloc_error) ⊎ ((e ≡ Overflow) × ((key_count K.KEY_TYPE ≤ number) ⊎ (largest_length ≤ number)))) }
+    {
+        let Some(key) = K::from_index(number) else {
+            return Err(Error::Overflow);
+        };
+        let Some(needed) = number.checked_add(1) else {
+            return Err(Error::Overflow);
+        };
+        self.keys.known();
+        if let Err(error) = self.keys.try_push(Some(key)) {
+            return Err(error);
+        }
+        let _more = self.keys.len();
+        self.needed = self.needed.max(needed);
+        Ok(())
+    }
+
+    /// Keeps the first n rows. No memory is taken.
+    pub fn truncate(&mut self, n: usize)
+        requires { n ≤ length self.old }
+        ensures { self.new ≡ take n self.old }
+    {
+        self.keys.known();
+        self.keys.truncate(n);
+        self.needed = needed_by(&self.keys);
+    }
+
+    /// Room for so many rows more.
+    ///
+    /// # Errors
+    /// `Memory`.
+    pub fn reserve(&mut self, additional: usize) -> Result<(), Error>
+        ensures same { self.new ≡ self.old }
+        ensures memory { IsOkUnless result (Memory alloc_error) }
+    {
+        self.keys.reserve(additional)
+    }
+
+    /// Gives back memory that holds no row, where a smaller block is there.
+    pub fn shrink_to_fit(&mut self)
+        ensures { self.new ≡ self.old }
+    {
+        self.keys.shrink_to_fit();
+    }
+
+    /// The keys, in the variant of their width. No row and no validity is left, also after `Memory`.
+    ///
+    /// # Errors
+    /// `Memory`.
+    pub fn freeze(&mut self) -> Result<AnyKeys, Error>
+        ensures ok { IfOk result (λ keys. SpellsKeys (keys_layout keys) self.old) }
+        ensures key_type { IfOk result (λ keys. key_type_of (keys_layout keys) ≡ Some K.KEY_TYPE) }
+        ensures in_range { IfOk result (λ keys. KeysInRange (keys_layout keys) (values_needed self.old)) }
+        ensures memory { IsOkUnless result (Memory alloc_error) }
+        ensures emptied { self.new ≡ [] }
+    {
+        self.keys.known();
+        self.needed = 0;
+        let keys = self.keys.freeze()?;
+        wrapped(keys)
+    }
+}
+
+// The same keys in the variant of their width.
+fn wrapped<K: BuilderKey>(keys: PrimitiveArray<K>) -> Result<AnyKeys, Error>
+    ensures ok { IfOk result (λ a. keys_layout a ≡ layouts.primitive K.PRIMITIVE (primitive_tree K.PRIMITIVE) (natives_of keys) (validity_of keys)) }
+    ensures memory { IsOkUnless result (Memory alloc_error) }
+{
+    let wrapped = any_keys(&keys);
+    drop(keys);
+    wrapped
+}
+
+fn any_keys<K: BuilderKey>(keys: &PrimitiveArray<K>) -> Result<AnyKeys, Error>
+    ensures ok { IfOk result (λ a. keys_layout a ≡ layouts.primitive K.PRIMITIVE (primitive_tree K.PRIMITIVE) (natives_of keys.now) (validity_of keys.now)) }
+    ensures memory { IsOkUnless result (Memory alloc_error) }
+{
+    keys.known();
+    let validity = match keys.validity() {
+        None => None,
+        Some(bits) => Some(bits.clone()?),
+    };
+    K::any_keys(keys.values(), validity)
+}
+
+// The key of row i.
+fn key_of<K: BuilderKey>(keys: &MutablePrimitiveArray<K>, i: usize) -> Option<usize>
+    requires raw { raw_keys keys.now ≡ map raw_key (keys_told keys.now) }
+    requires within { i < length (keys_told keys.now) }
+    ensures { result ≡ get_or (keys_told keys.now) i None }
+{
+    keys.known();
+    if !keys.is_valid(i) {
+        return None;
+    }
+    keys.values()[i].to_index()
+}
+
+// How many values keys need.
+fn needed_by<K: BuilderKey>(keys: &MutablePrimitiveArray<K>) -> usize
+    requires raw { raw_keys keys.now ≡ map raw_key (keys_told keys.now) }
+    requires fits { values_needed (keys_told keys.now) < 2 ^ 64 }
+    ensures { result ≡ values_needed (keys_told keys.now) }
+{
+    let mut needed: usize = 0;
+    for i in 0..keys.len() {
+        if let Some(number) = key_of(keys, i) {
+            needed = needed.max(number + 1);
+        }
+    }
+    needed
+}
