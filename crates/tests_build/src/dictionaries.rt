@@ -4,32 +4,13 @@ use nest_array::{AnyArray, AnyKeys, DictionaryArray};
 use nest_build::array::MutableArray;
 use nest_build::dictionary::{DictionaryRows, MutableDictionaryArray};
 use nest_build::fixed_size_binary::MutableFixedSizeBinaryArray;
-use nest_build::push::{TryExtend, TryPush};
-use nest_flat::any_native::AnyNative;
 use nest_flat::plain::Plain;
-use nest_flat::primitive::mutable::MutablePrimitiveArray;
-use nest_flat::utf8::mutable::MutableUtf8Array;
 use nest_memory::error::{Argument, Error};
 use std::alloc::{AllocError, Global};
 use std::test::Fail;
 
-type Texts = MutableDictionaryArray<i32, MutableUtf8Array<i32>>;
-
-type Numbers = MutableDictionaryArray<i8, MutablePrimitiveArray<i64>>;
-
-fn push_text(texts: &mut Texts, item: Option<&'static str>) -> Result<(), Error> {
-    if !texts.is_whole() {
-        return Err(Error::InvalidArgumentError(Argument::Unfinished));
-    }
-    TryPush::try_push(texts, item)
-}
-
-fn push_number(numbers: &mut Numbers, item: Option<i64>) -> Result<(), Error> {
-    if !numbers.is_whole() {
-        return Err(Error::InvalidArgumentError(Argument::Unfinished));
-    }
-    TryPush::try_push(numbers, item)
-}
+/// Byte strings of two bytes by keys of which there are 128.
+type Pairs = MutableDictionaryArray<i8, MutableFixedSizeBinaryArray>;
 
 fn push_plain<B: MutableArray>(builder: &mut B, value: Plain<'_>) -> Result<(), Error> {
     if !builder.is_whole() {
@@ -39,7 +20,7 @@ fn push_plain<B: MutableArray>(builder: &mut B, value: Plain<'_>) -> Result<(), 
 }
 
 fn show(array: &DictionaryArray, text: &mut String) -> Result<(), Error> {
-    let AnyKeys::Int32(keys) = array.keys() else {
+    let AnyKeys::Int8(keys) = array.keys() else {
         return Ok(());
     };
     for i in 0..keys.len() {
@@ -48,18 +29,18 @@ fn show(array: &DictionaryArray, text: &mut String) -> Result<(), Error> {
             Some(key) => write!(text, "{key} ")?,
         }
     }
-    let AnyArray::Utf8(values) = array.values() else {
+    let AnyArray::FixedSizeBinary(values) = array.values() else {
         return Ok(());
     };
     for i in 0..values.len() {
-        if let Some(value) = values.get(i) {
-            text.push_str(value)?;
+        for byte in values.value(i) {
+            write!(text, "{byte}")?;
         }
     }
     Ok(())
 }
 
-/// The keys and the values of an array of texts, as text; it is let go.
+/// The keys and the values of an array of pairs, as text; it is let go.
 fn text_of(alloc: Global, array: Result<DictionaryArray, Error>) -> Result<String, Error> {
     match array {
         Err(error) => Err(error),
@@ -73,35 +54,46 @@ fn text_of(alloc: Global, array: Result<DictionaryArray, Error>) -> Result<Strin
     }
 }
 
+fn no_pairs(alloc: Global) -> Result<Pairs, Error> {
+    MutableDictionaryArray::try_from_values(alloc, MutableFixedSizeBinaryArray::new(alloc, 2))
+}
+
+/// Pushes the pair of a 0 and this byte.
+fn push_pair(pairs: &mut Pairs, last: u8) -> Result<(), Error> {
+    push_plain(pairs, Plain::Bytes(&[0, last]))
+}
+
+/// Three pairs, and a null before the last.
+fn push_four(pairs: &mut Pairs) -> Result<(), Error> {
+    push_pair(pairs, 1)?;
+    push_pair(pairs, 2)?;
+    if pairs.is_whole() {
+        pairs.push_null()?;
+    }
+    push_pair(pairs, 3)
+}
+
 #[test]
 fn rows_are_the_keys_of_their_values(rt: HostRuntime) -> Result<(), Fail> {
-    let mut texts: Texts = MutableDictionaryArray::try_from_values(
-        rt.alloc(),
-        MutableUtf8Array::new(rt.alloc())?,
-    )?;
-    for item in [Some("A"), Some("B"), None, Some("C")] {
-        push_text(&mut texts, item)?;
-    }
-    let first = text_of(rt.alloc(), texts.freeze())?;
-    push_text(&mut texts, Some("C"))?;
-    let second = text_of(rt.alloc(), texts.freeze())?;
-    drop(texts);
-    assert!(rt; first.as_str() == "0 1 null 2 ABC");
-    assert!(rt; second.as_str() == "0 C");
+    let mut pairs = no_pairs(rt.alloc())?;
+    push_four(&mut pairs)?;
+    let first = text_of(rt.alloc(), pairs.freeze())?;
+    push_pair(&mut pairs, 3)?;
+    let second = text_of(rt.alloc(), pairs.freeze())?;
+    drop(pairs);
+    assert!(rt; first.as_str() == "0 1 null 2 010203");
+    assert!(rt; second.as_str() == "0 03");
     Ok(())
 }
 
 #[test]
 fn a_key_is_of_its_own_kind(rt: HostRuntime) -> Result<(), Fail> {
-    let mut numbers: Numbers = MutableDictionaryArray::try_from_values(
-        rt.alloc(),
-        MutablePrimitiveArray::new(rt.alloc()),
-    )?;
-    push_number(&mut numbers, Some(7))?;
-    let other = numbers.key_of(&7i32);
-    let own = numbers.key_of(&7i64);
-    let unknown = numbers.key_of(&8i64);
-    drop(numbers);
+    let mut pairs = no_pairs(rt.alloc())?;
+    push_pair(&mut pairs, 1)?;
+    let other = pairs.key_of(&true);
+    let own = pairs.key_of(&[0u8, 1].as_slice());
+    let unknown = pairs.key_of(&[0u8, 2].as_slice());
+    drop(pairs);
     assert!(rt; other == None);
     assert!(rt; own == Some(0));
     assert!(rt; unknown == None);
@@ -110,63 +102,53 @@ fn a_key_is_of_its_own_kind(rt: HostRuntime) -> Result<(), Fail> {
 
 #[test]
 fn a_full_key_type_takes_known_values(rt: HostRuntime) -> Result<(), Fail> {
-    let mut numbers: Numbers = MutableDictionaryArray::try_from_values(
-        rt.alloc(),
-        MutablePrimitiveArray::new(rt.alloc()),
-    )?;
-    for value in 0..128i64 {
-        push_number(&mut numbers, Some(value))?;
+    let mut pairs = no_pairs(rt.alloc())?;
+    for last in 0..128u8 {
+        push_pair(&mut pairs, last)?;
     }
-    let new = push_number(&mut numbers, Some(128));
-    let other_kind = push_plain(&mut numbers, Plain::Boolean(true));
-    let known = push_number(&mut numbers, Some(5));
-    let values = numbers.values().len();
-    let rows = numbers.len();
-    drop(numbers);
+    let new = push_pair(&mut pairs, 128);
+    let other_kind = push_plain(&mut pairs, Plain::Boolean(true));
+    let known = push_pair(&mut pairs, 5);
+    let values = pairs.values().len();
+    let rows = pairs.len();
+    drop(pairs);
     assert!(rt; new == Err(Error::Overflow));
     assert!(rt; other_kind == Err(Error::InvalidArgumentError(Argument::ItemType)));
     assert!(rt; known == Ok(()));
-    assert_eq!(rt; values, 128);
-    assert_eq!(rt; rows, 129);
+    assert!(rt; values == 128);
+    assert!(rt; rows == 129);
     Ok(())
 }
 
 #[test]
 fn a_value_of_another_size_leaves_no_key(rt: HostRuntime) -> Result<(), Fail> {
-    let mut pairs: MutableDictionaryArray<i8, MutableFixedSizeBinaryArray> =
-        MutableDictionaryArray::try_from_values(
-            rt.alloc(),
-            MutableFixedSizeBinaryArray::new(rt.alloc(), 2),
-        )?;
+    let mut pairs = no_pairs(rt.alloc())?;
     let refused = push_plain(&mut pairs, Plain::Bytes(b"abc"));
     let rows = pairs.len();
     let values = pairs.values().len();
     drop(pairs);
     assert!(rt; refused == Err(Error::InvalidArgumentError(Argument::ItemSize)));
-    assert_eq!(rt; rows, 0);
-    assert_eq!(rt; values, 0);
+    assert!(rt; rows == 0);
+    assert!(rt; values == 0);
     Ok(())
 }
 
 // Holds where any one request for memory is refused: a refused value leaves neither a key nor a value.
 #[test]
 fn a_refused_value_changes_nothing(rt: HostRuntime) {
-    let made: Result<Numbers, Error> = MutableDictionaryArray::try_from_values(
-        rt.alloc(),
-        MutablePrimitiveArray::new(rt.alloc()),
-    );
-    if let Ok(mut numbers) = made {
-        let mut accepted = 0usize;
-        for value in 0..40i64 {
-            match push_number(&mut numbers, Some(value)) {
-                Ok(()) => accepted = accepted.saturating_add(1),
-                Err(error) => assert!(rt; error == Error::Memory(AllocError)),
-            }
-            assert!(rt; numbers.len() == accepted);
-            assert!(rt; numbers.values().len() == accepted);
+    let Ok(mut pairs) = no_pairs(rt.alloc()) else {
+        return;
+    };
+    let mut accepted = 0usize;
+    for last in 0..40u8 {
+        match push_pair(&mut pairs, last) {
+            Ok(()) => accepted = accepted.saturating_add(1),
+            Err(error) => assert!(rt; error == Error::Memory(AllocError)),
         }
-        drop(numbers);
+        assert!(rt; pairs.len() == accepted);
+        assert!(rt; pairs.values().len() == accepted);
     }
+    drop(pairs);
 }
 
 #[test]
@@ -184,9 +166,9 @@ fn rows_refuse_a_key_past_their_type(rt: HostRuntime) -> Result<(), Fail> {
     let count = keys.len();
     drop(keys);
     assert!(rt; past == Err(Error::Overflow));
-    assert_eq!(rt; needed, 256);
+    assert!(rt; needed == 256);
     assert!(rt; first == Some(255));
-    assert_eq!(rt; count, 1);
-    assert_eq!(rt; rows.len(), 0);
+    assert!(rt; count == 1);
+    assert!(rt; rows.len() == 0);
     Ok(())
 }

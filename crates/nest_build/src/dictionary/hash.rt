@@ -9,7 +9,7 @@ use nest_flat::any_native::AnyNative;
 use nest_flat::plain::Plain;
 use std::hash::{DefaultHasher, Hash, Hasher};
 
-/// The hash of a value, by std's hasher with its fixed seed.
+/// The hash of a value, by std's hasher with its fixed keys.
 #[tactic(auto, unfolding(crate::specs::Hashes::value_hash))]
 pub(super) fn hash_of(value: &Plain<'_>) -> u64
     ensures { result ≡ value_hash (plain_value value.now) }
