@@ -30,6 +30,7 @@
 //! | 128 values by keys of 8 bits with a sign, and no other; a known one is taken | `dictionaries::a_full_key_type_takes_known_values` |
 //! | A value of another size leaves no key and no value | `dictionaries::a_value_of_another_size_leaves_no_key` |
 //! | Any one request for memory refused: 40 values, so that their table grows, and as many keys as values | `dictionaries::a_refused_value_changes_nothing` |
+//! | A boxed builder of lists of numbers is the child of a builder of lists | `lists::a_boxed_builder_of_lists_takes_rows` |
 //! | Rows of dictionaries refuse a key past their type | `dictionaries::rows_refuse_a_key_past_their_type` |
 #![tactic(auto)]
 

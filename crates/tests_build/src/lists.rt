@@ -327,6 +327,28 @@ fn a_boxed_child_takes_the_items(rt: HostRuntime) -> Result<(), Fail> {
     Ok(())
 }
 
+/// Whether a null is taken below, and a row of it is told.
+fn take_null(rows: &mut BoxedLists) -> bool {
+    push_below(rows, None).is_ok() && tell_boxed(rows).is_ok() && rows.is_whole()
+}
+
+#[test]
+fn a_boxed_builder_of_lists_takes_rows(rt: HostRuntime) -> Result<(), Fail> {
+    let numbers: MutablePrimitiveArray<i64> = MutablePrimitiveArray::new(rt.alloc());
+    let lists: MutableListArray<i32, MutablePrimitiveArray<i64>> = MutableListArray::new(
+        rt.alloc(),
+        numbers,
+    )?;
+    let child: Box<dyn MutableArray> = Box::new(rt.alloc(), lists)?;
+    assert!(rt; child.is_whole());
+    let mut rows: BoxedLists = MutableListArray::new(rt.alloc(), child)?;
+    let taken = take_null(&mut rows) && take_null(&mut rows);
+    let found = len_of(rows.into_box());
+    assert!(rt; taken);
+    assert!(rt; found == Some(2));
+    Ok(())
+}
+
 /// Lists of lists of whatever the boxed child takes.
 type Nested = MutableListArray<i32, BoxedLists>;
 
