@@ -121,11 +121,20 @@ pub fn texts_by_keys(alloc: Global, n: usize) -> Result<AnyArray, Error> {
     }
 }
 
-/// A mask of n slots, every second true.
-pub fn every_second(alloc: Global, n: usize) -> Result<BooleanArray, Error> {
-    let mut bits = MutableBitmap::new(alloc);
+/// n truths, every second true.
+pub fn raw_mask(alloc: Global, n: usize) -> Result<Vec<bool>, Error> {
+    let mut truths = Vec::with_capacity(alloc, n)?;
     for i in 0..n {
-        bits.push(i % 2 == 0)?;
+        truths.push(i % 2 == 0)?;
+    }
+    Ok(truths)
+}
+
+/// The same as an array.
+pub fn mask(alloc: Global, truths: &[bool]) -> Result<BooleanArray, Error> {
+    let mut bits = MutableBitmap::new(alloc);
+    for truth in truths {
+        bits.push(*truth)?;
     }
     let bits = bits.freeze()?;
     BooleanArray::try_new(DataType::Boolean, bits, None)

@@ -30,6 +30,7 @@ const STRIDE: usize = 618_033;
 struct Asked {
     scattered: Vec<usize>,
     rising: Vec<usize>,
+    chosen: Vec<bool>,
     mask: BooleanArray,
 }
 
@@ -46,10 +47,12 @@ fn places(alloc: Global, n: usize, stride: usize) -> Result<Vec<usize>, AllocErr
 fn made(alloc: Global, n: usize) -> Result<Asked, Error> {
     let scattered = places(alloc, n, STRIDE)?;
     let rising = places(alloc, n, 1)?;
-    let mask = arrays::every_second(alloc, n)?;
+    let chosen = arrays::raw_mask(alloc, n)?;
+    let mask = arrays::mask(alloc, &chosen)?;
     Ok(Asked {
         scattered,
         rising,
+        chosen,
         mask,
     })
 }
@@ -161,6 +164,29 @@ fn plain_take(alloc: Global, values: &[i64], places: &[usize]) -> Result<Vec<i64
     Ok(taken)
 }
 
+/// The values where a truth is true, by a plain loop.
+fn plain_filter(alloc: Global, values: &[i64], chosen: &[bool]) -> Result<Vec<i64>, AllocError> {
+    let mut taken = Vec::new(alloc);
+    for (value, is_chosen) in values.iter().zip(chosen) {
+        if *is_chosen {
+            taken.push(*value)?;
+        }
+    }
+    Ok(taken)
+}
+
+fn tell_plain_filter<R: Clock + Print + AllocGlobal>(
+    rt: &R,
+    values: &[i64],
+    chosen: &[bool],
+    measured: bool,
+) -> Result<()> {
+    let begun = begin(rt, measured)?;
+    let taken = plain_filter(rt.alloc(), values, chosen)?;
+    tell(rt, "  rows by a mask", taken.len(), begun, taken.len())?;
+    Ok(())
+}
+
 fn tell_plain<R: Clock + Print + AllocGlobal>(
     rt: &R,
     work: &str,
@@ -198,7 +224,8 @@ fn run_plain<R: Clock + Print + AllocGlobal>(
         &values,
         &asked.rising,
         measured,
-    )
+    )?;
+    tell_plain_filter(rt, &values, &asked.chosen, measured)
 }
 
 fn run_kinds<R: Clock + Print + AllocGlobal>(
