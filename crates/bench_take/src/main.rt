@@ -1,5 +1,6 @@
 //! What rows at places and rows by a mask cost, in nanoseconds a row taken: `bench_take run`. Beside each stands a plain loop
-//! over raw numbers. Without that word the same work is done on a few rows, and only what it gives is printed.
+//! over raw numbers. Each is done once before it is measured, so that none pays for memory that the system gives for the first time.
+//! Without that word the same work is done on a few rows, and only what it gives is printed.
 #![tactic(auto)]
 
 ghost use Rattle.std.specs.Prelude.{IsTrue, length};
@@ -86,6 +87,7 @@ fn tell_taken<R: Clock + Print + AllocGlobal>(
     if !are_below(places, array.len()) {
         return Ok(());
     }
+    drop(take(rt.alloc(), array, places));
     let begun = begin(rt, measured)?;
     let taken = take(rt.alloc(), array, places);
     let told = tell_rows(rt, work, &taken, begun);
@@ -103,6 +105,7 @@ fn tell_filtered<R: Clock + Print + AllocGlobal>(
     if mask.len() != array.len() {
         return Ok(());
     }
+    drop(filter(rt.alloc(), array, mask));
     let begun = begin(rt, measured)?;
     let taken = filter(rt.alloc(), array, mask);
     let told = tell_rows(rt, work, &taken, begun);
@@ -181,6 +184,7 @@ fn tell_plain_filter<R: Clock + Print + AllocGlobal>(
     chosen: &[bool],
     measured: bool,
 ) -> Result<()> {
+    drop(plain_filter(rt.alloc(), values, chosen)?);
     let begun = begin(rt, measured)?;
     let taken = plain_filter(rt.alloc(), values, chosen)?;
     tell(rt, "  rows by a mask", taken.len(), begun, taken.len())?;
@@ -197,6 +201,7 @@ fn tell_plain<R: Clock + Print + AllocGlobal>(
     if !are_below(places, values.len()) {
         return Ok(());
     }
+    drop(plain_take(rt.alloc(), values, places)?);
     let begun = begin(rt, measured)?;
     let taken = plain_take(rt.alloc(), values, places)?;
     tell(rt, work, taken.len(), begun, taken.len())?;
