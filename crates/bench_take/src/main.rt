@@ -214,6 +214,8 @@ fn run_plain<R: Clock + Print + AllocGlobal>(
     asked: &Asked,
     measured: bool,
 ) -> Result<()> {
+    // The first large block that is let go goes back to the system, those after it are kept.
+    drop(arrays::raw_numbers(rt.alloc(), n)?);
     let values = arrays::raw_numbers(rt.alloc(), n)?;
     println!(rt; "raw numbers, by a plain loop")?;
     tell_plain(
