@@ -1,0 +1,282 @@
+//! What rows at places and rows by a mask cost, in nanoseconds a row taken: `bench_take run`. Beside each stands a plain loop
+//! over raw numbers. Each is done once before it is measured, so that none pays for memory that the system gives for the first time.
+//! Without that word the same work is done on a few rows, and only what it gives is printed.
+#![tactic(auto)]
+
+ghost use Rattle.std.specs.Prelude.{IsTrue, length};
+ghost use Rattle.nest_array.specs.Words.{layout_of, len};
+ghost use Rattle.nest_take.specs.Places.{AreBelow};
+
+mod arrays;
+
+use anyhow::Result;
+use bench_tools::{begin, is_measured, tell};
+use nest_array::AnyArray;
+use nest_flat::boolean::BooleanArray;
+use nest_memory::error::Error;
+use nest_take::{filter, take};
+use std::alloc::{AllocError, Global};
+use std::rt::Clock;
+use std::time::Instant;
+
+const FEW: usize = 1000;
+
+const ROWS: usize = 1_000_000;
+
+/// A number without a divisor in common with either number of rows.
+const STRIDE: usize = 618_033;
+
+/// The rows that are asked for.
+#[derive(Drop)]
+struct Asked {
+    scattered: Vec<usize>,
+    rising: Vec<usize>,
+    chosen: Vec<bool>,
+    mask: BooleanArray,
+}
+
+/// All places below n, each so far from the one before.
+fn places(alloc: Global, n: usize, stride: usize) -> Result<Vec<usize>, AllocError> {
+    let mut places = Vec::with_capacity(alloc, n)?;
+    for i in 0..n {
+        places.push(i.wrapping_mul(stride) % n.max(1))?;
+    }
+    Ok(places)
+}
+
+/// The rows of n that are asked for.
+fn made(alloc: Global, n: usize) -> Result<Asked, Error> {
+    let scattered = places(alloc, n, STRIDE)?;
+    let rising = places(alloc, n, 1)?;
+    let chosen = arrays::raw_mask(alloc, n)?;
+    let mask = arrays::mask(alloc, &chosen)?;
+    Ok(Asked {
+        scattered,
+        rising,
+        chosen,
+        mask,
+    })
+}
+
+fn are_below(places: &[usize], n: usize) -> bool
+    ensures { IsTrue result → AreBelow places.now n }
+{
+    places.iter().all(|place| *place < n)
+}
+
+fn tell_rows<R: Clock + Print>(
+    rt: &R,
+    work: &str,
+    taken: &Result<AnyArray, Error>,
+    begun: Option<Instant>,
+) -> Result<()> {
+    match taken {
+        Ok(rows) => tell(rt, work, rows.len(), begun, rows.len())?,
+        Err(error) => return Err((*error).into()),
+    }
+    Ok(())
+}
+
+fn tell_taken<R: Clock + Print + AllocGlobal>(
+    rt: &R,
+    work: &str,
+    array: &AnyArray,
+    places: &[usize],
+    measured: bool,
+) -> Result<()> {
+    if !are_below(places, array.len()) {
+        return Ok(());
+    }
+    drop(take(rt.alloc(), array, places));
+    let begun = begin(rt, measured)?;
+    let taken = take(rt.alloc(), array, places);
+    let told = tell_rows(rt, work, &taken, begun);
+    drop(taken);
+    told
+}
+
+fn tell_filtered<R: Clock + Print + AllocGlobal>(
+    rt: &R,
+    work: &str,
+    array: &AnyArray,
+    mask: &BooleanArray,
+    measured: bool,
+) -> Result<()> {
+    if mask.len() != array.len() {
+        return Ok(());
+    }
+    drop(filter(rt.alloc(), array, mask));
+    let begun = begin(rt, measured)?;
+    let taken = filter(rt.alloc(), array, mask);
+    let told = tell_rows(rt, work, &taken, begun);
+    drop(taken);
+    told
+}
+
+fn tell_array<R: Clock + Print + AllocGlobal>(
+    rt: &R,
+    kind: &str,
+    array: &AnyArray,
+    asked: &Asked,
+    measured: bool,
+) -> Result<()> {
+    println!(rt; "{kind}")?;
+    tell_taken(
+        rt,
+        "  rows at scattered places",
+        array,
+        &asked.scattered,
+        measured,
+    )?;
+    tell_taken(
+        rt,
+        "  rows at rising places",
+        array,
+        &asked.rising,
+        measured,
+    )?;
+    tell_filtered(rt, "  rows by a mask", array, &asked.mask, measured)
+}
+
+/// Takes and filters the rows of an array, if it was made.
+fn run_array<R: Clock + Print + AllocGlobal>(
+    rt: &R,
+    kind: &str,
+    array: Result<AnyArray, Error>,
+    asked: &Asked,
+    measured: bool,
+) -> Result<()> {
+    match array {
+        Ok(array) => {
+            let told = tell_array(rt, kind, &array, asked, measured);
+            drop(array);
+            told
+        }
+        Err(error) => Err(error.into()),
+    }
+}
+
+/// The values at some places, by a plain loop.
+fn plain_take(alloc: Global, values: &[i64], places: &[usize]) -> Result<Vec<i64>, AllocError>
+    requires { AreBelow places.now (length values.now) }
+{
+    let mut taken = Vec::with_capacity(alloc, places.len())?;
+    for place in places {
+        taken.push_reserved(values[*place]);
+    }
+    Ok(taken)
+}
+
+/// The values where a truth is true, by a plain loop.
+fn plain_filter(alloc: Global, values: &[i64], chosen: &[bool]) -> Result<Vec<i64>, AllocError> {
+    let mut taken = Vec::new(alloc);
+    for (value, is_chosen) in values.iter().zip(chosen) {
+        if *is_chosen {
+            taken.push(*value)?;
+        }
+    }
+    Ok(taken)
+}
+
+fn tell_plain_filter<R: Clock + Print + AllocGlobal>(
+    rt: &R,
+    values: &[i64],
+    chosen: &[bool],
+    measured: bool,
+) -> Result<()> {
+    drop(plain_filter(rt.alloc(), values, chosen)?);
+    let begun = begin(rt, measured)?;
+    let taken = plain_filter(rt.alloc(), values, chosen)?;
+    tell(rt, "  rows by a mask", taken.len(), begun, taken.len())?;
+    Ok(())
+}
+
+fn tell_plain<R: Clock + Print + AllocGlobal>(
+    rt: &R,
+    work: &str,
+    values: &[i64],
+    places: &[usize],
+    measured: bool,
+) -> Result<()> {
+    if !are_below(places, values.len()) {
+        return Ok(());
+    }
+    drop(plain_take(rt.alloc(), values, places)?);
+    let begun = begin(rt, measured)?;
+    let taken = plain_take(rt.alloc(), values, places)?;
+    tell(rt, work, taken.len(), begun, taken.len())?;
+    Ok(())
+}
+
+fn run_plain<R: Clock + Print + AllocGlobal>(
+    rt: &R,
+    n: usize,
+    asked: &Asked,
+    measured: bool,
+) -> Result<()> {
+    // The first large block that is let go goes back to the system, those after it are kept.
+    drop(arrays::raw_numbers(rt.alloc(), n)?);
+    let values = arrays::raw_numbers(rt.alloc(), n)?;
+    println!(rt; "raw numbers, by a plain loop")?;
+    tell_plain(
+        rt,
+        "  rows at scattered places",
+        &values,
+        &asked.scattered,
+        measured,
+    )?;
+    tell_plain(
+        rt,
+        "  rows at rising places",
+        &values,
+        &asked.rising,
+        measured,
+    )?;
+    tell_plain_filter(rt, &values, &asked.chosen, measured)
+}
+
+fn run_kinds<R: Clock + Print + AllocGlobal>(
+    rt: &R,
+    n: usize,
+    asked: &Asked,
+    measured: bool,
+) -> Result<()> {
+    let alloc = rt.alloc();
+    run_plain(rt, n, asked, measured)?;
+    run_array(rt, "numbers", arrays::numbers(alloc, n), asked, measured)?;
+    run_array(
+        rt,
+        "texts of 8 bytes",
+        arrays::texts(alloc, n),
+        asked,
+        measured,
+    )?;
+    run_array(
+        rt,
+        "lists of 8 numbers",
+        arrays::lists(alloc, n),
+        asked,
+        measured,
+    )?;
+    run_array(
+        rt,
+        "records of a number and a text",
+        arrays::records(alloc, n),
+        asked,
+        measured,
+    )?;
+    run_array(
+        rt,
+        "texts by keys of 32 bits",
+        arrays::texts_by_keys(alloc, n),
+        asked,
+        measured,
+    )
+}
+
+fn main(rt: HostRuntime) -> Result<()> {
+    let measured = is_measured(&rt)?;
+    let n = if measured { ROWS } else { FEW };
+    let asked = made(rt.alloc(), n)?;
+    run_kinds(&rt, n, &asked, measured)
+}
