@@ -377,13 +377,17 @@ pub fn filtered(alloc: Global, array: Made, mask: Result<BooleanArray, Error>) -
 }
 
 /// No slot of the array's type.
-pub fn none_of(alloc: Global, array: Made) -> Made {
-    let data_type = type_of(alloc, &array);
-    drop(array);
-    match data_type {
+fn none_of(alloc: Global, array: &Made) -> Made {
+    match type_of(alloc, array) {
         Ok(data_type) => nest_array::new_empty_array(alloc, data_type),
         Err(error) => Err(error),
     }
+}
+
+/// Whether an array at no place equals the empty array of its type.
+pub fn takes_nothing(alloc: Global, array: Made) -> bool {
+    let none = none_of(alloc, &array);
+    are_same(taken(alloc, array, &[]), none)
 }
 
 /// Whether both arrays were made and are equal; they are let go.

@@ -1,7 +1,7 @@
 //! Arrays of each kind two deep, cut, at rising, falling and repeated places.
 use crate::arrays::{
-    Made, are_same, bytes, cut, filtered, keyed, lists, maps, mask, numbers, picks, records, sized,
-    sized_bytes, taken, texts, wide_bytes, wide_lists, wide_texts,
+    Made, are_same, bytes, cut, filtered, keyed, lists, maps, mask, nulls, numbers, picks, records,
+    sized, sized_bytes, taken, texts, truths, wide_bytes, wide_lists, wide_texts,
 };
 use std::alloc::Global;
 
@@ -136,6 +136,56 @@ fn cut_records_of_keyed_fall(rt: HostRuntime) {
     let first = keyed(alloc, &[1, 0, 1], Some(&[true, false, true]), values);
     let second = wide_bytes(alloc, &[Some(b"333"), None, Some(b"333")]);
     assert!(rt; are_same(found, records(alloc, first, second, None)));
+}
+
+// [[null], []], null, [[null, null], []]
+fn sized_lists_of_nulls(alloc: Global) -> Made {
+    let items = lists(alloc, nulls(4), &[0, 1, 1, 1, 2, 4, 4], None);
+    sized(alloc, items, 2, Some(&[true, false, true]))
+}
+
+#[test]
+fn cut_sized_lists_repeat(rt: HostRuntime) {
+    let alloc = rt.alloc();
+    let found = taken(alloc, cut(sized_lists_of_nulls(alloc), 1, 2), &[1, 0, 1]);
+    let items = lists(alloc, nulls(4), &[0, 2, 2, 2, 2, 4, 4], None);
+    let expected = sized(alloc, items, 2, Some(&[true, false, true]));
+    assert!(rt; are_same(found, expected));
+}
+
+// [true], {"b", 2}, {"a", 1}, [false, true]
+fn dense_picks_of_lists(alloc: Global) -> Made {
+    let items = truths(alloc, &[true, false, true], None);
+    let first = lists(alloc, items, &[0, 1, 3], None);
+    let left = texts(alloc, &[Some("a"), Some("b")]);
+    let second = records(alloc, left, numbers(alloc, &[1, 2], None), None);
+    picks(alloc, &[0, 1, 1, 0], Some(&[0, 1, 0, 1]), first, second)
+}
+
+#[test]
+fn cut_dense_picks_repeat(rt: HostRuntime) {
+    let alloc = rt.alloc();
+    let found = taken(alloc, cut(dense_picks_of_lists(alloc), 1, 3), &[2, 0, 2]);
+    let items = truths(alloc, &[false, true, false, true], None);
+    let first = lists(alloc, items, &[0, 2, 4], None);
+    let left = texts(alloc, &[Some("b")]);
+    let second = records(alloc, left, numbers(alloc, &[2], None), None);
+    let expected = picks(alloc, &[0, 1, 0], Some(&[0, 0, 1]), first, second);
+    assert!(rt; are_same(found, expected));
+}
+
+#[test]
+fn cut_keyed_lists_fall(rt: HostRuntime) {
+    let alloc = rt.alloc();
+    let items = bytes(alloc, &[Some(b"a"), None, Some(b"b")]);
+    let values = lists(alloc, items, &[0, 2, 3], None);
+    let bits: Option<&[bool]> = Some(&[true, true, false, true]);
+    let array = keyed(alloc, &[1, 0, 0, 1], bits, values);
+    let found = taken(alloc, cut(array, 1, 3), &[2, 1, 0]);
+    let items = bytes(alloc, &[Some(b"b"), Some(b"a"), None]);
+    let values = lists(alloc, items, &[0, 1, 3], None);
+    let expected = keyed(alloc, &[0, 0, 1], Some(&[true, false, true]), values);
+    assert!(rt; are_same(found, expected));
 }
 
 #[test]

@@ -1,7 +1,7 @@
 //! Worked rows of each kind.
 use crate::arrays::{
-    Made, are_same, cut, filtered, keyed, lists, maps, mask, none_of, numbers, picks, records,
-    sized, taken, texts, truths,
+    Made, are_same, cut, filtered, keyed, lists, maps, mask, numbers, picks, records, sized, taken,
+    texts, truths,
 };
 use std::alloc::Global;
 
@@ -50,6 +50,15 @@ fn lists_of_lists(rt: HostRuntime) {
     let items = numbers(alloc, &[5, 6, 7, 8, 1, 2, 3, 4], None);
     let inner = lists(alloc, items, &[0, 3, 3, 4, 6, 8], None);
     assert!(rt; are_same(found, lists(alloc, inner, &[0, 3, 5], None)));
+}
+
+#[test]
+fn a_cut_of_lists_of_lists(rt: HostRuntime) {
+    let alloc = rt.alloc();
+    let found = taken(alloc, cut(lists_in_lists(alloc), 1, 2), &[1, 0, 1]);
+    let items = numbers(alloc, &[9, 10, 5, 6, 7, 8, 9, 10], None);
+    let inner = lists(alloc, items, &[0, 2, 5, 5, 6, 8], None);
+    assert!(rt; are_same(found, lists(alloc, inner, &[0, 1, 4, 5], None)));
 }
 
 // {false, 42}, {false, 28}, null, {true, 31}
@@ -148,16 +157,4 @@ fn pairs_of_numbers_under_nulls(rt: HostRuntime) {
     let items = numbers(alloc, &[5, 6, 0, 0, 5, 6], None);
     let expected = sized(alloc, items, 2, Some(&[true, false, true]));
     assert!(rt; are_same(found, expected));
-}
-
-fn takes_nothing(alloc: Global, first: Made, second: Made) -> bool {
-    are_same(taken(alloc, first, &[]), none_of(alloc, second))
-}
-
-#[test]
-fn no_place(rt: HostRuntime) {
-    let alloc = rt.alloc();
-    assert!(rt; takes_nothing(alloc, four_lists(alloc), four_lists(alloc)));
-    assert!(rt; takes_nothing(alloc, four_records(alloc), four_records(alloc)));
-    assert!(rt; takes_nothing(alloc, four_picks(alloc), four_picks(alloc)));
 }
