@@ -1,5 +1,6 @@
 mod Each
 mod Frozen
+mod Lent
 mod ListNulls
 mod Nulls
 mod Over

@@ -108,8 +108,8 @@ impl AnyMutableArray {
         ensures value { option_map (λ c. tree_of c.now) result ≡ child_at i (tree_of self.old) }
     {
         match self {
-            AnyMutableArray::List(lists) => { if i == 0 { Some(lists.child()) } else { None } }
-            AnyMutableArray::Struct(records) => records.mut_values().get_mut(i),
+            AnyMutableArray::List(lists) => lists.child_at(i),
+            AnyMutableArray::Struct(records) => records.child_at(i),
             _ => None,
         }
     }

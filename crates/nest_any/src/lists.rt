@@ -46,10 +46,10 @@ impl Model for ListBuilder {
 }
 
 impl ListBuilder {
-    ghost use Rattle.std.specs.Borrow.{Lends, sem};
+    ghost use Rattle.std.specs.Borrow.{Lends, LendsIf, sem};
     ghost use Rattle.nest_any.specs.contracts.lists.ListBuilder.{the_row};
     ghost use Rattle.nest_any.specs.contracts.any.AnyMutableArray.{the_row as any_row};
-    ghost use Rattle.nest_any.specs.Lent.{with_items};
+    ghost use Rattle.nest_any.specs.Lent.{child_at, with_items};
 
     /// Rows over a child.
     pub(crate) fn over(alloc: Global, rows: TypedRows, values: Box<AnyMutableArray>) -> ListBuilder
@@ -212,6 +212,14 @@ impl ListBuilder {
         ensures value { tree_of result.now ≡ list_child self.old }
     {
         &mut self.values
+    }
+
+    /// The child for 0, else none.
+    pub(crate) fn child_at(&mut self, i: usize) -> Option<&mut AnyMutableArray>
+        ensures* writes_back { sem 𝓛 (LendsIf the_row any_row self.entry result (λ c. with_items self.entry.now (tree_of c)) self.old) }
+        ensures value { option_map (λ c. tree_of c.now) result ≡ child_at i self.old }
+    {
+        if i == 0 { Some(&mut self.values) } else { None }
     }
 }
 

@@ -60,10 +60,10 @@ impl Model for MutableStructArray {
 }
 
 impl MutableStructArray {
-    ghost use Rattle.std.specs.Borrow.{Array, Lends, sem};
+    ghost use Rattle.std.specs.Borrow.{Array, Lends, LendsIf, sem};
     ghost use Rattle.nest_any.specs.contracts.struct_.MutableStructArray.{the_row};
     ghost use Rattle.nest_any.specs.contracts.any.AnyMutableArray.{the_row as any_row};
-    ghost use Rattle.nest_any.specs.Lent.{builder_at, with_children, with_field};
+    ghost use Rattle.nest_any.specs.Lent.{builder_at, child_at, with_children, with_field};
 
     /// The records of such parts: as many rows as the children have, valid where the validity says so.
     ///
@@ -204,6 +204,14 @@ impl MutableStructArray {
         &mut self.values[i]
     }
 
+    // Child i, if there is one.
+    pub(crate) fn child_at(&mut self, i: usize) -> Option<&mut AnyMutableArray>
+        ensures* writes_back { sem 𝓛 (LendsIf the_row any_row self.entry result (λ c. with_field self.entry.now i (tree_of c)) self.old) }
+        ensures value { option_map (λ c. tree_of c.now) result ≡ child_at i self.old }
+    {
+        self.values.get_mut(i)
+    }
+
     /// Tells a row of what waits in the children; an untrue one is null.
     ///
     /// # Errors
@@ -227,6 +235,7 @@ impl MutableStructArray {
         ensures ready { IsTrue result ↔ Pass (row_checks self.now) }
         ensures room { IsTrue result → builder_len self.now + 1 ≤ largest_length }
     {
+        self.known();
         have_types(self.data_type.fields(), &self.values)
             && have_row_more(&self.values, self.rows.len())
     }
