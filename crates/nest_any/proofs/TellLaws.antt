@@ -1,8 +1,9 @@
 -- What builders of lists tell, from what their rows tell over the child.
 use Rattle.std.specs.Prelude.{OnOk, Result, Ok, Err}
-use Rattle.std.proofs.Common.{◌≡◌, ℕ, Bool, List as Seq, length, refl, sym, subst}
+use Rattle.std.proofs.Common.{◌≡◌, ℕ, Bool, false, List as Seq, length, refl, sym, subst}
 use Rattle.nest_model.specs.Checks.{Pass}
 use Rattle.nest_model.specs.BuilderTree.{BuilderTree, builder_len}
+use Rattle.nest_model.specs.BuilderItem.{PlainValue, takes}
 use Rattle.nest_model.specs.BuilderWhole.{IsWhole}
 use Rattle.nest_model.specs.BuilderAppend.{Told, told}
 use Rattle.nest_model.specs.BuilderToldLaws.{told-ready}
@@ -16,6 +17,11 @@ pub rows-count : (r : TypedRows) (c : BuilderTree) → rows_len r ≡ builder_le
 rows-count (List t rows) c = refl
 rows-count (LargeList t rows) c = refl
 rows-count (FixedSizeList t bits) c = refl
+
+pub takes-none : (r : TypedRows) (c : BuilderTree) (v : PlainValue) → takes (lists_over r c) v ≡ false
+takes-none (List t rows) c v = refl
+takes-none (LargeList t rows) c v = refl
+takes-none (FixedSizeList t bits) c v = refl
 
 pub child_is_whole : (r : TypedRows) (c : BuilderTree) → HasWholeChildren (lists_over r c) → IsWhole c
 child_is_whole (List t rows) c w = w.0

@@ -11,9 +11,15 @@ with_items (list large t rows c) d = list large t rows d
 with_items (fixed_size_list t bits c) d = fixed_size_list t bits d
 with_items b d = b
 
+-- children in the place of as many others, which stay where none was written
+abbrev pub written_over : BuilderTrees → BuilderTrees → BuilderTrees
+written_over no_builders ds = no_builders
+written_over (more_builders c cs) no_builders = more_builders c cs
+written_over (more_builders c cs) (more_builders d ds) = more_builders d (written_over cs ds)
+
 -- records over other children, or over another child i
 abbrev pub with_children : BuilderTree → BuilderTrees → BuilderTree
-with_children (struct t bits cs) ds = struct t bits ds
+with_children (struct t bits cs) ds = struct t bits (written_over cs ds)
 with_children b ds = b
 
 abbrev pub set_builder : BuilderTrees → ℕ → BuilderTree → BuilderTrees

@@ -222,7 +222,10 @@ impl MutableArray for AnyMutableArray {
     }
 
     fn holds(&self, i: usize, value: &Plain<'_>) -> bool {
-        each_kind!(self, flat => MutableArray::holds(flat, i, value), _nested => false)
+        each_kind!(self, flat => MutableArray::holds(flat, i, value), nested => {
+            nested.known();
+            false
+        })
     }
 
     fn push_null(&mut self) -> Result<(), Error> {
@@ -235,7 +238,10 @@ impl MutableArray for AnyMutableArray {
             Some(value) => each_kind!(
                 self,
                 flat => MutableArray::try_push_plain(flat, Some(value)),
-                _nested => Err(Error::InvalidArgumentError(Argument::ItemType))
+                nested => {
+                    nested.known();
+                    Err(Error::InvalidArgumentError(Argument::ItemType))
+                }
             ),
         }
     }

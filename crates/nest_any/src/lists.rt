@@ -2,6 +2,7 @@
 ghost use Rattle.std.specs.Prelude.{◌≡◌, ◌≢◌, ◌≤◌, ◌<◌, ◌↔◌, ◌⊎◌, IsTrue, OnOk, OnErr, IfOk, IfErr, IsOkUnless, None, Some, true, false, option_map, alloc_error};
 ghost use Rattle.nest_model.specs.Slot as slots;
 ghost use Rattle.nest_any.specs.Trees.{tree_of};
+ghost use Rattle.nest_model.specs.BuilderItem.{PlainValue, takes};
 ghost use Rattle.nest_any.specs.Words.{FailFirst, HasWholeChildren, IsWhole, Memory, Overflow, Pass, TellsNulls, Told, builder_len, builder_type, cut_builder, emptied, layout_of, layout_type, list_child, lists_over, nulls_appended, nulls_pass, own_slot, own_slots, reserve_passes, row_checks, slots_of, type_of};
 
 use crate::any::AnyMutableArray;
@@ -78,6 +79,13 @@ impl ListBuilder {
                 Err(error)
             }
         }
+    }
+
+    /// What holds of every such builder: it takes no plain value.
+    pub(crate) fn known(&self)
+        ensures { (v : PlainValue) → takes self.now v ≡ false }
+    {
+        let _len = self.rows.len();
     }
 
     pub(crate) fn data_type(&self) -> &DataType
