@@ -209,7 +209,11 @@ impl MutableStructArray {
         ensures* writes_back { sem 𝓛 (LendsIf the_row any_row self.entry result (λ c. with_field self.entry.now i (tree_of c)) self.old) }
         ensures value { option_map (λ c. tree_of c.now) result ≡ child_at i self.old }
     {
-        if i < self.values.len() { Some(self.value(i)) } else { None }
+        if i < self.values.len() {
+            Some(self.value(i))
+        } else {
+            None
+        }
     }
 
     /// Tells a row of what waits in the children; an untrue one is null.
