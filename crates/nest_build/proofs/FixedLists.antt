@@ -1,17 +1,13 @@
 -- What the calls of a builder of lists of one size come to.
 use Rattle.std.specs.Prelude.{◌⊎◌, ◌≢◌, ◌||◌, Option, Some, None, alloc_error}
-use Rattle.std.proofs.Common.{◌≡◌, ℕ, zero, suc, ◌+◌, ◌-◌, ◌*◌, ◌<◌, ◌≤◌, Bool, true, false, List, [], ◌∷◌, ◌++◌, length, replicate, get_or, refl, sym, ap, subst, ◌∙◌, inl, inr, arith}
+use Rattle.std.proofs.Common.{◌≡◌, ℕ, zero, suc, ◌+◌, ◌-◌, ◌*◌, ◌<◌, ◌≤◌, Bool, true, false, List, [], ◌∷◌, ◌++◌, length, replicate, refl, sym, ap, subst, ◌∙◌, inl, inr, arith}
 use Rattle.std.proofs.lemmas.List.{length-replicate}
 use Rattle.std.proofs.Math.Nat.{add-mul, mul-suc}
 use Rattle.nest_memory.specs.TypeTree.{TypeTree, item_type, size_of}
-use Rattle.nest_memory.specs.Cut.{cut}
 use Rattle.nest_memory.specs.declared.error.Error.{Error}
 use Rattle.nest_memory.specs.declared.error.Error.TheVariants.{Memory, Overflow, InvalidArgumentError}
-use Rattle.nest_memory.specs.declared.error.Argument.TheVariants.{ItemSize, ItemType, Unfinished}
-use Rattle.nest_model.specs.Slot as slots
-use Rattle.nest_model.specs.Slot.{Slot, Slots, seal}
+use Rattle.nest_memory.specs.declared.error.Argument.TheVariants.{ItemSize, ItemType}
 use Rattle.nest_model.specs.BuilderTree.{BuilderTree, fixed_size_list, builder_len, builder_type}
-use Rattle.nest_model.specs.BuilderLevels.{rows_of_size, valid_or_null}
 use Rattle.nest_model.specs.BuilderWhole.{IsWhole}
 use Rattle.nest_model.specs.BuilderItem as items
 use Rattle.nest_model.specs.BuilderItem.{Item, seal_items}
@@ -20,12 +16,12 @@ use Rattle.nest_model.specs.BuilderAppendLaws.{len-accepted_all, fixed_size_list
 use Rattle.nest_model.specs.BuilderJoin.{Joined}
 use Rattle.nest_model.specs.BuilderJoinLaws.{fixed_size_list_joined}
 use Rattle.nest_model.specs.BuilderToldLaws.{fixed_size_list_told}
-use Rattle.nest_model.specs.BuilderRowChecks.{row_checks, join_checks, join_passes}
+use Rattle.nest_model.specs.BuilderRowChecks.{join_checks, join_passes}
 use Rattle.nest_model.specs.BuilderRefusals.{item_refusal, nulls_pass}
 use Rattle.nest_model.specs.BuilderRefusalLaws.{within, fixed_none, fixed_size, null_past}
 use Rattle.nest_model.specs.BuilderReading.{Read, begun, ReadsList, Took, Refused, TookAll, RefusedSome}
 use Rattle.nest_model.specs.Checks.{Pass, FailFirst, is_past, largest_length}
-use Rattle.nest_model.specs.BuilderLevels.{own_slots}
+use Rattle.nest_model.specs.BuilderLevels.{own_slots, rows_of_size}
 use Rattle.nest_model.specs.BuilderLevelLaws.{own-length, len-grown}
 use Rattle.std.proofs.Common.{◌/◌, ◌%◌}
 use Rattle.std.proofs.Math.Nat.{mul-div_cancel, mul-mod_left}
@@ -116,21 +112,6 @@ null_refused k bits c size e z (inr p) =
 -- a told row
 pub row_told : (k : TypeTree) (bits new : List Bool) (c : BuilderTree) → new ≡ bits ++ true ∷ [] → IsWhole c → item_type k ≡ Some (builder_type c) → builder_len c ≡ (length bits + 1) * size_of k → Told true (fixed_size_list k bits c) (fixed_size_list k new c)
 row_told k bits new c f w t n = fixed_size_list_told true k bits new c f (w, t, n)
-
-pub told_pass : (k : TypeTree) (bits : List Bool) (c : BuilderTree) → item_type k ≡ Some (builder_type c) → builder_len c ≡ (length bits + 1) * size_of k → Pass (row_checks (fixed_size_list k bits c))
-told_pass k bits c t n = ((t, omega (arith, n)), (omega (arith, n), tt))
-
-pub unfinished : (k : TypeTree) (bits : List Bool) (c : BuilderTree) → (item_type k ≡ Some (builder_type c) → (length bits + 1) * size_of k ≤ builder_len c → ⊥) → FailFirst (InvalidArgumentError Unfinished) (row_checks (fixed_size_list k bits c))
-unfinished k bits c h = λ q. h q.0 q.1
-
-pub too_many : (k : TypeTree) (bits : List Bool) (c : BuilderTree) → item_type k ≡ Some (builder_type c) → (length bits + 1) * size_of k < builder_len c → FailFirst (InvalidArgumentError ItemSize) (row_checks (fixed_size_list k bits c))
-too_many k bits c t l = ((t, omega (arith, l)), λ q. omega (arith, l, q))
-
--- the slots of rows
-pub size-slot : (s n i : ℕ) (bits : List Bool) (xs : List Slot) → i < length bits → (y : Slots) × (get_or (rows_of_size s n bits xs) i slots.null ≡ valid_or_null (get_or bits i true) (slots.list y))
-size-slot s n i [] xs l = absurd (omega arith)
-size-slot s n zero (b ∷ bits) xs l = (seal (cut xs s n), refl)
-size-slot s n (suc i) (b ∷ bits) xs l = size-slot (s + n) n i bits xs (omega arith)
 
 -- joined rows
 or-below : (a b : Bool) → (a || b) ≡ false → b ≡ false

@@ -7,7 +7,6 @@ mod Keyed
 mod Keys
 mod Lists
 mod NullTrees
-mod Nulled
 mod Nulls
 mod Rows
 mod Slices

@@ -1,12 +1,11 @@
 -- What the calls of a builder of lists come to.
 use Rattle.std.specs.Prelude.{◌⊎◌, ltb, ◌||◌, Option, Some, None, alloc_error}
-use Rattle.std.proofs.Common.{◌≡◌, ℕ, zero, suc, ◌+◌, ◌-◌, ◌<◌, ◌≤◌, Bool, true, false, List, [], ◌∷◌, ◌++◌, length, get_or, take, refl, sym, ap, ◌∙◌, inl, inr, arith}
+use Rattle.std.proofs.Common.{◌≡◌, ℕ, suc, ◌+◌, ◌-◌, ◌<◌, ◌≤◌, Bool, true, false, List, [], ◌∷◌, ◌++◌, length, get_or, take, refl, sym, ap, ◌∙◌, inl, inr, arith}
 use Rattle.std.specs.Option.{unwrap_or}
 use Rattle.std.proofs.lemmas.Bool.{lt-ltb}
 use Rattle.std.proofs.lemmas.List.{take_more}
 use Rattle.nest_build.proofs.Rows.{told-append}
 use Rattle.nest_memory.specs.TypeTree.{TypeTree}
-use Rattle.nest_memory.specs.Cut.{cut}
 use Rattle.nest_memory.specs.Rising.{largest_offset}
 use Rattle.nest_memory.specs.declared.error.Error.{Error}
 use Rattle.nest_memory.specs.declared.error.Error.TheVariants.{Memory, Overflow, InvalidArgumentError}
@@ -15,22 +14,19 @@ use Rattle.nest_model.specs.Layout.{Layout}
 use Rattle.nest_model.specs.Meaning.{len, slots_of}
 use Rattle.nest_model.specs.Reads.{slots-length}
 use Rattle.nest_model.specs.BuilderLevelLaws.{own-length}
-use Rattle.nest_model.specs.Slot as slots
-use Rattle.nest_model.specs.Slot.{Slot, Slots, seal}
 use Rattle.nest_model.specs.BuilderRow.{Row, told_row, end_from}
 use Rattle.nest_model.specs.BuilderTree.{BuilderTree, list, builder_len, builder_type}
-use Rattle.nest_model.specs.BuilderLevels.{own_slots, rows_of_items, valid_or_null}
+use Rattle.nest_model.specs.BuilderLevels.{own_slots}
 use Rattle.nest_model.specs.BuilderWhole.{IsWhole}
 use Rattle.nest_model.specs.BuilderCutLaws.{type-cut}
 use Rattle.nest_model.specs.BuilderItem as items
 use Rattle.nest_model.specs.BuilderItem.{seal_items}
 use Rattle.nest_model.specs.BuilderAppend.{Accepted, Told, ToldLengths, items_told, rows_of_lengths}
 use Rattle.nest_model.specs.BuilderAppendLaws.{list_took}
-use Rattle.nest_model.specs.BuilderFreeze.{row_bits}
 use Rattle.nest_model.specs.BuilderJoin.{Joined, moved}
 use Rattle.nest_model.specs.BuilderJoinLaws.{list_joined}
 use Rattle.nest_model.specs.BuilderToldLaws.{list_told, list_told_lengths}
-use Rattle.nest_model.specs.BuilderRowChecks.{CoversRows, HasWholeChildren, row_checks, lengths_checks, join_checks, join_passes}
+use Rattle.nest_model.specs.BuilderRowChecks.{CoversRows, HasWholeChildren, lengths_checks, join_checks, join_passes}
 use Rattle.nest_model.specs.BuilderRefusals.{item_refusal}
 use Rattle.nest_model.specs.BuilderRefusalLaws.{within, below, list_none, list_past}
 use Rattle.nest_model.specs.BuilderReading.{Read, whole, begun, ReadsList, Took, Refused, TookAll, RefusedSome}
@@ -87,17 +83,6 @@ pub row_told : (large : Bool) (k : TypeTree) (rows new : List Row) (c : BuilderT
     → Told true (list large k rows c) (list large k new c)
 row_told large k rows new c end n f w t = list_told true large k rows new c end n f (w.0, t.0, t.1, w.1)
 
-pub told_pass : (large wide : Bool) (k : TypeTree) (rows : List Row) (c : BuilderTree) (end : ℕ) → end ≡ builder_len c → wide ≡ large → (length rows + 1 ≤ largest_length) × (end ≤ largest_offset wide) → CoversRows k rows c → Pass (row_checks (list large k rows c))
-told_pass large wide k rows c end n m l t = (t, ((l.0, omega (arith, l.1, n, ap largest_offset m)), tt))
-
-pub told_cause : (large wide : Bool) (k : TypeTree) (rows : List Row) (c : BuilderTree) (end : ℕ) (e : Error) → end ≡ builder_len c → wide ≡ large → CoversRows k rows c → (e ≡ Memory alloc_error) ⊎ ((e ≡ Overflow) × (largest_offset wide < end))
-    → (e ≡ Memory alloc_error) ⊎ FailFirst e (row_checks (list large k rows c))
-told_cause large wide k rows c end e n m t (inl p) = inl p
-told_cause large wide k rows c end e n m t (inr p) = rw p.0 (inr (t, λ q. omega (arith, p.1, q.1, n, ap largest_offset m)))
-
-pub not_covered : (large : Bool) (k : TypeTree) (rows : List Row) (c : BuilderTree) → (CoversRows k rows c → ⊥) → FailFirst (InvalidArgumentError Unfinished) (row_checks (list large k rows c))
-not_covered large k rows c h = h
-
 -- rows by their lengths
 pub lengths_told : (large : Bool) (k : TypeTree) (rows new : List Row) (c : BuilderTree) (ns : List (Option ℕ)) → new ≡ rows ++ rows_of_lengths (end_from 0 rows) ns → HasWholeChildren (list large k rows c) → CoversRows k rows c
     → end_from 0 rows + items_told ns ≡ builder_len c → ToldLengths ns (list large k rows c) (list large k new c)
@@ -117,12 +102,6 @@ lengths_not_covered large k rows c ns h = h
 
 pub other_end : (large : Bool) (k : TypeTree) (rows : List Row) (c : BuilderTree) (ns : List (Option ℕ)) → CoversRows k rows c → (end_from 0 rows + items_told ns ≡ builder_len c → ⊥) → FailFirst (InvalidArgumentError LengthsSum) (lengths_checks ns (list large k rows c))
 other_end large k rows c ns t h = (t, h)
-
--- the slots of rows, and which are null
-pub items-slot : (s i : ℕ) (rows : List Row) (xs : List Slot) → i < length rows → (y : Slots) × (get_or (rows_of_items s rows xs) i slots.null ≡ valid_or_null (get_or (row_bits rows) i true) (slots.list y))
-items-slot s i [] xs l = absurd (omega arith)
-items-slot s zero (r ∷ rows) xs l = (seal (cut xs s (r.end - s)), refl)
-items-slot s (suc i) (r ∷ rows) xs l = items-slot r.end i rows xs (omega arith)
 
 -- joined rows
 or-below : (a b : Bool) → (a || b) ≡ false → b ≡ false

@@ -5,6 +5,7 @@ pub mod Hashes
 pub mod Keyed
 pub mod Keys
 pub mod Lists
+pub mod Nulled
 pub mod NumberRows
 pub mod Rows
 pub mod Seats

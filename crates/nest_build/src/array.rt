@@ -126,7 +126,7 @@ pub trait MutableArray: Drop {
 }
 
 /// A frozen array, owned by what shares it.
-pub(crate) fn shared(array: Result<AnyArray, Error>, alloc: Global) -> Result<Rc<AnyArray>, Error>
+pub fn shared(array: Result<AnyArray, Error>, alloc: Global) -> Result<Rc<AnyArray>, Error>
     ensures same { IfOk result (λ r. IfOk array (λ a. layout_of r.value ≡ layout_of a)) }
     ensures err { IfErr array (λ e. IsErrOf result e) }
     ensures cause { IfErr result (λ e. (e ≡ Memory alloc_error) ⊎ IsErrOf array e) }

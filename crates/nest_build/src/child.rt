@@ -9,7 +9,7 @@ use nest_memory::error::Error;
 use std::alloc::Global;
 
 /// Whether lists of a type have items of that type.
-pub(crate) fn has_items(lists: &DataType, items: &DataType) -> bool
+pub fn has_items(lists: &DataType, items: &DataType) -> bool
     ensures { IsTrue result ↔ (item_type (type_of lists.now) ≡ Some (type_of items.now)) }
 {
     match lists.item_type() {
@@ -19,7 +19,7 @@ pub(crate) fn has_items(lists: &DataType, items: &DataType) -> bool
 }
 
 /// Whether two data types are the same.
-pub(crate) fn same_types(a: &DataType, b: &DataType) -> bool
+pub fn same_types(a: &DataType, b: &DataType) -> bool
     ensures { IsTrue result ↔ (type_of a.now ≡ type_of b.now) }
 {
     *a == *b

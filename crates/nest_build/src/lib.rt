@@ -3,7 +3,7 @@
 
 pub mod array;
 mod boxed;
-mod child;
+pub mod child;
 pub mod dictionary;
 pub mod fixed_size_binary;
 pub mod fixed_size_list;

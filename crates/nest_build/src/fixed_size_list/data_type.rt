@@ -16,7 +16,7 @@ use std::marker::Model;
 
 /// A data type of lists of one size.
 #[derive(Drop)]
-pub(crate) struct FixedType {
+pub struct FixedType {
     data_type: DataType,
     size: usize,
 }
@@ -40,7 +40,7 @@ impl Model for FixedType {
 
 impl FixedType {
     /// Of lists of so many such items.
-    pub(crate) fn of_field(alloc: Global, items: Field, size: usize) -> Result<FixedType, Error>
+    pub fn of_field(alloc: Global, items: Field, size: usize) -> Result<FixedType, Error>
         ensures ok { IfOk result (λ t. t ≡ types.fixed_size_list (field_of items) size) }
         ensures some { IfOk result (λ _. 0 < size) }
         ensures cause { IfErr result (λ e. (e ≡ Memory alloc_error) ⊎ ((e ≡ OutOfSpec ZeroSize) × (size ≡ 0))) }
@@ -55,11 +55,7 @@ impl FixedType {
     }
 
     /// A data type whose lists have so many items of that type.
-    pub(crate) fn of_type(
-        data_type: DataType,
-        items: &DataType,
-        size: usize,
-    ) -> Result<FixedType, Error>
+    pub fn of_type(data_type: DataType, items: &DataType, size: usize) -> Result<FixedType, Error>
         ensures { let checks = fixed_type_checks size (type_of data_type) (type_of items.now) in
             MatchResult result (λ t. Pass checks × (t ≡ type_of data_type)) (λ e. FailFirst e checks) }
     {
@@ -79,7 +75,7 @@ impl FixedType {
         Ok(FixedType { data_type, size })
     }
 
-    pub(crate) fn get(&self) -> &DataType
+    pub fn get(&self) -> &DataType
         ensures value { type_of result.now ≡ self.now }
         ensures lists { physical_type self.now ≡ physical.FixedSizeList }
     {
@@ -87,7 +83,7 @@ impl FixedType {
     }
 
     /// How many items each list has.
-    pub(crate) fn size(&self) -> usize
+    pub fn size(&self) -> usize
         ensures value { result ≡ size_of self.now }
         ensures some { 0 < result }
     {

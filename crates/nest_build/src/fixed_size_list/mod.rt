@@ -1,8 +1,8 @@
 //! The builder of arrays of lists of one size.
 
-mod data_type;
+pub mod data_type;
 mod mutable;
 pub mod rows;
 
-pub use mutable::MutableFixedSizeListArray;
+pub use mutable::{MutableFixedSizeListArray, freeze_over};
 pub use rows::FixedRows;

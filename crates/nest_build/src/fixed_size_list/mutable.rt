@@ -218,7 +218,7 @@ impl<M: MutableArray> MutableFixedSizeListArray<M> {
 }
 
 /// The array of rows over their items. No row and no validity is left, also after `Memory`.
-fn freeze_over(
+pub fn freeze_over(
     alloc: Global,
     data_type: DataType,
     rows: &mut FixedRows,

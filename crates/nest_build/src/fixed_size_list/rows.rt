@@ -1,6 +1,6 @@
 //! The rows of a builder of lists of one size, without their items.
 ghost use Rattle.std.specs.Prelude.{◌≡◌, ◌+◌, ◌≤◌, ◌<◌, ◌⊎◌, ◌++◌, ◌∷◌, [], true, take, get_or, length, OnOk, OnErr, IfOk, IfErr, IsOkUnless, option_map, alloc_error};
-ghost use Rattle.nest_build.specs.Words.{Memory, Overflow, SpellsBits, ValidityFits, largest_length};
+ghost use Rattle.nest_build.specs.Words.{Memory, Overflow, SpellsBits, ValidityFits, bits_told, largest_length};
 
 use nest_flat::growth::validity;
 use nest_memory::bitmap::immutable::Bitmap;
@@ -42,6 +42,30 @@ impl FixedRows {
             validity: None,
             alloc,
         }
+    }
+
+    /// So many rows, by such bits.
+    pub fn of(alloc: Global, len: usize, validity: Option<MutableBitmap>) -> FixedRows
+        requires { ValidityFits validity len }
+        ensures { result ≡ bits_told len validity }
+    {
+        FixedRows {
+            len,
+            validity,
+            alloc,
+        }
+    }
+
+    /// The bits, where there are some.
+    pub fn into_validity(self) -> Option<MutableBitmap>
+        ensures { SpellsBits result self }
+    {
+        let FixedRows {
+            len: _,
+            validity,
+            alloc: _,
+        } = self;
+        validity
     }
 
     /// How many rows there are.

@@ -16,7 +16,7 @@ use std::marker::{Model, PhantomData};
 
 /// A data type of lists by one width of offsets.
 #[derive(Drop)]
-pub(crate) struct ListType<O: Offset> {
+pub struct ListType<O: Offset> {
     data_type: DataType,
     width: PhantomData<O>,
 }
@@ -39,7 +39,7 @@ impl<O: Offset> Model for ListType<O> {
 
 impl<O: Offset> ListType<O> {
     /// Of lists of such items.
-    pub(crate) fn of_field(alloc: Global, items: Field) -> Result<ListType<O>, Error>
+    pub fn of_field(alloc: Global, items: Field) -> Result<ListType<O>, Error>
         ensures ok { IfOk result (λ t. t ≡ list_type O.IS_LARGE (field_of items)) }
         ensures memory { IsOkUnless result (Memory alloc_error) }
     {
@@ -56,7 +56,7 @@ impl<O: Offset> ListType<O> {
     }
 
     /// A data type whose lists have items of that type.
-    pub(crate) fn of_type(data_type: DataType, items: &DataType) -> Result<ListType<O>, Error>
+    pub fn of_type(data_type: DataType, items: &DataType) -> Result<ListType<O>, Error>
         ensures { let checks = list_type_checks O.IS_LARGE (type_of data_type) (type_of items.now) in
             MatchResult result (λ t. Pass checks × (t ≡ type_of data_type)) (λ e. FailFirst e checks) }
     {
@@ -74,7 +74,7 @@ impl<O: Offset> ListType<O> {
         })
     }
 
-    pub(crate) fn get(&self) -> &DataType
+    pub fn get(&self) -> &DataType
         ensures value { type_of result.now ≡ self.now }
         ensures lists { physical_type self.now ≡ list_of_width O.IS_LARGE }
     {

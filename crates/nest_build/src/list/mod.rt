@@ -1,6 +1,6 @@
 //! The builder of arrays of lists.
 
-mod data_type;
+pub mod data_type;
 mod mutable;
 pub mod rows;
 mod slices;

@@ -272,7 +272,7 @@ impl<O: Offset> ListRows<O> {
 }
 
 /// Whether there is a bit for each of so many rows, or no validity.
-fn has_bits(validity: &Option<MutableBitmap>, rows: usize) -> bool
+pub fn has_bits(validity: &Option<MutableBitmap>, rows: usize) -> bool
     ensures { IsTrue result ↔ ValidityFits validity.now rows }
 {
     match validity {

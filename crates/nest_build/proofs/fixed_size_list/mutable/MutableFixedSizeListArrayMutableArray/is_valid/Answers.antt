@@ -2,8 +2,7 @@ use Rattle.std.specs.Prelude.{true}
 use Rattle.std.proofs.Common.{get_or}
 use Rattle.nest_memory.specs.TypeTree.{size_of}
 use Rattle.nest_model.specs.BuilderLevels.{own_slots}
-use Rattle.nest_build.proofs.FixedLists.{size-slot}
-use Rattle.nest_build.proofs.Nulled.{valid_or_not}
+use Rattle.nest_build.specs.Nulled.{size-slot, valid_or_not}
 use Rattle.nest_build.proofs.fixed_size_list.mutable.MutableFixedSizeListArrayMutableArray.is_valid.Goals as goal
 
 pub returns : goal.returns

@@ -3,8 +3,7 @@ use Rattle.std.proofs.Common.{refl}
 use Rattle.nest_memory.specs.TypeTree.{size_of}
 use Rattle.nest_model.specs.BuilderLevels.{own_slots}
 use Rattle.nest_model.specs.BuilderTree.{fixed_size_list}
-use Rattle.nest_build.proofs.FixedLists.{size-slot}
-use Rattle.nest_build.proofs.Nulled.{lists-tell}
+use Rattle.nest_build.specs.Nulled.{lists-tell, size-slot}
 use Rattle.nest_build.proofs.fixed_size_list.mutable.MutableFixedSizeListArrayMutableArray.validity.Goals as goal
 
 pub returns : goal.returns

@@ -2,8 +2,7 @@ use Rattle.std.specs.Prelude.{true}
 use Rattle.std.proofs.Common.{get_or}
 use Rattle.nest_model.specs.BuilderFreeze.{row_bits}
 use Rattle.nest_model.specs.BuilderLevels.{own_slots}
-use Rattle.nest_build.proofs.Lists.{items-slot}
-use Rattle.nest_build.proofs.Nulled.{valid_or_not}
+use Rattle.nest_build.specs.Nulled.{items-slot, valid_or_not}
 use Rattle.nest_build.proofs.list.mutable.MutableListArrayMutableArray.is_valid.Goals as goal
 
 pub returns : goal.returns

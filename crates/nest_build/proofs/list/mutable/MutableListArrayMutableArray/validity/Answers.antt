@@ -4,8 +4,7 @@ use Rattle.nest_model.specs.BuilderFreeze.{row_bits}
 use Rattle.nest_model.specs.BuilderRow.{Row}
 use Rattle.nest_model.specs.BuilderLevels.{own_slots}
 use Rattle.nest_model.specs.BuilderTree.{list}
-use Rattle.nest_build.proofs.Lists.{items-slot}
-use Rattle.nest_build.proofs.Nulled.{lists-tell}
+use Rattle.nest_build.specs.Nulled.{items-slot, lists-tell}
 use Rattle.nest_build.proofs.list.mutable.MutableListArrayMutableArray.validity.Goals as goal
 
 pub returns : goal.returns

@@ -1,14 +1,28 @@
 -- Which rows of a builder of lists are null.
 use Rattle.std.specs.Prelude.{◌≢◌, ◌↔◌, IsTrue, Some, None}
-use Rattle.std.proofs.Common.{◌≡◌, ℕ, ◌<◌, Bool, true, false, List, length, get_or, refl, sym, ap, ◌∙◌, inr, arith}
+use Rattle.std.proofs.Common.{◌≡◌, ℕ, zero, suc, ◌+◌, ◌-◌, ◌<◌, Bool, true, false, List, [], ◌∷◌, length, get_or, refl, sym, ap, ◌∙◌, inr, arith}
+use Rattle.nest_memory.specs.Cut.{cut}
 use Rattle.nest_model.specs.Part.{Validity}
 use Rattle.nest_model.specs.Slot as slots
-use Rattle.nest_model.specs.Slot.{Slot, Slots}
+use Rattle.nest_model.specs.Slot.{Slot, Slots, seal}
+use Rattle.nest_model.specs.BuilderRow.{Row}
 use Rattle.nest_model.specs.BuilderTree.{BuilderTree, builder_len}
-use Rattle.nest_model.specs.BuilderLevels.{valid_or_null}
-use Rattle.nest_model.specs.BuilderFreeze.{SpellsBits}
+use Rattle.nest_model.specs.BuilderLevels.{rows_of_items, rows_of_size, valid_or_null}
+use Rattle.nest_model.specs.BuilderFreeze.{SpellsBits, row_bits}
 use Rattle.nest_build.specs.Told.{own_slot, TellsNulls}
 
+-- the slot of a row: null, or a list
+pub items-slot : (s i : ℕ) (rows : List Row) (xs : List Slot) → i < length rows → (y : Slots) × (get_or (rows_of_items s rows xs) i slots.null ≡ valid_or_null (get_or (row_bits rows) i true) (slots.list y))
+items-slot s i [] xs l = absurd (omega arith)
+items-slot s zero (r ∷ rows) xs l = (seal (cut xs s (r.end - s)), refl)
+items-slot s (suc i) (r ∷ rows) xs l = items-slot r.end i rows xs (omega arith)
+
+pub size-slot : (s n i : ℕ) (bits : List Bool) (xs : List Slot) → i < length bits → (y : Slots) × (get_or (rows_of_size s n bits xs) i slots.null ≡ valid_or_null (get_or bits i true) (slots.list y))
+size-slot s n i [] xs l = absurd (omega arith)
+size-slot s n zero (b ∷ bits) xs l = (seal (cut xs s n), refl)
+size-slot s n (suc i) (b ∷ bits) xs l = size-slot (s + n) n i bits xs (omega arith)
+
+-- a bit tells whether the slot is null
 known : (b : Bool) (s : Slot) (y : Slots) → s ≡ valid_or_null b (slots.list y) → (b ≡ false) ↔ (s ≡ slots.null)
 known true s y e = (λ h. absurd cc, λ h. let u : slots.list y ≡ slots.null = sym e ∙ h in absurd cc)
 known false s y e = (λ h. e, λ h. refl)
