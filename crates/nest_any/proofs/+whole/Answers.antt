@@ -1,0 +1,12 @@
+use Rattle.std.proofs.Common.{◌≡◌, ◌+◌, ◌*◌, ap, arith}
+use Rattle.nest_any.specs.BuilderCode.{weight, weight_all}
+use Rattle.nest_any.specs.Trees.{tree_of, trees_of}
+use Rattle.nest_any.proofs.Each.{weight-at}
+use Rattle.nest_any.proofs.+whole.Goals as goal
+
+pub children::each_is_whole-whole-requires : goal.children::each_is_whole-whole-requires
+children::each_is_whole-whole-requires t c =
+    let d = c.index-children-i.result in
+    let w = weight-at tree_of c.args.children.now c.loop-i.i d (omega arith) in
+    let e = ap (λ x. weight (tree_of x)) c.index-children-i.is in
+    (omega (arith, w, e), tt)

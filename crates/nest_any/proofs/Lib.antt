@@ -1,0 +1,12 @@
+mod Each
+mod Frozen
+mod Lent
+mod ListNulls
+mod Nulls
+mod Over
+mod Records
+mod Rooms
+mod RowLaws
+mod TellLaws
+mod Types
+mod Weights

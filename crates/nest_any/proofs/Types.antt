@@ -1,0 +1,27 @@
+-- As many data types as builders, and as many as fields.
+use Rattle.std.specs.Prelude.{List as Seq, [], ◌∷◌}
+use Rattle.std.proofs.Common.{◌≡◌, ℕ, suc, ◌+◌, ◌<◌, ◌≤◌, length, refl, sym, ap, subst, ◌∙◌, arith}
+use Rattle.nest_memory.specs.TypeTree.{TypeTree, FieldTrees, no_fields, more_fields, count_fields, fields_of}
+use Rattle.nest_memory.specs.TypeOf.{field_list_of}
+use Rattle.nest_memory.specs.declared.datatypes.field.Field.{Field}
+use Rattle.nest_model.specs.BuilderTree.{BuilderTree, BuilderTrees, no_builders, more_builders, struct, builder_len, builder_type, builder_types, field_types}
+use Rattle.nest_any.specs.Each.{each}
+use Rattle.nest_any.specs.Refusals.{count_builders}
+
+pub types-count : {A : Type 0} (f : A → BuilderTree) (xs : Seq A) → length (builder_types (each f xs)) ≡ length xs
+types-count f [] = refl
+types-count f (x ∷ xs) = ap suc (types-count f xs)
+
+pub fields-count : (fs : Seq Field) → length (field_types (field_list_of fs)) ≡ length fs
+fields-count [] = refl
+fields-count (f ∷ fs) = ap suc (fields-count fs)
+
+pub children-count : {A : Type 0} (f : A → BuilderTree) (xs : Seq A) → count_builders (each f xs) ≡ length xs
+children-count f [] = refl
+children-count f (x ∷ xs) = ap suc (children-count f xs)
+
+-- records of a field at least have a child at least
+pub some-children : (cs : BuilderTrees) (fs : FieldTrees) → builder_types cs ≡ field_types fs → 0 < count_fields fs → 0 < count_builders cs
+some-children no_builders no_fields e l = l
+some-children no_builders (more_fields f fs) e l = absurd cc
+some-children (more_builders c cs) fs e l = omega arith

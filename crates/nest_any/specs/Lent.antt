@@ -1,0 +1,51 @@
+-- What a builder is once a child that it lent was written over.
+use Rattle.std.specs.Prelude.{ℕ, zero, suc, Option, Some, None}
+use Rattle.nest_any.specs.declared.any.AnyMutableArray.{AnyMutableArray}
+use Rattle.nest_any.specs.declared.any.AnyMutableArray.TheVariants.{List, Struct}
+use Rattle.nest_any.specs.Trees.{tree_of}
+use Rattle.nest_model.specs.BuilderTree.{BuilderTree, BuilderTrees, flat, list, fixed_size_list, dictionary, struct, no_builders, more_builders}
+
+-- lists over other items
+abbrev pub with_items : BuilderTree → BuilderTree → BuilderTree
+with_items (list large t rows c) d = list large t rows d
+with_items (fixed_size_list t bits c) d = fixed_size_list t bits d
+with_items b d = b
+
+-- children in the place of as many others, which stay where none was written
+abbrev pub written_over : BuilderTrees → BuilderTrees → BuilderTrees
+written_over no_builders ds = no_builders
+written_over (more_builders c cs) no_builders = more_builders c cs
+written_over (more_builders c cs) (more_builders d ds) = more_builders d (written_over cs ds)
+
+-- records over other children, or over another child i
+abbrev pub with_children : BuilderTree → BuilderTrees → BuilderTree
+with_children (struct t bits cs) ds = struct t bits (written_over cs ds)
+with_children b ds = b
+
+abbrev pub set_builder : BuilderTrees → ℕ → BuilderTree → BuilderTrees
+set_builder no_builders i d = no_builders
+set_builder (more_builders c cs) zero d = more_builders d cs
+set_builder (more_builders c cs) (suc i) d = more_builders c (set_builder cs i d)
+
+abbrev pub with_field : BuilderTree → ℕ → BuilderTree → BuilderTree
+with_field (struct t bits cs) i d = struct t bits (set_builder cs i d)
+with_field b i d = b
+
+-- child i; lists have one, kinds that take no row of items none
+abbrev pub builder_at : BuilderTrees → ℕ → Option BuilderTree
+builder_at no_builders i = None
+builder_at (more_builders c cs) zero = Some c
+builder_at (more_builders c cs) (suc i) = builder_at cs i
+
+abbrev pub child_at : ℕ → BuilderTree → Option BuilderTree
+child_at i (flat t xs) = None
+child_at i (list large t rows c) = builder_at (more_builders c no_builders) i
+child_at i (fixed_size_list t bits c) = builder_at (more_builders c no_builders) i
+child_at i (dictionary k t keys c) = None
+child_at i (struct t bits cs) = builder_at cs i
+
+-- a builder of any kind over another child i
+abbrev pub with_child : AnyMutableArray → ℕ → AnyMutableArray → AnyMutableArray
+with_child (List b) i d = List (with_items b (tree_of d))
+with_child (Struct b) i d = Struct (with_field b i (tree_of d))
+with_child b i d = b

@@ -1,0 +1,10 @@
+pub mod BuilderCode
+pub mod Each
+pub mod Falls
+pub mod Lent
+pub mod Refusals
+pub mod SeenLists
+pub mod SeenStruct
+pub mod Trees
+pub mod TypedRows
+pub mod Words

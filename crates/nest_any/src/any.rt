@@ -1,0 +1,271 @@
+//! A builder of any kind.
+ghost use Rattle.std.specs.Prelude.{◌≡◌, ◌≢◌, ◌≤◌, ◌<◌, ◌↔◌, ◌⊎◌, IsTrue, OnOk, OnErr, IfOk, IfErr, IsOkUnless, None, Some, true, false, option_map, alloc_error};
+ghost use Rattle.nest_any.specs.Trees.{tree_of};
+ghost use Rattle.nest_any.specs.Words.{FailFirst, HasWholeChildren, IsWhole, Memory, Overflow, Pass, Told, builder_len, builder_type, cut_builder, emptied, layout_of, layout_type, nested_checks, nested_over, nulls_appended, nulls_pass, own_slots, reserve_passes, row_checks, slots_of, type_of};
+
+use crate::children::add_null_to;
+use crate::lists::ListBuilder;
+use crate::rows::TypedRows;
+use crate::struct_::MutableStructArray;
+use nest_array::AnyArray;
+use nest_build::array::{MutableArray, shared};
+use nest_build::fixed_size_binary::MutableFixedSizeBinaryArray;
+use nest_build::null::MutableNullArray;
+use nest_flat::any_primitive::mutable::AnyMutablePrimitive;
+use nest_flat::binary::mutable::MutableBinaryArray;
+use nest_flat::boolean::mutable::MutableBooleanArray;
+use nest_flat::plain::Plain;
+use nest_flat::utf8::mutable::MutableUtf8Array;
+use nest_memory::bitmap::mutable::MutableBitmap;
+use nest_memory::datatypes::DataType;
+use nest_memory::error::{Argument, Error};
+use std::alloc::Global;
+use std::rc::Rc;
+
+/// A builder, in the variant of its kind. Lists of all kinds are one variant: by offsets of 32 bits, of 64, or of one
+/// size.
+#[cycle(builder)]
+#[derive(Drop)]
+pub enum AnyMutableArray {
+    Null(MutableNullArray),
+    Boolean(MutableBooleanArray),
+    Primitive(AnyMutablePrimitive),
+    Binary(MutableBinaryArray<i32>),
+    LargeBinary(MutableBinaryArray<i64>),
+    Utf8(MutableUtf8Array<i32>),
+    LargeUtf8(MutableUtf8Array<i64>),
+    FixedSizeBinary(MutableFixedSizeBinaryArray),
+    List(ListBuilder),
+    Struct(MutableStructArray),
+}
+
+// One expression over the builder of a flat kind, another over one with children.
+macro_rules! each_kind {
+    ($any:expr, $flat:ident => $leaf:expr, $nested:ident => $node:expr) => {
+        match $any {
+            AnyMutableArray::Null($flat) => $leaf,
+            AnyMutableArray::Boolean($flat) => $leaf,
+            AnyMutableArray::Primitive($flat) => $leaf,
+            AnyMutableArray::Binary($flat) => $leaf,
+            AnyMutableArray::LargeBinary($flat) => $leaf,
+            AnyMutableArray::Utf8($flat) => $leaf,
+            AnyMutableArray::LargeUtf8($flat) => $leaf,
+            AnyMutableArray::FixedSizeBinary($flat) => $leaf,
+            AnyMutableArray::List($nested) => $node,
+            AnyMutableArray::Struct($nested) => $node,
+        }
+    };
+}
+
+impl AnyMutableArray {
+    ghost use Rattle.std.specs.Borrow.{LendsIf, sem};
+    ghost use Rattle.nest_any.specs.contracts.any.AnyMutableArray.{the_row};
+    ghost use Rattle.nest_any.specs.Lent.{child_at, with_child};
+
+    /// No row of lists of that type, over an empty child.
+    ///
+    /// # Errors
+    /// `WrongType` where the physical type is none of lists, `ZeroSize` where each has no item, `ChildNotEmpty` where the
+    /// child has rows, `ChildType` where it is of another type than its field: the first of these; `Memory`.
+    pub fn try_nested(
+        alloc: Global,
+        data_type: DataType,
+        child: AnyMutableArray,
+    ) -> Result<AnyMutableArray, Error>
+        requires { IsWhole (tree_of child) }
+        ensures ok { IfOk result (λ b. tree_of b ≡ nested_over (type_of data_type) (tree_of child)) }
+        ensures passed { IfOk result (λ b. Pass (nested_checks (type_of data_type) (tree_of child))) }
+        ensures cause { IfErr result (λ e. (e ≡ Memory alloc_error) ⊎ FailFirst e (nested_checks (type_of data_type) (tree_of child))) }
+    {
+        let count = child.len();
+        match TypedRows::try_new(alloc, data_type, child.data_type(), count) {
+            Ok(rows) => match ListBuilder::boxed(alloc, rows, child) {
+                Ok(lists) => Ok(AnyMutableArray::List(lists)),
+                Err(error) => Err(error),
+            },
+            Err(error) => {
+                drop(child);
+                Err(error)
+            }
+        }
+    }
+
+    /// Whether the children are whole, as those are that take only whole items; then a row of what waits there may be told.
+    pub fn has_whole_children(&self) -> bool
+        ensures { IsTrue result ↔ HasWholeChildren (tree_of self.now) }
+    {
+        match self {
+            AnyMutableArray::List(lists) => lists.has_whole_children(),
+            AnyMutableArray::Struct(records) => records.has_whole_children(),
+            _ => true,
+        }
+    }
+
+    /// The child of a list for 0, child i of a record; `None` of any other, into which the items of a row may be pushed
+    /// before the row is told.
+    pub fn child(&mut self, i: usize) -> Option<&mut AnyMutableArray>
+        ensures* writes_back { sem 𝓛 (LendsIf the_row the_row self.entry result (with_child self.entry.now i) self.old) }
+        ensures value { option_map (λ c. tree_of c.now) result ≡ child_at i (tree_of self.old) }
+    {
+        match self {
+            AnyMutableArray::List(lists) => lists.child_at(i),
+            AnyMutableArray::Struct(records) => records.child_at(i),
+            _ => None,
+        }
+    }
+
+    /// Tells a row of the items that wait in the children; an untrue one is null, and the items stand under it.
+    ///
+    /// # Errors
+    /// `ItemType` of a kind without such rows. `Unfinished` where the children are not of their fields' types or have too
+    /// few rows, of a record also where they have too many; then `ItemSize` where a list of one size has too many, and
+    /// `Overflow` where a list ends past the largest offset. `Memory`. The items go on waiting then.
+    pub fn tell(&mut self, valid: bool) -> Result<(), Error>
+        requires { HasWholeChildren (tree_of self.old) }
+        ensures ok { OnOk result (Told valid (tree_of self.old) (tree_of self.new)) }
+        ensures passed { OnOk result (Pass (row_checks (tree_of self.old))) }
+        ensures err { OnErr result (tree_of self.new ≡ tree_of self.old) }
+        ensures cause { IfErr result (λ e. (e ≡ Memory alloc_error) ⊎ FailFirst e (row_checks (tree_of self.old))) }
+    {
+        match self {
+            AnyMutableArray::List(lists) => lists.tell(valid),
+            AnyMutableArray::Struct(records) => records.push(valid),
+            _ => Err(Error::InvalidArgumentError(Argument::ItemType)),
+        }
+    }
+
+    #[cycle(whole)]
+    pub(crate) fn whole(&self) -> bool
+        ensures { IsTrue result ↔ IsWhole (tree_of self.now) }
+    {
+        match self {
+            AnyMutableArray::List(lists) => lists.whole(),
+            AnyMutableArray::Struct(records) => records.whole(),
+            _ => true,
+        }
+    }
+
+    #[cycle(null)]
+    pub(crate) fn add_null(&mut self) -> Result<(), Error>
+        requires { IsWhole (tree_of self.old) }
+        ensures ok { OnOk result (tree_of self.new ≡ nulls_appended 1 (tree_of self.old)) }
+        ensures room { OnOk result (nulls_pass 1 (tree_of self.old) ≡ false) }
+        ensures err { OnErr result (tree_of self.new ≡ tree_of self.old) }
+        ensures cause { IfErr result (λ e. (e ≡ Memory alloc_error) ⊎ ((e ≡ Overflow) × (nulls_pass 1 (tree_of self.old) ≡ true))) }
+    {
+        each_kind!(self, flat => add_null_to(flat), nested => nested.add_null())
+    }
+
+    #[cycle(cut)]
+    pub(crate) fn cut(&mut self, n: usize)
+        requires whole { IsWhole (tree_of self.old) }
+        requires within { n ≤ builder_len (tree_of self.old) }
+        ensures { tree_of self.new ≡ cut_builder (tree_of self.old) n }
+    {
+        each_kind!(self, flat => MutableArray::truncate(flat, n), nested => nested.cut(n))
+    }
+
+    #[cycle(room)]
+    pub(crate) fn room(&mut self, additional: usize) -> Result<(), Error>
+        ensures same { tree_of self.new ≡ tree_of self.old }
+        ensures room { OnOk result (reserve_passes additional (tree_of self.old) ≡ false) }
+        ensures cause { IfErr result (λ e. (e ≡ Memory alloc_error) ⊎ ((e ≡ Overflow) × (reserve_passes additional (tree_of self.old) ≡ true))) }
+    {
+        each_kind!(self, flat => MutableArray::reserve(flat, additional), nested => nested.room(additional))
+    }
+
+    #[cycle(shrink)]
+    pub(crate) fn shrink(&mut self) -> Result<(), Error>
+        ensures same { tree_of self.new ≡ tree_of self.old }
+        ensures memory { IsOkUnless result (Memory alloc_error) }
+    {
+        each_kind!(self, flat => MutableArray::shrink_to_fit(flat), nested => nested.shrink())
+    }
+
+    #[cycle(frozen)]
+    pub(crate) fn frozen(&mut self) -> Result<AnyArray, Error>
+        requires { IsWhole (tree_of self.old) }
+        ensures slots { IfOk result (λ a. slots_of (layout_of a) ≡ own_slots (tree_of self.old)) }
+        ensures same_type { IfOk result (λ a. layout_type (layout_of a) ≡ builder_type (tree_of self.old)) }
+        ensures emptied { tree_of self.new ≡ emptied (tree_of self.old) }
+        ensures memory { IsOkUnless result (Memory alloc_error) }
+    {
+        each_kind!(self, flat => MutableArray::as_box(flat), nested => nested.frozen())
+    }
+}
+
+impl MutableArray for AnyMutableArray {
+    ghost model = { tree_of };
+
+    fn data_type(&self) -> &DataType {
+        each_kind!(self, flat => MutableArray::data_type(flat), nested => nested.data_type())
+    }
+
+    fn len(&self) -> usize {
+        each_kind!(self, flat => MutableArray::len(flat), nested => nested.len())
+    }
+
+    fn is_empty(&self) -> bool {
+        self.len() == 0
+    }
+
+    fn validity(&self) -> Option<&MutableBitmap> {
+        each_kind!(self, flat => MutableArray::validity(flat), nested => nested.validity())
+    }
+
+    fn is_valid(&self, i: usize) -> bool {
+        each_kind!(self, flat => MutableArray::is_valid(flat, i), nested => nested.is_valid(i))
+    }
+
+    fn is_whole(&self) -> bool {
+        self.whole()
+    }
+
+    fn holds(&self, i: usize, value: &Plain<'_>) -> bool {
+        each_kind!(self, flat => MutableArray::holds(flat, i, value), nested => {
+            nested.known();
+            false
+        })
+    }
+
+    fn push_null(&mut self) -> Result<(), Error> {
+        self.add_null()
+    }
+
+    fn try_push_plain(&mut self, value: Option<Plain<'_>>) -> Result<(), Error> {
+        match value {
+            None => self.add_null(),
+            Some(value) => each_kind!(
+                self,
+                flat => MutableArray::try_push_plain(flat, Some(value)),
+                nested => {
+                    nested.known();
+                    Err(Error::InvalidArgumentError(Argument::ItemType))
+                }
+            ),
+        }
+    }
+
+    fn truncate(&mut self, n: usize) {
+        self.cut(n)
+    }
+
+    fn reserve(&mut self, additional: usize) -> Result<(), Error> {
+        self.room(additional)
+    }
+
+    fn shrink_to_fit(&mut self) -> Result<(), Error> {
+        self.shrink()
+    }
+
+    fn as_box(&mut self) -> Result<AnyArray, Error> {
+        if !self.whole() {
+            return Err(Error::InvalidArgumentError(Argument::Unfinished));
+        }
+        self.frozen()
+    }
+
+    fn as_arc(&mut self, alloc: Global) -> Result<Rc<AnyArray>, Error> {
+        shared(self.as_box(), alloc)
+    }
+}

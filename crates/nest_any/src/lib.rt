@@ -1,0 +1,13 @@
+//! Builders of any kind as one enum, and builders of records over them.
+#![tactic(auto)]
+
+pub mod any;
+mod children;
+pub mod lists;
+mod rows;
+pub mod struct_;
+mod struct_type;
+
+pub use any::AnyMutableArray;
+pub use lists::ListBuilder;
+pub use struct_::MutableStructArray;
