@@ -3,7 +3,7 @@ use Rattle.std.specs.Prelude.{◌+◌, ◌≤◌, List as Seq, [], ◌∷◌}
 use Rattle.std.proofs.Common.{arith}
 use denote.Param.Weighed.{most}
 use Rattle.nest_any.specs.declared.any.AnyMutableArray.{AnyMutableArray}
-use Rattle.nest_any.specs.declared.any.AnyMutableArray.TheVariants.{Null, Boolean, Primitive, Binary, LargeBinary, Utf8, LargeUtf8, FixedSizeBinary, List, Struct}
+use Rattle.nest_any.specs.declared.any.AnyMutableArray.TheVariants.{Leaf, List, Struct}
 use Rattle.nest_any.specs.declared.rows.TypedRows.{TypedRows}
 use Rattle.nest_any.specs.declared.rows.TypedRows.TheVariants as any
 use Rattle.nest_any.specs.declared.lists.ListBuilder.TheDeep.{deep-AnyMutableArray}
@@ -12,14 +12,7 @@ use Rattle.nest_any.specs.Trees.{tree_of, trees_of}
 use Rattle.nest_any.specs.TypedRows.{lists_over}
 
 pub deep-size : (b : AnyMutableArray) → deep-AnyMutableArray b ≤ weight (tree_of b) + 1
-deep-size (Null b) = omega arith
-deep-size (Boolean b) = omega arith
-deep-size (Primitive b) = omega arith
-deep-size (Binary b) = omega arith
-deep-size (LargeBinary b) = omega arith
-deep-size (Utf8 b) = omega arith
-deep-size (LargeUtf8 b) = omega arith
-deep-size (FixedSizeBinary b) = omega arith
+deep-size (Leaf b) = omega arith
 deep-size (List b) = omega arith
 deep-size (Struct b) = omega arith
 

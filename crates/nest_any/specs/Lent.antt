@@ -2,7 +2,6 @@
 use Rattle.std.specs.Prelude.{ℕ, zero, suc, Option, Some, None}
 use Rattle.nest_any.specs.declared.any.AnyMutableArray.{AnyMutableArray}
 use Rattle.nest_any.specs.declared.any.AnyMutableArray.TheVariants.{List, Struct}
-use Rattle.nest_any.specs.Trees.{tree_of}
 use Rattle.nest_model.specs.BuilderTree.{BuilderTree, BuilderTrees, flat, list, fixed_size_list, dictionary, struct, no_builders, more_builders}
 
 -- lists over other items
@@ -44,8 +43,11 @@ child_at i (fixed_size_list t bits c) = builder_at (more_builders c no_builders)
 child_at i (dictionary k t keys c) = None
 child_at i (struct t bits cs) = builder_at cs i
 
--- a builder of any kind over another child i
-abbrev pub with_child : AnyMutableArray → ℕ → AnyMutableArray → AnyMutableArray
-with_child (List b) i d = List (with_items b (tree_of d))
-with_child (Struct b) i d = Struct (with_field b i (tree_of d))
-with_child b i d = b
+-- a builder of any kind as the tree of the builder of lists that it is, or of records
+abbrev pub as_list : AnyMutableArray → Option BuilderTree
+as_list (List b) = Some b
+as_list b = None
+
+abbrev pub as_struct : AnyMutableArray → Option BuilderTree
+as_struct (Struct b) = Some b
+as_struct b = None

@@ -4,18 +4,13 @@ ghost use Rattle.nest_any.specs.Trees.{tree_of};
 ghost use Rattle.nest_any.specs.Words.{FailFirst, HasWholeChildren, IsWhole, Memory, Overflow, Pass, Told, builder_len, builder_type, cut_builder, emptied, layout_of, layout_type, nested_checks, nested_over, nulls_appended, nulls_pass, own_slots, reserve_passes, row_checks, slots_of, type_of};
 
 use crate::children::add_null_to;
+use crate::leaf::AnyMutableLeaf;
 use crate::lists::ListBuilder;
 use crate::rows::TypedRows;
 use crate::struct_::MutableStructArray;
 use nest_array::AnyArray;
 use nest_build::array::{MutableArray, shared};
-use nest_build::fixed_size_binary::MutableFixedSizeBinaryArray;
-use nest_build::null::MutableNullArray;
-use nest_flat::any_primitive::mutable::AnyMutablePrimitive;
-use nest_flat::binary::mutable::MutableBinaryArray;
-use nest_flat::boolean::mutable::MutableBooleanArray;
 use nest_flat::plain::Plain;
-use nest_flat::utf8::mutable::MutableUtf8Array;
 use nest_memory::bitmap::mutable::MutableBitmap;
 use nest_memory::datatypes::DataType;
 use nest_memory::error::{Argument, Error};
@@ -27,14 +22,7 @@ use std::rc::Rc;
 #[cycle(builder)]
 #[derive(Drop)]
 pub enum AnyMutableArray {
-    Null(MutableNullArray),
-    Boolean(MutableBooleanArray),
-    Primitive(AnyMutablePrimitive),
-    Binary(MutableBinaryArray<i32>),
-    LargeBinary(MutableBinaryArray<i64>),
-    Utf8(MutableUtf8Array<i32>),
-    LargeUtf8(MutableUtf8Array<i64>),
-    FixedSizeBinary(MutableFixedSizeBinaryArray),
+    Leaf(AnyMutableLeaf),
     List(ListBuilder),
     Struct(MutableStructArray),
 }
@@ -43,14 +31,7 @@ pub enum AnyMutableArray {
 macro_rules! each_kind {
     ($any:expr, $flat:ident => $leaf:expr, $nested:ident => $node:expr) => {
         match $any {
-            AnyMutableArray::Null($flat) => $leaf,
-            AnyMutableArray::Boolean($flat) => $leaf,
-            AnyMutableArray::Primitive($flat) => $leaf,
-            AnyMutableArray::Binary($flat) => $leaf,
-            AnyMutableArray::LargeBinary($flat) => $leaf,
-            AnyMutableArray::Utf8($flat) => $leaf,
-            AnyMutableArray::LargeUtf8($flat) => $leaf,
-            AnyMutableArray::FixedSizeBinary($flat) => $leaf,
+            AnyMutableArray::Leaf($flat) => $leaf,
             AnyMutableArray::List($nested) => $node,
             AnyMutableArray::Struct($nested) => $node,
         }
@@ -60,7 +41,10 @@ macro_rules! each_kind {
 impl AnyMutableArray {
     ghost use Rattle.std.specs.Borrow.{LendsIf, sem};
     ghost use Rattle.nest_any.specs.contracts.any.AnyMutableArray.{the_row};
-    ghost use Rattle.nest_any.specs.Lent.{child_at, with_child};
+    ghost use Rattle.nest_any.specs.contracts.lists.ListBuilder.{the_row as list_row};
+    ghost use Rattle.nest_any.specs.contracts.struct_.MutableStructArray.{the_row as struct_row};
+    ghost use Rattle.nest_any.specs.declared.any.AnyMutableArray.TheVariants.{List, Struct};
+    ghost use Rattle.nest_any.specs.Lent.{as_list, as_struct, child_at};
 
     /// No row of lists of that type, over an empty child.
     ///
@@ -101,16 +85,38 @@ impl AnyMutableArray {
         }
     }
 
+    /// The builder of lists, if it is one: its child is lent by `ListBuilder::child`.
+    pub fn as_list_mut(&mut self) -> Option<&mut ListBuilder>
+        ensures* writes_back { sem 𝓛 (LendsIf the_row list_row self.entry result List self.old) }
+        ensures value { option_map (λ lists. lists.now) result ≡ as_list self.old }
+    {
+        match self {
+            AnyMutableArray::List(lists) => Some(lists),
+            _ => None,
+        }
+    }
+
+    /// The builder of records, if it is one: its children are lent by `MutableStructArray::value` and `mut_values`.
+    pub fn as_struct_mut(&mut self) -> Option<&mut MutableStructArray>
+        ensures* writes_back { sem 𝓛 (LendsIf the_row struct_row self.entry result Struct self.old) }
+        ensures value { option_map (λ records. records.now) result ≡ as_struct self.old }
+    {
+        match self {
+            AnyMutableArray::Struct(records) => Some(records),
+            _ => None,
+        }
+    }
+
     /// The child of a list for 0, child i of a record; `None` of any other, into which the items of a row may be pushed
-    /// before the row is told.
+    /// before the row is told. What the builder is once the child was written over is said of `as_list_mut` and
+    /// `as_struct_mut`.
     pub fn child(&mut self, i: usize) -> Option<&mut AnyMutableArray>
-        ensures* writes_back { sem 𝓛 (LendsIf the_row the_row self.entry result (with_child self.entry.now i) self.old) }
-        ensures value { option_map (λ c. tree_of c.now) result ≡ child_at i (tree_of self.old) }
+        ensures { option_map (λ c. tree_of c.now) result ≡ child_at i (tree_of self.old) }
     {
         match self {
             AnyMutableArray::List(lists) => lists.child_at(i),
             AnyMutableArray::Struct(records) => records.child_at(i),
-            _ => None,
+            AnyMutableArray::Leaf(_) => None,
         }
     }
 

@@ -13,7 +13,7 @@ use nest_build::array::MutableArray;
 use nest_memory::bitmap::mutable::MutableBitmap;
 use nest_memory::datatypes::DataType;
 use nest_memory::error::Error;
-use std::alloc::{AllocError, Global};
+use std::alloc::Global;
 use std::marker::Model;
 
 /// Lists over a builder of their items: by offsets of 32 or of 64 bits, or of one size. Items that are pushed into the
@@ -72,11 +72,11 @@ impl ListBuilder {
         ensures ok { IfOk result (λ b. b ≡ lists_over rows (tree_of values)) }
         ensures memory { IsOkUnless result (Memory alloc_error) }
     {
-        match boxed_child(alloc, values) {
+        match Box::new(alloc, values) {
             Ok(values) => Ok(ListBuilder::over(alloc, rows, values)),
             Err(error) => {
                 drop(rows);
-                Err(error)
+                Err(error.into())
             }
         }
     }
@@ -228,16 +228,5 @@ impl ListBuilder {
         ensures value { option_map (λ c. tree_of c.now) result ≡ child_at i self.old }
     {
         if i == 0 { Some(&mut self.values) } else { None }
-    }
-}
-
-// A child in its box.
-fn boxed_child(alloc: Global, child: AnyMutableArray) -> Result<Box<AnyMutableArray>, Error>
-    ensures ok { IfOk result (λ b. b.value ≡ child) }
-    ensures memory { IsOkUnless result (Memory alloc_error) }
-{
-    match Box::new(alloc, child) {
-        Ok(child) => Ok(child),
-        Err(_) => Err(Error::Memory(AllocError)),
     }
 }
