@@ -1,5 +1,20 @@
 //! Tests of `nest_any`: its public calls, as a crate above sees them.
+//!
+//! | What the row shows | Test |
+//! |---|---|
+//! | Lists of records of a text: two records and a null list are told, frozen to the offsets 0, 2, 2, and the emptied builder is whole | `records::lists_of_records_are_told_and_frozen` |
+//! | A builder without children has no child, tells no row, and takes no value of another kind | `records::a_flat_builder_has_no_child_and_tells_no_row` |
+//! | Lists over a child of another type, over one with a row, and of a type that is no list | `records::lists_over_another_child_are_refused` |
+//! | Items that wait stand under an untrue row, by the offsets 0, 2; a builder with waiting items is not frozen | `records::items_stand_under_an_untrue_row` |
+//! | Of two children one was given a row: it waits, and no record is told or frozen | `records::half_a_row_waits` |
+//! | Of a validity without nulls `freeze` leaves none, `as_box` keeps it | `records::freeze_drops_a_validity_without_nulls` |
+//! | A record waits in a builder of lists over records until it is told | `records::an_untold_record_waits_under_a_list` |
+//! | "A", "B", null, "A" are frozen to the keys 0, 1, null, 0 over two texts; the emptied builder takes "C" by key 0 | `dictionaries::each_text_is_kept_once` |
+//! | A number of 32 bits is no value of a dictionary of numbers of 64 bits, and a text is refused | `dictionaries::a_number_is_found_by_its_own_kind` |
+//! | 256 numbers by keys of 8 bits without a sign, and no other; known ones are taken | `dictionaries::there_are_as_many_values_as_keys` |
 #![tactic(auto)]
 
+#[cfg(test)]
+mod dictionaries;
 #[cfg(test)]
 mod records;
