@@ -1,6 +1,6 @@
 -- The builders in a list, as part of a tree: what holds of all of them and of each.
-use Rattle.std.specs.Prelude.{List as Seq, [], ◌∷◌, Bool, true, false, ◌||◌, ◌⊎◌, replicate, alloc_error}
-use Rattle.std.proofs.Common.{◌≡◌, ℕ, zero, suc, ◌+◌, ◌<◌, ◌≤◌, ltb, length, get_or, set, take, refl, sym, ap, ◌∙◌, arith, inl, inr}
+use Rattle.std.specs.Prelude.{List as Seq, [], ◌∷◌, Bool, true, false, ◌||◌, ◌⊎◌, alloc_error}
+use Rattle.std.proofs.Common.{◌≡◌, ℕ, zero, suc, ◌+◌, ◌<◌, ◌≤◌, ltb, length, get_or, set, refl, sym, ap, ◌∙◌, arith, inl, inr}
 use Rattle.std.proofs.lemmas.List.{get_or-set_same, get_or-set_other, get_or_default, length-set}
 use Rattle.std.proofs.lemmas.Bool.{ltb-true, ltb-false}
 use Rattle.nest_memory.specs.declared.error.Error.{Error}

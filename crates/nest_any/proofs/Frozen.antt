@@ -1,7 +1,7 @@
 -- The arrays of the children of records, and the array of the records.
-use Rattle.std.specs.Prelude.{List as Seq, [], ◌∷◌, Bool, true, false, Some, ◌++◌, Result, Ok, Err, IfOk, IsOk}
+use Rattle.std.specs.Prelude.{List as Seq, [], ◌∷◌, Bool, true, false, ◌++◌, Result, Ok, Err, IfOk, IsOk}
 use Rattle.std.specs.declared.vec.Vec.{Vec}
-use Rattle.std.proofs.Common.{◌≡◌, ℕ, zero, suc, ◌+◌, ◌<◌, ◌≤◌, length, get_or, take, refl, sym, ap, subst, ◌∙◌, arith}
+use Rattle.std.proofs.Common.{◌≡◌, ℕ, suc, ◌+◌, ◌<◌, length, get_or, take, refl, sym, ap, subst, ◌∙◌, arith}
 use Rattle.std.proofs.lemmas.List.{take_more}
 use Rattle.nest_array.specs.declared.any.AnyArray.{AnyArray}
 use Rattle.nest_array.specs.Seen.{layout_of, layouts_of}

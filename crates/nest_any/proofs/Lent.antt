@@ -1,7 +1,7 @@
 -- A child that is lent, in the list of the children.
 use Rattle.std.specs.Prelude.{List as Seq, [], ◌∷◌, Some, None}
 use Rattle.std.proofs.Common.{◌≡◌, ℕ, zero, suc, ◌<◌, ◌≤◌, ◌++◌, length, get_or, set, take, drop, refl, ap, ◌∙◌, arith}
-use Rattle.nest_model.specs.BuilderTree.{BuilderTree, BuilderTrees, no_builders, more_builders}
+use Rattle.nest_model.specs.BuilderTree.{BuilderTree, more_builders}
 use Rattle.nest_any.specs.Each.{each}
 use Rattle.nest_any.specs.Lent.{builder_at, set_builder, written_over}
 

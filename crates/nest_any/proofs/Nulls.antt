@@ -1,6 +1,6 @@
 -- A null that was appended, as what the interface says of it.
-use Rattle.std.specs.Prelude.{◌⊎◌, None, Some, alloc_error}
-use Rattle.std.proofs.Common.{◌≡◌, ℕ, zero, suc, ◌+◌, ◌<◌, Bool, true, false, sym, ap, ◌∙◌, inl, inr, arith}
+use Rattle.std.specs.Prelude.{◌⊎◌, Some, alloc_error}
+use Rattle.std.proofs.Common.{◌≡◌, ℕ, zero, suc, ◌+◌, ◌<◌, true, false, sym, ap, ◌∙◌, inl, inr, arith}
 use Rattle.nest_memory.specs.declared.error.Error.{Error}
 use Rattle.nest_memory.specs.declared.error.Error.TheVariants.{Memory, Overflow}
 use Rattle.nest_model.specs.BuilderTree.{BuilderTree}
@@ -10,7 +10,7 @@ use Rattle.nest_model.specs.BuilderAppend.{Accepted, nulls_appended}
 use Rattle.nest_model.specs.BuilderAppendLaws.{nulls-zero, nulls-more}
 use Rattle.nest_model.specs.BuilderAcceptLaws.{accepted-null}
 use Rattle.nest_model.specs.BuilderRefusals.{nulls_pass, item_refusal}
-use Rattle.nest_model.specs.BuilderRefusalLaws.{null_none, null_past, null_passes, null_fits, nulls-more_fit, nulls-then_pass}
+use Rattle.nest_model.specs.BuilderRefusalLaws.{null_past, null_passes, nulls-more_fit, nulls-then_pass}
 
 pub null_accepted : (t u : BuilderTree) → IsWhole t → u ≡ nulls_appended 1 t → Accepted items.null t u
 null_accepted t u w e = rw e (accepted-null t w)

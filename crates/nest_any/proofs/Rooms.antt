@@ -1,7 +1,7 @@
 -- Room for more rows, and nulls, that pass a limit in one of some builders or in none.
 use Rattle.std.specs.Prelude.{List as Seq, [], ◌∷◌, Bool, true, false, ◌||◌, ◌⊎◌, alloc_error}
 use Rattle.std.specs.List.{list_any}
-use Rattle.std.proofs.Common.{◌≡◌, ℕ, zero, suc, ◌+◌, ◌<◌, length, get_or, refl, sym, ap, ◌∙◌, inl, inr, arith}
+use Rattle.std.proofs.Common.{◌≡◌, ℕ, suc, ◌<◌, length, get_or, refl, sym, ap, ◌∙◌, inl, inr, arith}
 use Rattle.std.proofs.lemmas.List.Folds.{list_any_at}
 use Rattle.nest_memory.specs.declared.error.Error.{Error}
 use Rattle.nest_memory.specs.declared.error.Error.TheVariants.{Memory, Overflow}

@@ -1,6 +1,6 @@
 -- What builders of lists tell, from what their rows tell over the child.
 use Rattle.std.specs.Prelude.{OnOk, Result, Ok, Err}
-use Rattle.std.proofs.Common.{◌≡◌, ℕ, Bool, false, List as Seq, length, refl, sym, subst}
+use Rattle.std.proofs.Common.{◌≡◌, Bool, false, refl, sym, subst}
 use Rattle.nest_model.specs.Checks.{Pass}
 use Rattle.nest_model.specs.BuilderTree.{BuilderTree, builder_len}
 use Rattle.nest_model.specs.BuilderItem.{PlainValue, takes}

@@ -1,10 +1,10 @@
 -- As many data types as builders, and as many as fields.
 use Rattle.std.specs.Prelude.{List as Seq, [], ◌∷◌}
-use Rattle.std.proofs.Common.{◌≡◌, ℕ, suc, ◌+◌, ◌<◌, ◌≤◌, length, refl, sym, ap, subst, ◌∙◌, arith}
-use Rattle.nest_memory.specs.TypeTree.{TypeTree, FieldTrees, no_fields, more_fields, count_fields, fields_of}
+use Rattle.std.proofs.Common.{◌≡◌, suc, ◌<◌, length, refl, ap, arith}
+use Rattle.nest_memory.specs.TypeTree.{FieldTrees, no_fields, more_fields, count_fields}
 use Rattle.nest_memory.specs.TypeOf.{field_list_of}
 use Rattle.nest_memory.specs.declared.datatypes.field.Field.{Field}
-use Rattle.nest_model.specs.BuilderTree.{BuilderTree, BuilderTrees, no_builders, more_builders, struct, builder_len, builder_type, builder_types, field_types}
+use Rattle.nest_model.specs.BuilderTree.{BuilderTree, BuilderTrees, no_builders, more_builders, builder_types, field_types}
 use Rattle.nest_any.specs.Each.{each}
 use Rattle.nest_any.specs.Refusals.{count_builders}
 

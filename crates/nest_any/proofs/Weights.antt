@@ -1,10 +1,7 @@
 -- How deep a builder is stays under all that a call does to it.
-use Rattle.std.specs.Prelude.{Option, Some, None}
-use Rattle.std.proofs.Common.{◌≡◌, ℕ, ◌+◌, ◌*◌, List, refl, sym, ap, ◌∙◌, arith}
+use Rattle.std.proofs.Common.{◌≡◌, ℕ, ◌*◌, refl, arith}
 use Rattle.nest_memory.specs.TypeTree.{size_of}
 use Rattle.nest_model.specs.BuilderTree.{BuilderTree, BuilderTrees, flat, list, fixed_size_list, dictionary, struct, no_builders, more_builders}
-use Rattle.nest_model.specs.BuilderRow.{end_from, values_needed}
-use Rattle.nest_model.specs.BuilderWhole.{cut_builder, cut_builders}
 use Rattle.nest_model.specs.BuilderAppend.{nulls_appended, nulls_appended_each}
 use Rattle.nest_any.specs.BuilderCode.{weight, weight_all}
 

@@ -1,5 +1,5 @@
 -- Why no builder of lists or of records is made, and what its children are.
-use Rattle.std.specs.Prelude.{◌≡◌, ◌⊎◌, ◌<◌, ◌≤◌, ℕ, suc, Bool, true, false, List as Seq, [], length, Some}
+use Rattle.std.specs.Prelude.{◌≡◌, ◌⊎◌, ◌<◌, ◌≤◌, ℕ, suc, Bool, true, false, List as Seq, [], Some}
 use Rattle.nest_memory.specs.TypeTree.{TypeTree, count_fields, fields_of, item_type, size_of}
 use Rattle.nest_memory.specs.Physical.{physical_type}
 use Rattle.nest_memory.specs.declared.datatypes.physical_type.PhysicalType.{PhysicalType}
@@ -10,13 +10,13 @@ use Rattle.nest_memory.specs.declared.error.Spec.TheVariants.{ChildLength, Child
 use Rattle.nest_model.specs.Checks.{Checks, done, check}
 use Rattle.nest_model.specs.Part.{Validity}
 use Rattle.nest_model.specs.Fits.{ValidityFits}
-use Rattle.nest_model.specs.Layout.{Layout, Layouts, no_layouts, more_layouts, layout_type}
+use Rattle.nest_model.specs.Layout.{Layouts, no_layouts, more_layouts, layout_type}
 use Rattle.nest_model.specs.Meaning.{slots_of}
 use Rattle.nest_model.specs.BuilderFreeze.{SpellsBits}
 use Rattle.nest_model.specs.BuilderLevels.{own_slots}
-use Rattle.nest_model.specs.BuilderTree.{BuilderTree, BuilderTrees, flat, list, fixed_size_list, dictionary, struct, no_builders, more_builders, builder_len, builder_type, builder_types, field_types}
+use Rattle.nest_model.specs.BuilderTree.{BuilderTree, BuilderTrees, list, fixed_size_list, struct, no_builders, more_builders, builder_len, builder_type, builder_types, field_types}
 use Rattle.nest_model.specs.BuilderWhole.{IsWhole}
-use Rattle.nest_model.specs.BuilderRowChecks.{AreEachWhole, HaveRows}
+use Rattle.nest_model.specs.BuilderRowChecks.{HaveRows}
 
 -- a physical type of lists
 abbrev pub IsOfLists : PhysicalType → Type 0

@@ -1,4 +1,4 @@
-use Rattle.std.proofs.Common.{◌≡◌, ◌+◌, ◌*◌, ◌≤◌, length, ap, sym, ◌∙◌, subst, arith}
+use Rattle.std.proofs.Common.{◌≤◌, length, ap, sym, subst, arith}
 use Rattle.nest_model.specs.BuilderTree.{builder_len}
 use Rattle.nest_model.specs.BuilderWhole.{IsWhole}
 use Rattle.nest_any.specs.BuilderCode.{weight, weight_all}

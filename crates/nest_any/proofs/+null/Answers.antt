@@ -1,4 +1,4 @@
-use Rattle.std.proofs.Common.{◌≡◌, ◌+◌, ◌*◌, ◌≤◌, false, length, get_or, ap, sym, ◌∙◌, subst, arith}
+use Rattle.std.proofs.Common.{◌≡◌, false, length, get_or, ap, sym, ◌∙◌, subst, arith}
 use Rattle.std.proofs.lemmas.List.{length-set, with_items_is}
 use Rattle.std.specs.Vec.{with_items}
 use Rattle.nest_model.specs.BuilderTree.{builder_len, struct}
@@ -6,7 +6,7 @@ use Rattle.nest_model.specs.BuilderWhole.{IsWhole, AreWhole, cut_builder, cut_bu
 use Rattle.nest_model.specs.BuilderAppend.{nulls_appended, nulls_appended_each}
 use Rattle.nest_model.specs.BuilderAppendLaws.{nulls-zero}
 use Rattle.nest_model.specs.BuilderRefusals.{nulls_pass}
-use Rattle.nest_model.specs.BuilderAcceptLaws.{whole-nulls, len-nulls}
+use Rattle.nest_model.specs.BuilderAcceptLaws.{whole-nulls}
 use Rattle.nest_any.specs.BuilderCode.{weight, weight_all}
 use Rattle.nest_any.specs.Refusals.{AreEachLong}
 use Rattle.nest_any.specs.Trees.{tree_of, trees_of}

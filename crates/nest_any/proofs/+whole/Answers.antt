@@ -1,6 +1,6 @@
-use Rattle.std.proofs.Common.{◌≡◌, ◌+◌, ◌*◌, ap, arith}
-use Rattle.nest_any.specs.BuilderCode.{weight, weight_all}
-use Rattle.nest_any.specs.Trees.{tree_of, trees_of}
+use Rattle.std.proofs.Common.{ap, arith}
+use Rattle.nest_any.specs.BuilderCode.{weight}
+use Rattle.nest_any.specs.Trees.{tree_of}
 use Rattle.nest_any.proofs.Each.{weight-at}
 use Rattle.nest_any.proofs.+whole.Goals as goal
 

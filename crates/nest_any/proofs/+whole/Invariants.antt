@@ -1,5 +1,4 @@
 use Rattle.std.proofs.Common.{◌↔◌, ◌+◌, ◌*◌, drop}
-use Rattle.nest_any.specs.declared.any.AnyMutableArray.{AnyMutableArray}
 use Rattle.nest_any.specs.BuilderCode.{weight, weight_all}
 use Rattle.nest_any.specs.Trees.{tree_of, trees_of}
 use Rattle.nest_model.specs.BuilderWhole.{AreWhole}

@@ -1,4 +1,3 @@
-use Rattle.std.specs.Option.{SomeIff}
 use Rattle.std.proofs.Common.{◌≡◌, ◌+◌, ◌*◌, ◌∙◌, sym, inr, length, arith}
 use Rattle.nest_memory.specs.TypeTree.{size_of}
 use Rattle.nest_any.proofs.RowLaws.{rows-below}

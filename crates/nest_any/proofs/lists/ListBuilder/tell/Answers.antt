@@ -1,7 +1,6 @@
 use Rattle.std.specs.Prelude.{◌⊎◌, alloc_error}
 use Rattle.std.proofs.Common.{◌≡◌, ap, subst, ◌∙◌}
 use Rattle.std.proofs.lemmas.Result.{on_ok_weaker, on_err_weaker, IfErr-weaker}
-use Rattle.nest_memory.specs.TypeOf.{type_of}
 use Rattle.nest_memory.specs.declared.error.Error.TheVariants.{Memory}
 use Rattle.nest_model.specs.Checks.{FailFirst, Pass}
 use Rattle.nest_model.specs.BuilderTree.{builder_len, builder_type}

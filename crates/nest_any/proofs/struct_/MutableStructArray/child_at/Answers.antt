@@ -1,4 +1,4 @@
-use Rattle.std.proofs.Common.{◌≡◌, ◌≤◌, length, refl, sym, ap, ◌∙◌, arith}
+use Rattle.std.proofs.Common.{◌≤◌, length, refl, sym, ap, ◌∙◌, arith}
 use Rattle.nest_any.specs.Lent.{child_at}
 use Rattle.nest_any.specs.Refusals.{count_builders, struct_children}
 use Rattle.nest_any.specs.Trees.{tree_of}

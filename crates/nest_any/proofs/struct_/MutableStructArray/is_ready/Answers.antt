@@ -1,4 +1,4 @@
-use Rattle.std.proofs.Common.{◌≡◌, ◌<◌, ◌+◌, ◌≤◌, ap, sym, subst, ◌∙◌, arith}
+use Rattle.std.proofs.Common.{◌<◌, ap, sym, subst, ◌∙◌, arith}
 use Rattle.nest_memory.specs.TypeOf.{field_list_of}
 use Rattle.nest_memory.specs.TypeTree.{count_fields, fields_of}
 use Rattle.nest_model.specs.BuilderTree.{builder_len, builder_type}

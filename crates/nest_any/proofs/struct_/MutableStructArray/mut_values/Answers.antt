@@ -1,4 +1,4 @@
-use Rattle.std.proofs.Common.{◌≡◌, length, take, drop, ◌++◌, refl, ap, ◌∙◌}
+use Rattle.std.proofs.Common.{refl, ap, ◌∙◌}
 use Rattle.nest_model.specs.BuilderTree.{struct}
 use Rattle.nest_any.specs.Lent.{with_children}
 use Rattle.nest_any.specs.Refusals.{struct_children}

@@ -1,9 +1,9 @@
 use Rattle.std.specs.Prelude.{Some}
-use Rattle.std.proofs.Common.{◌≡◌, ◌<◌, length, refl, ap, ◌∙◌, arith}
+use Rattle.std.proofs.Common.{◌<◌, length, refl, ap, ◌∙◌, arith}
 use Rattle.nest_model.specs.BuilderTree.{struct}
 use Rattle.nest_any.specs.Lent.{builder_at, with_field}
 use Rattle.nest_any.specs.Refusals.{count_builders, struct_children}
-use Rattle.nest_any.specs.Trees.{tree_of, trees_of}
+use Rattle.nest_any.specs.Trees.{tree_of}
 use Rattle.nest_any.proofs.Lent.{each-at, each-set}
 use Rattle.nest_any.proofs.Types.{children-count}
 use Rattle.nest_any.proofs.struct_.MutableStructArray.value.Goals as goal
