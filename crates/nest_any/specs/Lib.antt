@@ -1,6 +1,7 @@
 pub mod BuilderCode
 pub mod Each
 pub mod Falls
+pub mod Flat
 pub mod Lent
 pub mod Refusals
 pub mod SeenLists

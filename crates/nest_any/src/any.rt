@@ -4,12 +4,13 @@ ghost use Rattle.nest_any.specs.Trees.{tree_of};
 ghost use Rattle.nest_any.specs.Words.{FailFirst, HasWholeChildren, IsWhole, Memory, Overflow, Pass, Told, builder_len, builder_type, cut_builder, emptied, layout_of, layout_type, nested_checks, nested_over, nulls_appended, nulls_pass, own_slots, reserve_passes, row_checks, slots_of, type_of};
 
 use crate::children::add_null_to;
-use crate::leaf::AnyMutableLeaf;
+use crate::flat::AnyMutableFlat;
 use crate::lists::ListBuilder;
 use crate::rows::TypedRows;
 use crate::struct_::MutableStructArray;
 use nest_array::AnyArray;
 use nest_build::array::{MutableArray, shared};
+use nest_build::null::MutableNullArray;
 use nest_flat::plain::Plain;
 use nest_memory::bitmap::mutable::MutableBitmap;
 use nest_memory::datatypes::DataType;
@@ -22,7 +23,8 @@ use std::rc::Rc;
 #[cycle(builder)]
 #[derive(Drop)]
 pub enum AnyMutableArray {
-    Leaf(AnyMutableLeaf),
+    Null(MutableNullArray),
+    Flat(AnyMutableFlat),
     List(ListBuilder),
     Struct(MutableStructArray),
 }
@@ -31,7 +33,8 @@ pub enum AnyMutableArray {
 macro_rules! each_kind {
     ($any:expr, $flat:ident => $leaf:expr, $nested:ident => $node:expr) => {
         match $any {
-            AnyMutableArray::Leaf($flat) => $leaf,
+            AnyMutableArray::Null($flat) => $leaf,
+            AnyMutableArray::Flat($flat) => $leaf,
             AnyMutableArray::List($nested) => $node,
             AnyMutableArray::Struct($nested) => $node,
         }
@@ -116,7 +119,7 @@ impl AnyMutableArray {
         match self {
             AnyMutableArray::List(lists) => lists.child_at(i),
             AnyMutableArray::Struct(records) => records.child_at(i),
-            AnyMutableArray::Leaf(_) => None,
+            _ => None,
         }
     }
 

@@ -3,13 +3,13 @@
 
 pub mod any;
 mod children;
-pub mod leaf;
+pub mod flat;
 pub mod lists;
 mod rows;
 pub mod struct_;
 mod struct_type;
 
 pub use any::AnyMutableArray;
-pub use leaf::AnyMutableLeaf;
+pub use flat::AnyMutableFlat;
 pub use lists::ListBuilder;
 pub use struct_::MutableStructArray;

@@ -1,6 +1,6 @@
 //! Dictionaries of texts and of numbers, over builders of any kind without children. Values with a data type are let go by
 //! `drop`, which keeps the proofs short.
-use nest_any::AnyMutableLeaf;
+use nest_any::AnyMutableFlat;
 use nest_array::{AnyArray, AnyKeys, DictionaryArray};
 use nest_build::array::MutableArray;
 use nest_build::dictionary::MutableDictionaryArray;
@@ -14,18 +14,18 @@ use std::alloc::Global;
 use std::test::Fail;
 
 /// Values of any kind without children by keys of which there are 256.
-type Keyed = MutableDictionaryArray<u8, AnyMutableLeaf>;
+type Keyed = MutableDictionaryArray<u8, AnyMutableFlat>;
 
 fn no_texts(alloc: Global) -> Result<Keyed, Error> {
     MutableDictionaryArray::try_from_values(
         alloc,
-        AnyMutableLeaf::Utf8(MutableUtf8Array::new(alloc)?),
+        AnyMutableFlat::Utf8(MutableUtf8Array::new(alloc)?),
     )
 }
 
 fn no_numbers(alloc: Global) -> Result<Keyed, Error> {
     let numbers = AnyMutablePrimitive::Int64(MutablePrimitiveArray::new(alloc));
-    MutableDictionaryArray::try_from_values(alloc, AnyMutableLeaf::Primitive(numbers))
+    MutableDictionaryArray::try_from_values(alloc, AnyMutableFlat::Primitive(numbers))
 }
 
 fn push(keyed: &mut Keyed, value: Plain<'_>) -> Result<(), Error> {

@@ -1,5 +1,5 @@
 //! Builders of records, and builders of any kind over them.
-use nest_any::{AnyMutableArray, AnyMutableLeaf, MutableStructArray};
+use nest_any::{AnyMutableArray, AnyMutableFlat, MutableStructArray};
 use nest_array::{AnyArray, ListArray, StructArray};
 use nest_build::array::MutableArray;
 use nest_build::list::MutableListArray;
@@ -20,11 +20,11 @@ const UNFINISHED: Error = Error::InvalidArgumentError(Argument::Unfinished);
 const OTHER_KIND: Error = Error::InvalidArgumentError(Argument::ItemType);
 
 fn texts(alloc: Global) -> Result<AnyMutableArray, Error> {
-    Ok(AnyMutableArray::Leaf(AnyMutableLeaf::Utf8(MutableUtf8Array::new(alloc)?)))
+    Ok(AnyMutableArray::Flat(AnyMutableFlat::Utf8(MutableUtf8Array::new(alloc)?)))
 }
 
 fn numbers(alloc: Global) -> AnyMutableArray {
-    AnyMutableArray::Leaf(AnyMutableLeaf::Primitive(AnyMutablePrimitive::Int64(
+    AnyMutableArray::Flat(AnyMutableFlat::Primitive(AnyMutablePrimitive::Int64(
         MutablePrimitiveArray::new(alloc),
     )))
 }

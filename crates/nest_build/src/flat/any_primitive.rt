@@ -97,7 +97,8 @@ fn typed<T: Native>(builder: &MutablePrimitiveArray<T>)
     builder.known();
 }
 
-fn known(any: &AnyMutablePrimitive)
+/// What holds of every such builder: its data type is of its kind.
+pub fn known(any: &AnyMutablePrimitive)
     ensures { physical_type (layout_type (built_layout any.now)) ≡ physical.Primitive (built_kind any.now) }
 {
     each_kind!(any, builder => typed(builder))

@@ -1,5 +1,5 @@
 //! The builders of flat arrays as builders of arrays: what they do alike is said once, for every `FlatBuilder`.
-mod any_primitive;
+pub mod any_primitive;
 mod binary;
 mod boolean;
 mod primitive;

@@ -1,0 +1,26 @@
+-- A builder of a flat array of any kind as the layout of its array so far, and the physical type of its kind.
+use Rattle.nest_any.specs.declared.flat.AnyMutableFlat.{AnyMutableFlat}
+use Rattle.nest_any.specs.declared.flat.AnyMutableFlat.TheVariants.{Boolean, Primitive, Binary, LargeBinary, Utf8, LargeUtf8, FixedSizeBinary}
+use Rattle.nest_build.specs.BuiltKind.{built_kind}
+use Rattle.nest_flat.specs.AnyMutablePrimitive.{built_layout}
+use Rattle.nest_memory.specs.declared.datatypes.physical_type.PhysicalType.{PhysicalType}
+use Rattle.nest_memory.specs.declared.datatypes.physical_type.PhysicalType.TheVariants as physical
+use Rattle.nest_model.specs.Layout.{Layout}
+
+abbrev pub flat_layout : AnyMutableFlat → Layout
+flat_layout (Boolean b) = b
+flat_layout (Primitive b) = built_layout b
+flat_layout (Binary b) = b
+flat_layout (LargeBinary b) = b
+flat_layout (Utf8 b) = b
+flat_layout (LargeUtf8 b) = b
+flat_layout (FixedSizeBinary b) = b
+
+abbrev pub physical_kind : AnyMutableFlat → PhysicalType
+physical_kind (Boolean b) = physical.Boolean
+physical_kind (Primitive b) = physical.Primitive (built_kind b)
+physical_kind (Binary b) = physical.Binary
+physical_kind (LargeBinary b) = physical.LargeBinary
+physical_kind (Utf8 b) = physical.Utf8
+physical_kind (LargeUtf8 b) = physical.LargeUtf8
+physical_kind (FixedSizeBinary b) = physical.FixedSizeBinary

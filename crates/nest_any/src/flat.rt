@@ -1,0 +1,137 @@
+//! A builder of a flat array of any kind.
+ghost use Rattle.std.specs.Prelude.{◌≡◌};
+ghost use Rattle.nest_any.specs.Flat.{flat_layout, physical_kind};
+ghost use Rattle.nest_any.specs.Words.{layout_type, physical_type};
+
+use nest_array::AnyArray;
+use nest_build::child::same_types;
+use nest_build::fixed_size_binary::MutableFixedSizeBinaryArray;
+use nest_build::flat::{FlatBuilder, TakesValue, any_primitive};
+use nest_flat::any_primitive::mutable::AnyMutablePrimitive;
+use nest_flat::binary::mutable::MutableBinaryArray;
+use nest_flat::boolean::mutable::MutableBooleanArray;
+use nest_flat::plain::{AsPlain, Plain};
+use nest_flat::utf8::mutable::MutableUtf8Array;
+use nest_memory::bitmap::mutable::MutableBitmap;
+use nest_memory::datatypes::DataType;
+use nest_memory::error::{Argument, Error};
+
+/// A builder of values without children, in the variant of its kind. It takes values of its kind alone; `try_push` of
+/// another one answers `ItemType`.
+#[derive(Drop)]
+pub enum AnyMutableFlat {
+    Boolean(MutableBooleanArray),
+    Primitive(AnyMutablePrimitive),
+    Binary(MutableBinaryArray<i32>),
+    LargeBinary(MutableBinaryArray<i64>),
+    Utf8(MutableUtf8Array<i32>),
+    LargeUtf8(MutableUtf8Array<i64>),
+    FixedSizeBinary(MutableFixedSizeBinaryArray),
+}
+
+// The same expression over the builder of each kind.
+macro_rules! each_flat {
+    ($any:expr, $builder:ident => $body:expr) => {
+        match $any {
+            AnyMutableFlat::Boolean($builder) => $body,
+            AnyMutableFlat::Primitive($builder) => $body,
+            AnyMutableFlat::Binary($builder) => $body,
+            AnyMutableFlat::LargeBinary($builder) => $body,
+            AnyMutableFlat::Utf8($builder) => $body,
+            AnyMutableFlat::LargeUtf8($builder) => $body,
+            AnyMutableFlat::FixedSizeBinary($builder) => $body,
+        }
+    };
+}
+
+// The rows of another builder behind its own, where both are of one kind.
+macro_rules! join_pair {
+    ($kind:ident, $builder:ident, $other:expr) => {
+        match $other {
+            AnyMutableFlat::$kind(more) => FlatBuilder::join($builder, more),
+            _ => unreachable!(),
+        }
+    };
+}
+
+// The data type of a builder is of its kind.
+fn known(any: &AnyMutableFlat)
+    ensures { physical_type (layout_type (flat_layout any.now)) ≡ physical_kind any.now }
+{
+    match any {
+        AnyMutableFlat::Boolean(builder) => builder.known(),
+        AnyMutableFlat::Primitive(builder) => any_primitive::known(builder),
+        AnyMutableFlat::Binary(builder) => builder.known(),
+        AnyMutableFlat::LargeBinary(builder) => builder.known(),
+        AnyMutableFlat::Utf8(builder) => builder.known(),
+        AnyMutableFlat::LargeUtf8(builder) => builder.known(),
+        AnyMutableFlat::FixedSizeBinary(builder) => builder.known(),
+    }
+}
+
+impl FlatBuilder for AnyMutableFlat {
+    ghost parts = { flat_layout };
+
+    fn facts(&self) {
+        each_flat!(self, builder => FlatBuilder::facts(builder))
+    }
+
+    fn count(&self) -> usize {
+        each_flat!(self, builder => FlatBuilder::count(builder))
+    }
+
+    fn type_of_slots(&self) -> &DataType {
+        each_flat!(self, builder => FlatBuilder::type_of_slots(builder))
+    }
+
+    fn bits(&self) -> Option<&MutableBitmap> {
+        each_flat!(self, builder => FlatBuilder::bits(builder))
+    }
+
+    fn bit(&self, i: usize) -> bool {
+        each_flat!(self, builder => FlatBuilder::bit(builder, i))
+    }
+
+    fn is_value(&self, i: usize, value: &Plain<'_>) -> bool {
+        each_flat!(self, builder => FlatBuilder::is_value(builder, i, value))
+    }
+
+    fn push_plain(&mut self, value: Option<Plain<'_>>) -> Result<(), Error> {
+        each_flat!(self, builder => FlatBuilder::push_plain(builder, value))
+    }
+
+    fn join(&mut self, other: &AnyMutableFlat) -> Result<(), Error> {
+        if !same_types(self.type_of_slots(), other.type_of_slots()) {
+            return Err(Error::InvalidArgumentError(Argument::ItemType));
+        }
+        known(self);
+        known(other);
+        match self {
+            AnyMutableFlat::Boolean(builder) => join_pair!(Boolean, builder, other),
+            AnyMutableFlat::Primitive(builder) => join_pair!(Primitive, builder, other),
+            AnyMutableFlat::Binary(builder) => join_pair!(Binary, builder, other),
+            AnyMutableFlat::LargeBinary(builder) => join_pair!(LargeBinary, builder, other),
+            AnyMutableFlat::Utf8(builder) => join_pair!(Utf8, builder, other),
+            AnyMutableFlat::LargeUtf8(builder) => join_pair!(LargeUtf8, builder, other),
+            AnyMutableFlat::FixedSizeBinary(builder) => join_pair!(FixedSizeBinary, builder, other),
+        }
+    }
+
+    fn cut(&mut self, n: usize) {
+        each_flat!(self, builder => FlatBuilder::cut(builder, n))
+    }
+
+    fn room(&mut self, additional: usize) -> Result<(), Error> {
+        each_flat!(self, builder => FlatBuilder::room(builder, additional))
+    }
+
+    fn shrink(&mut self) {
+        each_flat!(self, builder => FlatBuilder::shrink(builder))
+    }
+
+    fn frozen(&mut self) -> Result<AnyArray, Error> {
+        each_flat!(self, builder => FlatBuilder::frozen(builder))
+    }
+}
+
+impl<A: AsPlain> TakesValue<A> for AnyMutableFlat {}
