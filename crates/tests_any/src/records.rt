@@ -12,7 +12,7 @@ use nest_memory::bitmap::mutable::MutableBitmap;
 use nest_memory::datatypes::DataType;
 use nest_memory::datatypes::field::Field;
 use nest_memory::error::{Argument, Error, Spec};
-use std::alloc::Global;
+use std::alloc::{AllocError, Global};
 use std::test::Fail;
 
 const UNFINISHED: Error = Error::InvalidArgumentError(Argument::Unfinished);
@@ -238,6 +238,58 @@ fn half_a_row_waits(rt: HostRuntime) -> Result<(), Fail> {
     assert!(rt; waiting == 1);
     drop(records);
     Ok(())
+}
+
+/// Records of a number and a text, none yet.
+fn no_records(alloc: Global) -> Result<AnyMutableArray, Error> {
+    let a = Field::new(alloc, "a", DataType::Int64, true)?;
+    let b = Field::new(alloc, "b", DataType::Utf8, true)?;
+    let data_type = DataType::Struct(vec![in alloc; a, b]?);
+    let values = vec![in alloc; numbers(alloc), texts(alloc)?]?;
+    let records = MutableStructArray::try_new(alloc, data_type, values, None)?;
+    Ok(AnyMutableArray::Struct(records))
+}
+
+/// Whether the records and each of their children have so many rows.
+fn have_rows(any: &AnyMutableArray, count: usize) -> bool {
+    let AnyMutableArray::Struct(records) = any else {
+        return false;
+    };
+    for child in records.values() {
+        if child.len() != count {
+            return false;
+        }
+    }
+    any.len() == count
+}
+
+/// Whether a null was added, at each level or at none.
+fn add_null(records: &mut AnyMutableArray) -> bool {
+    records.is_whole() && records.push_null().is_ok()
+}
+
+// Holds where any one request for memory is refused.
+#[test]
+fn a_refused_null_changes_no_level(rt: HostRuntime) {
+    let Ok(mut records) = no_records(rt.alloc()) else {
+        return;
+    };
+    let mut rows = 0usize;
+    for _ in 0..20 {
+        if add_null(&mut records) {
+            rows = rows.saturating_add(1);
+        }
+        assert!(rt; have_rows(&records, rows));
+    }
+    let frozen = records.as_box();
+    let shown = match &frozen {
+        Ok(array) => array.len() == rows && array.null_count() == rows,
+        Err(error) => *error == Error::Memory(AllocError),
+    };
+    drop(frozen);
+    assert!(rt; shown);
+    assert!(rt; have_rows(&records, 0));
+    drop(records);
 }
 
 /// Records of no row with a validity of no bit.
