@@ -1,5 +1,5 @@
 //! Rows between offsets: what bytes, texts, lists and maps share.
-ghost use Rattle.std.specs.Prelude.{◌≡◌, ◌+◌, ◌<◌, ◌≤◌, ◌^◌, ◌⊎◌, ◌∷◌, IfOk, IfErr, IsOkUnless, MatchResult, alloc_error, length, map, option_map};
+ghost use Rattle.std.specs.Prelude.{◌≡◌, ◌+◌, ◌<◌, ◌≤◌, ◌^◌, ◌⊎◌, ◌∷◌, [], IfOk, IfErr, IsOkUnless, MatchResult, alloc_error, length, map, option_map};
 ghost use Rattle.std.specs.List.{sum_by};
 ghost use Rattle.nest_flat.specs.FlatParts.{ValidityCovers};
 ghost use Rattle.nest_take.specs.Words.{AreBelow, Memory, Overflow, PassesOffsets, ReachesBits, begin, count_at, ends_from, item_places, items_at, last_of, rows, taken_validity};
@@ -43,7 +43,7 @@ pub(crate) fn count<O: Offset>(
     requires within { AreBelow places.now (rows offsets.now) }
     requires bits { ReachesBits (option_map (λ b. b.now) validity) places.now }
     ensures { MatchResult result
-        (λ n. n ≡ sum_by (count_at offsets.now (option_map (λ b. b.now) validity.entry)) places.now)
+        (λ n. (n ≡ sum_by (count_at offsets.now (option_map (λ b. b.now) validity.entry)) places.now) × (n ≤ O.largest))
         (λ e. (e ≡ Overflow) × PassesOffsets O.IS_LARGE offsets.now (option_map (λ b. b.now) validity.entry) places.now) }
 {
     let mut count: usize = 0;
@@ -59,27 +59,18 @@ pub(crate) fn count<O: Offset>(
     Ok(count)
 }
 
-/// How many items each of the rows at some places has.
-fn lengths<O: Offset>(
-    alloc: Global,
-    offsets: &OffsetsBuffer<O>,
-    validity: Option<&Bitmap>,
-    places: &[usize],
-) -> Result<Vec<usize>, Error>
-    requires within { AreBelow places.now (rows offsets.now) }
-    requires bits { ReachesBits (option_map (λ b. b.now) validity) places.now }
-    ensures ok { IfOk result (λ v. v.items ≡ map (count_at offsets.now (option_map (λ b. b.now) validity.entry)) places.now) }
+/// The one offset 0, with room for so many slots.
+fn room_for<O: Offset>(alloc: Global, slots: usize) -> Result<Offsets<O>, Error>
+    ensures ok { IfOk result (λ b. b ≡ 0 ∷ []) }
     ensures err { IsOkUnless result (Memory alloc_error) }
 {
-    let mut lengths = Vec::with_capacity(alloc, places.len())?;
-    for place in places {
-        lengths.push_reserved(range(offsets, validity, *place).1);
-    }
-    Ok(lengths)
+    let mut ends = Offsets::new(alloc)?;
+    ends.reserve(slots)?;
+    Ok(ends)
 }
 
 /// The offsets of the rows at some places, from 0 on.
-pub(crate) fn offsets_at<O: Offset>(
+fn offsets_at<O: Offset>(
     alloc: Global,
     offsets: &OffsetsBuffer<O>,
     validity: Option<&Bitmap>,
@@ -87,16 +78,15 @@ pub(crate) fn offsets_at<O: Offset>(
 ) -> Result<OffsetsBuffer<O>, Error>
     requires within { AreBelow places.now (rows offsets.now) }
     requires bits { ReachesBits (option_map (λ b. b.now) validity) places.now }
+    requires room { sum_by (count_at offsets.now (option_map (λ b. b.now) validity)) places.now ≤ O.largest }
     ensures ok { IfOk result (λ b. b ≡ 0 ∷ ends_from 0 (map (count_at offsets.now (option_map (λ b. b.now) validity.entry)) places.now)) }
-    ensures err { IfErr result (λ e. (e ≡ Memory alloc_error) ⊎ ((e ≡ Overflow) × PassesOffsets O.IS_LARGE offsets.now (option_map (λ b. b.now) validity.entry) places.now)) }
+    ensures err { IsOkUnless result (Memory alloc_error) }
 {
-    let lengths = lengths(alloc, offsets, validity, places)?;
-    let mut ends = Offsets::new(alloc)?;
-    ends.reserve(lengths.len())?;
-    match ends.try_extend_from_lengths(&lengths) {
-        Ok(()) => ends.freeze(),
-        Err(error) => Err(error),
+    let mut ends = room_for(alloc, places.len())?;
+    for place in places {
+        ends.try_push_usize(range(offsets, validity, *place).1)?;
     }
+    ends.freeze()
 }
 
 /// The places of the items of the rows at some places, `count` in all.
