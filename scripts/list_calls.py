@@ -25,12 +25,12 @@ crate that it calls, has
 
 - `Type::call(`, `Trait::call(`, or an imported `call(`; or
 - `value.call(`, where the value's type is known: by its declaration, its pattern, or what the call that made it declares; or
-- `value.call(` of a value whose type is not known, where only one type or trait of the libraries has a call of that name, and it is
-  no name of the standard library's.
+- `value.call(` of a value whose type is not known, where only one type or trait of the libraries has a call of that name, and it
+  is no name of the standard library's.
 
-A call that is compared with `Err` on the spot, or by the name that it is bound to, is no run that answers Ok: where there is no other,
-it is `refused only`. No more is known of the answer than that, nor whether a branch is reached. What a library's call makes itself is
-not counted. `guide::main` is the guide's whole run. At most two tests are named.
+A call that is compared with `Err` on the spot, or by the name that it is bound to, or handed to a function `refus..`, is no run
+that answers Ok: where there is no other, it is `refused only`. No more is known of the answer than that, nor whether a branch is
+reached. What a library's call makes itself is not counted. `guide::main` is the guide's whole run. At most two tests are named.
 """
 
 CHAIN = re.compile(r"(?<![\w.:'\"])([A-Za-z_]\w*(?:::(?:<|\w+))*)")
@@ -102,13 +102,13 @@ class Body:
                 self.bind(part, kind[1][k] if kind and len(kind[1]) == len(parts) else None)
 
     def method(self, kind, name):
-        return self.sources.method(kind[0], name) if kind else None
+        return self.sources.method(self.file, kind[0], name) if kind else None
 
     def path(self, path):
         """The function that a path names, and the type before its name."""
         *before, name = re.sub(r"::<.*", "", path).split("::")
-        if before and before[-1][0].isupper():
-            owner = self.resolve((before[-1], []))
+        owner = self.resolve((before[-1], [])) if before else None
+        if before and (before[-1][0].isupper() or self.method(owner, name)):
             return self.method(owner, name), owner
         whole = "::".join([*self.file.uses.get(before[0], before[0]).split("::"), *before[1:], name]) if before else (
             self.file.uses.get(name, name))
@@ -131,7 +131,8 @@ class Body:
             called, owner = self.path(name)
             if owner and turbofish:
                 owner = (owner[0], turbofish)
-            kind, at = self.call(called, owner, start, at) if called else (None, closing(text, at))
+            made = owner if owner and self.sources.variants.get(owner[0]) else None  # Enum::Variant(..)
+            kind, at = self.call(called, owner, start, at) if called else (made, closing(text, at))
         kind, at = self.follow(kind, start, at)
         self.tell(kind, start, at)
         return kind
@@ -180,18 +181,19 @@ class Body:
         text = re.sub(r"^(?:&|mut\b|\s)+", "", text)
         if re.match(r"\w+$", text):
             unify(declared, self.env.get(text), found)
-        elif (made := re.match(r"(\w+)::(?:<.*?>::)?(\w+)\(", text)) and made[1][0].isupper():
-            called = self.method(self.resolve((made[1], [])), made[2])
-            unify(declared, called and put(called.result, {"Self": (made[1], [])}), found)
+        elif made := re.match(r"((?:\w+::)*\w+)\(", text):
+            called, owner = self.path(made[1])
+            unify(declared, called and self.resolve(put(called.result, {"Self": owner} if owner else {})), found)
 
     def note(self, called, start, end):
         """Notes the call; `== Err`, `, Err` after it, or of the name that it is bound to, tell that it is to be refused."""
         after = self.text[end : end + 120]
         refused = re.match(r"\s*(?:==|,)\s*(?:Some\()?Err\b(?![^\n]*=>)|\s*\.(?:err|is_err)\(", after)
+        refused = refused or re.search(r"\brefus\w*\(\s*$", self.text[max(0, start - 60) : start])
         let = re.search(r"let\s+(?:mut\s+)?(\w+)(?:\s*:[^=;]+)?\s*=\s*[&*]*$", self.text[max(0, start - 120) : start])
         if let and re.match(r"\s*;", after):
             rest = self.text[end:].split(f"let {let[1]} ")[0]
-            look = re.search(rf"\b{let[1]}(?: == Err|, Err|\.err\(|\.is_err\()", rest)
+            look = re.search(rf"\b{let[1]}(?: == Err|, Err|\.err\(|\.is_err\()|\brefus\w*\({let[1]}\)", rest)
             refused = look and not re.search(rf"\b{let[1]}(?:\?| == Ok)", rest)
         self.made[called] = self.made.get(called, False) or not refused
 

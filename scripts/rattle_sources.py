@@ -7,7 +7,8 @@ RUNNERS = ["guide", "listcut"]  # and each crate of tests
 # What words of contracts say of refusals without their names.
 SPOKEN = {
     "AllocError": ["Memory"], "RefusesOrMemory": ["Memory"], "IsItemOrMemory": ["Memory"], "RefusedSome": ["Memory"],
-    "WrongOffsets": ["Offsets"], "WrongText": ["Text"], "RefusesValidity": ["ValidityLength"], "ValidityFault": ["ValidityLength"],
+    "WrongOffsets": ["Offsets"],
+    "RefusesValidity": ["ValidityLength"], "ValidityFault": ["ValidityLength"],
     "FirstFault": ["first check"], "FailFirst": ["first check"], "FailsFirst": ["first check"],
 }
 STD = set("all any as_bytes as_str chars chunks clear clone cloned cmp collect contains count drop enumerate eq err expect "
@@ -128,6 +129,8 @@ class Sources:
                 files += [File(crate, os.path.join(folder, n)) for n in sorted(inside) if n.endswith(".rt")]
         for file in files:
             self.find_public(file)
+        declared = ((f, name) for f in files for name in re.findall(r"^pub (?:struct|enum|trait) (\w+)", f.text, re.M))
+        self.types = {name for file, name in declared if self.is_public(file, name)}
         for file in files:
             self.read(file)
         for parameter_trait, trait in self.blanket:
@@ -187,7 +190,7 @@ class Sources:
             elif re.match(r"(?:pub )?(?:impl|trait)\b", line):
                 head = text[found.start() : text.index("{", found.start())]
                 owner, generics, trait = self.read_head(" ".join(head.split(" where ")[0].split()))
-                shown = line.startswith("pub trait") and self.is_public(file, owner[0])
+                shown = line.startswith("pub trait") and owner[0] in self.types
                 docs, attributes = [], []
             elif line.startswith("}"):
                 owner, generics, trait, docs, attributes, shown = None, {}, None, [], [], False
@@ -231,7 +234,7 @@ class Sources:
             public = shown
         else:
             written = re.compile(r" *pub (?:const )?fn ").match(text, at)
-            public = bool(trait is None and written and self.is_public(file, owner[0] if owner else name))
+            public = bool(trait is None and written and (owner[0] in self.types if owner else self.is_public(file, name)))
         self.functions.append(Function(file, owner, generics, trait, name, docs, head, body, attributes, public))
         self.functions[-1].errors = self.errors_of(self.functions[-1])
 
@@ -248,12 +251,17 @@ class Sources:
         meant = {error for word in words for error in SPOKEN.get(word, [])}
         return (words | meant) & self.error_names - {"OutOfSpec", "InvalidArgumentError"}
 
-    def method(self, owner, name):
-        """The call of that name of a type, else of a trait that it has, else of a trait that this one stands on."""
-        if (owner, name) in self.methods:
-            return self.methods[owner, name]
-        above = self.traits_of.get(owner, set()) | set(self.supers.get(owner, []))
-        return next((m for t in sorted(above) if (m := self.method(t, name))), None) if owner not in above else None
+    def method(self, file, owner, name):
+        """The call of that name of a type, else of a trait that it has, or stands on; of those that the file brings in first."""
+        seen, todo = set(), [owner]
+        while todo:
+            kind = todo.pop(0)
+            if (kind, name) in self.methods:
+                return self.methods[kind, name]
+            seen.add(kind)
+            above = (self.traits_of.get(kind, set()) | set(self.supers.get(kind, []))) - seen
+            todo += sorted(above, key=lambda trait: (trait not in file.uses, trait))
+        return None
 
     def find_free(self, file, path):
         """The function that a path without a type names, seen from this file."""
