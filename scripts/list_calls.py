@@ -1,257 +1,278 @@
 #!/usr/bin/env python3
-"""Lists every public call of the libraries with its refusals and a test that makes it: the page docs/CALLS.md.
+"""Lists every public call of the libraries and of the program, its refusals, and the tests that make it: docs/CALLS.md.
 
-Usage, at the top of the repository, after `rt check --test` of each crate of tests:
-    python3 scripts/list_calls.py             writes docs/CALLS.md
-    python3 scripts/list_calls.py --missing   names the calls that no test makes, and fails where there is one
+    python3 scripts/list_calls.py --check    fails where the page isn't what the sources say, or where no test makes a
+                                             call that can answer Memory (what is run without a word, too)
+    python3 scripts/list_calls.py --write    writes the page
 
-Calls and refusals are read from the sources. Which calls a test makes is read from what the check keeps of each function
-in out/: the names of the functions that it calls. A test makes what it calls itself, or by the functions of its crate.
+It reads the .rt files alone, so it runs in seconds on a fresh checkout. How a call is found in a test is said at the
+head of the page. A test that isn't recognised leaves a call with none; so a call with none may still be made.
 """
 import os
 import re
 import sys
 
-LIBRARIES = ["nest_memory", "nest_flat", "nest_array", "nest_scan", "nest_build"]
-KEPT = re.compile(rb"--@ import (Rattle-[\w.+\-]+)\.Symbol ")
-HEAD = re.compile(r"^(?P<pub>pub )?(?P<kind>impl|trait|unsafe impl)\b")
-FUNCTION = re.compile(r"^(?P<indent> *)(?P<pub>pub(?P<narrow>\([a-z]+\))? )?(?:const )?fn (?P<name>\w+)")
+sys.dont_write_bytecode = True
+from rattle_sources import LIBRARIES, Sources, closing, parse_type, pieces
+
+PAGE = os.path.join("docs", "CALLS.md")
+HEAD = """# Every public call
+
+Made by `scripts/list_calls.py` from the sources; not to be edited. A call of a trait has one row, whatever type a test makes it at.
+Refusals are the names that the call's documentation or its clauses speak of, where it says "as" another call that one's too;
+`first check` is the first of the checks of its parts that fails. A test makes a call where its text, or that of a function of its
+crate that it calls, has
+
+- `Type::call(`, `Trait::call(`, or an imported `call(`; or
+- `value.call(`, where the value's type is known: by its declaration, its pattern, or what the call that made it declares; or
+- `value.call(` of a value whose type is not known, where only one type or trait of the libraries has a call of that name, and it
+  is no name of the standard library's.
+
+A call that is compared with `Err` on the spot, or by the name that it is bound to, or handed to a function `refus..`, is no run
+that answers Ok: where there is no other, it is `refused only`. No more is known of the answer than that, nor whether a branch is
+reached. What a library's call makes itself is not counted. `guide::main` is the guide's whole run. At most two tests are named.
+"""
+
+CHAIN = re.compile(r"(?<![\w.:'\"])([A-Za-z_]\w*(?:::(?:<|\w+))*)")
+LET = re.compile(r"\blet\s+((?:mut\s+)?[\w:]+(?:\([^=;]*?\))?|\([^=;]*?\))\s*(:[^=;]+)?=\s*[&*]*(?:mut\s+)?$")
 
 
-def crates_of_tests():
-    return sorted(c for c in os.listdir("crates") if c.startswith("tests_"))
+def unify(declared, given, found):
+    """What the type parameters of a declared type are in the type that is given."""
+    if not declared or not given:
+        return
+    if declared[0] in found:
+        found[declared[0]] = found[declared[0]] or given
+    elif declared[0] == given[0]:
+        for a, b in zip(declared[1], given[1]):
+            unify(a, b, found)
 
 
-def source_files(crate):
-    top = os.path.join("crates", crate, "src")
-    for folder, _, names in os.walk(top):
-        for name in sorted(names):
-            if name.endswith(".rt"):
-                yield os.path.join(folder, name)
+def put(kind, found):
+    """A type with its parameters replaced by what they are."""
+    if kind is None or kind[0] in found:
+        return kind and found[kind[0]]
+    return (kind[0], [put(a, found) for a in kind[1]])
 
 
-def module_of(crate, path):
-    inside = os.path.relpath(path, os.path.join("crates", crate, "src"))[:-3]
-    parts = [p for p in inside.split(os.sep) if p not in ("mod", "lib")]
-    return ".".join(parts)
+class Body:
+    """Goes through one function and notes which functions it calls, and which of them only to see a refusal."""
 
+    def __init__(self, sources, function):
+        self.sources, self.function, self.file = sources, function, function.file
+        self.text = re.sub(r"//[^\n]*", "", function.body)
+        self.env = {"self": function.owner}
+        self.made = {}  # a function, and whether a call of it is more than a look at its refusal
+        self.typed = set()  # the places of the dots before calls of values of known types
+        for param in (p for p in function.params if len(p) == 2):
+            self.bind(param[0], self.resolve(parse_type(param[1])))
+        for found in CHAIN.finditer(self.text):
+            self.chain(found.start())
+        for found in re.finditer(r"\.(\w+)(?:::<[^()]*>)?\(", self.text):
+            lone = sources.lone.get(found[1])
+            if lone and found.start() not in self.typed:
+                self.note(lone, found.start(), closing(self.text, found.end() - 1))
 
-def without_parameters(text):
-    """The text without what stands between angle brackets."""
-    out, depth = [], 0
-    for i, c in enumerate(text):
-        if c == "<":
-            depth += 1
-        elif c == ">" and text[i - 1] != "-":
-            depth -= 1
-        elif depth == 0:
-            out.append(c)
-    return "".join(out)
+    def resolve(self, kind):
+        """A type without aliases and with the traits that stand for its parameters."""
+        if kind is None:
+            return None
+        if kind[0] in self.function.generics:
+            return self.function.generics[kind[0]]
+        args = [self.resolve(a) for a in kind[1]]
+        for aliases in (self.file.aliases, self.sources.aliases):
+            if kind[0] in aliases and aliases[kind[0]][1] != kind and kind[0] != "Result":
+                params, meant = aliases[kind[0]]
+                return self.resolve(put(meant, dict(zip(params, args))))
+        return (kind[0], args)
 
+    def bind(self, pattern, kind):
+        """Gives the names of a pattern their types."""
+        pattern = re.sub(r"^(?:ref|mut|&|\s)+", "", pattern.strip())
+        found = re.match(r"(?:(\w+)::)?(\w+)?\((.*)\)$", pattern, re.S)
+        if re.match(r"\w+$", pattern):
+            self.env[pattern] = kind
+        elif found and found[1]:
+            self.bind(found[3], self.sources.variants.get(found[1], {}).get(found[2]))
+        elif found and found[2]:
+            self.bind(found[3], kind[1][0] if kind and found[2] in ("Ok", "Some") and kind[1] else None)
+        elif found:
+            parts = pieces(found[3])
+            for k, part in enumerate(parts):
+                self.bind(part, kind[1][k] if kind and len(kind[1]) == len(parts) else None)
 
-def owner_of(head):
-    """The type of an `impl` or the name of a trait, and the trait that an `impl` is of."""
-    words = without_parameters(head).replace("{", " ").split(" where ")[0]
-    words = words.replace("pub ", "")
-    if words.startswith("trait"):
-        return words.split()[1].split(":")[0], None
-    words = words.split(None, 1)[1] if " " in words else ""
-    if " for " in words:
-        of, owner = words.split(" for ", 1)
-        return last_word(owner), last_word(of)
-    return last_word(words), None
+    def method(self, kind, name):
+        return self.sources.method(self.file, kind[0], name) if kind else None
 
+    def path(self, path):
+        """The function that a path names, and the type before its name."""
+        *before, name = re.sub(r"::<.*", "", path).split("::")
+        owner = self.resolve((before[-1], [])) if before else None
+        if before and (before[-1][0].isupper() or self.method(owner, name)):
+            return self.method(owner, name), owner
+        whole = "::".join([*self.file.uses.get(before[0], before[0]).split("::"), *before[1:], name]) if before else (
+            self.file.uses.get(name, name))
+        return self.sources.find_free(self.file, whole.split("::")), None
 
-def last_word(path):
-    return re.split(r"::", path.strip().lstrip("&").strip())[-1].strip()
+    def chain(self, start):
+        """Follows calls and fields from a name on, and gives the type of the whole."""
+        text = self.text
+        word = re.compile(r"[A-Za-z_]\w*(?:::\w+)*").match(text, start)
+        at, name = word.end(), word[0]
+        turbofish = None
+        middle = re.compile(r"::<").match(text, at)
+        if middle:  # Type::<A>::call, or call::<A>
+            end = closing(text, at + 2)
+            turbofish = [parse_type(p) for p in pieces(text[at + 3 : end - 1])]
+            more = re.compile(r"::(\w+)").match(text, end)
+            name, at = (name + more[0], more.end()) if more else (name, end)
+        kind = self.env.get(name)
+        if text[at : at + 1] == "(":
+            called, owner = self.path(name)
+            if owner and turbofish:
+                owner = (owner[0], turbofish)
+            made = owner if owner and self.sources.variants.get(owner[0]) else None  # Enum::Variant(..)
+            kind, at = self.call(called, owner, start, at) if called else (made, closing(text, at))
+        kind, at = self.follow(kind, start, at)
+        self.tell(kind, start, at)
+        return kind
 
-
-class Call:
-    def __init__(self, crate, module, owner, name, refusals, in_trait):
-        self.crate, self.module, self.owner, self.name = crate, module, owner, name
-        self.refusals, self.in_trait = refusals, in_trait
-        self.test = None
-
-    def shown(self):
-        return f"{self.owner}::{self.name}" if self.owner else self.name
-
-
-def refusals_of(docs, signature):
-    text = " ".join(d for d in docs)
-    if "# Errors" in text:
-        return text.split("# Errors", 1)[1].strip()
-    return "" if "-> Result<" not in signature else "?"
-
-
-def head_text(lines, k):
-    text = lines[k]
-    while "{" not in text and ";" not in text and k + 1 < len(lines):
-        k += 1
-        text += " " + lines[k].strip()
-    return text
-
-
-def read_calls(crate, public_names):
-    for path in source_files(crate):
-        lines = open(path, encoding="utf-8").read().split("\n")
-        module, owner, of, is_trait, docs = module_of(crate, path), None, None, False, []
-        for k, line in enumerate(lines):
-            stripped = line.strip()
-            if stripped.startswith("///"):
-                docs.append(stripped[3:].strip())
-                continue
-            if HEAD.match(line):
-                owner, of = owner_of(head_text(lines, k))
-                is_trait = line.startswith("pub trait")
-                docs = []
-                continue
-            if line.startswith("}"):
-                owner, of, is_trait = None, None, False
-            found = FUNCTION.match(line)
-            if found and len(found["indent"]) in (0, 4):
-                inside = found["indent"] and owner and not of
-                public = found["pub"] and not found["narrow"]
-                if inside and (is_trait or public):
-                    yield Call(crate, module, owner, found["name"], refusals_of(docs, head_text(lines, k)), is_trait)
-                elif not found["indent"] and public and is_public(module, found["name"], public_names):
-                    yield Call(crate, module, None, found["name"], refusals_of(docs, head_text(lines, k)), False)
-            if stripped and not stripped.startswith("#["):
-                docs = []
-
-
-def is_public(module, name, public_names):
-    return module in public_names or f"{module}.{name}" in public_names
-
-
-def public_modules(crate):
-    """The modules that are public, and the functions that a public module names again."""
-    names = {""}
-    uses = []
-    for path in source_files(crate):
-        module = module_of(crate, path)
-        for line in open(path, encoding="utf-8"):
-            found = re.match(r"pub mod (\w+);", line)
-            if found:
-                names.add(f"{module}.{found[1]}".lstrip("."))
-            found = re.match(r"pub use (?:crate::)?([\w:]+)(?:::\{([\w, ]+)\})?;", line)
-            if found:
-                uses.append((module, found[1], found[2]))
-    for module, of, several in uses:
-        path = of.replace("::", ".")
-        for name in several.split(", ") if several else [""]:
-            whole = f"{path}.{name}".rstrip(".")
-            names.add(whole)
-            names.add(f"{module}.{whole}".lstrip("."))
-    return names
-
-
-def kept_folder(crate):
-    top = os.path.join("crates", crate, "out", "incremental")
-    if not os.path.isdir(top):
-        return None
-    folders = [os.path.join(top, f) for f in os.listdir(top) if f.startswith("antt")]
-    return max(folders, key=os.path.getmtime) if folders else None
-
-
-def calls_kept(crate):
-    """For each function of a crate the functions that it calls, by name."""
-    folder = kept_folder(crate)
-    prefix, suffix = f"Rattle-{crate}-proofs.", ".Code.Mir.oantt"
-    calls = {}
-    for name in os.listdir(folder) if folder else []:
-        if name.startswith(prefix) and name.endswith(suffix):
-            with open(os.path.join(folder, name), "rb") as f:
-                head = f.read(200_000)
-            calls[name[len(prefix) : -len(suffix)]] = {m.decode() for m in KEPT.findall(head)}
-    return calls
-
-
-def tests_of(crate):
-    for path in source_files(crate):
-        lines = open(path, encoding="utf-8").read().split("\n")
-        for k, line in enumerate(lines):
-            if line.strip() == "#[test]":
-                found = FUNCTION.match(lines[k + 1])
-                if found:
-                    yield ".".join(p for p in (module_of(crate, path), found["name"]) if p)
-
-
-def reached(crate, calls, test):
-    """What a test calls outside its crate, itself or by functions of its crate."""
-    own = f"Rattle-{crate}-proofs."
-    seen, todo, outside = set(), [test], set()
-    while todo:
-        name = todo.pop()
-        if name in seen:
-            continue
-        seen.add(name)
-        for callee in calls.get(name, ()):
-            if callee.startswith(own):
-                todo.append(callee[len(own) :])
+    def follow(self, kind, start, at):
+        text = self.text
+        step = re.compile(r"\s*(\?)|\s*\.(\w+)(?:::<[^()]*>)?(\()?|\[")
+        while found := step.match(text, at):
+            at = found.end()
+            if found[1]:
+                kind = kind[1][0] if kind and kind[0] in ("Result", "Option") and kind[1] else None
+            elif not found[2]:
+                kind, at = (kind[1][0] if kind and kind[1] else None), closing(text, at - 1)
+            elif found[3]:
+                if kind:
+                    self.typed.add(found.start(2) - 1)
+                called = self.method(kind, found[2])
+                if called:
+                    kind, at = self.call(called, kind, start, at - 1)
+                else:
+                    kept = kind and kind[0] in ("Result", "Option") and kind[1]
+                    opened = found[2] in ("expect", "unwrap", "unwrap_or")
+                    kind = (kind[1][0] if opened else kind if found[2] in ("ok", "as_ref", "as_mut") else None) if kept else None
+                    at = closing(text, at - 1)
             else:
-                outside.add(callee)
-    return outside
+                kind = self.sources.fields.get(kind[0], {}).get(found[2]) if kind else None
+        return kind, at
+
+    def call(self, called, owner, start, at):
+        """Notes a call whose arguments begin here; gives the type of its answer."""
+        end = closing(self.text, at)
+        found = {name: None for name in called.generics}
+        if owner and called.owner and called.owner[0] == owner[0]:
+            unify(called.owner, owner, found)
+        given = pieces(self.text[at + 1 : end - 1])
+        declared = [p for p in called.params if len(p) == 2]
+        for param, text in zip(declared, given[-len(declared) :] if declared else []):
+            self.unify_argument(parse_type(param[1]), text, found)
+        self.note(called, start, end)
+        found = {name: kind or called.generics[name] for name, kind in found.items()}
+        if owner:
+            found["Self"] = owner
+        return self.resolve(put(called.result, found)), end
+
+    def unify_argument(self, declared, text, found):
+        text = re.sub(r"^(?:&|mut\b|\s)+", "", text)
+        if re.match(r"\w+$", text):
+            unify(declared, self.env.get(text), found)
+        elif made := re.match(r"((?:\w+::)*\w+)\(", text):
+            called, owner = self.path(made[1])
+            unify(declared, called and self.resolve(put(called.result, {"Self": owner} if owner else {})), found)
+
+    def note(self, called, start, end):
+        """Notes the call; `== Err`, `, Err` after it, or of the name that it is bound to, tell that it is to be refused."""
+        after = self.text[end : end + 120]
+        refused = re.match(r"\s*(?:==|,)\s*(?:Some\()?Err\b(?![^\n]*=>)|\s*\.(?:err|is_err)\(", after)
+        refused = refused or re.search(r"\brefus\w*\(\s*$", self.text[max(0, start - 60) : start])
+        let = re.search(r"let\s+(?:mut\s+)?(\w+)(?:\s*:[^=;]+)?\s*=\s*[&*]*$", self.text[max(0, start - 120) : start])
+        if let and re.match(r"\s*;", after):
+            rest = self.text[end:].split(f"let {let[1]} ")[0]
+            look = re.search(rf"\b{let[1]}(?: == Err|, Err|\.err\(|\.is_err\()|\brefus\w*\({let[1]}\)", rest)
+            refused = look and not re.search(rf"\b{let[1]}(?:\?| == Ok)", rest)
+        self.made[called] = self.made.get(called, False) or not refused
+
+    def tell(self, kind, start, at):
+        """Gives the names that the value is bound to its type: of a `let`, a `for`, the arms of a `match`, a pattern."""
+        before = self.text[max(0, start - 160) : start]
+        let = LET.search(before)
+        if let:
+            declared = let[2] and self.resolve(parse_type(let[2][1:]))
+            self.bind(let[1], declared or kind)
+        loop = re.search(r"\bfor\s+(\w+)\s+in\s+[&]*$", before)
+        if loop:
+            self.bind(loop[1], kind[1][0] if kind and kind[1] else None)
+        if re.search(r"\bmatch\s+[&*]*$", before) and self.text[at:].lstrip().startswith("{"):
+            begin = self.text.index("{", at)
+            for arm in re.finditer(r"^\s*((?:Ok|Some)\(.*\)) (?:=>|if)", self.text[begin : closing(self.text, begin)], re.M):
+                self.bind(arm[1], kind)
+        arm = re.compile(r"\w+::\w+\([\w, ]+\)(?=\s*(?:=>|if\b))").match(self.text, start)
+        if arm:
+            self.bind(arm[0], None)
 
 
-def symbols(call):
-    """A test makes a call where one of these is among the names that it calls."""
-    base = f"Rattle-{call.crate}.proofs."
-    module = f"{call.module}." if call.module else ""
-    if call.owner:
-        return base + module + call.owner + "." + call.name
-    return base + module + call.name
-
-
-def is_made(call, outside):
-    if symbols(call) in outside:
-        return True
-    if not call.in_trait:
-        return False
-    ending = re.compile(rf"^Rattle-nest_\w+\.proofs\.(?:.*[.\w])?{call.owner}\w*\.{call.name}$")
-    return any(ending.match(name) for name in outside)
-
-
-def find_tests(calls):
-    for crate in crates_of_tests():
-        kept = calls_kept(crate)
-        if not kept:
-            print(f"{crate}: nothing kept; run `rt check --test` there first", file=sys.stderr)
-        for test in sorted(tests_of(crate)):
-            outside = reached(crate, kept, test)
-            for call in calls:
-                if call.test is None and is_made(call, outside):
-                    call.test = f"{crate}::{test.replace('.', '::')}"
+def reached(sources, bodies, test):
+    """What a test calls, itself or by the functions of its own crate, and whether it may be answered with Ok."""
+    seen, todo, out = {test: True}, [test], {}
+    while todo:
+        function = todo.pop()
+        if function not in bodies:
+            bodies[function] = Body(sources, function).made
+        for called, ok in bodies[function].items():
+            ok = ok and seen[function]
+            out[called] = out.get(called, False) or ok
+            if called.file.crate == test.file.crate and (called not in seen or ok and not seen[called]):
+                seen[called] = ok
+                todo.append(called)
+    return out
 
 
 def page(calls):
-    lines = [
-        "# Every public call",
-        "",
-        "Made by `scripts/list_calls.py` from the sources and from what the checks of the crates of tests keep. A call of a trait has one",
-        "row, and a test that makes it at one type. Refusals are those of the call's own documentation.",
-    ]
+    lines = [HEAD]
     for crate in LIBRARIES:
-        lines += ["", f"## `{crate}`", "", "| Call | Refusals | Made by |", "|---|---|---|"]
-        for call in calls:
-            if call.crate == crate:
-                test = f"`{call.test}`" if call.test else "none"
-                lines.append(f"| `{call.shown()}` (`{call.module or crate}`) | {call.refusals.replace('|', ',')} | {test} |")
-    return "\n".join(lines) + "\n"
+        rows = [c for c in calls if c.file.crate == crate]
+        if rows:
+            lines += [f"## `{crate}`", "", "| Call | In | Refusals | Made by |", "|---|---|---|---|"]
+            lines += [row(c) for c in rows] + [""]
+    for title, some in (
+        ("Calls that can answer `Memory` and that no test makes", [c for c in calls if not c.tests and "Memory" in c.errors]),
+        ("Other calls that no test makes", [c for c in calls if not c.tests and "Memory" not in c.errors]),
+    ):
+        named = [f"- `{c.shown()}` of `{'::'.join([c.file.crate, *c.file.module])}`" for c in some]
+        lines += [f"## {title}", "", *(named or ["None."]), ""]
+    return "\n".join(lines).rstrip("\n") + "\n"
+
+
+def row(call):
+    tests = [f"`{t.path()}`" for t in call.tests[:2]] + ([f"{len(call.tests) - 2} more"] if len(call.tests) > 2 else [])
+    tests = ", ".join(tests) or ("refused only: `" + call.refused[0].path() + "`" if call.refused else "none")
+    where = "::".join(call.file.module) or "lib"
+    return f"| `{call.shown()}` | `{where}` | {', '.join(sorted(call.errors, key=lambda e: (e == 'Memory', e)))} | {tests} |"
 
 
 def main():
-    calls = []
-    for crate in LIBRARIES:
-        calls += list(read_calls(crate, public_modules(crate)))
-    find_tests(calls)
-    missing = [c for c in calls if c.test is None]
-    if "--missing" in sys.argv[1:]:
-        for call in missing:
-            print(f"{call.crate}: {call.module}: {call.shown()}")
-        print(f"{len(calls)} calls, {len(missing)} that no test makes")
-        sys.exit(1 if missing else 0)
-    with open(os.path.join("docs", "CALLS.md"), "w", encoding="utf-8") as f:
-        f.write(page(calls))
+    sources, bodies = Sources(), {}
+    for test in sources.tests():
+        for called, ok in reached(sources, bodies, test).items():
+            (called.tests if ok else called.refused).append(test)
+    text = page(sources.calls)
+    missing = [c for c in sources.calls if not c.tests and "Memory" in c.errors]
+    if "--write" in sys.argv[1:]:
+        with open(PAGE, "w", encoding="utf-8") as out:
+            out.write(text)
+    for call in missing:
+        print(f"no test makes {call.path()}")
+    stale = not os.path.exists(PAGE) or open(PAGE, encoding="utf-8").read() != text
+    if stale:
+        print(f"{PAGE} is not what the sources say: python3 scripts/list_calls.py --write")
+    made = sum(1 for c in sources.calls if c.tests)
+    print(f"{len(sources.calls)} calls, {made} made by a test; {len(missing)} that can answer Memory are made by none")
+    sys.exit(1 if missing or stale else 0)
 
 
 main()

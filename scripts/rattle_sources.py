@@ -1,0 +1,284 @@
+"""Reads the functions, types and traits of .rt files, as far as `list_calls.py` asks: where they stand and what they declare."""
+import os
+import re
+
+LIBRARIES = ["nest_memory", "nest_flat", "nest_array", "nest_scan", "nest_take", "nest_build", "nest_any", "listcut"]
+RUNNERS = ["guide", "listcut"]  # and each crate of tests
+# What words of contracts say of refusals without their names.
+SPOKEN = {
+    "AllocError": ["Memory"], "RefusesOrMemory": ["Memory"], "IsItemOrMemory": ["Memory"], "RefusedSome": ["Memory"],
+    "WrongOffsets": ["Offsets"],
+    "RefusesValidity": ["ValidityLength"], "ValidityFault": ["ValidityLength"],
+    "FirstFault": ["first check"], "FailFirst": ["first check"], "FailsFirst": ["first check"],
+}
+STD = set("all any as_bytes as_str chars chunks clear clone cloned cmp collect contains count drop enumerate eq err expect "
+          "extend filter find first flush fmt from get insert into into_iter is_empty is_err is_none is_ok is_some iter join "
+          "last len lines map max min new next next_back ok or parse pop position push push_str read remove reserve rev skip "
+          "sort split sum take then to truncate unwrap write zip".split())
+
+
+class Function:
+    """A function of the sources: where it stands, what it says of itself, and its body."""
+
+    def __init__(self, file, owner, generics, trait, name, docs, head, body, attributes, public):
+        self.file, self.owner, self.generics, self.trait, self.name = file, owner, generics, trait, name
+        self.docs, self.head, self.body, self.public = docs, head, body, public
+        self.is_test = "#[test]" in attributes
+        self.tests, self.refused, self.errors = [], [], set()
+        sign = re.split(r"\n\s*(?:requires|ensures|where|ghost)\b", head)[0].rstrip(" {;\n")
+        own = re.match(r".*?fn \w+(<)?", sign, re.S)
+        at = own.end() - 1 if own[1] else own.end()
+        end = closing(sign, at) if own[1] else at
+        self.generics = dict(generics, **bounds(sign[at + 1 : end - 1])) if own[1] else dict(generics)
+        stop = closing(sign, end) if sign[end : end + 1] == "(" else end
+        self.params = [p.split(":", 1) for p in pieces(sign[end + 1 : stop - 1])]
+        self.result = parse_type(sign[stop:].split("->", 1)[1]) if "->" in sign[stop:] else None
+
+    def shown(self):
+        return f"{self.owner[0]}::{self.name}" if self.owner else self.name
+
+    def path(self):
+        return "::".join([self.file.crate, *self.file.module, *([self.owner[0]] if self.owner else []), self.name])
+
+
+class File:
+    def __init__(self, crate, path):
+        self.crate, self.text = crate, open(path, encoding="utf-8").read()
+        inside = os.path.relpath(path, os.path.join("crates", crate, "src"))[:-3]
+        self.module = [p for p in inside.split(os.sep) if p not in ("mod", "lib", "main")]
+        plain = re.sub(r"//[^\n]*|^ghost use[^\n]*", "", self.text, flags=re.M)
+        self.uses = dict(use for found in re.finditer(r"(?:^|\n)\s*(?:pub )?use ([^;]+);", plain) for use in imports(found[1]))
+        aliases = re.findall(r"^(?:pub )?type (\w+)(<[^=]*>)? = ([^;]+);", plain, re.M)
+        self.aliases = {name: (names(generics or ""), parse_type(kind)) for name, generics, kind in aliases}
+
+
+def closing(text, at):
+    """The place behind the bracket that closes the one at this place."""
+    depth = 0
+    for i in range(at, len(text)):
+        c = text[i]
+        if c in "([{" or c == "<" and text[at] == "<":
+            depth += 1
+        elif c in ")]}" or c == ">" and text[at] == "<" and text[i - 1] not in "-=":
+            depth -= 1
+            if depth == 0:
+                return i + 1
+    return len(text)
+
+
+def pieces(text):
+    """What stands between the commas that no bracket encloses."""
+    out, depth, last = [], 0, 0
+    for i, c in enumerate(text):
+        if c in "([{<":
+            depth += 1
+        elif c in ")]}" or c == ">" and text[i - 1] not in "-=":
+            depth -= 1
+        elif c == "," and depth == 0:
+            out.append(text[last:i])
+            last = i + 1
+    return [p.strip() for p in out + [text[last:]] if p.strip()]
+
+
+def names(generics):
+    return [p.split(":")[0].strip() for p in pieces(generics.strip()[1:-1]) if not p.startswith("'")]
+
+
+def bounds(generics):
+    """The type parameters, each with the first trait that it is bound by."""
+    split = (p.split(":", 1) for p in pieces(generics) if not p.startswith("'"))
+    return {p[0].strip(): parse_type(p[1]) if len(p) > 1 and p[1].strip() else None for p in split}
+
+
+def parse_type(text):
+    """A type as a name and its arguments; references and boxes count for nothing."""
+    text = re.sub(r"^(?:&|'\w+\b|mut\b|dyn\b|impl\b|\s)+", "", text.strip()).strip(" {;,")
+    if text.startswith("("):
+        return ("()", [parse_type(p) for p in pieces(text[1 : closing(text, 0) - 1])])
+    if text.startswith("["):
+        return ("[]", [parse_type(text[1:-1].split(";")[0])])
+    found = re.match(r"(?:\w+::)*(\w+)(?:::)?(<)?", text)
+    if not found:
+        return None
+    args = text[found.end() : closing(text, found.end() - 1) - 1] if found[2] else ""
+    args = [parse_type(p.split("=")[-1]) for p in pieces(args) if not p.startswith("'")]
+    return args[0] if found[1] in ("Box", "Rc") and args else (found[1], args)
+
+
+def imports(text, before=""):
+    text = text.strip()
+    if "{" in text:
+        start = text.index("{")
+        for part in pieces(text[start + 1 : closing(text, start) - 1]):
+            yield from imports(part, before + text[:start])
+    else:
+        path, _, name = (before + text).partition(" as ")
+        path = path.removesuffix("::self")
+        yield name or path.split("::")[-1], path
+
+
+class Sources:
+    def __init__(self):
+        crates = sorted(os.listdir("crates"))
+        self.runners = [c for c in crates if c.startswith("tests_") or c in RUNNERS]
+        self.functions, self.traits_of, self.supers, self.variants, self.aliases = [], {}, {}, {}, {}
+        self.fields, self.public, self.error_names = {}, {}, set()
+        self.blanket, files = [], []
+        for crate in [c for c in LIBRARIES if c in crates] + [c for c in self.runners if c not in LIBRARIES]:
+            for folder, _, inside in sorted(os.walk(os.path.join("crates", crate, "src"))):
+                files += [File(crate, os.path.join(folder, n)) for n in sorted(inside) if n.endswith(".rt")]
+        for file in files:
+            self.find_public(file)
+        declared = ((f, name) for f in files for name in re.findall(r"^pub (?:struct|enum|trait) (\w+)", f.text, re.M))
+        self.types = {name for file, name in declared if self.is_public(file, name)}
+        for file in files:
+            self.read(file)
+        for parameter_trait, trait in self.blanket:
+            for has in self.traits_of.values():
+                if parameter_trait in has:
+                    has.add(trait)
+        self.methods, self.free = {}, {}
+        for f in self.functions:
+            if f.owner and (f.trait is None or f.owner[0] == f.trait):
+                self.methods.setdefault((f.owner[0], f.name), f)
+            elif not f.owner:
+                self.free.setdefault((f.file.crate, f.name), []).append(f)
+        self.calls = [f for f in self.functions if f.public and f.file.crate in LIBRARIES]
+        named = {}
+        for f in self.calls:
+            named.setdefault(f.name, []).append(f)
+        for f in self.functions:
+            said = " ".join(f.docs).partition("# Errors")[2]
+            for name in re.findall(r"\b(?:[Aa]s|[Tt]hose of)[^.`]*\[?`(\w+)`", said):
+                same = [g for g in named.get(name, []) if g.owner and f.owner and g.owner[0] == f.owner[0]]
+                for g in same or [g for g in named.get(name, []) if not g.owner]:
+                    f.errors |= g.errors
+        self.lone = {n: fs[0] for n, fs in named.items() if len(fs) == 1 and fs[0].owner and n not in STD}
+
+    def find_public(self, file):
+        """Which modules are public, and which names a public module hands on."""
+        known = self.public.setdefault(file.crate, set())
+        for name in re.findall(r"^pub mod (\w+);", file.text, re.M):
+            known.add((*file.module, name))
+        for found in re.finditer(r"^pub use ([^;]+);", file.text, re.M):
+            for _, path in imports(found[1]):
+                path = path.split("::")
+                path = path[1:] if path[0] == "crate" else file.module + path
+                known.add(("name", *path))
+
+    def is_public(self, file, name):
+        known = self.public[file.crate]
+        open_path = all(tuple(file.module[: i + 1]) in known for i in range(len(file.module)))
+        return file.crate == "listcut" or open_path or ("name", *file.module, name) in known
+
+    def read(self, file):
+        text = file.text
+        for found in re.finditer(r"^(pub )?(?:enum|struct) (\w+)(<[^{;(]*>)?[^{;]*\{(.*?)^\}", text, re.M | re.S):
+            self.variants[found[2]] = {v: parse_type(t) for v, t in re.findall(r"^    (\w+)\((.*?)\),", found[4], re.M)}
+            self.fields[found[2]] = {v: parse_type(t) for v, t in re.findall(r"^    (?:pub )?(\w+): (.*?),$", found[4], re.M)}
+        if file.crate in LIBRARIES:
+            self.aliases.update(file.aliases)
+        owner, generics, trait, docs, attributes = None, {}, None, [], []
+        shown = False
+        for found in re.finditer(r"^( {0,4}(?:///|//|#\[|pub\b|impl|trait|fn |const fn |\}).*)$", text, re.M):
+            line = found[1]
+            word = line.strip()
+            if word.startswith("///"):
+                docs.append(word[3:].strip())
+            elif word.startswith("#["):
+                attributes.append(word)
+            elif re.match(r"(?:pub )?(?:impl|trait)\b", line):
+                head = text[found.start() : text.index("{", found.start())]
+                owner, generics, trait = self.read_head(" ".join(head.split(" where ")[0].split()))
+                shown = line.startswith("pub trait") and owner[0] in self.types
+                docs, attributes = [], []
+            elif line.startswith("}"):
+                owner, generics, trait, docs, attributes, shown = None, {}, None, [], [], False
+            elif re.match(r"\s*(?:pub(?:\(\w+\))? )?(?:const )?fn \w", line):
+                inside = line.startswith("    ")
+                if inside == (owner is not None):
+                    self.add(file, found.start(), owner, generics, trait, docs, attributes, shown)
+                docs, attributes = [], []
+            elif not word.startswith("//"):
+                docs, attributes = [], []
+
+    def read_head(self, head):
+        found = re.match(r"(?:pub )?(impl|trait) *(<)?", head)
+        at = closing(head, found.end() - 1) if found[2] else found.end()
+        generics = bounds(head[found.end() : at - 1]) if found[2] else {}
+        rest = head[at:].strip()
+        if found[1] == "trait":
+            name, _, above = rest.partition(":")
+            name = parse_type(name)
+            self.supers[name[0]] = [parse_type(t)[0] for t in above.split("+") if parse_type(t)]
+            return name, {a[0]: None for a in name[1] if a}, name[0]
+        if " for " not in rest:
+            return parse_type(rest), generics, None
+        trait, owner = (parse_type(t) for t in rest.split(" for ", 1))
+        if owner[0] in generics:
+            self.blanket.append((generics[owner[0]] and generics[owner[0]][0], trait[0]))
+        else:
+            self.traits_of.setdefault(owner[0], set()).add(trait[0])
+        return owner, generics, trait[0]
+
+    def add(self, file, at, owner, generics, trait, docs, attributes, shown):
+        text, indent = file.text, "    " if owner else ""
+        opens = rf"(?:\) (?:-> [^\n]*)?\{{|^{indent}\{{)\n|;\n|\{{ *\}}\n"
+        opened = re.compile(opens, re.M).search(text, at)
+        stop = re.compile(rf"^{indent}\}}", re.M).search(text, opened.end() - 1)
+        short = text[opened.start() : opened.end()].rstrip().endswith((";", "}"))
+        head = text[at : opened.end()].rstrip(" {\n")
+        body = "" if short else text[opened.end() : stop.start()]
+        name = re.search(r"fn (\w+)", text[at:])[1]
+        if owner and owner[0] == trait:
+            public = shown
+        else:
+            written = re.compile(r" *pub (?:const )?fn ").match(text, at)
+            public = bool(trait is None and written and (owner[0] in self.types if owner else self.is_public(file, name)))
+        self.functions.append(Function(file, owner, generics, trait, name, docs, head, body, attributes, public))
+        self.functions[-1].errors = self.errors_of(self.functions[-1])
+
+    def errors_of(self, function):
+        """The names of errors that its documentation or its clauses speak of; `as` another call, those of that call."""
+        if not self.error_names:
+            text = open(os.path.join("crates", "nest_memory", "src", "error.rt"), encoding="utf-8").read()
+            self.error_names = {"first check"} | set(re.findall(r"^    ([A-Z]\w+)(?:\(AllocError\))?,$", text, re.M))
+        if not function.result or "Result<" not in re.split(r"\n\s*(?:requires|ensures)\b", function.head)[0]:
+            return set()
+        docs = " ".join(function.docs)
+        docs = docs.partition("# Errors")[2] or " ".join(re.findall(r"`[^`]*`", docs))
+        words = set(re.findall(r"\w+", docs + " " + function.head.split("->", 1)[1]))
+        meant = {error for word in words for error in SPOKEN.get(word, [])}
+        return (words | meant) & self.error_names - {"OutOfSpec", "InvalidArgumentError"}
+
+    def method(self, file, owner, name):
+        """The call of that name of a type, else of a trait that it has, or stands on; of those that the file brings in first."""
+        seen, todo = set(), [owner]
+        while todo:
+            kind = todo.pop(0)
+            if (kind, name) in self.methods:
+                return self.methods[kind, name]
+            seen.add(kind)
+            above = (self.traits_of.get(kind, set()) | set(self.supers.get(kind, []))) - seen
+            todo += sorted(above, key=lambda trait: (trait not in file.uses, trait))
+        return None
+
+    def find_free(self, file, path):
+        """The function that a path without a type names, seen from this file."""
+        *module, name = path
+        if not module:
+            return next((f for f in self.free.get((file.crate, name), []) if f.file is file), None)
+        crate = module[0] if (module[0], name) in self.free else file.crate
+        above = file.module
+        while module and module[0] in ("super", "self", "crate", crate):
+            above = above[:-1] if module[0] == "super" else above if module[0] == "self" else []
+            module = module[1:]
+        found = self.free.get((crate, name), [])
+        exact = [f for f in found if f.file.module == above + module]
+        ends = [f for f in found if module and f.file.module[-len(module) :] == module]
+        shown = [f for f in found if f.public]
+        return (exact + ends + (shown if len(shown) == 1 else found if len(found) == 1 else []) + [None])[0]
+
+    def tests(self):
+        inside = [f for f in self.functions if f.file.crate in self.runners]
+        return [f for f in inside if f.is_test or (f.file.crate == "guide" and f.path() == "guide::main")]
