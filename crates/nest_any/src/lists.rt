@@ -196,8 +196,8 @@ impl ListBuilder {
         }
     }
 
-    /// Tells a row of the items that wait.
-    pub(crate) fn tell(&mut self, valid: bool) -> Result<(), Error>
+    /// Tells a row of the items that wait, as `AnyMutableArray::tell` does.
+    pub fn tell(&mut self, valid: bool) -> Result<(), Error>
         requires { HasWholeChildren self.old }
         ensures ok { OnOk result (Told valid self.old self.new) }
         ensures passed { OnOk result (Pass (row_checks self.old)) }
@@ -208,14 +208,16 @@ impl ListBuilder {
         self.rows.tell(valid, self.values.data_type(), count)
     }
 
-    pub(crate) fn has_whole_children(&self) -> bool
+    /// Whether the child is whole; then a row of what waits there may be told.
+    pub fn has_whole_children(&self) -> bool
         ensures { IsTrue result ↔ HasWholeChildren self.now }
     {
         self.rows.known();
         self.values.whole()
     }
 
-    pub(crate) fn child(&mut self) -> &mut AnyMutableArray
+    /// The child, into which the items of a row may be pushed before the row is told.
+    pub fn child(&mut self) -> &mut AnyMutableArray
         ensures* writes_back { sem 𝓛 (Lends the_row any_row self.entry result (λ c. with_items self.entry.now (tree_of c))) }
         ensures value { tree_of result.now ≡ list_child self.old }
     {

@@ -17,10 +17,8 @@ use std::test::Fail;
 type Keyed = MutableDictionaryArray<u8, AnyMutableFlat>;
 
 fn no_texts(alloc: Global) -> Result<Keyed, Error> {
-    MutableDictionaryArray::try_from_values(
-        alloc,
-        AnyMutableFlat::Utf8(MutableUtf8Array::new(alloc)?),
-    )
+    let texts = AnyMutableFlat::Utf8(MutableUtf8Array::new(alloc)?);
+    MutableDictionaryArray::try_from_values(alloc, texts)
 }
 
 fn no_numbers(alloc: Global) -> Result<Keyed, Error> {
@@ -81,24 +79,27 @@ fn push_four(keyed: &mut Keyed) -> Result<(), Error> {
 #[test]
 fn each_text_is_kept_once(rt: HostRuntime) -> Result<(), Fail> {
     let mut keyed = no_texts(rt.alloc())?;
-    push_four(&mut keyed)?;
-    let first = text_of(rt.alloc(), keyed.freeze())?;
-    push(&mut keyed, Plain::Text("C"))?;
-    let second = text_of(rt.alloc(), keyed.freeze())?;
+    let pushed = push_four(&mut keyed);
+    let first = text_of(rt.alloc(), keyed.freeze());
+    let again = push(&mut keyed, Plain::Text("C"));
+    let second = text_of(rt.alloc(), keyed.freeze());
     drop(keyed);
-    assert!(rt; first.as_str() == "0 1 null 0 AB");
-    assert!(rt; second.as_str() == "0 C");
+    assert!(rt; pushed == Ok(()));
+    assert!(rt; again == Ok(()));
+    assert!(rt; first?.as_str() == "0 1 null 0 AB");
+    assert!(rt; second?.as_str() == "0 C");
     Ok(())
 }
 
 #[test]
 fn a_number_is_found_by_its_own_kind(rt: HostRuntime) -> Result<(), Fail> {
     let mut keyed = no_numbers(rt.alloc())?;
-    push(&mut keyed, Plain::Native(AnyNative::Int64(7)))?;
+    let pushed = push(&mut keyed, Plain::Native(AnyNative::Int64(7)));
     let other = push(&mut keyed, Plain::Text("7"));
     let narrow = keyed.key_of(&7i32);
     let own = keyed.key_of(&7i64);
     drop(keyed);
+    assert!(rt; pushed == Ok(()));
     assert!(rt; other == Err(Error::InvalidArgumentError(Argument::ItemType)));
     assert!(rt; narrow == None);
     assert!(rt; own == Some(0));
@@ -121,13 +122,13 @@ fn taken(keyed: &mut Keyed, wanted: i64) -> Result<usize, Error> {
 #[test]
 fn there_are_as_many_values_as_keys(rt: HostRuntime) -> Result<(), Fail> {
     let mut keyed = no_numbers(rt.alloc())?;
-    let count = taken(&mut keyed, 300)?;
-    let again = taken(&mut keyed, 256)?;
+    let count = taken(&mut keyed, 300);
+    let again = taken(&mut keyed, 256);
     let rows = keyed.len();
     let values = keyed.values().len();
     drop(keyed);
-    assert!(rt; count == 256);
-    assert!(rt; again == 256);
+    assert!(rt; count == Ok(256));
+    assert!(rt; again == Ok(256));
     assert!(rt; rows == 512);
     assert!(rt; values == 256);
     Ok(())

@@ -8,6 +8,8 @@
 //! | Items that wait stand under an untrue row, by the offsets 0, 2; a builder with waiting items is not frozen | `records::items_stand_under_an_untrue_row` |
 //! | Of two children one was given a row: it waits, and no record is told or frozen | `records::half_a_row_waits` |
 //! | Any one request for memory refused: a null record is added at each level or at none, and a freeze empties | `records::a_refused_null_changes_no_level` |
+//! | A number that is pushed into the child that a builder of lists lends is in the next row | `records::what_is_written_to_a_lent_child_stays` |
+//! | Records are shared, and taken apart into their data type and children | `records::records_are_shared_and_taken_apart` |
 //! | Of a validity without nulls `freeze` leaves none, `as_box` keeps it | `records::freeze_drops_a_validity_without_nulls` |
 //! | A record waits in a builder of lists over records until it is told | `records::an_untold_record_waits_under_a_list` |
 //! | "A", "B", null, "A" are frozen to the keys 0, 1, null, 0 over two texts; the emptied builder takes "C" by key 0 | `dictionaries::each_text_is_kept_once` |

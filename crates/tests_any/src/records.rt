@@ -41,11 +41,45 @@ fn records_of(alloc: Global, items: DataType) -> Result<DataType, Error> {
     Ok(DataType::Struct(vec![in alloc; field]?))
 }
 
+/// The builder of records over children, if there is memory for them.
+fn over<E: Drop>(
+    alloc: Global,
+    data_type: DataType,
+    values: Result<Vec<AnyMutableArray>, E>,
+    validity: Option<MutableBitmap>,
+) -> Result<MutableStructArray, Error> {
+    match values {
+        Ok(values) => MutableStructArray::try_new(alloc, data_type, values, validity),
+        Err(refused) => {
+            drop(refused);
+            drop(validity);
+            drop(data_type);
+            Err(Error::Memory(AllocError))
+        }
+    }
+}
+
+/// A builder, if what was done with it was accepted.
+fn kept(builder: AnyMutableArray, done: Result<(), Error>) -> Result<AnyMutableArray, Error> {
+    match done {
+        Ok(()) => Ok(builder),
+        Err(error) => {
+            drop(builder);
+            Err(error)
+        }
+    }
+}
+
 /// Records of a text each.
 fn text_records(alloc: Global) -> Result<MutableStructArray, Error> {
-    let values = vec![in alloc; texts(alloc)?]?;
     let data_type = records_of(alloc, DataType::Utf8)?;
-    MutableStructArray::try_new(alloc, data_type, values, None)
+    match texts(alloc) {
+        Ok(texts) => over(alloc, data_type, vec![in alloc; texts], None),
+        Err(error) => {
+            drop(data_type);
+            Err(error)
+        }
+    }
 }
 
 /// Pushes a value into a builder that is whole.
@@ -73,11 +107,8 @@ fn push_record(records: &mut AnyMutableArray, value: Plain<'_>) -> Result<(), Er
     tell(records, true)
 }
 
-/// One list of two records and a null list.
-fn two_records_and_a_null(alloc: Global) -> Result<AnyMutableArray, Error> {
-    let records = AnyMutableArray::Struct(text_records(alloc)?);
-    let data_type = lists_of(alloc, records_of(alloc, DataType::Utf8)?)?;
-    let mut lists = AnyMutableArray::try_nested(alloc, data_type, records)?;
+/// A list of two records, and a null list.
+fn push_lists(lists: &mut AnyMutableArray) -> Result<(), Error> {
     match lists.child(0) {
         Some(records) => {
             push_record(records, Plain::Text("x"))?;
@@ -85,11 +116,26 @@ fn two_records_and_a_null(alloc: Global) -> Result<AnyMutableArray, Error> {
         }
         None => {}
     }
-    tell(&mut lists, true)?;
+    tell(lists, true)?;
     if lists.is_whole() {
         lists.push_null()?;
     }
-    Ok(lists)
+    Ok(())
+}
+
+fn two_records_and_a_null(alloc: Global) -> Result<AnyMutableArray, Error> {
+    let data_type = lists_of(alloc, records_of(alloc, DataType::Utf8)?)?;
+    let mut lists = match text_records(alloc) {
+        Ok(records) => {
+            AnyMutableArray::try_nested(alloc, data_type, AnyMutableArray::Struct(records))?
+        }
+        Err(error) => {
+            drop(data_type);
+            return Err(error);
+        }
+    };
+    let done = push_lists(&mut lists);
+    kept(lists, done)
 }
 
 /// Whether the records' only child has these texts.
@@ -114,13 +160,9 @@ fn has_offsets(lists: &ListArray, wanted: &[i32]) -> bool {
     offsets.as_slice() == wanted
 }
 
-#[test]
-fn lists_of_records_are_told_and_frozen(rt: HostRuntime) -> Result<(), Fail> {
-    let alloc = rt.alloc();
-    let mut lists = two_records_and_a_null(alloc)?;
-    assert!(rt; lists.len() == 2);
-    let frozen = lists.as_box();
-    let shown = match &frozen {
+/// Whether a list of two records of "x" and a null list were frozen.
+fn are_two_records_and_a_null(frozen: &Result<AnyArray, Error>) -> bool {
+    match frozen {
         Ok(AnyArray::List(lists)) => match lists.values() {
             AnyArray::Struct(records) => {
                 has_offsets(lists, &[0, 2, 2])
@@ -130,22 +172,35 @@ fn lists_of_records_are_told_and_frozen(rt: HostRuntime) -> Result<(), Fail> {
             _ => false,
         },
         _ => false,
-    };
-    drop(frozen);
-    assert!(rt; shown);
-    assert!(rt; lists.is_empty());
-    assert!(rt; lists.is_whole());
+    }
+}
+
+#[test]
+fn lists_of_records_are_told_and_frozen(rt: HostRuntime) -> Result<(), Fail> {
+    let alloc = rt.alloc();
+    let mut lists = two_records_and_a_null(alloc)?;
+    let rows = lists.len();
+    let frozen = lists.as_box();
+    let is_new = lists.is_empty() && lists.is_whole();
     drop(lists);
+    let shown = are_two_records_and_a_null(&frozen);
+    drop(frozen);
+    assert!(rt; rows == 2);
+    assert!(rt; is_new);
+    assert!(rt; shown);
     Ok(())
 }
 
 #[test]
 fn a_flat_builder_has_no_child_and_tells_no_row(rt: HostRuntime) -> Result<(), Fail> {
     let mut flat = numbers(rt.alloc());
-    assert!(rt; flat.child(0).is_none());
-    assert!(rt; tell(&mut flat, true) == Err(OTHER_KIND));
-    assert!(rt; push(&mut flat, Plain::Text("x")) == Err(OTHER_KIND));
+    let childless = flat.child(0).is_none();
+    let told = tell(&mut flat, true);
+    let pushed = push(&mut flat, Plain::Text("x"));
     drop(flat);
+    assert!(rt; childless);
+    assert!(rt; told == Err(OTHER_KIND));
+    assert!(rt; pushed == Err(OTHER_KIND));
     Ok(())
 }
 
@@ -183,30 +238,54 @@ fn lists_over_another_child_are_refused(rt: HostRuntime) -> Result<(), Fail> {
     Ok(())
 }
 
+/// Two numbers that wait in the child.
+fn push_two(lists: &mut AnyMutableArray) -> Result<(), Error> {
+    match lists.child(0) {
+        Some(items) => {
+            push(items, Plain::Native(AnyNative::Int64(1)))?;
+            push(items, Plain::Native(AnyNative::Int64(2)))
+        }
+        None => Ok(()),
+    }
+}
+
+/// Whether a builder with waiting items was refused.
+fn is_unfinished(frozen: Result<AnyArray, Error>) -> bool {
+    match frozen {
+        Ok(array) => {
+            drop(array);
+            false
+        }
+        Err(error) => error == UNFINISHED,
+    }
+}
+
+/// Whether a null list by the offsets 0 and 2 was frozen.
+fn is_null_of_two(frozen: &Result<AnyArray, Error>) -> bool {
+    match frozen {
+        Ok(AnyArray::List(lists)) => {
+            has_offsets(lists, &[0, 2]) && lists.len() == 1 && lists.is_null(0)
+        }
+        _ => false,
+    }
+}
+
 #[test]
 fn items_stand_under_an_untrue_row(rt: HostRuntime) -> Result<(), Fail> {
     let alloc = rt.alloc();
     let data_type = lists_of(alloc, DataType::Int64)?;
     let mut lists = AnyMutableArray::try_nested(alloc, data_type, numbers(alloc))?;
-    match lists.child(0) {
-        Some(items) => {
-            push(items, Plain::Native(AnyNative::Int64(1)))?;
-            push(items, Plain::Native(AnyNative::Int64(2)))?;
-        }
-        None => {}
-    }
-    assert!(rt; lists.as_box().err() == Some(UNFINISHED));
-    tell(&mut lists, false)?;
+    let pushed = push_two(&mut lists);
+    let waits = is_unfinished(lists.as_box());
+    let told = tell(&mut lists, false);
     let frozen = lists.as_box();
-    let shown = match &frozen {
-        Ok(AnyArray::List(lists)) => {
-            has_offsets(lists, &[0, 2]) && lists.len() == 1 && lists.is_null(0)
-        }
-        _ => false,
-    };
-    drop(frozen);
-    assert!(rt; shown);
     drop(lists);
+    let shown = is_null_of_two(&frozen);
+    drop(frozen);
+    assert!(rt; pushed == Ok(()));
+    assert!(rt; waits);
+    assert!(rt; told == Ok(()));
+    assert!(rt; shown);
     Ok(())
 }
 
@@ -215,28 +294,35 @@ fn half_a_row(alloc: Global) -> Result<AnyMutableArray, Error> {
     let a = Field::new(alloc, "a", DataType::Int64, true)?;
     let b = Field::new(alloc, "b", DataType::Int64, true)?;
     let data_type = DataType::Struct(vec![in alloc; a, b]?);
-    let values = vec![in alloc; numbers(alloc), numbers(alloc)]?;
-    let records = MutableStructArray::try_new(alloc, data_type, values, None)?;
+    let records = over(
+        alloc,
+        data_type,
+        vec![in alloc; numbers(alloc), numbers(alloc)],
+        None,
+    )?;
     let mut records = AnyMutableArray::Struct(records);
-    match records.child(1) {
-        Some(child) => push(child, Plain::Native(AnyNative::Int64(1)))?,
-        None => {}
-    }
-    Ok(records)
+    let done = match records.child(1) {
+        Some(child) => push(child, Plain::Native(AnyNative::Int64(1))),
+        None => Ok(()),
+    };
+    kept(records, done)
 }
 
 #[test]
 fn half_a_row_waits(rt: HostRuntime) -> Result<(), Fail> {
     let mut records = half_a_row(rt.alloc())?;
-    assert!(rt; tell(&mut records, true) == Err(UNFINISHED));
-    assert!(rt; records.as_box().err() == Some(UNFINISHED));
-    assert!(rt; records.is_empty());
+    let told = tell(&mut records, true);
+    let waits = is_unfinished(records.as_box());
+    let rows = records.len();
     let waiting = match records.child(1) {
         Some(child) => child.len(),
         None => 0,
     };
-    assert!(rt; waiting == 1);
     drop(records);
+    assert!(rt; told == Err(UNFINISHED));
+    assert!(rt; waits);
+    assert!(rt; rows == 0);
+    assert!(rt; waiting == 1);
     Ok(())
 }
 
@@ -245,8 +331,18 @@ fn no_records(alloc: Global) -> Result<AnyMutableArray, Error> {
     let a = Field::new(alloc, "a", DataType::Int64, true)?;
     let b = Field::new(alloc, "b", DataType::Utf8, true)?;
     let data_type = DataType::Struct(vec![in alloc; a, b]?);
-    let values = vec![in alloc; numbers(alloc), texts(alloc)?]?;
-    let records = MutableStructArray::try_new(alloc, data_type, values, None)?;
+    let records = match texts(alloc) {
+        Ok(texts) => over(
+            alloc,
+            data_type,
+            vec![in alloc; numbers(alloc), texts],
+            None,
+        )?,
+        Err(error) => {
+            drop(data_type);
+            return Err(error);
+        }
+    };
     Ok(AnyMutableArray::Struct(records))
 }
 
@@ -294,43 +390,57 @@ fn a_refused_null_changes_no_level(rt: HostRuntime) {
 
 /// Records of no row with a validity of no bit.
 fn masked(alloc: Global) -> Result<MutableStructArray, Error> {
-    let values = vec![in alloc; numbers(alloc)]?;
     let data_type = records_of(alloc, DataType::Int64)?;
-    MutableStructArray::try_new(alloc, data_type, values, Some(MutableBitmap::new(alloc)))
+    let validity = Some(MutableBitmap::new(alloc));
+    over(alloc, data_type, vec![in alloc; numbers(alloc)], validity)
 }
 
-#[test]
-fn freeze_drops_a_validity_without_nulls(rt: HostRuntime) -> Result<(), Fail> {
-    let alloc = rt.alloc();
-    let frozen = masked(alloc)?.freeze();
+/// Whether records are frozen without a validity.
+fn is_bare(alloc: Global) -> Result<bool, Error> {
+    let mut records = masked(alloc)?;
+    let frozen = records.freeze();
+    drop(records);
     let bare = match &frozen {
         Ok(records) => records.validity().is_none(),
         Err(_) => false,
     };
     drop(frozen);
-    assert!(rt; bare);
-    let boxed = masked(alloc)?.as_box();
-    let kept = match &boxed {
+    Ok(bare)
+}
+
+/// Whether records are boxed with a validity.
+fn is_masked(alloc: Global) -> Result<bool, Error> {
+    let mut records = masked(alloc)?;
+    let boxed = records.as_box();
+    drop(records);
+    let masked = match &boxed {
         Ok(AnyArray::Struct(records)) => records.validity().is_some(),
         _ => false,
     };
     drop(boxed);
-    assert!(rt; kept);
-    Ok(())
+    Ok(masked)
 }
 
 #[test]
-fn an_untold_record_waits_under_a_list(rt: HostRuntime) -> Result<(), Fail> {
-    let alloc = rt.alloc();
-    let mut lists: MutableListArray<i32, MutableStructArray> = MutableListArray::new(
-        alloc,
-        text_records(alloc)?,
-    )?;
+fn freeze_drops_a_validity_without_nulls(rt: HostRuntime) -> Result<(), Fail> {
+    assert!(rt; is_bare(rt.alloc())?);
+    assert!(rt; is_masked(rt.alloc())?);
+    Ok(())
+}
+
+/// Lists of records.
+type RecordLists = MutableListArray<i32, MutableStructArray>;
+
+/// A text that waits in the child of the records.
+fn push_text(lists: &mut RecordLists) -> Result<(), Error> {
     for child in lists.mut_values().mut_values() {
         push(child, Plain::Text("x"))?;
     }
-    assert!(rt; lists.freeze().err() == Some(UNFINISHED));
-    assert!(rt; lists.as_box().err() == Some(UNFINISHED));
+    Ok(())
+}
+
+/// Tells the record, and the list of it.
+fn tell_both(lists: &mut RecordLists) -> Result<(), Error> {
     let records = lists.mut_values();
     if records.has_whole_children() {
         records.push(true)?;
@@ -339,16 +449,75 @@ fn an_untold_record_waits_under_a_list(rt: HostRuntime) -> Result<(), Fail> {
         lists.known();
         lists.try_push_valid()?;
     }
-    let frozen = lists.freeze();
-    let shown = match &frozen {
-        Ok(lists) => match lists.values() {
-            AnyArray::Struct(records) => has_offsets(lists, &[0, 1]) && has_texts(records, &["x"]),
+    Ok(())
+}
+
+/// Whether a list of one record of "x" was frozen.
+fn is_one_record(frozen: &Result<AnyArray, Error>) -> bool {
+    match frozen {
+        Ok(AnyArray::List(lists)) => match lists.values() {
+            AnyArray::Struct(records) => {
+                has_offsets(lists, &[0, 1]) && has_texts(records, &["x"])
+            }
             _ => false,
         },
+        _ => false,
+    }
+}
+
+#[test]
+fn an_untold_record_waits_under_a_list(rt: HostRuntime) -> Result<(), Fail> {
+    let alloc = rt.alloc();
+    let mut lists: RecordLists = MutableListArray::new(alloc, text_records(alloc)?)?;
+    let pushed = push_text(&mut lists);
+    let waits = is_unfinished(lists.as_box());
+    let told = tell_both(&mut lists);
+    let frozen = lists.as_box();
+    drop(lists);
+    let shown = is_one_record(&frozen);
+    drop(frozen);
+    assert!(rt; pushed == Ok(()));
+    assert!(rt; waits);
+    assert!(rt; told == Ok(()));
+    assert!(rt; shown);
+    Ok(())
+}
+
+#[test]
+fn what_is_written_to_a_lent_child_stays(rt: HostRuntime) -> Result<(), Fail> {
+    let alloc = rt.alloc();
+    let data_type = lists_of(alloc, DataType::Int64)?;
+    let mut lists = AnyMutableArray::try_nested(alloc, data_type, numbers(alloc))?;
+    let pushed = match lists.as_list_mut() {
+        Some(lists) => push(lists.child(), Plain::Native(AnyNative::Int64(1))),
+        None => Err(UNFINISHED),
+    };
+    let no_records = lists.as_struct_mut().is_none();
+    let told = tell(&mut lists, true);
+    let rows = lists.len();
+    drop(lists);
+    assert!(rt; pushed == Ok(()));
+    assert!(rt; no_records);
+    assert!(rt; told == Ok(()));
+    assert!(rt; rows == 1);
+    Ok(())
+}
+
+#[test]
+fn records_are_shared_and_taken_apart(rt: HostRuntime) -> Result<(), Fail> {
+    let alloc = rt.alloc();
+    let shared = text_records(alloc)?.into_arc(alloc);
+    let is_empty = match &shared {
+        Ok(array) => array.is_empty(),
         Err(_) => false,
     };
-    drop(frozen);
-    assert!(rt; shown);
-    drop(lists);
+    drop(shared);
+    let (data_type, values, validity) = text_records(alloc)?.into_inner();
+    let count = values.len();
+    drop(values);
+    drop(data_type);
+    assert!(rt; is_empty);
+    assert!(rt; count == 1);
+    assert!(rt; validity.is_none());
     Ok(())
 }
