@@ -4,9 +4,11 @@ use nest_array::{AnyArray, AnyKeys, DictionaryArray};
 use nest_build::array::MutableArray;
 use nest_build::dictionary::{DictionaryRows, MutableDictionaryArray};
 use nest_build::fixed_size_binary::MutableFixedSizeBinaryArray;
+use nest_build::push::{TryExtend, TryPush};
 use nest_flat::plain::Plain;
 use nest_memory::error::{Argument, Error};
 use std::alloc::{AllocError, Global};
+use std::rc::Rc;
 use std::test::Fail;
 
 /// Byte strings of two bytes by keys of which there are 128.
@@ -170,5 +172,119 @@ fn rows_refuse_a_key_past_their_type(rt: HostRuntime) -> Result<(), Fail> {
     assert!(rt; first == Some(255));
     assert!(rt; count == 1);
     assert!(rt; rows.len() == 0);
+    Ok(())
+}
+
+/// Pushes an item of bytes.
+fn push_bytes(pairs: &mut Pairs, item: Option<&[u8]>) -> Result<(), Error> {
+    if !pairs.is_whole() {
+        return Err(Error::InvalidArgumentError(Argument::Unfinished));
+    }
+    pairs.try_push(item)
+}
+
+/// Pushes all items of bytes or none.
+fn extend_bytes(pairs: &mut Pairs, items: &[Option<&[u8]>]) -> Result<(), Error> {
+    if !pairs.is_whole() {
+        return Err(Error::InvalidArgumentError(Argument::Unfinished));
+    }
+    pairs.try_extend(items.iter().copied())
+}
+
+/// "ab", null, "cd", "ab" over an empty child.
+fn four_items(alloc: Global) -> Result<Pairs, Error> {
+    let values = MutableFixedSizeBinaryArray::new(alloc, 2);
+    let mut pairs: Pairs = MutableDictionaryArray::new(alloc, values)?;
+    pairs.reserve(4)?;
+    push_bytes(&mut pairs, Some(b"ab"))?;
+    extend_bytes(&mut pairs, &[None, Some(b"cd"), Some(b"ab")])?;
+    Ok(pairs)
+}
+
+/// Which of the rows hold "ab".
+fn rows_of_ab(pairs: &Pairs) -> usize {
+    let mut found = 0usize;
+    for i in 0..pairs.len() {
+        if pairs.holds(i, &Plain::Bytes(b"ab")) {
+            found = found.saturating_add(1);
+        }
+    }
+    found
+}
+
+#[test]
+fn items_of_bytes_stand_once_among_the_values(rt: HostRuntime) -> Result<(), Fail> {
+    let pairs = four_items(rt.alloc())?;
+    let keys = pairs.keys().len();
+    let values = pairs.values().len();
+    let held = rows_of_ab(&pairs);
+    drop(pairs);
+    assert!(rt; keys == 4);
+    assert!(rt; values == 2);
+    assert!(rt; held == 2);
+    Ok(())
+}
+
+/// Keeps the first rows of a whole builder.
+fn keep(pairs: &mut Pairs, n: usize) {
+    if pairs.is_whole() && n <= pairs.len() {
+        pairs.truncate(n);
+    }
+}
+
+#[test]
+fn the_first_rows_are_kept(rt: HostRuntime) -> Result<(), Fail> {
+    let mut pairs = four_items(rt.alloc())?;
+    keep(&mut pairs, 2);
+    pairs.shrink_to_fit()?;
+    let rows = pairs.len();
+    let values = pairs.values().len();
+    drop(pairs);
+    assert!(rt; rows == 2);
+    assert!(rt; values == 1);
+    Ok(())
+}
+
+/// How many slots, and how many of them are null; the array is let go.
+fn counted(array: Result<AnyArray, Error>) -> Result<(usize, usize), Error> {
+    match array {
+        Err(error) => Err(error),
+        Ok(array) => {
+            let counts = (array.len(), array.null_count());
+            drop(array);
+            Ok(counts)
+        }
+    }
+}
+
+/// The same of a shared array.
+fn counted_shared(array: Result<Rc<AnyArray>, Error>) -> Result<(usize, usize), Error> {
+    match array {
+        Err(error) => Err(error),
+        Ok(array) => {
+            let counts = (array.len(), array.null_count());
+            drop(array);
+            Ok(counts)
+        }
+    }
+}
+
+#[test]
+fn rows_are_frozen_and_shared(rt: HostRuntime) -> Result<(), Fail> {
+    let mut pairs = four_items(rt.alloc())?;
+    let first = counted(pairs.as_box());
+    let second = counted_shared(pairs.as_arc(rt.alloc()));
+    drop(pairs);
+    assert!(rt; first == Ok((4, 1)));
+    assert!(rt; second == Ok((0, 0)));
+    Ok(())
+}
+
+#[test]
+fn a_builder_becomes_its_array(rt: HostRuntime) -> Result<(), Fail> {
+    let boxed = counted(four_items(rt.alloc())?.into_box());
+    let arced = counted_shared(four_items(rt.alloc())?.into_arc(rt.alloc()));
+    assert!(rt; boxed == Ok((4, 1)));
+    assert!(rt; arced == Ok((4, 1)));
     Ok(())
 }

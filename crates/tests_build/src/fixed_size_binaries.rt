@@ -191,3 +191,20 @@ fn too_much_room_is_refused(rt: HostRuntime) {
     let made = MutableFixedSizeBinaryArray::with_capacity(rt.alloc(), half, 2);
     assert!(rt; refusal(made) == Some(Error::Overflow));
 }
+
+#[test]
+fn items_are_pushed_and_joined_by_its_own_calls(rt: HostRuntime) -> Result<(), Fail> {
+    let mut pairs = MutableFixedSizeBinaryArray::with_capacity(rt.alloc(), 2, 3)?;
+    pairs.reserve(3)?;
+    pairs.try_push(Some(b"ab".as_slice()))?;
+    let mut more = MutableFixedSizeBinaryArray::new(rt.alloc(), 2);
+    more.try_push(None)?;
+    pairs.try_extend_from_self(&more)?;
+    drop(more);
+    let rows = pairs.len();
+    let bytes = pairs.values().len();
+    drop(pairs);
+    assert!(rt; rows == 2);
+    assert!(rt; bytes == 4);
+    Ok(())
+}

@@ -32,8 +32,13 @@
 //! | Any one request for memory refused: 40 values, so that their table grows, and as many keys as values | `dictionaries::a_refused_value_changes_nothing` |
 //! | A boxed builder of lists of numbers is the child of a builder of lists | `lists::a_boxed_builder_of_lists_takes_rows` |
 //! | Rows of dictionaries refuse a key past their type | `dictionaries::rows_refuse_a_key_past_their_type` |
+//! | A builder of dictionaries by items of its type: keys, values, what its rows hold; cut, frozen, shared, turned into its array | `dictionaries::items_of_bytes_stand_once_among_the_values`, `dictionaries::the_first_rows_are_kept`, `dictionaries::rows_are_frozen_and_shared`, `dictionaries::a_builder_becomes_its_array` |
+//! | Rows by themselves are told, joined and frozen, of lists by either width and of one size | `told_rows` |
+//! | What another builder would be made of: flat builders by their parts, pushing by `extend_by_push` and `extend_nulls`, data types, keys | `by_parts` |
 #![tactic(auto)]
 
+#[cfg(test)]
+mod by_parts;
 #[cfg(test)]
 mod bytes;
 #[cfg(test)]
@@ -60,3 +65,5 @@ mod rows;
 mod text_lists;
 #[cfg(test)]
 mod texts;
+#[cfg(test)]
+mod told_rows;

@@ -13,6 +13,7 @@
 //! | A builder has no validity before its first null | `no_nulls::natives_without_nulls`, `no_nulls::truths_without_nulls`, `no_nulls::bytes_without_nulls`, `no_nulls::texts_without_nulls` |
 //! | What was pushed is frozen and read back | `growth::pushed_numbers_are_frozen`, `bytes_growth::texts_are_frozen_and_read_back` |
 //! | Any one request for memory refused: a clone leaves its array, a push its builder | `arrays::memory::refused_clone_of_numbers`, `growth::refused_items_change_nothing`, `bytes_growth::refused_texts_change_nothing` |
+//! | Validities and bits by themselves, builders and arrays of any native kind, and room, with memory | `parts` |
 #![tactic(auto)]
 
 #[cfg(test)]
@@ -25,5 +26,7 @@ mod growth;
 mod natives;
 #[cfg(test)]
 mod no_nulls;
+#[cfg(test)]
+mod parts;
 #[cfg(test)]
 mod plain;

@@ -1,0 +1,71 @@
+//! Rows by themselves: told by their ends, their lengths or their number, joined, cut and frozen.
+
+use nest_build::fixed_size_list::FixedRows;
+use nest_build::list::ListRows;
+use nest_build::list::width::ToldRows;
+use nest_flat::validity;
+use nest_memory::error::Error;
+use std::alloc::Global;
+use std::test::Fail;
+
+/// Rows of two items, a null, and rows of three items and of none.
+fn four_rows(alloc: Global) -> Result<ListRows<i32>, Error> {
+    let mut rows: ListRows<i32> = ListRows::new(alloc)?;
+    rows.reserve(4)?;
+    rows.push(true, 2)?;
+    rows.extend_from_lengths(&[None, Some(3), Some(0)])?;
+    Ok(rows)
+}
+
+#[test]
+fn rows_are_told_and_frozen(rt: HostRuntime) -> Result<(), Fail> {
+    let mut rows = four_rows(rt.alloc())?;
+    let more = four_rows(rt.alloc())?;
+    rows.append(&more)?;
+    let (offsets, bits) = rows.freeze()?;
+    let ends = [0i32, 2, 2, 5, 5, 7, 7, 10, 10];
+    assert!(rt; offsets.as_slice() == ends.as_slice());
+    assert!(rt; validity::null_count(&bits) == 2);
+    assert!(rt; rows.len() == 0);
+    Ok(())
+}
+
+/// Two rows, told by what all widths have, and two more of their own.
+fn doubled<R: ToldRows>(alloc: Global) -> Result<R, Error> {
+    let mut rows = R::new(alloc)?;
+    let mut more = R::new(alloc)?;
+    rows.reserve(4)?;
+    rows.push(true, 2)?;
+    rows.extend_from_lengths(&[None])?;
+    more.push(true, 1)?;
+    rows.append(&more)?;
+    drop(more);
+    Ok(rows)
+}
+
+#[test]
+fn rows_of_any_width(rt: HostRuntime) -> Result<(), Fail> {
+    let narrow: ListRows<i32> = doubled(rt.alloc())?;
+    let wide: ListRows<i64> = doubled(rt.alloc())?;
+    assert!(rt; narrow.len() == 3);
+    assert!(rt; wide.len() == 3);
+    assert!(rt; narrow.last() == 3);
+    assert!(rt; wide.last() == 3);
+    Ok(())
+}
+
+#[test]
+fn rows_of_one_size_are_counted(rt: HostRuntime) -> Result<(), Fail> {
+    let mut rows = FixedRows::new(rt.alloc());
+    rows.reserve(2)?;
+    rows.push(true)?;
+    rows.push(false)?;
+    let mut more = FixedRows::new(rt.alloc());
+    more.push(true)?;
+    rows.append(&more)?;
+    let (count, bits) = rows.freeze()?;
+    assert!(rt; count == 3);
+    assert!(rt; validity::null_count(&bits) == 1);
+    assert!(rt; rows.len() == 0);
+    Ok(())
+}

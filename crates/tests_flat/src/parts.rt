@@ -1,0 +1,175 @@
+//! Validities and bits by themselves, as who writes another array or builder calls them; builders and arrays of any native
+//! kind; room in builders.
+
+use nest_flat::any_primitive::AnyPrimitive;
+use nest_flat::any_primitive::mutable::AnyMutablePrimitive;
+use nest_flat::binary::BinaryArray;
+use nest_flat::binary::mutable::MutableBinaryArray;
+use nest_flat::boolean::BooleanArray;
+use nest_flat::boolean::mutable::MutableBooleanArray;
+use nest_flat::primitive::PrimitiveArray;
+use nest_flat::primitive::mutable::MutablePrimitiveArray;
+use nest_flat::utf8::Utf8Array;
+use nest_flat::{growth, validity};
+use nest_memory::bitmap::mutable::MutableBitmap;
+use nest_memory::datatypes::DataType;
+use nest_memory::datatypes::physical_type::PrimitiveType;
+use nest_memory::error::Error;
+use std::alloc::Global;
+use std::test::Fail;
+
+#[test]
+fn a_validity_is_made_and_shared(rt: HostRuntime) -> Result<(), Fail> {
+    let nulls = validity::none_valid(rt.alloc(), 3, 1)?;
+    let shared = validity::clone(&nulls)?;
+    assert!(rt; validity::null_count(&nulls) == 3);
+    assert!(rt; validity::null_count(&shared) == 3);
+    assert!(rt; validity::fits(&shared, 3));
+    assert!(rt; validity::none_valid(rt.alloc(), 3, 0)?.is_none());
+    Ok(())
+}
+
+/// The bits of a valid place and a null one.
+fn two_bits(alloc: Global) -> Result<Option<MutableBitmap>, Error> {
+    let mut bits = None;
+    growth::validity::push(alloc, &mut bits, 0, true)?;
+    growth::validity::push(alloc, &mut bits, 1, false)?;
+    Ok(bits)
+}
+
+#[test]
+fn bits_begin_with_the_first_null(rt: HostRuntime) -> Result<(), Fail> {
+    let mut bits = two_bits(rt.alloc())?;
+    growth::validity::reserve(&mut bits, 8)?;
+    growth::validity::shrink_to_fit(&mut bits);
+    let frozen = growth::validity::freeze(&mut bits)?;
+    assert!(rt; bits.is_none());
+    assert!(rt; validity::fits(&frozen, 2));
+    assert!(rt; validity::null_count(&frozen) == 1);
+    Ok(())
+}
+
+/// The bits of three valid places and a null one.
+fn four_bits(alloc: Global) -> Result<Option<MutableBitmap>, Error> {
+    let mut more: Option<MutableBitmap> = None;
+    growth::validity::push(alloc, &mut more, 0, false)?;
+    let mut bits = None;
+    growth::validity::join(alloc, &mut bits, 3, &more, 1)?;
+    Ok(bits)
+}
+
+#[test]
+fn bits_are_joined_behind_valid_places(rt: HostRuntime) -> Result<(), Fail> {
+    let mut bits = four_bits(rt.alloc())?;
+    let frozen = growth::validity::freeze(&mut bits)?;
+    assert!(rt; validity::fits(&frozen, 4));
+    assert!(rt; validity::null_count(&frozen) == 1);
+    Ok(())
+}
+
+#[test]
+fn bits_are_appended(rt: HostRuntime) -> Result<(), Fail> {
+    let mut bits = MutableBitmap::new(rt.alloc());
+    let mut more = MutableBitmap::new(rt.alloc());
+    more.push(true)?;
+    more.push(false)?;
+    growth::bits::append(&mut bits, &more)?;
+    assert!(rt; bits.len() == 2);
+    assert!(rt; bits.unset_bits() == 1);
+    Ok(())
+}
+
+/// A builder of any native kind, with 7 and a null.
+fn seven(alloc: Global) -> Result<AnyMutablePrimitive, Error> {
+    let mut numbers: MutablePrimitiveArray<i32> = MutablePrimitiveArray::new(alloc);
+    numbers.try_push(Some(7))?;
+    numbers.try_push(None)?;
+    Ok(AnyMutablePrimitive::Int32(numbers))
+}
+
+fn frozen(alloc: Global) -> Result<AnyPrimitive, Error> {
+    let mut builder = seven(alloc)?;
+    let array = builder.freeze();
+    drop(builder);
+    array
+}
+
+/// How many slots, and how many of them are null; the array is let go.
+fn counted(array: Result<AnyPrimitive, Error>) -> Result<(usize, usize), Error> {
+    match array {
+        Err(error) => Err(error),
+        Ok(array) => {
+            let counts = (array.len(), array.null_count());
+            drop(array);
+            Ok(counts)
+        }
+    }
+}
+
+#[test]
+fn any_natives_are_frozen_and_copied(rt: HostRuntime) -> Result<(), Fail> {
+    let array = frozen(rt.alloc())?;
+    let copy = counted(array.clone(rt.alloc()));
+    drop(array);
+    assert!(rt; copy == Ok((2, 1)));
+    Ok(())
+}
+
+#[test]
+fn bytes_have_room_and_are_joined(rt: HostRuntime) -> Result<(), Fail> {
+    let mut bytes: MutableBinaryArray<i32> = MutableBinaryArray::new(rt.alloc())?;
+    bytes.reserve(2)?;
+    bytes.try_push(Some(b"ab".as_slice()))?;
+    let mut more: MutableBinaryArray<i32> = MutableBinaryArray::new(rt.alloc())?;
+    more.try_push(None)?;
+    bytes.try_extend_from_self(&more)?;
+    drop(more);
+    let count = bytes.len();
+    drop(bytes);
+    assert!(rt; count == 2);
+    Ok(())
+}
+
+#[test]
+fn truths_have_room(rt: HostRuntime) -> Result<(), Fail> {
+    let mut truths = MutableBooleanArray::new(rt.alloc());
+    truths.reserve(2)?;
+    truths.try_push(Some(true))?;
+    let count = truths.len();
+    drop(truths);
+    assert!(rt; count == 1);
+    Ok(())
+}
+
+#[test]
+fn nulls_of_numbers_and_truths(rt: HostRuntime) -> Result<(), Fail> {
+    let numbers: PrimitiveArray<i32> = PrimitiveArray::of_nulls(
+        rt.alloc(),
+        &DataType::Int32,
+        2,
+        1,
+    )?;
+    let nulls = numbers.null_count();
+    drop(numbers);
+    assert!(rt; nulls == 2);
+    let any = AnyPrimitive::of_nulls(rt.alloc(), PrimitiveType::Int32, &DataType::Int32, 2, 1);
+    assert!(rt; counted(any) == Ok((2, 2)));
+    let truths = BooleanArray::of_nulls(rt.alloc(), &DataType::Boolean, 2, 1)?;
+    let nulls = truths.null_count();
+    drop(truths);
+    assert!(rt; nulls == 2);
+    Ok(())
+}
+
+#[test]
+fn nulls_of_bytes_and_texts(rt: HostRuntime) -> Result<(), Fail> {
+    let bytes: BinaryArray<i32> = BinaryArray::of_nulls(rt.alloc(), &DataType::Binary, 2, 1)?;
+    let nulls = bytes.null_count();
+    drop(bytes);
+    assert!(rt; nulls == 2);
+    let texts: Utf8Array<i32> = Utf8Array::of_nulls(rt.alloc(), &DataType::Utf8, 2, 1)?;
+    let nulls = texts.null_count();
+    drop(texts);
+    assert!(rt; nulls == 2);
+    Ok(())
+}
