@@ -1,5 +1,10 @@
 //! Builders of records, and builders of any kind over them.
-use nest_any::{AnyMutableArray, AnyMutableFlat, MutableStructArray};
+ghost use Rattle.std.specs.Prelude.{IfOk};
+ghost use Rattle.nest_any.specs.Trees.{tree_of, trees_of};
+ghost use Rattle.nest_model.specs.BuilderRowChecks.{AreEachWhole};
+ghost use Rattle.nest_model.specs.BuilderWhole.{IsWhole};
+
+use nest_any::{AnyMutableArray, AnyMutableFlat, ListBuilder, MutableStructArray};
 use nest_array::{AnyArray, ListArray, StructArray};
 use nest_build::array::MutableArray;
 use nest_build::list::MutableListArray;
@@ -19,11 +24,15 @@ const UNFINISHED: Error = Error::InvalidArgumentError(Argument::Unfinished);
 
 const OTHER_KIND: Error = Error::InvalidArgumentError(Argument::ItemType);
 
-fn texts(alloc: Global) -> Result<AnyMutableArray, Error> {
+fn texts(alloc: Global) -> Result<AnyMutableArray, Error>
+    ensures { IfOk result (λ b. IsWhole (tree_of b)) }
+{
     Ok(AnyMutableArray::Flat(AnyMutableFlat::Utf8(MutableUtf8Array::new(alloc)?)))
 }
 
-fn numbers(alloc: Global) -> AnyMutableArray {
+fn numbers(alloc: Global) -> AnyMutableArray
+    ensures { IsWhole (tree_of result) }
+{
     AnyMutableArray::Flat(AnyMutableFlat::Primitive(AnyMutablePrimitive::Int64(
         MutablePrimitiveArray::new(alloc),
     )))
@@ -47,7 +56,9 @@ fn over<E: Drop>(
     data_type: DataType,
     values: Result<Vec<AnyMutableArray>, E>,
     validity: Option<MutableBitmap>,
-) -> Result<MutableStructArray, Error> {
+) -> Result<MutableStructArray, Error>
+    requires { IfOk values (λ vs. AreEachWhole (trees_of vs.items)) }
+{
     match values {
         Ok(values) => MutableStructArray::try_new(alloc, data_type, values, validity),
         Err(refused) => {
@@ -57,6 +68,20 @@ fn over<E: Drop>(
             Err(Error::Memory(AllocError))
         }
     }
+}
+
+/// Lists over a child that is whole.
+fn nested(
+    alloc: Global,
+    data_type: DataType,
+    child: AnyMutableArray,
+) -> Result<AnyMutableArray, Error> {
+    if !child.is_whole() {
+        drop(child);
+        drop(data_type);
+        return Err(UNFINISHED);
+    }
+    AnyMutableArray::try_nested(alloc, data_type, child)
 }
 
 /// A builder, if what was done with it was accepted.
@@ -126,9 +151,7 @@ fn push_lists(lists: &mut AnyMutableArray) -> Result<(), Error> {
 fn two_records_and_a_null(alloc: Global) -> Result<AnyMutableArray, Error> {
     let data_type = lists_of(alloc, records_of(alloc, DataType::Utf8)?)?;
     let mut lists = match text_records(alloc) {
-        Ok(records) => {
-            AnyMutableArray::try_nested(alloc, data_type, AnyMutableArray::Struct(records))?
-        }
+        Ok(records) => { nested(alloc, data_type, AnyMutableArray::Struct(records))? }
         Err(error) => {
             drop(data_type);
             return Err(error);
@@ -166,6 +189,7 @@ fn are_two_records_and_a_null(frozen: &Result<AnyArray, Error>) -> bool {
         Ok(AnyArray::List(lists)) => match lists.values() {
             AnyArray::Struct(records) => {
                 has_offsets(lists, &[0, 2, 2])
+                    && lists.len() == 2
                     && lists.is_null(1)
                     && has_texts(records, &["x", "x"])
             }
@@ -204,24 +228,31 @@ fn a_flat_builder_has_no_child_and_tells_no_row(rt: HostRuntime) -> Result<(), F
     Ok(())
 }
 
-/// Why no lists of texts are made over a builder of numbers.
-fn refused(alloc: Global, filled: bool, data_type: DataType) -> Option<Error> {
-    let mut items = numbers(alloc);
-    if filled {
-        match push(&mut items, Plain::Native(AnyNative::Int64(1))) {
-            Ok(()) => {}
-            Err(error) => {
-                drop(data_type);
-                return Some(error);
-            }
-        }
-    }
-    match AnyMutableArray::try_nested(alloc, data_type, items) {
-        Ok(lists) => {
-            drop(lists);
+/// Why a builder was refused; an accepted one is let go.
+fn refusal_of(made: Result<AnyMutableArray, Error>) -> Option<Error> {
+    match made {
+        Ok(builder) => {
+            drop(builder);
             None
         }
         Err(error) => Some(error),
+    }
+}
+
+/// Why no lists of texts are made over a builder of numbers.
+fn refused(alloc: Global, filled: bool, data_type: DataType) -> Option<Error> {
+    let mut items = numbers(alloc);
+    let pushed = if filled {
+        push(&mut items, Plain::Native(AnyNative::Int64(1)))
+    } else {
+        Ok(())
+    };
+    match kept(items, pushed) {
+        Ok(items) => refusal_of(nested(alloc, data_type, items)),
+        Err(error) => {
+            drop(data_type);
+            Some(error)
+        }
     }
 }
 
@@ -274,7 +305,7 @@ fn is_null_of_two(frozen: &Result<AnyArray, Error>) -> bool {
 fn items_stand_under_an_untrue_row(rt: HostRuntime) -> Result<(), Fail> {
     let alloc = rt.alloc();
     let data_type = lists_of(alloc, DataType::Int64)?;
-    let mut lists = AnyMutableArray::try_nested(alloc, data_type, numbers(alloc))?;
+    let mut lists = nested(alloc, data_type, numbers(alloc))?;
     let pushed = push_two(&mut lists);
     let waits = is_unfinished(lists.as_box());
     let told = tell(&mut lists, false);
@@ -431,6 +462,15 @@ fn freeze_drops_a_validity_without_nulls(rt: HostRuntime) -> Result<(), Fail> {
 /// Lists of records.
 type RecordLists = MutableListArray<i32, MutableStructArray>;
 
+fn no_lists(alloc: Global) -> Result<RecordLists, Error> {
+    let records = text_records(alloc)?;
+    if !records.is_whole() || !records.is_empty() {
+        drop(records);
+        return Err(UNFINISHED);
+    }
+    MutableListArray::new(alloc, records)
+}
+
 /// A text that waits in the child of the records.
 fn push_text(lists: &mut RecordLists) -> Result<(), Error> {
     for child in lists.mut_values().mut_values() {
@@ -468,7 +508,7 @@ fn is_one_record(frozen: &Result<AnyArray, Error>) -> bool {
 #[test]
 fn an_untold_record_waits_under_a_list(rt: HostRuntime) -> Result<(), Fail> {
     let alloc = rt.alloc();
-    let mut lists: RecordLists = MutableListArray::new(alloc, text_records(alloc)?)?;
+    let mut lists = no_lists(alloc)?;
     let pushed = push_text(&mut lists);
     let waits = is_unfinished(lists.as_box());
     let told = tell_both(&mut lists);
@@ -483,17 +523,28 @@ fn an_untold_record_waits_under_a_list(rt: HostRuntime) -> Result<(), Fail> {
     Ok(())
 }
 
+/// Tells a row of what waits in a whole child.
+fn tell_list(lists: &mut ListBuilder) -> Result<(), Error> {
+    if !lists.has_whole_children() {
+        return Err(UNFINISHED);
+    }
+    lists.tell(true)
+}
+
 #[test]
 fn what_is_written_to_a_lent_child_stays(rt: HostRuntime) -> Result<(), Fail> {
     let alloc = rt.alloc();
     let data_type = lists_of(alloc, DataType::Int64)?;
-    let mut lists = AnyMutableArray::try_nested(alloc, data_type, numbers(alloc))?;
+    let mut lists = nested(alloc, data_type, numbers(alloc))?;
     let pushed = match lists.as_list_mut() {
         Some(lists) => push(lists.child(), Plain::Native(AnyNative::Int64(1))),
         None => Err(UNFINISHED),
     };
     let no_records = lists.as_struct_mut().is_none();
-    let told = tell(&mut lists, true);
+    let told = match lists.as_list_mut() {
+        Some(lists) => tell_list(lists),
+        None => Err(UNFINISHED),
+    };
     let rows = lists.len();
     drop(lists);
     assert!(rt; pushed == Ok(()));
@@ -508,7 +559,7 @@ fn records_are_shared_and_taken_apart(rt: HostRuntime) -> Result<(), Fail> {
     let alloc = rt.alloc();
     let shared = text_records(alloc)?.into_arc(alloc);
     let is_empty = match &shared {
-        Ok(array) => array.is_empty(),
+        Ok(array) => array.len() == 0,
         Err(_) => false,
     };
     drop(shared);
