@@ -4,7 +4,7 @@ use Rattle.std.specs.Prelude.{if◌then◌else◌}
 use Rattle.std.specs.List.{All, flat_map, range_with_len, sum_by}
 use Rattle.std.proofs.Common.{◌≡◌, ℕ, Bool, true, false, sum, zero, suc, ◌+◌, ◌-◌, ◌*◌, ◌<◌, ◌≤◌, take, drop, refl, ap, sym, ◌∙◌, arith, length-append}
 use Rattle.std.proofs.lemmas.List.Elements.{All-nil, All-cons, All-append}
-use Rattle.std.proofs.lemmas.List.Sums.{sum-map, sum_by-cons, sum_by_more}
+use Rattle.std.proofs.lemmas.List.Sums.{sum-map, sum_by-cons, sum_by_more, sum_by_more_le}
 use Rattle.nest_memory.specs.Cut.{cut}
 use Rattle.nest_memory.specs.Rising.{ends_from, last_of, largest_offset}
 use Rattle.nest_model.specs.Chosen.{chosen}
@@ -59,6 +59,29 @@ pub ends-last : (n : ℕ → ℕ) (is : List ℕ) → last_of (ends n is) ≡ su
 ends-last n is =
     let e : length (ends n is) - 1 ≡ length is = omega (arith, ends-length n is 0) in
     ap (λ k. get_or (ends n is) k 0) e ∙ piece-begin n is (length is) (omega arith) ∙ ap (sum_by n) (take-whole is)
+
+from-more : (n : ℕ → ℕ) (is : List ℕ) (a k : ℕ) → k < length is
+    → ends_from a (map n (take (suc k) is)) ≡ ends_from a (map n (take k is)) ++ (a + sum_by n (take k is) + n (get_or is k 0)) ∷ []
+from-more n [] a k h = absurd (omega arith)
+from-more n (i ∷ is) a zero h = let e : a + n i ≡ a + sum_by n (take 0 (i ∷ is)) + n i = omega arith in ap (λ z. z ∷ []) e
+from-more n (i ∷ is) a (suc k) h =
+    let s = sum_by-cons n i (take k is) in
+    let e : a + n i + sum_by n (take k is) + n (get_or is k 0) ≡ a + sum_by n (take (suc k) (i ∷ is)) + n (get_or is k 0) = omega (arith, s) in
+    ap (◌∷◌ (a + n i)) (from-more n is (a + n i) k (omega arith) ∙ ap (λ z. ends_from (a + n i) (map n (take k is)) ++ z ∷ []) e)
+
+-- one piece more ends where it is added to the last offset, and no later than all pieces
+pub ends-more : (n : ℕ → ℕ) (is es : List ℕ) (k : ℕ) → k < length is → es ≡ ends n (take k is) → es ++ (last_of es + n (get_or is k 0)) ∷ [] ≡ ends n (take (k + 1) is)
+ends-more n is es k h e =
+    let l = ap last_of e ∙ ends-last n (take k is) in
+    let s : suc k ≡ k + 1 = omega arith in
+    let a : last_of es + n (get_or is k 0) ≡ 0 + sum_by n (take k is) + n (get_or is k 0) = omega (arith, l) in
+    ap (λ z. z ++ (last_of es + n (get_or is k 0)) ∷ []) e
+    ∙ ap (λ z. ends n (take k is) ++ z ∷ []) a
+    ∙ ap (◌∷◌ 0) (sym (from-more n is 0 k h))
+    ∙ ap (λ j. ends n (take j is)) s
+
+pub ends-within : (n : ℕ → ℕ) (is es : List ℕ) (k : ℕ) → k < length is → es ≡ ends n (take k is) → last_of es + n (get_or is k 0) ≤ sum_by n is
+ends-within n is es k h e = omega (arith, ap last_of e ∙ ends-last n (take k is), sum_by_more_le n is k 0 h)
 
 -- piece j lies after those before it
 take-piece : {A : Type 0} (xs ys : List A) (n : ℕ) → length xs ≡ n → take n (xs ++ ys) ≡ xs

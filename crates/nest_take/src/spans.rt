@@ -1,5 +1,5 @@
 //! Rows between offsets: what bytes, texts, lists and maps share.
-ghost use Rattle.std.specs.Prelude.{◌≡◌, ◌+◌, ◌<◌, ◌≤◌, ◌^◌, ◌⊎◌, ◌∷◌, IfOk, IfErr, IsOkUnless, MatchResult, alloc_error, length, map, option_map};
+ghost use Rattle.std.specs.Prelude.{◌≡◌, ◌+◌, ◌<◌, ◌≤◌, ◌^◌, ◌⊎◌, ◌∷◌, [], IfOk, IfErr, IsOkUnless, MatchResult, alloc_error, length, map, option_map};
 ghost use Rattle.std.specs.List.{sum_by};
 ghost use Rattle.nest_flat.specs.FlatParts.{ValidityCovers};
 ghost use Rattle.nest_take.specs.Words.{AreBelow, Memory, Overflow, PassesOffsets, ReachesBits, begin, count_at, ends_from, item_places, items_at, last_of, rows, taken_validity};
@@ -43,7 +43,7 @@ pub(crate) fn count<O: Offset>(
     requires within { AreBelow places.now (rows offsets.now) }
     requires bits { ReachesBits (option_map (λ b. b.now) validity) places.now }
     ensures { MatchResult result
-        (λ n. n ≡ sum_by (count_at offsets.now (option_map (λ b. b.now) validity.entry)) places.now)
+        (λ n. (n ≡ sum_by (count_at offsets.now (option_map (λ b. b.now) validity.entry)) places.now) × (n ≤ O.largest))
         (λ e. (e ≡ Overflow) × PassesOffsets O.IS_LARGE offsets.now (option_map (λ b. b.now) validity.entry) places.now) }
 {
     let mut count: usize = 0;
@@ -59,27 +59,18 @@ pub(crate) fn count<O: Offset>(
     Ok(count)
 }
 
-/// How many items each of the rows at some places has.
-fn lengths<O: Offset>(
-    alloc: Global,
-    offsets: &OffsetsBuffer<O>,
-    validity: Option<&Bitmap>,
-    places: &[usize],
-) -> Result<Vec<usize>, Error>
-    requires within { AreBelow places.now (rows offsets.now) }
-    requires bits { ReachesBits (option_map (λ b. b.now) validity) places.now }
-    ensures ok { IfOk result (λ v. v.items ≡ map (count_at offsets.now (option_map (λ b. b.now) validity.entry)) places.now) }
+/// The one offset 0, with room for so many slots.
+fn room_for<O: Offset>(alloc: Global, slots: usize) -> Result<Offsets<O>, Error>
+    ensures ok { IfOk result (λ b. b ≡ 0 ∷ []) }
     ensures err { IsOkUnless result (Memory alloc_error) }
 {
-    let mut lengths = Vec::with_capacity(alloc, places.len())?;
-    for place in places {
-        lengths.push_reserved(range(offsets, validity, *place).1);
-    }
-    Ok(lengths)
+    let mut ends = Offsets::new(alloc)?;
+    ends.reserve(slots)?;
+    Ok(ends)
 }
 
 /// The offsets of the rows at some places, from 0 on.
-pub(crate) fn offsets_at<O: Offset>(
+fn offsets_at<O: Offset>(
     alloc: Global,
     offsets: &OffsetsBuffer<O>,
     validity: Option<&Bitmap>,
@@ -87,16 +78,15 @@ pub(crate) fn offsets_at<O: Offset>(
 ) -> Result<OffsetsBuffer<O>, Error>
     requires within { AreBelow places.now (rows offsets.now) }
     requires bits { ReachesBits (option_map (λ b. b.now) validity) places.now }
+    requires room { sum_by (count_at offsets.now (option_map (λ b. b.now) validity)) places.now ≤ O.largest }
     ensures ok { IfOk result (λ b. b ≡ 0 ∷ ends_from 0 (map (count_at offsets.now (option_map (λ b. b.now) validity.entry)) places.now)) }
-    ensures err { IfErr result (λ e. (e ≡ Memory alloc_error) ⊎ ((e ≡ Overflow) × PassesOffsets O.IS_LARGE offsets.now (option_map (λ b. b.now) validity.entry) places.now)) }
+    ensures err { IsOkUnless result (Memory alloc_error) }
 {
-    let lengths = lengths(alloc, offsets, validity, places)?;
-    let mut ends = Offsets::new(alloc)?;
-    ends.reserve(lengths.len())?;
-    match ends.try_extend_from_lengths(&lengths) {
-        Ok(()) => ends.freeze(),
-        Err(error) => Err(error),
+    let mut ends = room_for(alloc, places.len())?;
+    for place in places {
+        ends.try_push_usize(range(offsets, validity, *place).1)?;
     }
+    ends.freeze()
 }
 
 /// The places of the items of the rows at some places, `count` in all.
@@ -120,7 +110,7 @@ pub(crate) fn items<O: Offset>(
     Ok(items)
 }
 
-/// The bytes of the rows at some places, `count` in all.
+/// The offsets of the rows at some places, from 0 on, and their bytes, `count` in all.
 fn bytes_at<O: Offset>(
     alloc: Global,
     offsets: &OffsetsBuffer<O>,
@@ -128,19 +118,23 @@ fn bytes_at<O: Offset>(
     bytes: &[u8],
     places: &[usize],
     count: usize,
-) -> Result<Buffer<u8>, Error>
+) -> Result<(OffsetsBuffer<O>, Buffer<u8>), Error>
     requires within { AreBelow places.now (rows offsets.now) }
     requires bits { ReachesBits (option_map (λ b. b.now) validity) places.now }
     requires fits { last_of offsets.now ≤ length bytes.now }
-    ensures ok { IfOk result (λ b. b ≡ items_at bytes.now offsets.now (option_map (λ b. b.now) validity.entry) places.now) }
+    requires room { sum_by (count_at offsets.now (option_map (λ b. b.now) validity)) places.now ≤ O.largest }
+    ensures offsets { IfOk result (λ p. p.0 ≡ 0 ∷ ends_from 0 (map (count_at offsets.now (option_map (λ b. b.now) validity.entry)) places.now)) }
+    ensures bytes { IfOk result (λ p. p.1 ≡ items_at bytes.now offsets.now (option_map (λ b. b.now) validity.entry) places.now) }
     ensures err { IsOkUnless result (Memory alloc_error) }
 {
+    let mut ends = room_for(alloc, places.len())?;
     let mut taken = Vec::with_capacity(alloc, count)?;
     for place in places {
         let (start, n) = range(offsets, validity, *place);
+        ends.try_push_usize(n)?;
         taken.extend_from_slice(&bytes[start..start + n])?;
     }
-    Buffer::from_vec(alloc, taken)
+    Ok((ends.freeze()?, Buffer::from_vec(alloc, taken)?))
 }
 
 /// Offsets, the bytes between them, and a validity.
@@ -168,9 +162,10 @@ pub(crate) fn take<O: Offset>(
     ensures err { IfErr result (λ e. (e ≡ Memory alloc_error) ⊎ ((e ≡ Overflow) × PassesOffsets O.IS_LARGE offsets.now (option_map (λ b. b.now) validity.entry) places.now)) }
 {
     let count = count(offsets, validity, places)?;
+    let (ends, taken) = bytes_at(alloc, offsets, validity, bytes, places, count)?;
     Ok(Spans {
-        offsets: offsets_at(alloc, offsets, validity, places)?,
-        bytes: bytes_at(alloc, offsets, validity, bytes, places, count)?,
+        offsets: ends,
+        bytes: taken,
         validity: places::validity_at(alloc, validity, places)?,
     })
 }
