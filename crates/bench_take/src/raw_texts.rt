@@ -66,7 +66,10 @@ impl RawTexts {
     /// Text i, no byte where there is none.
     fn text(&self, i: usize) -> &[u8] {
         let start = self.offsets.get(i).map_or(0, |start| *start as usize);
-        let end = self.offsets.get(i.wrapping_add(1)).map_or(0, |end| *end as usize);
+        let end = self
+            .offsets
+            .get(i.wrapping_add(1))
+            .map_or(0, |end| *end as usize);
         self.bytes.get(start..end).unwrap_or(&[])
     }
 
