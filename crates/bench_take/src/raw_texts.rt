@@ -76,6 +76,8 @@ impl RawTexts {
     /// Adds a text.
     fn push(&mut self, text: &[u8]) -> Result<(), AllocError> {
         self.bytes.extend_from_slice(text)?;
-        self.offsets.push((self.bytes.len() % 4_294_967_296) as u32)
+        self.offsets
+            .push((self.bytes.len() % 4_294_967_296) as u32)?;
+        Ok(())
     }
 }
