@@ -100,6 +100,25 @@ impl<O: Offset> Utf8Array<O> {
         })
     }
 
+    /// The array of parts that fit, whose texts aren't tested again.
+    pub fn new(
+        data_type: DataType,
+        offsets: OffsetsBuffer<O>,
+        values: Buffer<u8>,
+        validity: Option<Bitmap>,
+    ) -> Utf8Array<O>
+        requires { Fits (layouts.text O.IS_LARGE (type_of data_type) offsets values validity) }
+        ensures { result ≡ layouts.text O.IS_LARGE (type_of data_type) offsets values validity }
+    {
+        offsets.known();
+        Utf8Array {
+            data_type,
+            offsets,
+            values,
+            validity,
+        }
+    }
+
     /// What holds of every such array.
     pub fn known(&self)
         ensures fits { TopFits self.now }
