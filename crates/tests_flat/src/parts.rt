@@ -1,5 +1,6 @@
 //! Validities and bits by themselves, as who writes another array or builder calls them; builders and arrays of any native
 //! kind; room in builders.
+ghost use Rattle.std.specs.Prelude.{◌≡◌, IfOk, option_map};
 
 use nest_flat::any_primitive::AnyPrimitive;
 use nest_flat::any_primitive::mutable::AnyMutablePrimitive;
@@ -12,6 +13,7 @@ use nest_flat::primitive::mutable::MutablePrimitiveArray;
 use nest_flat::utf8::Utf8Array;
 use nest_flat::utf8::mutable::MutableUtf8Array;
 use nest_flat::{growth, validity};
+use nest_memory::bitmap::immutable::Bitmap;
 use nest_memory::bitmap::mutable::MutableBitmap;
 use nest_memory::datatypes::DataType;
 use nest_memory::datatypes::physical_type::PrimitiveType;
@@ -175,16 +177,23 @@ fn nulls_of_bytes_and_texts(rt: HostRuntime) -> Result<(), Fail> {
     Ok(())
 }
 
+/// A validity again.
+fn copied(bits: Option<&Bitmap>) -> Result<Option<Bitmap>, Error>
+    ensures { IfOk result (λ copy. copy ≡ option_map (λ b. b.now) bits.entry) }
+{
+    match bits {
+        Some(bits) => Ok(Some(bits.clone()?)),
+        None => Ok(None),
+    }
+}
+
 /// The texts of the same parts, which are not tested again.
 fn of_its_parts(alloc: Global, texts: &Utf8Array<i32>) -> Result<Utf8Array<i32>, Error> {
-    let validity = match texts.validity() {
-        Some(bits) => Some(bits.clone()?),
-        None => None,
-    };
+    texts.known();
+    let validity = copied(texts.validity())?;
     let offsets = texts.offsets().clone()?;
     let values = texts.values().clone()?;
     let data_type = texts.data_type().clone(alloc)?;
-    texts.known();
     Ok(Utf8Array::new(data_type, offsets, values, validity))
 }
 
