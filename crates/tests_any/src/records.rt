@@ -30,7 +30,7 @@ fn texts(alloc: Global) -> Result<AnyMutableArray, Error>
     Ok(AnyMutableArray::Flat(AnyMutableFlat::Utf8(MutableUtf8Array::new(alloc)?)))
 }
 
-fn numbers(alloc: Global) -> AnyMutableArray
+pub(crate) fn numbers(alloc: Global) -> AnyMutableArray
     ensures { IsWhole (tree_of result) }
 {
     AnyMutableArray::Flat(AnyMutableFlat::Primitive(AnyMutablePrimitive::Int64(
@@ -45,7 +45,7 @@ fn lists_of(alloc: Global, items: DataType) -> Result<DataType, Error> {
 }
 
 /// Records of one field.
-fn records_of(alloc: Global, items: DataType) -> Result<DataType, Error> {
+pub(crate) fn records_of(alloc: Global, items: DataType) -> Result<DataType, Error> {
     let field = Field::new(alloc, "a", items, true)?;
     Ok(DataType::Struct(vec![in alloc; field]?))
 }
@@ -108,7 +108,7 @@ fn text_records(alloc: Global) -> Result<MutableStructArray, Error> {
 }
 
 /// Pushes a value into a builder that is whole.
-fn push(builder: &mut AnyMutableArray, value: Plain<'_>) -> Result<(), Error> {
+pub(crate) fn push(builder: &mut AnyMutableArray, value: Plain<'_>) -> Result<(), Error> {
     if !builder.is_whole() {
         return Err(UNFINISHED);
     }
