@@ -59,7 +59,7 @@ fn record_type(alloc: Global) -> Result<DataType, Error> {
 }
 
 /// Records of a text and a number, none yet.
-fn no_records(alloc: Global) -> Result<MutableStructArray, Error> {
+pub(crate) fn no_records(alloc: Global) -> Result<MutableStructArray, Error> {
     let data_type = record_type(alloc)?;
     let texts = match texts(alloc) {
         Ok(texts) => texts,

@@ -1,6 +1,7 @@
 //! Two thousand steps, drawn from a rule of whole numbers, on builders and beside them on a plain list of what they should
 //! have: rows, nulls, refusals and cuts. At each hundredth step both have the same slots.
 use crate::dictionaries::{Pairs, no_pairs};
+use crate::records::no_records;
 use crate::runs::{MEMORY, UNFINISHED};
 use nest_any::{AnyMutableArray, AnyMutableFlat, MutableStructArray};
 use nest_build::array::MutableArray;
@@ -8,15 +9,11 @@ use nest_build::fixed_size_list::MutableFixedSizeListArray;
 use nest_build::list::MutableListArray;
 use nest_build::push::TryPush;
 use nest_flat::any_native::AnyNative;
-use nest_flat::any_primitive::mutable::AnyMutablePrimitive;
 use nest_flat::plain::Plain;
 use nest_flat::primitive::mutable::MutablePrimitiveArray;
-use nest_memory::datatypes::DataType;
-use nest_memory::datatypes::field::Field;
 use nest_memory::error::Error;
 use std::alloc::Global;
 use std::process::Abort;
-use std::test::Fail;
 
 /// What a builder does at a step. Its row of a number is a rule of its own.
 trait Stepped {
@@ -252,4 +249,74 @@ impl Stepped for Pairs {
 fn a_builder_of_dictionaries(rt: HostRuntime) {
     let alloc = rt.alloc();
     make_all(&rt, no_pairs(alloc), no_rows(alloc));
+}
+
+const NAMES: [&str; 4] = ["a", "b", "c", ""];
+
+/// The value of a number for a child: a text, or the number itself.
+fn field_of(child: &AnyMutableArray, number: u32) -> Plain<'static> {
+    match child {
+        AnyMutableArray::Flat(AnyMutableFlat::Utf8(_)) => {
+            Plain::Text(NAMES[(number % 4) as usize])
+        }
+        _ => Plain::Native(AnyNative::Int64(number as i64)),
+    }
+}
+
+/// Pushes the value of the number into each child.
+fn push_each(records: &mut MutableStructArray, number: u32) -> Result<(), Error> {
+    for child in records.mut_values() {
+        if !child.is_whole() {
+            return Err(UNFINISHED);
+        }
+        let value = field_of(child, number);
+        child.try_push_plain(Some(value))?;
+    }
+    Ok(())
+}
+
+/// Takes back what waits in the children past the first n rows.
+fn take_back(records: &mut MutableStructArray, n: usize) {
+    for child in records.mut_values() {
+        cut(child, n);
+    }
+}
+
+/// Tells a row of what waits in whole children.
+fn tell(records: &mut MutableStructArray) -> Result<(), Error> {
+    if !records.has_whole_children() {
+        return Err(UNFINISHED);
+    }
+    records.push(true)
+}
+
+impl Stepped for MutableStructArray {
+    fn add(&mut self, number: u32) -> Result<(), Error> {
+        let rows = MutableArray::len(self);
+        let pushed = push_each(self, number);
+        let told = if pushed.is_ok() { tell(self) } else { pushed };
+        if told.is_err() {
+            take_back(self, rows);
+        }
+        told
+    }
+
+    fn add_refused(&mut self, _number: u32) -> Result<(), Error> {
+        tell(self)
+    }
+
+    fn is_row(&self, i: usize, number: u32) -> bool {
+        for child in self.values() {
+            if i >= child.len() || !child.holds(i, &field_of(child, number)) {
+                return false;
+            }
+        }
+        true
+    }
+}
+
+#[test]
+fn a_builder_of_records(rt: HostRuntime) {
+    let alloc = rt.alloc();
+    make_all(&rt, no_records(alloc), no_rows(alloc));
 }
