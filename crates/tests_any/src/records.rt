@@ -505,12 +505,32 @@ fn is_one_record(frozen: &Result<AnyArray, Error>) -> bool {
     }
 }
 
+/// Whether what was not told keeps the lists from being frozen by each call, and goes on waiting.
+fn waits(alloc: Global, lists: &mut RecordLists) -> bool {
+    let boxed = is_unfinished(lists.as_box());
+    let shared = match lists.as_arc(alloc) {
+        Ok(array) => {
+            drop(array);
+            false
+        }
+        Err(error) => error == UNFINISHED,
+    };
+    let frozen = match lists.freeze() {
+        Ok(array) => {
+            drop(array);
+            false
+        }
+        Err(error) => error == UNFINISHED,
+    };
+    boxed && shared && frozen && !lists.is_whole()
+}
+
 #[test]
 fn an_untold_record_waits_under_a_list(rt: HostRuntime) -> Result<(), Fail> {
     let alloc = rt.alloc();
     let mut lists = no_lists(alloc)?;
     let pushed = push_text(&mut lists);
-    let waits = is_unfinished(lists.as_box());
+    let waits = waits(alloc, &mut lists);
     let told = tell_both(&mut lists);
     let frozen = lists.as_box();
     drop(lists);

@@ -17,7 +17,7 @@ use std::alloc::Global;
 
 /// A validity again.
 fn copied(bits: Option<&Bitmap>) -> Result<Option<Bitmap>, Error>
-    ensures { IfOk result (λ copy. copy ≡ option_map (λ b. b.now) bits) }
+    ensures { IfOk result (λ copy. copy ≡ option_map (λ b. b.now) bits.entry) }
 {
     match bits {
         Some(bits) => Ok(Some(bits.clone()?)),

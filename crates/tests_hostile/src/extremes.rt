@@ -1,5 +1,5 @@
 //! The longest arrays and builders, and offsets and sizes at their limits.
-use crate::runs::UNFINISHED;
+use crate::runs::{UNFINISHED, holds};
 use nest_array::{AnyArray, FixedSizeBinaryArray, FixedSizeListArray, NullArray};
 use nest_build::array::MutableArray;
 use nest_build::fixed_size_binary::MutableFixedSizeBinaryArray;
@@ -10,7 +10,6 @@ use nest_memory::datatypes::DataType;
 use nest_memory::error::Error;
 use nest_memory::offsets::Offsets;
 use std::alloc::Global;
-use std::test::Fail;
 
 #[test]
 fn the_last_slot_of_the_longest_array(rt: HostRuntime) {
@@ -39,15 +38,18 @@ fn place_of(lists: &FixedSizeListArray, i: usize) -> Option<(usize, usize)> {
     Some((items.offset(), items.len()))
 }
 
-#[test]
-fn lists_of_half_the_largest_length(rt: HostRuntime) -> Result<(), Fail> {
-    let lists = longest_lists(rt.alloc())?;
+/// Whether the second list begins at the half, and is the last.
+fn second_begins_at_half(alloc: Global) -> Result<bool, Error> {
+    let lists = longest_lists(alloc)?;
     let second = place_of(&lists, 1);
     let third = place_of(&lists, 2);
     drop(lists);
-    assert!(rt; second == Some((HALF, HALF)));
-    assert!(rt; third == None);
-    Ok(())
+    Ok(second == Some((HALF, HALF)) && third == None)
+}
+
+#[test]
+fn lists_of_half_the_largest_length(rt: HostRuntime) {
+    assert!(rt; holds(second_begins_at_half(rt.alloc())));
 }
 
 /// What a maker refused.
@@ -61,18 +63,22 @@ fn refusal(made: Result<MutableFixedSizeBinaryArray, Error>) -> Option<Error> {
     }
 }
 
-#[test]
-fn more_bytes_than_a_length(rt: HostRuntime) -> Result<(), Fail> {
-    let alloc = rt.alloc();
-    let twice = MutableFixedSizeBinaryArray::with_capacity(alloc, 9223372036854775808, 2);
-    assert!(rt; refusal(twice) == Some(Error::Overflow));
+/// How many byte strings of the largest size there are without a byte.
+fn largest_strings(alloc: Global) -> Result<usize, Error> {
     let none = Buffer::new(alloc)?;
     let largest = DataType::FixedSizeBinary(usize::MAX);
     let array = FixedSizeBinaryArray::try_new(largest, none, None)?;
     let slots = array.len();
     drop(array);
-    assert!(rt; slots == 0);
-    Ok(())
+    Ok(slots)
+}
+
+#[test]
+fn more_bytes_than_a_length(rt: HostRuntime) {
+    let alloc = rt.alloc();
+    let twice = MutableFixedSizeBinaryArray::with_capacity(alloc, 9223372036854775808, 2);
+    assert!(rt; refusal(twice) == Some(Error::Overflow));
+    assert!(rt; holds(largest_strings(alloc).map(|slots| slots == 0)));
 }
 
 /// Lists of nulls by offsets of 32 bits.
@@ -123,9 +129,9 @@ fn counts(frozen: Result<AnyArray, Error>) -> Result<(usize, usize), Error> {
     }
 }
 
-#[test]
-fn a_null_is_accepted_where_no_item_is(rt: HostRuntime) -> Result<(), Fail> {
-    let mut lists = longest_list(rt.alloc())?;
+/// Pushes a null past the largest offset, takes back an item that waits, and freezes.
+fn null_past_the_largest_offset(alloc: Global) -> Result<bool, Error> {
+    let mut lists = longest_list(alloc)?;
     let null = push_null(&mut lists);
     let item = lists.mut_values().push_null();
     let told = tell_one_more(&mut lists);
@@ -133,9 +139,13 @@ fn a_null_is_accepted_where_no_item_is(rt: HostRuntime) -> Result<(), Fail> {
     take_back(&mut lists, LARGEST_OFFSET);
     let frozen = counts(lists.as_box());
     drop(lists);
-    assert!(rt; null == Ok(()) && item == Ok(()));
-    assert!(rt; told == (Err(Error::Overflow), Err(Error::Overflow)));
-    assert!(rt; unfinished == Err(UNFINISHED));
-    assert!(rt; frozen == Ok((2, 1)));
-    Ok(())
+    null?;
+    let counts = frozen?;
+    let refused = told == (Err(Error::Overflow), Err(Error::Overflow));
+    Ok(item == Ok(()) && refused && unfinished == Err(UNFINISHED) && counts == (2, 1))
+}
+
+#[test]
+fn a_null_is_accepted_where_no_item_is(rt: HostRuntime) {
+    assert!(rt; holds(null_past_the_largest_offset(rt.alloc())));
 }

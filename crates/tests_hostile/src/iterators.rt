@@ -27,11 +27,7 @@ fn are_lists(array: &AnyArray, offsets: &[i32]) -> bool {
 }
 
 /// That these lists came, or want of memory alone: then 1 is answered.
-fn expect_lists(
-    rt: &impl Abort,
-    item: Option<Result<AnyArray, Error>>,
-    offsets: &[i32],
-) -> usize {
+fn expect_lists(rt: &impl Abort, item: Option<Result<AnyArray, Error>>, offsets: &[i32]) -> usize {
     match item {
         Some(Ok(array)) => {
             let same = are_lists(&array, offsets);

@@ -158,10 +158,7 @@ fn are_two_records(records: &StructArray) -> bool {
         return false;
     }
     let same_texts = texts.get(0) == Some("x") && texts.get(1) == Some("y");
-    !records.is_null(0)
-        && records.is_null(1)
-        && same_texts
-        && is_int64s(numbers, &[Some(7), None])
+    !records.is_null(0) && records.is_null(1) && same_texts && is_int64s(numbers, &[Some(7), None])
 }
 
 /// Whether a list of two records and a null list were frozen.

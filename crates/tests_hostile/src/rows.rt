@@ -52,7 +52,10 @@ fn are_pair_lists(array: &AnyArray) -> bool {
         && lists.null_count() == 1
         && pairs.null_count() == 2
         && lists.offsets().as_slice() == [0i32, 2, 2, 4].as_slice()
-        && is_int64s(pairs.values(), &[Some(1), None, None, None, Some(2), None, None, None])
+        && is_int64s(
+            pairs.values(),
+            &[Some(1), None, None, None, Some(2), None, None, None],
+        )
 }
 
 impl Calls for PairLists {
@@ -164,7 +167,10 @@ impl Calls for Lists {
         self.is_whole()
             && has_bits(self, &[true, true, false, true][..rows])
             && has_ends(self.offsets(), &[1, 3, 3, 4][..rows])
-            && has_values(self.values(), &[Some(1i64), Some(2), Some(3), Some(4)][..items])
+            && has_values(
+                self.values(),
+                &[Some(1i64), Some(2), Some(3), Some(4)][..items],
+            )
     }
 
     fn is_frozen(&mut self) -> Result<bool, Error> {

@@ -76,6 +76,11 @@ pub(crate) fn refusals_of<C: Calls + Drop>(
     }
 }
 
+/// Whether something holds, unless memory was refused for it.
+pub(crate) fn holds(outcome: Result<bool, Error>) -> bool {
+    outcome == Ok(true) || outcome == Err(MEMORY)
+}
+
 /// Says that a request was refused, for `scripts/refuse_requests.sh`.
 pub(crate) fn tell_refused(rt: &HostRuntime, refused: bool) -> Result<(), Fail> {
     if refused {

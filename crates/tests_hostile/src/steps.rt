@@ -91,7 +91,11 @@ fn step<B: MutableArray + Stepped>(
 }
 
 /// Makes two thousand steps.
-fn make_steps<B: MutableArray + Stepped>(rt: &impl Abort, builder: &mut B, rows: &mut Vec<Option<u32>>) {
+fn make_steps<B: MutableArray + Stepped>(
+    rt: &impl Abort,
+    builder: &mut B,
+    rows: &mut Vec<Option<u32>>,
+) {
     let mut number = 1u64;
     for count in 0..2000u32 {
         number = drawn(number);
