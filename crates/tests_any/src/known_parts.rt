@@ -39,7 +39,8 @@ fn number_records(alloc: Global) -> Result<MutableStructArray, Error>
     let data_type = records_of(alloc, DataType::Int64)?;
     match vec![in alloc; numbers(alloc)] {
         Ok(values) => made_again(alloc, data_type, values),
-        Err(_refused) => {
+        Err(refused) => {
+            drop(refused);
             drop(data_type);
             Err(Error::Memory(AllocError))
         }

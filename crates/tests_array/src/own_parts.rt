@@ -9,7 +9,8 @@ use crate::arrays::structs::four;
 use crate::dictionaries::four_texts;
 use nest_array::array::Slotted;
 use nest_array::{
-    AnyKeys, DictionaryArray, FixedSizeListArray, LargeListArray, ListArray, StructArray, scalars_at,
+    AnyKeys, DictionaryArray, FixedSizeListArray, LargeListArray, ListArray, StructArray,
+    scalars_at,
 };
 use nest_memory::bitmap::immutable::Bitmap;
 use nest_memory::error::Error;

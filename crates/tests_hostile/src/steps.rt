@@ -82,7 +82,7 @@ fn step<B: MutableArray + Stepped>(
         4 => follow(rows, None, add_null(builder)),
         5 | 6 => builder.add_refused(number % 1000).is_err(),
         _ => {
-            let n = number as usize % 1000 % (rows.len().saturating_add(1)).max(1);
+            let n = number as usize % rows.len().saturating_add(1);
             cut(builder, n);
             rows.truncate(n);
             true
@@ -99,7 +99,7 @@ fn make_steps<B: MutableArray + Stepped>(
     let mut number = 1u64;
     for count in 0..2000u32 {
         number = drawn(number);
-        assert!(rt; step(builder, rows, (number / 65536) as u32));
+        assert!(rt; step(builder, rows, (number / 65536 % 32768) as u32));
         if count % 100 == 99 {
             assert!(rt; has_rows(builder, rows));
         }
