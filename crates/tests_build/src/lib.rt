@@ -17,6 +17,7 @@
 //! | A list of pairs refuses a row with a pair of another size and takes it back; accepted ones are frozen | `fixed_size_lists::a_refused_pair_takes_its_row_back`, `fixed_size_lists::all_rows_are_taken_or_none` |
 //! | A list over a boxed builder of numbers takes 7 and a null, and no text; no plain value is a list; a list over such a list is filled again | `lists::a_boxed_child_takes_the_items`, `lists::a_list_over_a_list_of_a_boxed_builder_is_filled_again` |
 //! | Lists by offsets that end before their items, by a validity of another length, over a child with a row | `lists::lists_by_offsets`, `lists::a_child_with_rows_makes_no_lists` |
+//! | A pair of the values of a slice and a null are taken, one value is refused | `fixed_size_lists::rows_of_slices` |
 //! | Four waiting items, and one, make no pair and go on waiting | `fixed_size_lists::waiting_items_of_another_number_make_no_row` |
 //! | Each item that is accepted is kept, the others are left | `fixed_size_lists::accepted_rows_are_kept_and_others_left` |
 //! | Another builder's rows are joined at each level; of another type none is | `lists::rows_of_another_builder_are_joined`, `lists::rows_of_another_type_are_not_joined` |
@@ -32,7 +33,7 @@
 //! | A boxed builder of lists of numbers is the child of a builder of lists | `lists::a_boxed_builder_of_lists_takes_rows` |
 //! | Rows of dictionaries refuse a key past their type | `dictionaries::rows_refuse_a_key_past_their_type` |
 //! | A builder of dictionaries by items of its type: keys, values, what its rows hold; cut, frozen, shared, turned into its array | `dictionaries::items_of_bytes_stand_once_among_the_values`, `dictionaries::the_first_rows_are_kept`, `dictionaries::rows_are_frozen_and_shared`, `dictionaries::a_builder_becomes_its_array` |
-//! | Rows by themselves are told, joined and frozen, of lists by either width and of one size | `told_rows` |
+//! | Rows by themselves are told, joined and frozen, also over their items, of lists by either width and of one size | `told_rows` |
 //! | What another builder would be made of: flat builders by their parts, pushing by `extend_by_push` and `extend_nulls`, data types, keys | `by_parts` |
 #![tactic(auto)]
 
