@@ -21,6 +21,8 @@
 //! | Raw keys under nulls that name no value may not become valid | `dictionaries::validities_under_which_keys_name_values` of `tests_array` |
 //! | A record that was not told keeps lists from being frozen, by each call | `records::an_untold_record_waits_under_a_list` of `tests_any` |
 //! | Two thousand rows, nulls, refusals and cuts on a builder of lists, of lists of one size, of records and of dictionaries, beside a plain list | `steps` |
+//!
+//! An iterator whose size hint lies cannot be written: a hint's contract keeps the count between its bounds.
 #![tactic(auto)]
 
 #[cfg(test)]
