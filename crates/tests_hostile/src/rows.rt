@@ -195,16 +195,6 @@ fn rows_of_another_builder(rt: HostRuntime) -> Result<(), Fail> {
 /// Lists of whatever the boxed child takes.
 type BoxedLists = MutableListArray<i32, Box<dyn MutableArray>>;
 
-fn no_boxed_lists(alloc: Global) -> Result<BoxedLists, Error> {
-    let numbers: MutablePrimitiveArray<i64> = MutablePrimitiveArray::new(alloc);
-    let child: Box<dyn MutableArray> = Box::new(alloc, numbers)?;
-    if !child.is_whole() {
-        drop(child);
-        return Err(UNFINISHED);
-    }
-    MutableListArray::new(alloc, child)
-}
-
 fn push_below(rows: &mut BoxedLists, value: Option<Plain<'_>>) -> Result<(), Error> {
     let child = rows.mut_values();
     if !child.is_whole() {
@@ -272,6 +262,13 @@ impl Calls for BoxedLists {
 #[test]
 fn a_row_over_a_boxed_child(rt: HostRuntime) -> Result<(), Fail> {
     let alloc = rt.alloc();
-    let refused = refusals_of(&rt, alloc, no_boxed_lists(alloc));
+    let numbers: MutablePrimitiveArray<i64> = MutablePrimitiveArray::new(alloc);
+    let child: Box<dyn MutableArray> = match Box::new(alloc, numbers) {
+        Ok(child) => child,
+        Err(_) => return tell_refused(&rt, true),
+    };
+    assert!(rt; child.is_whole());
+    let made: Result<BoxedLists, Error> = MutableListArray::new(alloc, child);
+    let refused = refusals_of(&rt, alloc, made);
     tell_refused(&rt, refused > 0)
 }
