@@ -30,7 +30,7 @@ fn texts(alloc: Global) -> Result<AnyMutableArray, Error>
     Ok(AnyMutableArray::Flat(AnyMutableFlat::Utf8(MutableUtf8Array::new(alloc)?)))
 }
 
-fn numbers(alloc: Global) -> AnyMutableArray
+pub(crate) fn numbers(alloc: Global) -> AnyMutableArray
     ensures { IsWhole (tree_of result) }
 {
     AnyMutableArray::Flat(AnyMutableFlat::Primitive(AnyMutablePrimitive::Int64(
@@ -45,7 +45,7 @@ fn lists_of(alloc: Global, items: DataType) -> Result<DataType, Error> {
 }
 
 /// Records of one field.
-fn records_of(alloc: Global, items: DataType) -> Result<DataType, Error> {
+pub(crate) fn records_of(alloc: Global, items: DataType) -> Result<DataType, Error> {
     let field = Field::new(alloc, "a", items, true)?;
     Ok(DataType::Struct(vec![in alloc; field]?))
 }
@@ -108,7 +108,7 @@ fn text_records(alloc: Global) -> Result<MutableStructArray, Error> {
 }
 
 /// Pushes a value into a builder that is whole.
-fn push(builder: &mut AnyMutableArray, value: Plain<'_>) -> Result<(), Error> {
+pub(crate) fn push(builder: &mut AnyMutableArray, value: Plain<'_>) -> Result<(), Error> {
     if !builder.is_whole() {
         return Err(UNFINISHED);
     }
@@ -505,12 +505,32 @@ fn is_one_record(frozen: &Result<AnyArray, Error>) -> bool {
     }
 }
 
+/// Whether what was not told keeps the lists from being frozen by each call, and goes on waiting.
+fn waits(alloc: Global, lists: &mut RecordLists) -> bool {
+    let boxed = is_unfinished(lists.as_box());
+    let shared = match lists.as_arc(alloc) {
+        Ok(array) => {
+            drop(array);
+            false
+        }
+        Err(error) => error == UNFINISHED,
+    };
+    let frozen = match lists.freeze() {
+        Ok(array) => {
+            drop(array);
+            false
+        }
+        Err(error) => error == UNFINISHED,
+    };
+    boxed && shared && frozen && !lists.is_whole()
+}
+
 #[test]
 fn an_untold_record_waits_under_a_list(rt: HostRuntime) -> Result<(), Fail> {
     let alloc = rt.alloc();
     let mut lists = no_lists(alloc)?;
     let pushed = push_text(&mut lists);
-    let waits = is_unfinished(lists.as_box());
+    let waits = waits(alloc, &mut lists);
     let told = tell_both(&mut lists);
     let frozen = lists.as_box();
     drop(lists);
