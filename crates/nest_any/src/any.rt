@@ -4,6 +4,7 @@ ghost use Rattle.nest_any.specs.Trees.{tree_of};
 ghost use Rattle.nest_any.specs.Words.{FailFirst, HasWholeChildren, IsWhole, Memory, Overflow, Pass, Told, builder_len, builder_type, cut_builder, emptied, layout_of, layout_type, nested_checks, nested_over, nulls_appended, nulls_pass, own_slots, reserve_passes, row_checks, slots_of, type_of};
 
 use crate::children::add_null_to;
+use crate::dictionary::AnyMutableDictionary;
 use crate::flat::AnyMutableFlat;
 use crate::lists::ListBuilder;
 use crate::rows::TypedRows;
@@ -25,6 +26,7 @@ use std::rc::Rc;
 pub enum AnyMutableArray {
     Null(MutableNullArray),
     Flat(AnyMutableFlat),
+    Dictionary(AnyMutableDictionary),
     List(ListBuilder),
     Struct(MutableStructArray),
 }
@@ -35,6 +37,7 @@ macro_rules! each_kind {
         match $any {
             AnyMutableArray::Null($flat) => $leaf,
             AnyMutableArray::Flat($flat) => $leaf,
+            AnyMutableArray::Dictionary($flat) => $leaf,
             AnyMutableArray::List($nested) => $node,
             AnyMutableArray::Struct($nested) => $node,
         }
@@ -150,6 +153,7 @@ impl AnyMutableArray {
         match self {
             AnyMutableArray::List(lists) => lists.whole(),
             AnyMutableArray::Struct(records) => records.whole(),
+            AnyMutableArray::Dictionary(keyed) => MutableArray::is_whole(keyed),
             _ => true,
         }
     }

@@ -12,9 +12,10 @@
 //! | Records are shared, and taken apart into their data type and children | `records::records_are_shared_and_taken_apart` |
 //! | Of a validity without nulls `freeze` leaves none, `as_box` keeps it | `records::freeze_drops_a_validity_without_nulls` |
 //! | A record waits in a builder of lists over records until it is told | `records::an_untold_record_waits_under_a_list` |
-//! | "A", "B", null, "A" are frozen to the keys 0, 1, null, 0 over two texts; the emptied builder takes "C" by key 0 | `dictionaries::each_text_is_kept_once` |
-//! | A number of 32 bits is no value of a dictionary of numbers of 64 bits, and a text is refused | `dictionaries::a_number_is_found_by_its_own_kind` |
-//! | 256 numbers by keys of 8 bits without a sign, and no other; known ones are taken | `dictionaries::there_are_as_many_values_as_keys` |
+//! | "x", "y", "x", null are frozen to the keys 0, 1, 0, null over two texts; the emptied builder takes "C" by key 0 | `dictionaries::each_text_is_kept_once` |
+//! | Over numbers of 64 bits a number of 32 bits has no key, and a text is refused | `dictionaries::a_value_of_another_kind_is_refused` |
+//! | 256 numbers by keys of 8 bits without a sign, and no other; a known one is taken | `dictionaries::there_are_as_many_values_as_keys` |
+//! | Lists of records of a keyed text: [{"x"}, {"x"}], null are frozen to the offsets 0, 2, 2, the keys 0, 0 and one text | `dictionaries::lists_of_records_of_dictionaries_are_frozen` |
 #![tactic(auto)]
 
 #[cfg(test)]

@@ -39,13 +39,13 @@ fn numbers(alloc: Global) -> AnyMutableArray
 }
 
 /// Lists of such items.
-fn lists_of(alloc: Global, items: DataType) -> Result<DataType, Error> {
+pub(super) fn lists_of(alloc: Global, items: DataType) -> Result<DataType, Error> {
     let items = Field::new(alloc, "item", items, true)?;
     Ok(DataType::List(Box::new(alloc, items)?))
 }
 
 /// Records of one field.
-fn records_of(alloc: Global, items: DataType) -> Result<DataType, Error> {
+pub(super) fn records_of(alloc: Global, items: DataType) -> Result<DataType, Error> {
     let field = Field::new(alloc, "a", items, true)?;
     Ok(DataType::Struct(vec![in alloc; field]?))
 }
@@ -108,7 +108,7 @@ fn text_records(alloc: Global) -> Result<MutableStructArray, Error> {
 }
 
 /// Pushes a value into a builder that is whole.
-fn push(builder: &mut AnyMutableArray, value: Plain<'_>) -> Result<(), Error> {
+pub(super) fn push(builder: &mut AnyMutableArray, value: Plain<'_>) -> Result<(), Error> {
     if !builder.is_whole() {
         return Err(UNFINISHED);
     }
@@ -116,7 +116,7 @@ fn push(builder: &mut AnyMutableArray, value: Plain<'_>) -> Result<(), Error> {
 }
 
 /// Tells a row of what waits in whole children.
-fn tell(builder: &mut AnyMutableArray, valid: bool) -> Result<(), Error> {
+pub(super) fn tell(builder: &mut AnyMutableArray, valid: bool) -> Result<(), Error> {
     if !builder.has_whole_children() {
         return Err(UNFINISHED);
     }
@@ -124,7 +124,7 @@ fn tell(builder: &mut AnyMutableArray, valid: bool) -> Result<(), Error> {
 }
 
 /// Pushes a value into the first child of a builder and tells a row of it.
-fn push_record(records: &mut AnyMutableArray, value: Plain<'_>) -> Result<(), Error> {
+pub(super) fn push_record(records: &mut AnyMutableArray, value: Plain<'_>) -> Result<(), Error> {
     match records.child(0) {
         Some(child) => push(child, value)?,
         None => return Err(UNFINISHED),
@@ -178,7 +178,7 @@ fn has_texts(records: &StructArray, wanted: &[&str]) -> bool {
 }
 
 /// Whether lists have these offsets, and the last of them is null.
-fn has_offsets(lists: &ListArray, wanted: &[i32]) -> bool {
+pub(super) fn has_offsets(lists: &ListArray, wanted: &[i32]) -> bool {
     let offsets = lists.offsets();
     offsets.as_slice() == wanted
 }
