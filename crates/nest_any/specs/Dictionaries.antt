@@ -20,34 +20,34 @@ key_kind (UInt32 b) = integers.UInt32
 key_kind (UInt64 b) = integers.UInt64
 
 abbrev pub keyed_type : AnyMutableDictionary → TypeTree
-keyed_type (Int8 b) = b.data_type
-keyed_type (Int16 b) = b.data_type
-keyed_type (Int32 b) = b.data_type
-keyed_type (Int64 b) = b.data_type
-keyed_type (UInt8 b) = b.data_type
-keyed_type (UInt16 b) = b.data_type
-keyed_type (UInt32 b) = b.data_type
-keyed_type (UInt64 b) = b.data_type
+keyed_type (Int8 b) = b.value.data_type
+keyed_type (Int16 b) = b.value.data_type
+keyed_type (Int32 b) = b.value.data_type
+keyed_type (Int64 b) = b.value.data_type
+keyed_type (UInt8 b) = b.value.data_type
+keyed_type (UInt16 b) = b.value.data_type
+keyed_type (UInt32 b) = b.value.data_type
+keyed_type (UInt64 b) = b.value.data_type
 
 abbrev pub keyed_rows : AnyMutableDictionary → List (Option ℕ)
-keyed_rows (Int8 b) = b.rows
-keyed_rows (Int16 b) = b.rows
-keyed_rows (Int32 b) = b.rows
-keyed_rows (Int64 b) = b.rows
-keyed_rows (UInt8 b) = b.rows
-keyed_rows (UInt16 b) = b.rows
-keyed_rows (UInt32 b) = b.rows
-keyed_rows (UInt64 b) = b.rows
+keyed_rows (Int8 b) = b.value.rows
+keyed_rows (Int16 b) = b.value.rows
+keyed_rows (Int32 b) = b.value.rows
+keyed_rows (Int64 b) = b.value.rows
+keyed_rows (UInt8 b) = b.value.rows
+keyed_rows (UInt16 b) = b.value.rows
+keyed_rows (UInt32 b) = b.value.rows
+keyed_rows (UInt64 b) = b.value.rows
 
 abbrev pub keyed_values : AnyMutableDictionary → AnyMutableFlat
-keyed_values (Int8 b) = b.values.values
-keyed_values (Int16 b) = b.values.values
-keyed_values (Int32 b) = b.values.values
-keyed_values (Int64 b) = b.values.values
-keyed_values (UInt8 b) = b.values.values
-keyed_values (UInt16 b) = b.values.values
-keyed_values (UInt32 b) = b.values.values
-keyed_values (UInt64 b) = b.values.values
+keyed_values (Int8 b) = b.value.values.values
+keyed_values (Int16 b) = b.value.values.values
+keyed_values (Int32 b) = b.value.values.values
+keyed_values (Int64 b) = b.value.values.values
+keyed_values (UInt8 b) = b.value.values.values
+keyed_values (UInt16 b) = b.value.values.values
+keyed_values (UInt32 b) = b.value.values.values
+keyed_values (UInt64 b) = b.value.values.values
 
 abbrev pub dictionary_tree : AnyMutableDictionary → BuilderTree
 dictionary_tree b = dictionary (key_kind b) (keyed_type b) (keyed_rows b) (values_tree (keyed_values b))

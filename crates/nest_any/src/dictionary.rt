@@ -1,27 +1,30 @@
 //! A builder of dictionaries, by keys of any width.
-ghost use Rattle.std.specs.Prelude.{◌≡◌, ◌≢◌, ◌⊎◌, ◌↔◌, ℕ, [], IfErr, IfOk, IsErrOf, Some, alloc_error};
+ghost use Rattle.std.specs.Prelude.{◌≡◌, ◌⊎◌, ◌↔◌, ℕ, [], IfErr, IfOk, IsErrOf, IsOkUnless, IsTrue, MatchOption, Some, alloc_error};
 ghost use Rattle.nest_any.specs.Dictionaries.{dictionary_tree};
 ghost use Rattle.nest_any.specs.Flat.{values_tree};
-ghost use Rattle.nest_any.specs.Words.{InvalidArgumentError, IsWhole, Memory, Unfinished, builder_len, builder_type, emptied, layout_type, own_slots, slots_of};
-ghost use Rattle.nest_array.specs.Types.{default_dictionary_type};
+ghost use Rattle.nest_any.specs.Trees.{tree_of};
+ghost use Rattle.nest_any.specs.Words.{BuilderTree, FailFirst, InvalidArgumentError, IsWhole, Memory, Pass, Unfinished, builder_len, builder_type, emptied, is_flat, key_type, keyed_checks, layout_type, own_slots, slots_of, type_of};
 ghost use Rattle.nest_build.specs.Keys.{dictionary_child};
-ghost use Rattle.nest_memory.specs.declared.error.Argument.TheVariants.{ChildNotEmpty};
 ghost use Rattle.nest_model.specs.BuilderItem.{Stands};
 ghost use Rattle.nest_model.specs.BuilderTree as builders;
 ghost use Rattle.nest_model.specs.BuilderWhole.{AreDifferent};
+ghost use Rattle.nest_model.specs.Fits.{is_dictionary};
 
+use crate::any::AnyMutableArray;
 use crate::flat::AnyMutableFlat;
 use nest_array::{AnyArray, DictionaryArray};
 use nest_build::array::{MutableArray, shared};
 use nest_build::dictionary::{BuilderKey, MutableDictionaryArray};
 use nest_flat::plain::{AsPlain, Plain};
 use nest_memory::bitmap::mutable::MutableBitmap;
+use nest_memory::datatypes::physical_type::PhysicalType;
 use nest_memory::datatypes::{DataType, IntegerType};
-use nest_memory::error::Error;
+use nest_memory::error::{Argument, Error, Spec};
 use std::alloc::Global;
 use std::rc::Rc;
 
-/// A builder of dictionaries over values without children, each of them once, in the variant of its keys.
+/// A builder of dictionaries over values without children, each of them once, in the variant of its keys. Each is
+/// a box, since the type of all of them would have too many fields for the toolchain.
 #[derive(Drop)]
 pub enum AnyMutableDictionary {
     Int8(Box<MutableDictionaryArray<i8, AnyMutableFlat>>),
@@ -50,30 +53,76 @@ macro_rules! each_width {
     };
 }
 
+// The builder by keys of that width, where there is memory for its box.
+macro_rules! made {
+    ($width:ident, $alloc:ident, $data_type:ident, $values:ident) => {
+        match boxed($alloc, $data_type, $values) {
+            Ok(keyed) => Ok(AnyMutableDictionary::$width(keyed)),
+            Err(error) => Err(error),
+        }
+    };
+}
+
 impl AnyMutableDictionary {
-    /// No row, by keys of that type over a child that is looked at.
+    /// No row of a data type of dictionaries by such keys, over a child that is looked at.
     ///
     /// # Errors
-    /// `ChildNotEmpty` where the child has rows, `Memory`.
-    pub fn try_new(
+    /// `WrongType` where the values of such dictionaries are nulls or have children, `ChildNotEmpty` where the child has
+    /// rows, `ChildType` where its logical type is another: the first of these; `Memory`.
+    pub(crate) fn try_new(
         alloc: Global,
         keys: IntegerType,
+        data_type: DataType,
+        child: AnyMutableArray,
+    ) -> Result<AnyMutableDictionary, Error>
+        requires { key_type (type_of data_type) ≡ Some keys }
+        ensures ok { IfOk result (λ b. dictionary_tree b ≡ builders.dictionary keys (type_of data_type) [] (tree_of child)) }
+        ensures passed { IfOk result (λ b. Pass (keyed_checks (type_of data_type) (tree_of child))) }
+        ensures cause { IfErr result (λ e. (e ≡ Memory alloc_error) ⊎ FailFirst e (keyed_checks (type_of data_type) (tree_of child))) }
+    {
+        if let Some(error) = fault(&data_type, child.data_type(), child.len()) {
+            drop(child);
+            drop(data_type);
+            return Err(error);
+        }
+        match child.into_flat() {
+            Some(values) => AnyMutableDictionary::of_type(alloc, keys, data_type, values),
+            None => {
+                drop(data_type);
+                Err(Error::OutOfSpec(Spec::ChildType))
+            }
+        }
+    }
+
+    // No row of that data type, over an empty child.
+    fn of_type(
+        alloc: Global,
+        keys: IntegerType,
+        data_type: DataType,
         values: AnyMutableFlat,
     ) -> Result<AnyMutableDictionary, Error>
-        ensures ok { IfOk result (λ b. dictionary_tree b ≡ builders.dictionary keys (default_dictionary_type keys (builder_type (values_tree values))) [] (values_tree values)) }
-        ensures empty { IfOk result (λ b. builder_len (values_tree values) ≡ 0) }
-        ensures cause { IfErr result (λ e. (e ≡ Memory alloc_error) ⊎ ((e ≡ InvalidArgumentError ChildNotEmpty) × (builder_len (values_tree values) ≢ 0))) }
+        requires keys { key_type (type_of data_type) ≡ Some keys }
+        requires empty { builder_len (values_tree values) ≡ 0 }
+        ensures ok { IfOk result (λ b. dictionary_tree b ≡ builders.dictionary keys (type_of data_type) [] (values_tree values)) }
+        ensures memory { IsOkUnless result (Memory alloc_error) }
     {
-        Ok(match keys {
-            IntegerType::Int8 => AnyMutableDictionary::Int8(Box::new(alloc, MutableDictionaryArray::try_from_values(alloc, values)?)?),
-            IntegerType::Int16 => AnyMutableDictionary::Int16(Box::new(alloc, MutableDictionaryArray::try_from_values(alloc, values)?)?),
-            IntegerType::Int32 => AnyMutableDictionary::Int32(Box::new(alloc, MutableDictionaryArray::try_from_values(alloc, values)?)?),
-            IntegerType::Int64 => AnyMutableDictionary::Int64(Box::new(alloc, MutableDictionaryArray::try_from_values(alloc, values)?)?),
-            IntegerType::UInt8 => AnyMutableDictionary::UInt8(Box::new(alloc, MutableDictionaryArray::try_from_values(alloc, values)?)?),
-            IntegerType::UInt16 => AnyMutableDictionary::UInt16(Box::new(alloc, MutableDictionaryArray::try_from_values(alloc, values)?)?),
-            IntegerType::UInt32 => AnyMutableDictionary::UInt32(Box::new(alloc, MutableDictionaryArray::try_from_values(alloc, values)?)?),
-            IntegerType::UInt64 => AnyMutableDictionary::UInt64(Box::new(alloc, MutableDictionaryArray::try_from_values(alloc, values)?)?),
-        })
+        match keys {
+            IntegerType::Int8 => made!(Int8, alloc, data_type, values),
+            IntegerType::Int16 => made!(Int16, alloc, data_type, values),
+            IntegerType::Int32 => made!(Int32, alloc, data_type, values),
+            IntegerType::Int64 => made!(Int64, alloc, data_type, values),
+            IntegerType::UInt8 => made!(UInt8, alloc, data_type, values),
+            IntegerType::UInt16 => made!(UInt16, alloc, data_type, values),
+            IntegerType::UInt32 => made!(UInt32, alloc, data_type, values),
+            IntegerType::UInt64 => made!(UInt64, alloc, data_type, values),
+        }
+    }
+
+    /// What holds of every such builder: its data type is one of dictionaries.
+    pub(crate) fn known(&self)
+        ensures { IsTrue (is_dictionary (builder_type (dictionary_tree self.now))) }
+    {
+        each_width!(self, keyed => keyed.known())
     }
 
     /// The values.
@@ -105,6 +154,61 @@ impl AnyMutableDictionary {
         ensures errors { IfErr result (λ e. (e ≡ InvalidArgumentError Unfinished) ⊎ (e ≡ Memory alloc_error)) }
     {
         each_width!(self, keyed => keyed.freeze())
+    }
+}
+
+/// Why no builder of dictionaries is made of that type over such a child.
+fn fault(data_type: &DataType, child: &DataType, count: usize) -> Option<Error>
+    ensures { (c : BuilderTree) → type_of child.now ≡ builder_type c → count ≡ builder_len c → MatchOption result (Pass (keyed_checks (type_of data_type.now) c)) (λ e. FailFirst e (keyed_checks (type_of data_type.now) c)) }
+{
+    let Some(values) = data_type.value_type() else {
+        return Some(Error::OutOfSpec(Spec::WrongType));
+    };
+    if !is_flat(values.to_physical_type()) {
+        return Some(Error::OutOfSpec(Spec::WrongType));
+    }
+    if count != 0 {
+        return Some(Error::InvalidArgumentError(Argument::ChildNotEmpty));
+    }
+    if *child.to_logical_type() != *values.to_logical_type() {
+        return Some(Error::OutOfSpec(Spec::ChildType));
+    }
+    None
+}
+
+/// Whether values of that type have no children and aren't nulls.
+fn is_flat(physical: PhysicalType) -> bool
+    ensures { result ≡ is_flat physical }
+{
+    match physical {
+        PhysicalType::Boolean
+        | PhysicalType::Primitive(_)
+        | PhysicalType::Binary
+        | PhysicalType::FixedSizeBinary
+        | PhysicalType::LargeBinary
+        | PhysicalType::Utf8
+        | PhysicalType::LargeUtf8 => true,
+        _ => false,
+    }
+}
+
+// No row of dictionaries by keys of one width, over an empty child.
+fn boxed<K: BuilderKey>(
+    alloc: Global,
+    data_type: DataType,
+    values: AnyMutableFlat,
+) -> Result<Box<MutableDictionaryArray<K, AnyMutableFlat>>, Error>
+    requires keys { key_type (type_of data_type) ≡ Some K.KEY_TYPE }
+    requires empty { builder_len (values_tree values) ≡ 0 }
+    ensures ok { IfOk result (λ b. ⟦<MutableDictionaryArray<K, AnyMutableFlat> as MutableArray>⟧.model b.value ≡ builders.dictionary K.KEY_TYPE (type_of data_type) [] (values_tree values)) }
+    ensures memory { IsOkUnless result (Memory alloc_error) }
+{
+    match Box::new(
+        alloc,
+        MutableDictionaryArray::of_type(alloc, data_type, values),
+    ) {
+        Ok(keyed) => Ok(keyed),
+        Err(error) => Err(error.into()),
     }
 }
 
@@ -180,4 +284,3 @@ impl MutableArray for AnyMutableDictionary {
         shared(self.as_box(), alloc)
     }
 }
-

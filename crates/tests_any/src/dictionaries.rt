@@ -1,53 +1,40 @@
-//! Dictionaries of texts and of numbers, by keys of any width. Values with a data type are let go by `drop`, which keeps
-//! the proofs short.
-use crate::records::{has_offsets, lists_of, push_record, records_of, tell};
-use nest_any::{AnyMutableArray, AnyMutableDictionary, AnyMutableFlat, MutableStructArray};
+//! Dictionaries of texts and of numbers, over builders of any kind without children. Values with a data type are let go by
+//! `drop`, which keeps the proofs short.
+use nest_any::AnyMutableFlat;
 use nest_array::{AnyArray, AnyKeys, DictionaryArray};
 use nest_build::array::MutableArray;
+use nest_build::dictionary::MutableDictionaryArray;
 use nest_flat::any_native::AnyNative;
 use nest_flat::any_primitive::mutable::AnyMutablePrimitive;
 use nest_flat::plain::Plain;
 use nest_flat::primitive::mutable::MutablePrimitiveArray;
 use nest_flat::utf8::mutable::MutableUtf8Array;
-use nest_memory::datatypes::{DataType, IntegerType};
 use nest_memory::error::{Argument, Error};
 use std::alloc::Global;
 use std::test::Fail;
 
-fn no_texts(alloc: Global) -> Result<AnyMutableDictionary, Error> {
+/// Values of any kind without children by keys of which there are 256.
+type Keyed = MutableDictionaryArray<u8, AnyMutableFlat>;
+
+fn no_texts(alloc: Global) -> Result<Keyed, Error> {
     let texts = AnyMutableFlat::Utf8(MutableUtf8Array::new(alloc)?);
-    AnyMutableDictionary::try_new(alloc, IntegerType::Int8, texts)
+    MutableDictionaryArray::try_from_values(alloc, texts)
 }
 
-fn no_numbers(alloc: Global) -> Result<AnyMutableDictionary, Error> {
+fn no_numbers(alloc: Global) -> Result<Keyed, Error> {
     let numbers = AnyMutablePrimitive::Int64(MutablePrimitiveArray::new(alloc));
-    AnyMutableDictionary::try_new(alloc, IntegerType::UInt8, AnyMutableFlat::Primitive(numbers))
+    MutableDictionaryArray::try_from_values(alloc, AnyMutableFlat::Primitive(numbers))
 }
 
-fn push(dictionary: &mut AnyMutableDictionary, value: Plain<'_>) -> Result<(), Error> {
-    if !dictionary.is_whole() {
+fn push(keyed: &mut Keyed, value: Plain<'_>) -> Result<(), Error> {
+    if !keyed.is_whole() {
         return Err(Error::InvalidArgumentError(Argument::Unfinished));
     }
-    dictionary.try_push_plain(Some(value))
-}
-
-fn push_number(dictionary: &mut AnyMutableDictionary, number: i64) -> Result<(), Error> {
-    push(dictionary, Plain::Native(AnyNative::Int64(number)))
-}
-
-/// "x", "y", "x" and null.
-fn push_four(dictionary: &mut AnyMutableDictionary) -> Result<(), Error> {
-    push(dictionary, Plain::Text("x"))?;
-    push(dictionary, Plain::Text("y"))?;
-    push(dictionary, Plain::Text("x"))?;
-    if dictionary.is_whole() {
-        dictionary.push_null()?;
-    }
-    Ok(())
+    keyed.try_push_plain(Some(value))
 }
 
 fn show(array: &DictionaryArray, text: &mut String) -> Result<(), Error> {
-    let AnyKeys::Int8(keys) = array.keys() else {
+    let AnyKeys::UInt8(keys) = array.keys() else {
         return Ok(());
     };
     for i in 0..keys.len() {
@@ -79,104 +66,70 @@ fn text_of(alloc: Global, array: Result<DictionaryArray, Error>) -> Result<Strin
     }
 }
 
+/// "A", "B", null and "A".
+fn push_four(keyed: &mut Keyed) -> Result<(), Error> {
+    push(keyed, Plain::Text("A"))?;
+    push(keyed, Plain::Text("B"))?;
+    if keyed.is_whole() {
+        keyed.push_null()?;
+    }
+    push(keyed, Plain::Text("A"))
+}
+
 #[test]
 fn each_text_is_kept_once(rt: HostRuntime) -> Result<(), Fail> {
-    let mut texts = no_texts(rt.alloc())?;
-    push_four(&mut texts)?;
-    let first = text_of(rt.alloc(), texts.freeze())?;
-    push(&mut texts, Plain::Text("C"))?;
-    let second = text_of(rt.alloc(), texts.freeze())?;
-    drop(texts);
-    assert!(rt; first.as_str() == "0 1 0 null xy");
-    assert!(rt; second.as_str() == "0 C");
+    let mut keyed = no_texts(rt.alloc())?;
+    let pushed = push_four(&mut keyed);
+    let first = text_of(rt.alloc(), keyed.freeze());
+    let again = push(&mut keyed, Plain::Text("C"));
+    let second = text_of(rt.alloc(), keyed.freeze());
+    drop(keyed);
+    assert!(rt; pushed == Ok(()));
+    assert!(rt; again == Ok(()));
+    assert!(rt; first?.as_str() == "0 1 null 0 AB");
+    assert!(rt; second?.as_str() == "0 C");
     Ok(())
 }
 
 #[test]
-fn a_value_of_another_kind_is_refused(rt: HostRuntime) -> Result<(), Fail> {
-    let mut numbers = no_numbers(rt.alloc())?;
-    push_number(&mut numbers, 7)?;
-    let other = push(&mut numbers, Plain::Text("7"));
-    let narrow = numbers.key_of(&7i32);
-    let own = numbers.key_of(&7i64);
-    drop(numbers);
+fn a_number_is_found_by_its_own_kind(rt: HostRuntime) -> Result<(), Fail> {
+    let mut keyed = no_numbers(rt.alloc())?;
+    let pushed = push(&mut keyed, Plain::Native(AnyNative::Int64(7)));
+    let other = push(&mut keyed, Plain::Text("7"));
+    let narrow = keyed.key_of(&7i32);
+    let own = keyed.key_of(&7i64);
+    drop(keyed);
+    assert!(rt; pushed == Ok(()));
     assert!(rt; other == Err(Error::InvalidArgumentError(Argument::ItemType)));
     assert!(rt; narrow == None);
     assert!(rt; own == Some(0));
     Ok(())
 }
 
+/// How many of so many different numbers are taken.
+fn taken(keyed: &mut Keyed, wanted: i64) -> Result<usize, Error> {
+    let mut taken = 0usize;
+    for number in 0..wanted {
+        match push(keyed, Plain::Native(AnyNative::Int64(number))) {
+            Ok(()) => taken = taken.saturating_add(1),
+            Err(Error::Overflow) => {}
+            Err(error) => return Err(error),
+        }
+    }
+    Ok(taken)
+}
+
 #[test]
 fn there_are_as_many_values_as_keys(rt: HostRuntime) -> Result<(), Fail> {
-    let mut numbers = no_numbers(rt.alloc())?;
-    for number in 0..256i64 {
-        push_number(&mut numbers, number)?;
-    }
-    let past = push_number(&mut numbers, 256);
-    let rows = numbers.len();
-    let values = numbers.values().len();
-    let known = push_number(&mut numbers, 255);
-    drop(numbers);
-    assert!(rt; past == Err(Error::Overflow));
-    assert!(rt; rows == 256);
+    let mut keyed = no_numbers(rt.alloc())?;
+    let count = taken(&mut keyed, 300);
+    let again = taken(&mut keyed, 256);
+    let rows = keyed.len();
+    let values = keyed.values().len();
+    drop(keyed);
+    assert!(rt; count == Ok(256));
+    assert!(rt; again == Ok(256));
+    assert!(rt; rows == 512);
     assert!(rt; values == 256);
-    assert!(rt; known == Ok(()));
-    Ok(())
-}
-
-/// Lists of records of a text each, keyed by 8 bits: none yet.
-fn no_lists(alloc: Global) -> Result<AnyMutableArray, Error> {
-    let keyed = AnyMutableArray::Dictionary(no_texts(alloc)?);
-    let texts = Box::new(alloc, DataType::Utf8)?;
-    let keyed_type = DataType::Dictionary(IntegerType::Int8, texts, false);
-    let data_type = records_of(alloc, keyed_type.clone(alloc)?)?;
-    let values = vec![in alloc; keyed]?;
-    let records = MutableStructArray::try_new(alloc, data_type, values, None)?;
-    let data_type = lists_of(alloc, records_of(alloc, keyed_type)?)?;
-    AnyMutableArray::try_nested(alloc, data_type, AnyMutableArray::Struct(records))
-}
-
-/// A list of two records of "x", and a null list.
-fn push_lists(lists: &mut AnyMutableArray) -> Result<(), Error> {
-    match lists.child(0) {
-        Some(records) => {
-            push_record(records, Plain::Text("x"))?;
-            push_record(records, Plain::Text("x"))?;
-        }
-        None => {}
-    }
-    tell(lists, true)?;
-    if lists.is_whole() {
-        lists.push_null()?;
-    }
-    Ok(())
-}
-
-/// The keys and the texts of the records of frozen lists by the offsets 0, 2, 2.
-fn keyed_text(alloc: Global, frozen: &Result<AnyArray, Error>) -> Result<String, Error> {
-    let mut text = String::new(alloc);
-    if let Ok(AnyArray::List(lists)) = frozen {
-        if let AnyArray::Struct(records) = lists.values() {
-            if let [AnyArray::Dictionary(keyed)] = records.values() {
-                if has_offsets(lists, &[0, 2, 2]) {
-                    show(keyed, &mut text)?;
-                }
-            }
-        }
-    }
-    Ok(text)
-}
-
-#[test]
-fn lists_of_records_of_dictionaries_are_frozen(rt: HostRuntime) -> Result<(), Fail> {
-    let mut lists = no_lists(rt.alloc())?;
-    push_lists(&mut lists)?;
-    let frozen = lists.as_box();
-    let shown = keyed_text(rt.alloc(), &frozen);
-    drop(frozen);
-    let rows = lists.len();
-    drop(lists);
-    assert!(rt; shown?.as_str() == "0 0 x");
-    assert!(rt; rows == 0);
     Ok(())
 }

@@ -20,17 +20,17 @@ use nest_memory::error::{Argument, Error, Spec};
 use std::alloc::{AllocError, Global};
 use std::test::Fail;
 
-const UNFINISHED: Error = Error::InvalidArgumentError(Argument::Unfinished);
+pub(super) const UNFINISHED: Error = Error::InvalidArgumentError(Argument::Unfinished);
 
-const OTHER_KIND: Error = Error::InvalidArgumentError(Argument::ItemType);
+pub(super) const OTHER_KIND: Error = Error::InvalidArgumentError(Argument::ItemType);
 
-fn texts(alloc: Global) -> Result<AnyMutableArray, Error>
+pub(super) fn texts(alloc: Global) -> Result<AnyMutableArray, Error>
     ensures { IfOk result (λ b. IsWhole (tree_of b)) }
 {
     Ok(AnyMutableArray::Flat(AnyMutableFlat::Utf8(MutableUtf8Array::new(alloc)?)))
 }
 
-fn numbers(alloc: Global) -> AnyMutableArray
+pub(super) fn numbers(alloc: Global) -> AnyMutableArray
     ensures { IsWhole (tree_of result) }
 {
     AnyMutableArray::Flat(AnyMutableFlat::Primitive(AnyMutablePrimitive::Int64(
@@ -51,7 +51,7 @@ pub(super) fn records_of(alloc: Global, items: DataType) -> Result<DataType, Err
 }
 
 /// The builder of records over children, if there is memory for them.
-fn over<E: Drop>(
+pub(super) fn over<E: Drop>(
     alloc: Global,
     data_type: DataType,
     values: Result<Vec<AnyMutableArray>, E>,
@@ -71,7 +71,7 @@ fn over<E: Drop>(
 }
 
 /// Lists over a child that is whole.
-fn nested(
+pub(super) fn nested(
     alloc: Global,
     data_type: DataType,
     child: AnyMutableArray,
@@ -85,7 +85,10 @@ fn nested(
 }
 
 /// A builder, if what was done with it was accepted.
-fn kept(builder: AnyMutableArray, done: Result<(), Error>) -> Result<AnyMutableArray, Error> {
+pub(super) fn kept(
+    builder: AnyMutableArray,
+    done: Result<(), Error>,
+) -> Result<AnyMutableArray, Error> {
     match done {
         Ok(()) => Ok(builder),
         Err(error) => {
@@ -133,7 +136,7 @@ pub(super) fn push_record(records: &mut AnyMutableArray, value: Plain<'_>) -> Re
 }
 
 /// A list of two records, and a null list.
-fn push_lists(lists: &mut AnyMutableArray) -> Result<(), Error> {
+pub(super) fn push_lists(lists: &mut AnyMutableArray) -> Result<(), Error> {
     match lists.child(0) {
         Some(records) => {
             push_record(records, Plain::Text("x"))?;
@@ -240,7 +243,7 @@ fn refusal_of(made: Result<AnyMutableArray, Error>) -> Option<Error> {
 }
 
 /// Why no lists of texts are made over a builder of numbers.
-fn refused(alloc: Global, filled: bool, data_type: DataType) -> Option<Error> {
+pub(super) fn refused(alloc: Global, filled: bool, data_type: DataType) -> Option<Error> {
     let mut items = numbers(alloc);
     let pushed = if filled {
         push(&mut items, Plain::Native(AnyNative::Int64(1)))

@@ -48,6 +48,18 @@ impl<K: DictionaryKey> DictionaryType<K> {
         })
     }
 
+    /// That data type.
+    pub(super) fn of_type(data_type: DataType) -> DictionaryType<K>
+        requires dictionary { IsTrue (is_dictionary (type_of data_type)) }
+        requires keys { key_type (type_of data_type) ≡ Some K.KEY_TYPE }
+        ensures { result ≡ type_of data_type }
+    {
+        DictionaryType {
+            data_type,
+            key: PhantomData,
+        }
+    }
+
     /// The data type.
     pub(super) fn get(&self) -> &DataType
         ensures value { type_of result.now ≡ self.now }
