@@ -1,5 +1,6 @@
 mod Each
 mod Frozen
+mod Kinds
 mod Lent
 mod ListNulls
 mod Nulls

@@ -50,8 +50,7 @@ impl<K: DictionaryKey> DictionaryType<K> {
 
     /// That data type.
     pub(super) fn of_type(data_type: DataType) -> DictionaryType<K>
-        requires dictionary { IsTrue (is_dictionary (type_of data_type)) }
-        requires keys { key_type (type_of data_type) ≡ Some K.KEY_TYPE }
+        requires { key_type (type_of data_type) ≡ Some K.KEY_TYPE }
         ensures { result ≡ type_of data_type }
     {
         DictionaryType {

@@ -67,7 +67,6 @@ impl<K: BuilderKey, M: MutableArray> MutableDictionaryArray<K, M> {
 
     /// No row of a data type of dictionaries by such keys, over an empty child.
     pub fn of_type(alloc: Global, data_type: DataType, values: M) -> MutableDictionaryArray<K, M>
-        requires dictionary { IsTrue (is_dictionary (type_of data_type)) }
         requires keys { key_type (type_of data_type) ≡ Some K.KEY_TYPE }
         requires empty { builder_len (M.model values) ≡ 0 }
         ensures { ⟦<MutableDictionaryArray<K, M> as MutableArray>⟧.model result ≡ builders.dictionary K.KEY_TYPE (type_of data_type) [] (M.model values) }
