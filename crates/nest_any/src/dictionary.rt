@@ -1,9 +1,9 @@
 //! A builder of dictionaries, by keys of any width.
-ghost use Rattle.std.specs.Prelude.{◌≡◌, ◌⊎◌, ◌↔◌, ℕ, [], IfErr, IfOk, IsErrOf, IsOkUnless, IsTrue, MatchOption, Some, alloc_error};
+ghost use Rattle.std.specs.Prelude.{◌≡◌, ◌⊎◌, ◌↔◌, ℕ, [], IfErr, IfOk, IsOkUnless, IsTrue, MatchOption, Some, alloc_error};
 ghost use Rattle.nest_any.specs.Dictionaries.{dictionary_tree};
 ghost use Rattle.nest_any.specs.Flat.{values_tree};
 ghost use Rattle.nest_any.specs.Trees.{tree_of};
-ghost use Rattle.nest_any.specs.Words.{BuilderTree, FailFirst, InvalidArgumentError, IsWhole, Memory, Pass, Unfinished, builder_len, builder_type, emptied, is_flat, key_type, keyed_checks, layout_type, own_slots, slots_of, type_of};
+ghost use Rattle.nest_any.specs.Words.{BuilderTree, FailFirst, Memory, Pass, builder_len, builder_type, is_flat, key_type, keyed_checks, own_slots, type_of};
 ghost use Rattle.nest_build.specs.Keys.{dictionary_child};
 ghost use Rattle.nest_model.specs.BuilderItem.{Stands};
 ghost use Rattle.nest_model.specs.BuilderTree as builders;
@@ -12,7 +12,7 @@ ghost use Rattle.nest_model.specs.Fits.{is_dictionary};
 
 use crate::any::AnyMutableArray;
 use crate::flat::AnyMutableFlat;
-use nest_array::{AnyArray, DictionaryArray};
+use nest_array::AnyArray;
 use nest_build::array::{MutableArray, shared};
 use nest_build::dictionary::{BuilderKey, MutableDictionaryArray};
 use nest_flat::plain::{AsPlain, Plain};
@@ -138,22 +138,6 @@ impl AnyMutableDictionary {
         ensures { (k : ℕ) → (result ≡ Some k) ↔ Stands (dictionary_child (dictionary_tree self.now)) (T.value value.now) k }
     {
         each_width!(self, keyed => place_of(keyed, value))
-    }
-
-    /// The array of the rows. The builder keeps its data type and has no row, no value and no validity then, also after
-    /// `Memory`.
-    ///
-    /// # Errors
-    /// `Unfinished` where it isn't whole; then nothing changes. `Memory`.
-    pub fn freeze(&mut self) -> Result<DictionaryArray, Error>
-        ensures slots { IfOk result (λ a. slots_of a ≡ own_slots (dictionary_tree self.old)) }
-        ensures same_type { IfOk result (λ a. layout_type a ≡ builder_type (dictionary_tree self.old)) }
-        ensures unfinished { IsErrOf result (InvalidArgumentError Unfinished) ↔ ¬ IsWhole (dictionary_tree self.old) }
-        ensures unchanged { ¬ IsWhole (dictionary_tree self.old) → dictionary_tree self.new ≡ dictionary_tree self.old }
-        ensures emptied { IsWhole (dictionary_tree self.old) → dictionary_tree self.new ≡ emptied (dictionary_tree self.old) }
-        ensures errors { IfErr result (λ e. (e ≡ InvalidArgumentError Unfinished) ⊎ (e ≡ Memory alloc_error)) }
-    {
-        each_width!(self, keyed => keyed.freeze())
     }
 }
 
