@@ -1,6 +1,6 @@
 mod Each
+mod FlatKinds
 mod Frozen
-mod Kinds
 mod Lent
 mod ListNulls
 mod Nulls
