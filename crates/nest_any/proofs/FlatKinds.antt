@@ -1,6 +1,7 @@
--- Which data types are of values without children.
-use Rattle.std.specs.Prelude.{◌⊎◌, IsTrue, Option, None, Some}
+-- Which data types are of values without children, and which places keys name.
+use Rattle.std.specs.Prelude.{◌⊎◌, ◌↔◌, IsTrue, Option, None, Some, ℕ, ℤ, pos, negsuc}
 use Rattle.std.proofs.Common.{◌≡◌, true, false, refl, ap, sym, ◌∙◌, inl, inr}
+use Rattle.nest_array.specs.Keys.{index_of}
 use Rattle.nest_array.proofs.LogicalTypes.{same-physical}
 use Rattle.nest_memory.specs.Physical.{physical_type}
 use Rattle.nest_memory.specs.TypeTree as types
@@ -26,3 +27,8 @@ logically-flat (Some t) u h l n =
     let e = ap is_flat (same-physical u t l) ∙ h in
     let x = sym e ∙ n in
     cc
+
+-- a key names the place that its number is
+pub index-of : (z : ℤ) (r : Option ℕ) (k : ℕ) → r ≡ index_of z → (r ≡ Some k) ↔ (Some z ≡ Some (pos k))
+index-of (pos n) r k e = (λ h. let x = sym e ∙ h in cc, λ h. e ∙ (let x = h in cc))
+index-of (negsuc n) r k e = (λ h. let x = sym e ∙ h in cc, λ h. cc)

@@ -3,12 +3,12 @@ ghost use Rattle.std.specs.Prelude.{◌≡◌, ◌⊎◌, ◌↔◌, ℕ, [], If
 ghost use Rattle.nest_any.specs.Dictionaries.{dictionary_tree};
 ghost use Rattle.nest_any.specs.Flat.{values_tree};
 ghost use Rattle.nest_any.specs.Trees.{tree_of};
-ghost use Rattle.nest_any.specs.Words.{BuilderTree, FailFirst, Memory, Pass, builder_len, builder_type, is_flat, key_type, keyed_checks, own_slots, type_of};
+ghost use Rattle.nest_any.specs.Words.{AreFlat, FailFirst, Memory, Pass, builder_len, builder_type, is_flat, key_type, keyed_checks, own_slots, type_of, value_type};
 ghost use Rattle.nest_build.specs.Keys.{dictionary_child};
 ghost use Rattle.nest_model.specs.BuilderItem.{Stands};
 ghost use Rattle.nest_model.specs.BuilderTree as builders;
 ghost use Rattle.nest_model.specs.BuilderWhole.{AreDifferent};
-ghost use Rattle.nest_model.specs.Fits.{is_dictionary};
+ghost use Rattle.nest_model.specs.Fits.{IsLogically, is_dictionary};
 
 use crate::any::AnyMutableArray;
 use crate::flat::AnyMutableFlat;
@@ -80,7 +80,7 @@ impl AnyMutableDictionary {
         ensures passed { IfOk result (λ b. Pass (keyed_checks (type_of data_type) (tree_of child))) }
         ensures cause { IfErr result (λ e. (e ≡ Memory alloc_error) ⊎ FailFirst e (keyed_checks (type_of data_type) (tree_of child))) }
     {
-        if let Some(error) = fault(&data_type, child.data_type(), child.len()) {
+        if let Some(error) = fault(&data_type, &child) {
             drop(child);
             drop(data_type);
             return Err(error);
@@ -142,22 +142,41 @@ impl AnyMutableDictionary {
 }
 
 /// Why no builder of dictionaries is made of that type over such a child.
-fn fault(data_type: &DataType, child: &DataType, count: usize) -> Option<Error>
-    ensures { (c : BuilderTree) → type_of child.now ≡ builder_type c → count ≡ builder_len c → MatchOption result (Pass (keyed_checks (type_of data_type.now) c)) (λ e. FailFirst e (keyed_checks (type_of data_type.now) c)) }
+fn fault(data_type: &DataType, child: &AnyMutableArray) -> Option<Error>
+    ensures { MatchOption result
+        (Pass (keyed_checks (type_of data_type.now) (tree_of child.now)))
+        (λ e. FailFirst e (keyed_checks (type_of data_type.now) (tree_of child.now))) }
 {
-    let Some(values) = data_type.value_type() else {
-        return Some(Error::OutOfSpec(Spec::WrongType));
-    };
-    if !is_flat(values.to_physical_type()) {
+    if !has_flat_values(data_type) {
         return Some(Error::OutOfSpec(Spec::WrongType));
     }
-    if count != 0 {
+    if child.len() != 0 {
         return Some(Error::InvalidArgumentError(Argument::ChildNotEmpty));
     }
-    if *child.to_logical_type() != *values.to_logical_type() {
+    if !has_values(data_type, child.data_type()) {
         return Some(Error::OutOfSpec(Spec::ChildType));
     }
     None
+}
+
+/// Whether such dictionaries have values, which have no children and aren't nulls.
+fn has_flat_values(data_type: &DataType) -> bool
+    ensures { IsTrue result ↔ AreFlat (value_type (type_of data_type.now)) }
+{
+    match data_type.value_type() {
+        None => false,
+        Some(values) => is_flat(values.to_physical_type()),
+    }
+}
+
+/// Whether such dictionaries have values of that type, looked through extensions.
+fn has_values(data_type: &DataType, values: &DataType) -> bool
+    ensures { IsTrue result ↔ IsLogically (value_type (type_of data_type.now)) (type_of values.now) }
+{
+    match data_type.value_type() {
+        None => false,
+        Some(value) => *values.to_logical_type() == *value.to_logical_type(),
+    }
 }
 
 /// Whether values of that type have no children and aren't nulls.
