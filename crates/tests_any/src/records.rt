@@ -20,11 +20,11 @@ use nest_memory::error::{Argument, Error, Spec};
 use std::alloc::{AllocError, Global};
 use std::test::Fail;
 
-const UNFINISHED: Error = Error::InvalidArgumentError(Argument::Unfinished);
+pub(super) const UNFINISHED: Error = Error::InvalidArgumentError(Argument::Unfinished);
 
-const OTHER_KIND: Error = Error::InvalidArgumentError(Argument::ItemType);
+pub(super) const OTHER_KIND: Error = Error::InvalidArgumentError(Argument::ItemType);
 
-fn texts(alloc: Global) -> Result<AnyMutableArray, Error>
+pub(crate) fn texts(alloc: Global) -> Result<AnyMutableArray, Error>
     ensures { IfOk result (λ b. IsWhole (tree_of b)) }
 {
     Ok(AnyMutableArray::Flat(AnyMutableFlat::Utf8(MutableUtf8Array::new(alloc)?)))
@@ -39,7 +39,7 @@ pub(crate) fn numbers(alloc: Global) -> AnyMutableArray
 }
 
 /// Lists of such items.
-fn lists_of(alloc: Global, items: DataType) -> Result<DataType, Error> {
+pub(crate) fn lists_of(alloc: Global, items: DataType) -> Result<DataType, Error> {
     let items = Field::new(alloc, "item", items, true)?;
     Ok(DataType::List(Box::new(alloc, items)?))
 }
@@ -51,7 +51,7 @@ pub(crate) fn records_of(alloc: Global, items: DataType) -> Result<DataType, Err
 }
 
 /// The builder of records over children, if there is memory for them.
-fn over<E: Drop>(
+pub(crate) fn over<E: Drop>(
     alloc: Global,
     data_type: DataType,
     values: Result<Vec<AnyMutableArray>, E>,
@@ -71,7 +71,7 @@ fn over<E: Drop>(
 }
 
 /// Lists over a child that is whole.
-fn nested(
+pub(crate) fn nested(
     alloc: Global,
     data_type: DataType,
     child: AnyMutableArray,
@@ -85,7 +85,10 @@ fn nested(
 }
 
 /// A builder, if what was done with it was accepted.
-fn kept(builder: AnyMutableArray, done: Result<(), Error>) -> Result<AnyMutableArray, Error> {
+pub(crate) fn kept(
+    builder: AnyMutableArray,
+    done: Result<(), Error>,
+) -> Result<AnyMutableArray, Error> {
     match done {
         Ok(()) => Ok(builder),
         Err(error) => {
@@ -116,7 +119,7 @@ pub(crate) fn push(builder: &mut AnyMutableArray, value: Plain<'_>) -> Result<()
 }
 
 /// Tells a row of what waits in whole children.
-fn tell(builder: &mut AnyMutableArray, valid: bool) -> Result<(), Error> {
+pub(crate) fn tell(builder: &mut AnyMutableArray, valid: bool) -> Result<(), Error> {
     if !builder.has_whole_children() {
         return Err(UNFINISHED);
     }
@@ -124,7 +127,7 @@ fn tell(builder: &mut AnyMutableArray, valid: bool) -> Result<(), Error> {
 }
 
 /// Pushes a value into the first child of a builder and tells a row of it.
-fn push_record(records: &mut AnyMutableArray, value: Plain<'_>) -> Result<(), Error> {
+pub(crate) fn push_record(records: &mut AnyMutableArray, value: Plain<'_>) -> Result<(), Error> {
     match records.child(0) {
         Some(child) => push(child, value)?,
         None => return Err(UNFINISHED),
@@ -133,7 +136,7 @@ fn push_record(records: &mut AnyMutableArray, value: Plain<'_>) -> Result<(), Er
 }
 
 /// A list of two records, and a null list.
-fn push_lists(lists: &mut AnyMutableArray) -> Result<(), Error> {
+pub(crate) fn push_lists(lists: &mut AnyMutableArray) -> Result<(), Error> {
     match lists.child(0) {
         Some(records) => {
             push_record(records, Plain::Text("x"))?;
@@ -178,7 +181,7 @@ fn has_texts(records: &StructArray, wanted: &[&str]) -> bool {
 }
 
 /// Whether lists have these offsets, and the last of them is null.
-fn has_offsets(lists: &ListArray, wanted: &[i32]) -> bool {
+pub(crate) fn has_offsets(lists: &ListArray, wanted: &[i32]) -> bool {
     let offsets = lists.offsets();
     offsets.as_slice() == wanted
 }
@@ -240,7 +243,7 @@ fn refusal_of(made: Result<AnyMutableArray, Error>) -> Option<Error> {
 }
 
 /// Why no lists of texts are made over a builder of numbers.
-fn refused(alloc: Global, filled: bool, data_type: DataType) -> Option<Error> {
+pub(crate) fn refused(alloc: Global, filled: bool, data_type: DataType) -> Option<Error> {
     let mut items = numbers(alloc);
     let pushed = if filled {
         push(&mut items, Plain::Native(AnyNative::Int64(1)))
