@@ -109,11 +109,10 @@ fn tell_one_more(lists: &mut NullLists) -> (Result<(), Error>, Result<(), Error>
     (one, lists.try_extend_from_lengths(&[Some(1)]))
 }
 
-/// Takes back the nulls that wait in the child.
-fn take_back(lists: &mut NullLists, n: usize) {
-    let nulls = lists.mut_values();
-    if nulls.is_whole() && n <= nulls.len() {
-        nulls.truncate(n);
+/// Keeps the first n rows of a builder.
+fn take_back<B: MutableArray>(builder: &mut B, n: usize) {
+    if builder.is_whole() && n <= builder.len() {
+        builder.truncate(n);
     }
 }
 
@@ -136,7 +135,7 @@ fn null_past_the_largest_offset(alloc: Global) -> Result<bool, Error> {
     let item = lists.mut_values().push_null();
     let told = tell_one_more(&mut lists);
     let unfinished = counts(lists.as_box());
-    take_back(&mut lists, LARGEST_OFFSET);
+    take_back(lists.mut_values(), LARGEST_OFFSET);
     let frozen = counts(lists.as_box());
     drop(lists);
     null?;
