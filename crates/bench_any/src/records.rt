@@ -18,6 +18,8 @@ const FEW: usize = 100;
 
 const ROWS: usize = 1_000_000;
 
+const NUMBER: i64 = 19;
+
 const TEXT: &str = "nineteen";
 
 /// Pushes a number into the first child, as what it is.
@@ -38,13 +40,18 @@ fn push_text(child: &mut AnyMutableArray, text: &str) -> Result<(), Error> {
     }
 }
 
-/// A record by children whose kinds are known.
-fn push_typed(records: &mut MutableStructArray, number: i64) -> Result<(), Error> {
-    if records.values().len() != 2 {
-        return Ok(());
+/// The cells of a record, by children whose kinds are known.
+fn push_cells(children: &mut [AnyMutableArray]) -> Result<(), Error> {
+    if let [first, second] = children {
+        push_number(first, NUMBER)?;
+        push_text(second, TEXT)?;
     }
-    push_number(records.value(0), number)?;
-    push_text(records.value(1), TEXT)?;
+    Ok(())
+}
+
+/// A record, cell by cell.
+fn push_typed(records: &mut MutableStructArray) -> Result<(), Error> {
+    push_cells(records.mut_values())?;
     tell_record(records)
 }
 
@@ -63,9 +70,9 @@ fn push_plain(builder: &mut AnyMutableArray, value: Plain<'_>) -> Result<(), Err
 }
 
 /// A record by plain values, whatever the kinds of its children are.
-fn push_any(records: &mut AnyMutableArray, number: i64) -> Result<(), Error> {
+fn push_any(records: &mut AnyMutableArray) -> Result<(), Error> {
     if let Some(child) = records.child(0) {
-        push_plain(child, Plain::Native(AnyNative::Int64(number)))?;
+        push_plain(child, Plain::Native(AnyNative::Int64(NUMBER)))?;
     }
     if let Some(child) = records.child(1) {
         push_plain(child, Plain::Text(TEXT))?;
@@ -81,10 +88,10 @@ fn tell_row(builder: &mut AnyMutableArray) -> Result<(), Error> {
 }
 
 /// A list of two records.
-fn push_list(lists: &mut AnyMutableArray, number: i64) -> Result<(), Error> {
+fn push_list(lists: &mut AnyMutableArray) -> Result<(), Error> {
     if let Some(records) = lists.child(0) {
-        push_any(records, number)?;
-        push_any(records, number)?;
+        push_any(records)?;
+        push_any(records)?;
     }
     tell_row(lists)
 }
@@ -92,9 +99,9 @@ fn push_list(lists: &mut AnyMutableArray, number: i64) -> Result<(), Error> {
 fn typed(alloc: Global, n: usize) -> Result<AnyArray, Error> {
     let mut records = makers::records(alloc)?;
     let mut done = Ok(());
-    for i in 0..n {
+    for _ in 0..n {
         if done.is_ok() {
-            done = push_typed(&mut records, i as i64);
+            done = push_typed(&mut records);
         }
     }
     let frozen = records.as_box();
@@ -110,12 +117,12 @@ fn plain(alloc: Global, n: usize, listed: bool) -> Result<AnyArray, Error> {
         AnyMutableArray::Struct(makers::records(alloc)?)
     };
     let mut done = Ok(());
-    for i in 0..n {
+    for _ in 0..n {
         if done.is_ok() {
             done = if listed {
-                push_list(&mut builder, i as i64)
+                push_list(&mut builder)
             } else {
-                push_any(&mut builder, i as i64)
+                push_any(&mut builder)
             };
         }
     }

@@ -26,13 +26,13 @@ loop-place-preserved g c =
     let r = c.range-start.result in
     let m : (r.0 + r.1) - r.0 ≡ r.1 = omega arith in
     let row =
-        ap (λ z. take z (drop r.0 bs)) m
-        ∙ ap (λ z. cut bs z r.1) c.range-start.ensures.start
-        ∙ ap (cut bs (begin c.args.offsets.now (get_or c.args.places.now c.loop-place.place-index 0))) c.range-start.ensures.count in
+    ap (λ z. take z (drop r.0 bs)) m
+    ∙ ap (λ z. cut bs z r.1) c.range-start.ensures.start
+    ∙ ap (cut bs (begin c.args.offsets.now (get_or c.args.places.now c.loop-place.place-index 0))) c.range-start.ensures.count in
     record {
       ends =
-        c.in_ok-try_push_usize.ensures.ok
-        ∙ ap (λ m. es ++ (last_of es + m) ∷ []) c.range-start.ensures.count
-        ∙ ends-more n c.args.places.now es c.loop-place.place-index c.loop-place-test.true c.loop-place.invariant.ends;
+          c.in_ok-try_push_usize.ensures.ok
+          ∙ ap (λ m. es ++ (last_of es + m) ∷ []) c.range-start.ensures.count
+          ∙ ends-more n c.args.places.now es c.loop-place.place-index c.loop-place-test.true c.loop-place.invariant.ends;
       bytes = items-more bs c.args.offsets.now va c.args.places.now c.loop-place.place-index c.loop-place.taken.items _ _ c.loop-place-test.true c.loop-place.invariant.bytes c.in_ok-extend_from_slice.ensures.items row;
     }
