@@ -204,6 +204,7 @@ fn texts_are_made_of_parts_that_fit(rt: HostRuntime) -> Result<(), Fail> {
     builder.try_push(None)?;
     let texts = builder.freeze()?;
     let same = of_its_parts(rt.alloc(), &texts)?;
+    assert!(rt; same.len() == 2);
     assert!(rt; same.get(0) == Some("ab"));
     assert!(rt; same.is_null(1));
     assert!(rt; same == texts);
