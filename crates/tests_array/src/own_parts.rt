@@ -157,11 +157,14 @@ fn each_kind_copies_itself(rt: HostRuntime) {
 
 /// How many scalars record i has, and how many of them are valid.
 fn scalars_of(alloc: Global, records: &StructArray, i: usize) -> Result<(usize, usize), Error> {
-    records.known();
-    if i >= records.len() {
+    let columns = records.values();
+    let [first, second] = columns else {
+        return Err(Error::Overflow);
+    };
+    if i >= first.len() || i >= second.len() {
         return Err(Error::Overflow);
     }
-    let scalars = scalars_at(alloc, records.values(), i)?;
+    let scalars = scalars_at(alloc, columns, i)?;
     let mut valid = 0usize;
     for scalar in &scalars {
         if scalar.is_valid() {
