@@ -113,6 +113,9 @@ fn keys_again(alloc: Global, keys: &AnyKeys) -> Result<AnyKeys, Error>
 
 fn keyed_again(alloc: Global, array: &DictionaryArray) -> Result<DictionaryArray, Error> {
     array.known();
+    if !array.all_in_range() {
+        return Err(Error::Overflow);
+    }
     let data_type = array.data_type().clone(alloc)?;
     let keys = match keys_again(alloc, array.keys()) {
         Ok(keys) => keys,
