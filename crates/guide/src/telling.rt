@@ -1,12 +1,17 @@
 //! What the program prints of each chapter of the guide.
-use crate::building::{self, any, rows};
+ghost use Rattle.guide.specs.People.{ArePeople};
+
+use crate::building::{self, any, dictionaries, people, rows};
 use crate::making::parts::validity;
 use crate::making::{flat, nested, refused};
 use crate::showing::made;
 use crate::{comparing, cutting, reading, sharing, taking};
 use anyhow::Result;
+use nest_any::MutableStructArray;
 use nest_array::{AnyArray, Array, ListArray};
 use nest_build::array::MutableArray;
+use nest_flat::any_native::AnyNative;
+use nest_flat::plain::Plain;
 use nest_flat::primitive::mutable::MutablePrimitiveArray;
 use nest_memory::error::Error;
 use std::rc::Rc;
@@ -64,6 +69,8 @@ fn read_lists<R: Print + AllocGlobal>(rt: &R, lists: &ListArray) -> Result<()> {
         "items lent of row 2: {}",
         reading::items_lent(lists, 2).len()
     )?;
+    let longest = reading::longest(rt.alloc(), lists);
+    println!(rt; "the longest row's items: {}", longest?)?;
     tell(
         rt,
         "rows 1 and 2 beside",
@@ -174,6 +181,7 @@ pub fn building<R: Print + AllocGlobal>(rt: &R) -> Result<()> {
     tell(rt, "codes", building::flat::codes(alloc))?;
     tell(rt, "nulls", building::flat::nulls(alloc))?;
     tell(rt, "lists", rows::four_rows(alloc))?;
+    tell(rt, "pairs", rows::pairs(alloc))?;
     println!(rt;
         "a refused row, and the rows and items there: {:?}",
         rows::refused_row(alloc)?
@@ -183,6 +191,60 @@ pub fn building<R: Print + AllocGlobal>(rt: &R) -> Result<()> {
         println!(rt; "a refused text: {:?}", any::push_text(&mut builder, "x"))?;
     }
     tell(rt, "what it left", any::finish(&mut builder))
+}
+
+/// Four rows of cells, of which the second is no person.
+fn load_people(people: &mut MutableStructArray) -> Result<(), Error>
+    requires { ArePeople people.old }
+{
+    let years = |age| Some(Plain::Native(AnyNative::Int32(age)));
+    people::load(
+        people,
+        &[
+            (Some(Plain::Text("Ann")), years(31)),
+            (Some(Plain::Text("Bob")), Some(Plain::Text("?"))),
+            (Some(Plain::Text("Cy")), None),
+        ],
+    )
+}
+
+/// People loaded.
+fn building_people<R: Print + AllocGlobal>(rt: &R) -> Result<()> {
+    let mut builder = people::no_people(rt.alloc())?;
+    let loaded = load_people(&mut builder);
+    let frozen = builder.freeze();
+    drop(builder);
+    let told = tell(rt, "people", frozen);
+    loaded?;
+    told
+}
+
+/// Lists of people loaded.
+fn building_teams<R: Print + AllocGlobal>(rt: &R) -> Result<()> {
+    let mut builder = people::no_teams(rt.alloc())?;
+    let ann = (Some(Plain::Text("Ann")), Some(Plain::Native(AnyNative::Int32(31))));
+    let bob = (Some(Plain::Text("Bob")), Some(Plain::Text("?")));
+    let pushed = people::push_two_teams(&mut builder, &[ann, bob], &[bob]);
+    let frozen = builder.as_box();
+    drop(builder);
+    let told = tell(rt, "teams", frozen);
+    pushed?;
+    told
+}
+
+/// A dictionary built.
+fn building_keys<R: Print + AllocGlobal>(rt: &R) -> Result<()> {
+    let (array, key) = dictionaries::keyed(rt.alloc())?;
+    tell(rt, "keyed", Ok(array))?;
+    println!(rt; "the key of \"c\": {key:?}")?;
+    Ok(())
+}
+
+/// Rows of records, of lists of them, and of values by keys.
+pub fn building_nested<R: Print + AllocGlobal>(rt: &R) -> Result<()> {
+    building_people(rt)?;
+    building_teams(rt)?;
+    building_keys(rt)
 }
 
 /// An array with two owners.

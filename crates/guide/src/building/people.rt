@@ -1,0 +1,130 @@
+//! Rows of records, and of lists of records, loaded cell by cell. The children of records are builders of any kind, as one
+//! enum.
+ghost use Rattle.std.specs.Prelude.{◌≡◌, ◌↔◌, [], false, IfOk, OnErr, OnOk, IsErrOf};
+ghost use Rattle.nest_any.specs.Trees.{trees_of};
+ghost use Rattle.nest_build.specs.Words.{InvalidArgumentError, IsWhole, ItemType};
+ghost use Rattle.guide.specs.People.{ArePeople, columns, is_person, no_people, no_teams, people_in, person_type, with_people, with_person, with_team};
+ghost use Rattle.guide.specs.Words.{type_of};
+
+use nest_any::{AnyMutableArray, AnyMutableFlat, MutableStructArray};
+use nest_build::array::MutableArray;
+use nest_build::list::MutableListArray;
+use nest_flat::any_primitive::mutable::AnyMutablePrimitive;
+use nest_flat::plain::Plain;
+use nest_flat::primitive::mutable::MutablePrimitiveArray;
+use nest_flat::utf8::mutable::MutableUtf8Array;
+use nest_memory::datatypes::DataType;
+use nest_memory::datatypes::field::Field;
+use nest_memory::error::{Argument, Error};
+use std::alloc::Global;
+
+/// A name and an age, each of them a value of any kind, or missing.
+pub type Cells<'a> = (Option<Plain<'a>>, Option<Plain<'a>>);
+
+/// The type of a person: a name and an age.
+fn person_type(alloc: Global) -> Result<DataType, Error>
+    ensures { IfOk result (λ t. type_of t ≡ person_type) }
+{
+    let mut fields = Vec::with_capacity(alloc, 2)?;
+    fields.push(Field::new(alloc, "name", DataType::Utf8, true)?)?;
+    fields.push(Field::new(alloc, "age", DataType::Int32, true)?)?;
+    Ok(DataType::Struct(fields))
+}
+
+/// A builder for each field.
+fn columns(alloc: Global) -> Result<Vec<AnyMutableArray>, Error>
+    ensures { IfOk result (λ v. trees_of v.items ≡ columns [] []) }
+{
+    let names = MutableUtf8Array::new(alloc)?;
+    let ages = AnyMutablePrimitive::Int32(MutablePrimitiveArray::new(alloc));
+    let mut columns = Vec::with_capacity(alloc, 2)?;
+    columns.push(AnyMutableArray::Flat(AnyMutableFlat::Utf8(names)))?;
+    columns.push(AnyMutableArray::Flat(AnyMutableFlat::Primitive(ages)))?;
+    Ok(columns)
+}
+
+/// A builder of people, of whom there is none yet.
+pub fn no_people(alloc: Global) -> Result<MutableStructArray, Error>
+    ensures { IfOk result (λ b. b ≡ no_people) }
+{
+    let data_type = person_type(alloc)?;
+    match columns(alloc) {
+        Ok(columns) => MutableStructArray::try_new(alloc, data_type, columns, None),
+        Err(error) => {
+            drop(data_type);
+            Err(error)
+        }
+    }
+}
+
+/// A person more: the cells are pushed into the children, where they wait, and then a row of them is told. Where a cell or
+/// the row is refused, what waits is taken back.
+pub fn push_person(people: &mut MutableStructArray, cells: Cells<'_>) -> Result<(), Error>
+    requires { ArePeople people.old }
+    ensures told { OnOk result (people.new ≡ with_person cells people.old) }
+    ensures refused { OnErr result (people.new ≡ people.old) }
+    ensures kind { IsErrOf result (InvalidArgumentError ItemType) ↔ (is_person cells ≡ false) }
+{
+    let rows = people.len();
+    people.value(0).try_push_plain(cells.0)?;
+    if let Err(error) = people.value(1).try_push_plain(cells.1) {
+        people.value(0).truncate(rows);
+        return Err(error);
+    }
+    if let Err(error) = people.push(true) {
+        people.value(0).truncate(rows);
+        people.value(1).truncate(rows);
+        return Err(error);
+    }
+    Ok(())
+}
+
+/// Each row of cells that is a person; the others are passed.
+pub fn load(people: &mut MutableStructArray, rows: &[Cells<'_>]) -> Result<(), Error>
+    requires { ArePeople people.old }
+    ensures people { ArePeople people.new }
+    ensures loaded { OnOk result (people.new ≡ with_people rows.now people.old) }
+{
+    for cells in rows {
+        match push_person(people, *cells) {
+            Ok(()) | Err(Error::InvalidArgumentError(Argument::ItemType)) => {}
+            Err(error) => return Err(error),
+        }
+    }
+    Ok(())
+}
+
+/// A builder of lists of people.
+pub type TeamBuilder = MutableListArray<i32, MutableStructArray>;
+
+/// No list yet.
+pub fn no_teams(alloc: Global) -> Result<TeamBuilder, Error>
+    ensures { IfOk result (λ b. ⟦<TeamBuilder as MutableArray>⟧.model b ≡ no_teams) }
+{
+    match no_people(alloc) {
+        Ok(people) => MutableListArray::new(alloc, people),
+        Err(error) => Err(error),
+    }
+}
+
+/// A list more: the people wait in the child, and then a row of them is told.
+pub fn push_team(teams: &mut TeamBuilder, team: &[Cells<'_>]) -> Result<(), Error>
+    requires whole { IsWhole (⟦<TeamBuilder as MutableArray>⟧.model teams.old) }
+    requires people { ArePeople (people_in (⟦<TeamBuilder as MutableArray>⟧.model teams.old)) }
+    ensures told { OnOk result (⟦<TeamBuilder as MutableArray>⟧.model teams.new ≡ with_team team.now (⟦<TeamBuilder as MutableArray>⟧.model teams.old)) }
+{
+    teams.known();
+    load(teams.mut_values(), team)?;
+    teams.try_push_valid()
+}
+
+/// Two lists more, as long as none is refused.
+pub fn push_two_teams(
+    teams: &mut TeamBuilder,
+    first: &[Cells<'_>],
+    second: &[Cells<'_>],
+) -> Result<(), Error>
+{
+    push_team(teams, first)?;
+    push_team(teams, second)
+}

@@ -1,0 +1,35 @@
+//! Rows of values that lie in a slice.
+ghost use Rattle.std.specs.Prelude.{◌≡◌, ◌⊎◌, None, Some, OnOk, OnErr, IfErr, alloc_error};
+ghost use Rattle.std.specs.Option.{option_copied};
+ghost use Rattle.nest_build.specs.Words.{Accepted, IsWhole, Memory, item_refusal, row_item};
+
+use crate::array::MutableArray;
+use crate::fixed_size_list::mutable::MutableFixedSizeListArray;
+use crate::flat::{FlatBuilder, TakesValue};
+use crate::push::TryPush;
+use nest_flat::plain::AsPlain;
+use nest_memory::error::Error;
+
+impl<M: FlatBuilder> MutableFixedSizeListArray<M> {
+    /// Adds a row: null, or the list of the values of a slice. It is `try_push` of the slice's iterator.
+    ///
+    /// # Errors
+    /// As `try_push`.
+    pub fn try_push_slice<A: AsPlain + Copy + Drop>(
+        &mut self,
+        row: Option<&[Option<A>]>,
+    ) -> Result<(), Error>
+    where
+        M: TakesValue<A>,
+        requires { IsWhole (⟦<MutableFixedSizeListArray<M> as MutableArray>⟧.model self.old) }
+        ensures accepted { OnOk result (Accepted (row_item A.value (option_copied row.entry)) (⟦<MutableFixedSizeListArray<M> as MutableArray>⟧.model self.old) (⟦<MutableFixedSizeListArray<M> as MutableArray>⟧.model self.new)) }
+        ensures unrefused { OnOk result (item_refusal (row_item A.value (option_copied row.entry)) (⟦<MutableFixedSizeListArray<M> as MutableArray>⟧.model self.old) ≡ None) }
+        ensures err { OnErr result (⟦<MutableFixedSizeListArray<M> as MutableArray>⟧.model self.new ≡ ⟦<MutableFixedSizeListArray<M> as MutableArray>⟧.model self.old) }
+        ensures cause { IfErr result (λ e. (e ≡ Memory alloc_error) ⊎ (item_refusal (row_item A.value (option_copied row.entry)) (⟦<MutableFixedSizeListArray<M> as MutableArray>⟧.model self.old) ≡ Some e)) }
+    {
+        match row {
+            None => self.push_null(),
+            Some(items) => self.try_push(Some(items.iter().copied())),
+        }
+    }
+}
