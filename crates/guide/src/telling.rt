@@ -3,7 +3,7 @@ ghost use Rattle.guide.specs.People.{ArePeople};
 
 use crate::building::{self, any, dictionaries, people, rows};
 use crate::making::parts::validity;
-use crate::making::{flat, nested, refused};
+use crate::making::{flat, nested, refused, tagged};
 use crate::showing::made;
 use crate::{comparing, cutting, reading, sharing, taking};
 use anyhow::Result;
@@ -51,6 +51,7 @@ pub fn making<R: Print + AllocGlobal>(rt: &R) -> Result<()> {
     tell(rt, "maps", nested::maps(alloc))?;
     tell(rt, "picks", nested::picks(alloc))?;
     tell(rt, "keyed", nested::keyed(alloc))?;
+    tell(rt, "tagged", tagged::tagged_lists(alloc))?;
     tell(rt, "null numbers", refused::null_numbers(alloc))?;
     tell(rt, "a list past its items", refused::list_past_items(alloc))
 }
@@ -133,6 +134,25 @@ fn compare<R: Print>(rt: &R, column: AnyArray, tail: &AnyArray) -> Result<()> {
     Ok(())
 }
 
+/// Lists of records with a dictionary inside: the last of them, and what it is compared with.
+fn comparing_tagged<R: Print + AllocGlobal>(rt: &R) -> Result<()> {
+    let lists = tagged::tagged_lists(rt.alloc())?.boxed();
+    let told = match tagged::last_list(rt.alloc()) {
+        Ok(last) => compare_last(rt, &lists, last),
+        Err(error) => Err(error.into()),
+    };
+    drop(lists);
+    told
+}
+
+/// Prints whether lists end with the last one, which is printed then.
+fn compare_last<R: Print + AllocGlobal>(rt: &R, lists: &AnyArray, last: AnyArray) -> Result<()> {
+    let same = comparing::are_equal(lists, &last);
+    let ends = last.len() <= lists.len() && comparing::ends_with(lists, &last);
+    println!(rt; "all lists are the last: {same}, they end with it: {ends}")?;
+    tell(rt, "the last", Ok(last))
+}
+
 /// Four rows and their last two.
 pub fn comparing<R: Print + AllocGlobal>(rt: &R) -> Result<()> {
     let tail = rows::two_rows(rt.alloc())?.boxed();
@@ -141,7 +161,8 @@ pub fn comparing<R: Print + AllocGlobal>(rt: &R) -> Result<()> {
         Err(error) => Err(error.into()),
     };
     drop(tail);
-    told
+    told?;
+    comparing_tagged(rt)
 }
 
 fn take<R: Print + AllocGlobal>(rt: &R, column: &AnyArray) -> Result<()> {

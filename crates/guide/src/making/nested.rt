@@ -1,6 +1,7 @@
 //! Arrays over other arrays, from parts. What holds a child is made last, and what has a data type is let go by name where
 //! a later part is refused.
 ghost use Rattle.std.specs.Prelude.{◌≡◌, IfOk};
+ghost use Rattle.guide.specs.Tagged.{keyed_parts};
 ghost use Rattle.guide.specs.Words.{field_list_of, four_keyed, four_picks, four_records, layouts_of, map_type, record_fields, record_list_type, records_children, records_parts, slots_of, three_lists, two_maps, two_pairs, two_record_lists, type_of};
 
 use crate::making::flat::{any_numbers, texts};
@@ -147,7 +148,8 @@ pub fn picks(alloc: Global) -> Result<UnionArray, Error>
 
 /// The texts "c", null, "ab", "c", by keys that name them in `texts`.
 pub fn keyed(alloc: Global) -> Result<DictionaryArray, Error>
-    ensures { IfOk result (λ a. slots_of a ≡ four_keyed) }
+    ensures parts { IfOk result (λ a. a ≡ keyed_parts) }
+    ensures slots { IfOk result (λ a. slots_of a ≡ four_keyed) }
 {
     let places = buffer(alloc, &[3i32, 0, 0, 3])?;
     let validity = validity(alloc, &[true, false, true, true])?;
