@@ -243,7 +243,10 @@ fn building_people<R: Print + AllocGlobal>(rt: &R) -> Result<()> {
 /// Lists of people loaded.
 fn building_teams<R: Print + AllocGlobal>(rt: &R) -> Result<()> {
     let mut builder = people::no_teams(rt.alloc())?;
-    let ann = (Some(Plain::Text("Ann")), Some(Plain::Native(AnyNative::Int32(31))));
+    let ann = (
+        Some(Plain::Text("Ann")),
+        Some(Plain::Native(AnyNative::Int32(31))),
+    );
     let bob = (Some(Plain::Text("Bob")), Some(Plain::Text("?")));
     let pushed = people::push_two_teams(&mut builder, &[ann, bob], &[bob]);
     let frozen = builder.as_box();

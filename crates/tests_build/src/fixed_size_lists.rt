@@ -60,6 +60,29 @@ fn rows_of_another_size_are_refused(rt: HostRuntime) -> Result<(), Fail> {
     Ok(())
 }
 
+fn push_slice(rows: &mut Lists, row: Option<&[Option<i64>]>) -> Result<(), Error> {
+    if !rows.is_whole() {
+        return Err(Error::InvalidArgumentError(Argument::Unfinished));
+    }
+    rows.try_push_slice(row)
+}
+
+#[test]
+fn slices_of_another_size_are_refused(rt: HostRuntime) -> Result<(), Fail> {
+    let mut rows = no_lists(rt.alloc(), 2)?;
+    let three = push_slice(&mut rows, Some(&[Some(1), Some(2), Some(3)]));
+    let before = rows.values().len();
+    let two = push_slice(&mut rows, Some(&[Some(5), None]));
+    let null = push_slice(&mut rows, None);
+    let array = frozen_lens(rows.freeze());
+    drop(rows);
+    assert!(rt; three == ITEM_SIZE);
+    assert!(rt; before == 0);
+    assert!(rt; two == Ok(()) && null == Ok(()));
+    assert!(rt; array == Some((2, 4)));
+    Ok(())
+}
+
 fn push_item(rows: &mut Lists, item: i64) -> Result<(), Error> {
     TryPush::try_push(rows.mut_values(), Some(item))
 }

@@ -123,8 +123,7 @@ pub fn push_two_teams(
     teams: &mut TeamBuilder,
     first: &[Cells<'_>],
     second: &[Cells<'_>],
-) -> Result<(), Error>
-{
+) -> Result<(), Error> {
     push_team(teams, first)?;
     push_team(teams, second)
 }
