@@ -3,6 +3,7 @@ use Rattle.std.specs.Prelude.{IfOk, IsOk, ◌↔◌, ◌⊎◌, Option, Some, No
 use Rattle.std.proofs.Common.{◌≡◌, ◌≢◌, ℕ, zero, suc, ◌+◌, ◌<◌, ◌≤◌, Bool, true, false, List, [], ◌∷◌, ◌++◌, length, get_or, take, refl, sym, ap, subst, ◌∙◌, inl, inr, arith}
 use Rattle.std.proofs.lemmas.Bool.{cases_lt, le-leb}
 use Rattle.std.proofs.lemmas.List.{length-map, get_or-map}
+use Rattle.nest_memory.specs.TypeTree as types
 use Rattle.nest_memory.specs.TypeTree.{TypeTree, key_type, value_type}
 use Rattle.nest_memory.specs.Physical.{physical_type}
 use Rattle.nest_memory.specs.declared.datatypes.IntegerType.{IntegerType}
@@ -238,3 +239,9 @@ pub frozen_slots : {A E F : Type 0} (view : A → Layout) (r : Result Layout E) 
 frozen_slots view (Ok a) (Ok k) i t u keys c v e w f s o h = ap slots_of h ∙ dictionary-frozen i t keys c v (view k) (subst (λ x. IsWhole (dictionary i x keys c)) (sym e) w) f s
 frozen_slots view (Ok a) (Err x) i t u keys c v e w f s o h = absurd (let q : false ≡ true = o in cc)
 frozen_slots view (Err x) ks i t u keys c v e w f s o h = tt
+
+-- a data type with a type of keys is one of dictionaries
+pub keyed-type : (t : TypeTree) (k : IntegerType) → key_type t ≡ Some k → is_dictionary t ≡ true
+keyed-type (types.dictionary k u b) i h = refl
+keyed-type (types.extension n t m) i h = keyed-type t i h
+keyed-type t i h = cc

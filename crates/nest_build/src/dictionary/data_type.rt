@@ -48,6 +48,17 @@ impl<K: DictionaryKey> DictionaryType<K> {
         })
     }
 
+    /// That data type.
+    pub(super) fn of_type(data_type: DataType) -> DictionaryType<K>
+        requires { key_type (type_of data_type) ≡ Some K.KEY_TYPE }
+        ensures { result ≡ type_of data_type }
+    {
+        DictionaryType {
+            data_type,
+            key: PhantomData,
+        }
+    }
+
     /// The data type.
     pub(super) fn get(&self) -> &DataType
         ensures value { type_of result.now ≡ self.now }

@@ -9,7 +9,9 @@ ghost use Rattle.nest_model.specs.BuilderRow.{values_needed};
 ghost use Rattle.nest_model.specs.BuilderTree as builders;
 ghost use Rattle.nest_model.specs.BuilderTree.{key_count};
 ghost use Rattle.nest_model.specs.BuilderWhole.{AreDifferent};
+ghost use Rattle.nest_model.specs.Fits.{is_dictionary};
 ghost use Rattle.nest_model.specs.Layout as layouts;
+ghost use Rattle.nest_memory.specs.TypeTree.{key_type};
 ghost use Rattle.nest_array.specs.SeenKeys.{keys_layout};
 ghost use Rattle.nest_build.specs.Keys.{dictionary_child, told_keys};
 ghost use Rattle.nest_build.specs.Words.{Accepted, ChildNotEmpty, Fits, InvalidArgumentError, IsWhole, ItemType, Memory, Overflow, ReadsValue, Unfinished, builder_len, builder_type, emptied, layout_of, layout_type, own_slots, plain_refusal, plain_value, slots_of, type_of};
@@ -63,6 +65,20 @@ impl<K: BuilderKey, M: MutableArray> MutableDictionaryArray<K, M> {
         })
     }
 
+    /// No row of a data type of dictionaries by such keys, over an empty child.
+    pub fn of_type(alloc: Global, data_type: DataType, values: M) -> MutableDictionaryArray<K, M>
+        requires keys { key_type (type_of data_type) ≡ Some K.KEY_TYPE }
+        requires empty { builder_len (M.model values) ≡ 0 }
+        ensures { ⟦<MutableDictionaryArray<K, M> as MutableArray>⟧.model result ≡ builders.dictionary K.KEY_TYPE (type_of data_type) [] (M.model values) }
+    {
+        MutableDictionaryArray {
+            data_type: DictionaryType::of_type(data_type),
+            rows: DictionaryRows::new(alloc),
+            values: KeyedValues::new(alloc, values),
+            alloc,
+        }
+    }
+
     /// No row, over a child that is looked at.
     ///
     /// # Errors
@@ -77,6 +93,13 @@ impl<K: BuilderKey, M: MutableArray> MutableDictionaryArray<K, M> {
             return Err(Error::InvalidArgumentError(Argument::ChildNotEmpty));
         }
         MutableDictionaryArray::new(alloc, values)
+    }
+
+    /// What holds of every such builder: its data type is one of dictionaries.
+    pub fn known(&self)
+        ensures { IsTrue (is_dictionary (builder_type (⟦<MutableDictionaryArray<K, M> as MutableArray>⟧.model self.now))) }
+    {
+        let _type = self.data_type.get();
     }
 
     /// The keys, one for each row.
