@@ -1,1 +1,2 @@
+mod People
 mod Sums

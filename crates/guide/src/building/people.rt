@@ -1,6 +1,6 @@
 //! Rows of records, and of lists of records, loaded cell by cell. The children of records are builders of any kind, as one
 //! enum.
-ghost use Rattle.std.specs.Prelude.{◌≡◌, ◌↔◌, [], false, IfOk, OnErr, OnOk, IsErrOf};
+ghost use Rattle.std.specs.Prelude.{◌≡◌, [], true, false, IfOk, OnErr, OnOk, IsErrOf};
 ghost use Rattle.nest_any.specs.Trees.{trees_of};
 ghost use Rattle.nest_build.specs.Words.{InvalidArgumentError, IsWhole, ItemType};
 ghost use Rattle.guide.specs.People.{ArePeople, columns, is_person, no_people, no_teams, people_in, person_type, with_people, with_person, with_team};
@@ -61,9 +61,9 @@ pub fn no_people(alloc: Global) -> Result<MutableStructArray, Error>
 /// the row is refused, what waits is taken back.
 pub fn push_person(people: &mut MutableStructArray, cells: Cells<'_>) -> Result<(), Error>
     requires { ArePeople people.old }
-    ensures told { OnOk result (people.new ≡ with_person cells people.old) }
+    ensures told { OnOk result ((is_person cells ≡ true) × (people.new ≡ with_person cells people.old)) }
     ensures refused { OnErr result (people.new ≡ people.old) }
-    ensures kind { IsErrOf result (InvalidArgumentError ItemType) ↔ (is_person cells ≡ false) }
+    ensures kind { IsErrOf result (InvalidArgumentError ItemType) → is_person cells ≡ false }
 {
     let rows = people.len();
     people.value(0).try_push_plain(cells.0)?;
@@ -79,16 +79,20 @@ pub fn push_person(people: &mut MutableStructArray, cells: Cells<'_>) -> Result<
     Ok(())
 }
 
-/// Each row of cells that is a person; the others are passed.
+/// Each row of cells that is a person; the others are passed. For want of memory none is loaded.
 pub fn load(people: &mut MutableStructArray, rows: &[Cells<'_>]) -> Result<(), Error>
     requires { ArePeople people.old }
-    ensures people { ArePeople people.new }
     ensures loaded { OnOk result (people.new ≡ with_people rows.now people.old) }
+    ensures refused { OnErr result (people.new ≡ people.old) }
 {
+    let count = people.len();
     for cells in rows {
         match push_person(people, *cells) {
             Ok(()) | Err(Error::InvalidArgumentError(Argument::ItemType)) => {}
-            Err(error) => return Err(error),
+            Err(error) => {
+                people.truncate(count);
+                return Err(error);
+            }
         }
     }
     Ok(())
@@ -112,18 +116,28 @@ pub fn push_team(teams: &mut TeamBuilder, team: &[Cells<'_>]) -> Result<(), Erro
     requires whole { IsWhole (⟦<TeamBuilder as MutableArray>⟧.model teams.old) }
     requires people { ArePeople (people_in (⟦<TeamBuilder as MutableArray>⟧.model teams.old)) }
     ensures told { OnOk result (⟦<TeamBuilder as MutableArray>⟧.model teams.new ≡ with_team team.now (⟦<TeamBuilder as MutableArray>⟧.model teams.old)) }
+    ensures refused { OnErr result (⟦<TeamBuilder as MutableArray>⟧.model teams.new ≡ ⟦<TeamBuilder as MutableArray>⟧.model teams.old) }
 {
     teams.known();
+    let count = teams.values().len();
     load(teams.mut_values(), team)?;
-    teams.try_push_valid()
+    if let Err(error) = teams.try_push_valid() {
+        teams.mut_values().truncate(count);
+        return Err(error);
+    }
+    Ok(())
 }
 
-/// Two lists more, as long as none is refused.
+/// Two lists more. Where the second one is refused, the first stays.
 pub fn push_two_teams(
     teams: &mut TeamBuilder,
     first: &[Cells<'_>],
     second: &[Cells<'_>],
-) -> Result<(), Error> {
+) -> Result<(), Error>
+    requires whole { IsWhole (⟦<TeamBuilder as MutableArray>⟧.model teams.old) }
+    requires people { ArePeople (people_in (⟦<TeamBuilder as MutableArray>⟧.model teams.old)) }
+    ensures { OnOk result (⟦<TeamBuilder as MutableArray>⟧.model teams.new ≡ with_team second.now (with_team first.now (⟦<TeamBuilder as MutableArray>⟧.model teams.old))) }
+{
     push_team(teams, first)?;
     push_team(teams, second)
 }
