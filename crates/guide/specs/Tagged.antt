@@ -41,3 +41,7 @@ last_tagged_list = list_slot (record_slot (number 3 ∷ slots.text (97 ∷ 98 �
 -- [{1, "c"}, {null, null}], and that one
 abbrev pub two_tagged_lists : List Slot
 two_tagged_lists = list_slot (record_slot (number 1 ∷ slots.text (99 ∷ []) ∷ []) ∷ record_slot (slots.null ∷ slots.null ∷ []) ∷ []) ∷ last_tagged_list ∷ []
+
+-- the parts of these lists
+abbrev pub tagged_lists_parts : Layout
+tagged_lists_parts = layouts.list false tagged_list_type (0 ∷ 2 ∷ 4 ∷ []) tagged_records None

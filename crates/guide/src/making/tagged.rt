@@ -1,6 +1,6 @@
 //! Lists of records with a dictionary inside, from parts.
 ghost use Rattle.std.specs.Prelude.{◌≡◌, ◌∷◌, [], IfOk};
-ghost use Rattle.guide.specs.Tagged.{last_tagged_list, tag_type, tagged_children, tagged_fields, tagged_list_type, tagged_records, two_tagged_lists};
+ghost use Rattle.guide.specs.Tagged.{last_tagged_list, tag_type, tagged_children, tagged_fields, tagged_list_type, tagged_lists_parts, tagged_records, two_tagged_lists};
 ghost use Rattle.guide.specs.Words.{field_list_of, layout_of, layouts_of, slots_of, type_of};
 
 use crate::making::flat::any_numbers;
@@ -67,7 +67,8 @@ fn records(alloc: Global) -> Result<AnyArray, Error>
 
 /// Lists of them: of the first two, and of the last two.
 pub fn tagged_lists(alloc: Global) -> Result<ListArray, Error>
-    ensures { IfOk result (λ a. slots_of a ≡ two_tagged_lists) }
+    ensures parts { IfOk result (λ a. a ≡ tagged_lists_parts) }
+    ensures slots { IfOk result (λ a. slots_of a ≡ two_tagged_lists) }
 {
     let offsets = offsets(alloc, &[0, 2, 4])?;
     let items = records(alloc)?;
