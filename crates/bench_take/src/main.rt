@@ -1,5 +1,5 @@
-//! What rows at places and rows by a mask cost, in nanoseconds a row taken: `bench_take run`. Beside each stands a plain loop
-//! over raw numbers. Each is done once before it is measured, so that none pays for memory that the system gives for the first time.
+//! What rows at places and rows by a mask cost, in nanoseconds a row taken: `bench_take run`. First stand plain loops
+//! over raw numbers and over the offsets and bytes of texts. Each is done once before it is measured, so that none pays for memory that the system gives for the first time.
 //! Without that word the same work is done on a few rows, and only what it gives is printed.
 #![tactic(auto)]
 
@@ -8,6 +8,7 @@ ghost use Rattle.nest_array.specs.Words.{layout_of, len};
 ghost use Rattle.nest_take.specs.Places.{AreBelow};
 
 mod arrays;
+mod raw_texts;
 
 use anyhow::Result;
 use bench_tools::{begin, is_measured, tell};
@@ -15,6 +16,7 @@ use nest_array::AnyArray;
 use nest_flat::boolean::BooleanArray;
 use nest_memory::error::Error;
 use nest_take::{filter, take};
+use raw_texts::RawTexts;
 use std::alloc::{AllocError, Global};
 use std::rt::Clock;
 use std::time::Instant;
@@ -235,6 +237,58 @@ fn run_plain<R: Clock + Print + AllocGlobal>(
     tell_plain_filter(rt, &values, &asked.chosen, measured)
 }
 
+fn tell_plain_texts<R: Clock + Print + AllocGlobal>(
+    rt: &R,
+    work: &str,
+    texts: &RawTexts,
+    places: &[usize],
+    measured: bool,
+) -> Result<()> {
+    drop(raw_texts::plain_take(rt.alloc(), texts, places)?);
+    let begun = begin(rt, measured)?;
+    let taken = raw_texts::plain_take(rt.alloc(), texts, places)?;
+    tell(rt, work, taken.len(), begun, taken.len())?;
+    Ok(())
+}
+
+fn tell_plain_texts_filter<R: Clock + Print + AllocGlobal>(
+    rt: &R,
+    texts: &RawTexts,
+    chosen: &[bool],
+    measured: bool,
+) -> Result<()> {
+    drop(raw_texts::plain_filter(rt.alloc(), texts, chosen)?);
+    let begun = begin(rt, measured)?;
+    let taken = raw_texts::plain_filter(rt.alloc(), texts, chosen)?;
+    tell(rt, "  rows by a mask", taken.len(), begun, taken.len())?;
+    Ok(())
+}
+
+fn run_plain_texts<R: Clock + Print + AllocGlobal>(
+    rt: &R,
+    n: usize,
+    asked: &Asked,
+    measured: bool,
+) -> Result<()> {
+    let texts = raw_texts::raw_texts(rt.alloc(), n)?;
+    println!(rt; "raw texts of 8 bytes, by a plain loop")?;
+    tell_plain_texts(
+        rt,
+        "  rows at scattered places",
+        &texts,
+        &asked.scattered,
+        measured,
+    )?;
+    tell_plain_texts(
+        rt,
+        "  rows at rising places",
+        &texts,
+        &asked.rising,
+        measured,
+    )?;
+    tell_plain_texts_filter(rt, &texts, &asked.chosen, measured)
+}
+
 fn run_kinds<R: Clock + Print + AllocGlobal>(
     rt: &R,
     n: usize,
@@ -243,6 +297,7 @@ fn run_kinds<R: Clock + Print + AllocGlobal>(
 ) -> Result<()> {
     let alloc = rt.alloc();
     run_plain(rt, n, asked, measured)?;
+    run_plain_texts(rt, n, asked, measured)?;
     run_array(rt, "numbers", arrays::numbers(alloc, n), asked, measured)?;
     run_array(
         rt,

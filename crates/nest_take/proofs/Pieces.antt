@@ -2,7 +2,10 @@
 use Rattle.std.specs.Prelude.{List, [], ◌∷◌, ◌++◌, map, length, get_or}
 use Rattle.std.specs.Prelude.{if◌then◌else◌}
 use Rattle.std.specs.List.{All, flat_map, range_with_len, sum_by}
-use Rattle.std.proofs.Common.{◌≡◌, ℕ, Bool, true, false, sum, zero, suc, ◌+◌, ◌-◌, ◌*◌, ◌<◌, ◌≤◌, take, drop, refl, ap, sym, ◌∙◌, arith, length-append}
+use Rattle.std.proofs.Common.{◌≡◌, ℕ, Bool, true, false, sum, zero, suc, ◌+◌, ◌-◌, ◌*◌, ◌<◌, ◌≤◌, take, drop, refl, ap, sym, ◌∙◌, arith, append-nil, length-append}
+use Rattle.std.proofs.Math.Seq.{take-suc}
+use Rattle.std.proofs.lemmas.Grind.{flat_map-append}
+use Rattle.std.proofs.lemmas.List.Concat.{flat_map-cons}
 use Rattle.std.proofs.lemmas.List.Elements.{All-nil, All-cons, All-append}
 use Rattle.std.proofs.lemmas.List.Sums.{sum-map, sum_by-cons, sum_by_more, sum_by_more_le}
 use Rattle.nest_memory.specs.Cut.{cut}
@@ -180,6 +183,13 @@ rows-within os va m is h l b j d k =
     let c = count-le (valid_at va i) (extent os i) in
     omega arith
 
+one-more : {A : Type 0} (f : ℕ → List A) (is : List ℕ) (k : ℕ) → k < length is → flat_map f (take (k + 1) is) ≡ flat_map f (take k is) ++ f (get_or is k 0)
+one-more f is k h =
+    let e : k + 1 ≡ suc k = omega arith in
+    let x = get_or is k 0 in
+    ap (λ j. flat_map f (take j is)) e ∙ ap (flat_map f) (take-suc is k 0 h) ∙ flat_map-append f (take k is) (x ∷ [])
+    ∙ ap (λ w. flat_map f (take k is) ++ w) (flat_map-cons f x [] ∙ append-nil (f x))
+
 -- the items of the row at place j, among the items of the taken rows
 pub row-items : {A : Type 0} (xs : List A) (os : List ℕ) (va : Validity) (is : List ℕ) (j : ℕ) → All (λ i. begin os i + count_at os va i ≤ length xs) is → j < length is
     → cut (items_at xs os va is) (begin (ends (count_at os va) is) j) (extent (ends (count_at os va) is) j) ≡ cut xs (begin os (get_or is j 0)) (count_at os va (get_or is j 0))
@@ -189,6 +199,13 @@ row-items xs os va is j h k =
     ap (λ b. cut (items_at xs os va is) b (extent (ends n is) j)) (piece-begin n is j (omega arith))
     ∙ ap (cut (items_at xs os va is) (sum_by n (take j is))) (piece-extent n is j k)
     ∙ piece-cut f n is j (λ p d l. length-cut xs (begin os (get_or is p d)) (n (get_or is p d)) (h p d l)) k
+
+-- the items of one row more
+pub items-more : {A : Type 0} (xs : List A) (os : List ℕ) (va : Validity) (is : List ℕ) (k : ℕ) (ys zs more : List A) → k < length is → ys ≡ items_at xs os va (take k is)
+    → more ≡ ys ++ zs → zs ≡ cut xs (begin os (get_or is k 0)) (count_at os va (get_or is k 0)) → more ≡ items_at xs os va (take (k + 1) is)
+items-more xs os va is k ys zs more h e f g =
+    let n = count_at os va in
+    f ∙ ap (λ w. w ++ zs) e ∙ ap (λ w. items_at xs os va (take k is) ++ w) g ∙ sym (one-more (λ i. cut xs (begin os i) (n i)) is k h)
 
 -- as many items as their counts say
 pub items-length : {A : Type 0} (xs : List A) (os : List ℕ) (va : Validity) (is : List ℕ) → All (λ i. begin os i + count_at os va i ≤ length xs) is

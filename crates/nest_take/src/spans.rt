@@ -110,7 +110,7 @@ pub(crate) fn items<O: Offset>(
     Ok(items)
 }
 
-/// The bytes of the rows at some places, `count` in all.
+/// The offsets of the rows at some places, from 0 on, and their bytes, `count` in all.
 fn bytes_at<O: Offset>(
     alloc: Global,
     offsets: &OffsetsBuffer<O>,
@@ -118,19 +118,23 @@ fn bytes_at<O: Offset>(
     bytes: &[u8],
     places: &[usize],
     count: usize,
-) -> Result<Buffer<u8>, Error>
+) -> Result<(OffsetsBuffer<O>, Buffer<u8>), Error>
     requires within { AreBelow places.now (rows offsets.now) }
     requires bits { ReachesBits (option_map (λ b. b.now) validity) places.now }
     requires fits { last_of offsets.now ≤ length bytes.now }
-    ensures ok { IfOk result (λ b. b ≡ items_at bytes.now offsets.now (option_map (λ b. b.now) validity.entry) places.now) }
+    requires room { sum_by (count_at offsets.now (option_map (λ b. b.now) validity)) places.now ≤ O.largest }
+    ensures offsets { IfOk result (λ p. p.0 ≡ 0 ∷ ends_from 0 (map (count_at offsets.now (option_map (λ b. b.now) validity.entry)) places.now)) }
+    ensures bytes { IfOk result (λ p. p.1 ≡ items_at bytes.now offsets.now (option_map (λ b. b.now) validity.entry) places.now) }
     ensures err { IsOkUnless result (Memory alloc_error) }
 {
+    let mut ends = room_for(alloc, places.len())?;
     let mut taken = Vec::with_capacity(alloc, count)?;
     for place in places {
         let (start, n) = range(offsets, validity, *place);
+        ends.try_push_usize(n)?;
         taken.extend_from_slice(&bytes[start..start + n])?;
     }
-    Buffer::from_vec(alloc, taken)
+    Ok((ends.freeze()?, Buffer::from_vec(alloc, taken)?))
 }
 
 /// Offsets, the bytes between them, and a validity.
@@ -158,9 +162,10 @@ pub(crate) fn take<O: Offset>(
     ensures err { IfErr result (λ e. (e ≡ Memory alloc_error) ⊎ ((e ≡ Overflow) × PassesOffsets O.IS_LARGE offsets.now (option_map (λ b. b.now) validity.entry) places.now)) }
 {
     let count = count(offsets, validity, places)?;
+    let (offsets, bytes) = bytes_at(alloc, offsets, validity, bytes, places, count)?;
     Ok(Spans {
-        offsets: offsets_at(alloc, offsets, validity, places)?,
-        bytes: bytes_at(alloc, offsets, validity, bytes, places, count)?,
+        offsets,
+        bytes,
         validity: places::validity_at(alloc, validity, places)?,
     })
 }

@@ -24,7 +24,12 @@ pub(crate) fn take<O: Offset>(
     match spans::take(alloc, array.offsets(), array.validity(), bytes, places) {
         Ok(spans) => {
             let data_type = array.data_type().clone(alloc)?;
-            Utf8Array::try_new(data_type, spans.offsets, spans.bytes, spans.validity)
+            Ok(Utf8Array::new(
+                data_type,
+                spans.offsets,
+                spans.bytes,
+                spans.validity,
+            ))
         }
         Err(error) => Err(error),
     }

@@ -31,7 +31,7 @@
 //!
 //! *A builder freezes to what was pushed, and a refused push changes no slot at any depth*: `push_null`, `push_value`, `push_item`,
 //! `push_items`, `join_rows`, `push_each`, `cut_rows`, `freeze_rows`, and a push and a freeze together in `push_and_freeze`, in [`rows`], each once
-//! for every builder, at any nesting; there too what builders of lists do besides (`tell_row`, `tell_rows`, `push_values`), and those of dictionaries (`different_values`, `key_of_value`). Of a flat
+//! for every builder, at any nesting; there too what builders of lists do besides (`tell_row`, `tell_rows`, `push_values`), and those of dictionaries (`different_values`, `key_of_value`); what the enum of builders and builders of records do, in [`any`]. Of a flat
 //! builder by itself [`builders`] says more: `push_native`, `push_truth`, `push_bytes`, `push_text` and their freezes.
 //!
 //! Of every data type without a fault there are null and empty arrays: [`empties`].
@@ -49,6 +49,7 @@
 //! is the one refusal that no contract can rule out.
 #![tactic(auto)]
 
+pub use promises_any as any;
 pub use promises_arrays as arrays;
 pub use promises_builders as builders;
 pub use promises_empties as empties;

@@ -4,8 +4,6 @@
 //! a boxed one too, and then of what builders of lists do besides.
 #![tactic(auto)]
 
-pub mod any;
-
 ghost use Rattle.std.specs.Prelude.{◌≡◌, ◌≢◌, ◌≤◌, ◌<◌, ◌+◌, ◌⊎◌, ◌↔◌, ◌++◌, ◌∷◌, [], true, false, ℕ, map, length, option_map, pos, slice_get, take, IsTrue, OnOk, OnErr, IfOk, IfErr, IfSome, IfNone, IsErrOf, IsOkUnless, None, Some, alloc_error};
 ghost use Rattle.std.specs.List.{All, items_where_true};
 ghost use Rattle.std.specs.Option.{option_copied};

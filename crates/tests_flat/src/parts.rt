@@ -1,5 +1,6 @@
 //! Validities and bits by themselves, as who writes another array or builder calls them; builders and arrays of any native
 //! kind; room in builders.
+ghost use Rattle.std.specs.Prelude.{◌≡◌, IfOk, option_map};
 
 use nest_flat::any_primitive::AnyPrimitive;
 use nest_flat::any_primitive::mutable::AnyMutablePrimitive;
@@ -10,7 +11,9 @@ use nest_flat::boolean::mutable::MutableBooleanArray;
 use nest_flat::primitive::PrimitiveArray;
 use nest_flat::primitive::mutable::MutablePrimitiveArray;
 use nest_flat::utf8::Utf8Array;
+use nest_flat::utf8::mutable::MutableUtf8Array;
 use nest_flat::{growth, validity};
+use nest_memory::bitmap::immutable::Bitmap;
 use nest_memory::bitmap::mutable::MutableBitmap;
 use nest_memory::datatypes::DataType;
 use nest_memory::datatypes::physical_type::PrimitiveType;
@@ -171,5 +174,38 @@ fn nulls_of_bytes_and_texts(rt: HostRuntime) -> Result<(), Fail> {
     let nulls = texts.null_count();
     drop(texts);
     assert!(rt; nulls == 2);
+    Ok(())
+}
+
+/// A validity again.
+fn copied(bits: Option<&Bitmap>) -> Result<Option<Bitmap>, Error>
+    ensures { IfOk result (λ copy. copy ≡ option_map (λ b. b.now) bits.entry) }
+{
+    match bits {
+        Some(bits) => Ok(Some(bits.clone()?)),
+        None => Ok(None),
+    }
+}
+
+/// The texts of the same parts, which are not tested again.
+fn of_its_parts(alloc: Global, texts: &Utf8Array<i32>) -> Result<Utf8Array<i32>, Error> {
+    texts.known();
+    let validity = copied(texts.validity())?;
+    let offsets = texts.offsets().clone()?;
+    let values = texts.values().clone()?;
+    let data_type = texts.data_type().clone(alloc)?;
+    Ok(Utf8Array::new(data_type, offsets, values, validity))
+}
+
+#[test]
+fn texts_are_made_of_parts_that_fit(rt: HostRuntime) -> Result<(), Fail> {
+    let mut builder: MutableUtf8Array<i32> = MutableUtf8Array::new(rt.alloc())?;
+    builder.try_push(Some("ab"))?;
+    builder.try_push(None)?;
+    let texts = builder.freeze()?;
+    let same = of_its_parts(rt.alloc(), &texts)?;
+    assert!(rt; same.get(0) == Some("ab"));
+    assert!(rt; same.is_null(1));
+    assert!(rt; same == texts);
     Ok(())
 }

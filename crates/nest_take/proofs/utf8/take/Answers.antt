@@ -1,11 +1,24 @@
-use Rattle.std.proofs.Common.{ap, ◌∙◌}
+use Rattle.std.proofs.Common.{ap, ◌∙◌, subst, sym}
 use Rattle.nest_model.specs.Accessors.{bytes_of, offsets_of, validity_of}
 use Rattle.nest_model.specs.Layout.{layout_type}
 use Rattle.nest_take.specs.Places.{taken_validity}
-use Rattle.nest_take.proofs.Flats.{made-ok, made-err}
+use Rattle.nest_take.specs.Taken.{IsTaken}
 use Rattle.nest_take.proofs.Pieces.{ends-same, items-same}
 use Rattle.nest_take.proofs.SpanRows.{text-taken}
 use Rattle.nest_take.proofs.utf8.take.Goals as goal
+
+pub new-requires : goal.new-requires
+new-requires g c =
+    let a = c.args.array.now in
+    let is = c.args.places.now in
+    let x = c.in-Ok.ensures in
+    let os = c.offsets-2.ensures in
+    let va = c.validity.ensures in
+    (text-taken _ a (layout_type a) _ (offsets_of a) (bytes_of a) _ _ (validity_of a) _ is c.known.ensures.fits c.known.ensures.kind c.requires
+    (c.in_ok-data_type-in-Ok.ensures.ok ∙ c.data_type.ensures)
+    (x.offsets ∙ ends-same _ _ _ _ is os va)
+    (x.bytes ∙ items-same _ _ _ _ _ _ is (c.as_slice-bytes.ensures ∙ c.values.ensures) os va)
+    (x.validity ∙ ap (λ z. taken_validity z is) va)).0
 
 pub returns-in_ok-data_type-in-Ok-clause-ok : goal.returns-in_ok-data_type-in-Ok-clause-ok
 returns-in_ok-data_type-in-Ok-clause-ok g c =
@@ -14,23 +27,9 @@ returns-in_ok-data_type-in-Ok-clause-ok g c =
     let x = c.in-Ok.ensures in
     let os = c.offsets-2.ensures in
     let va = c.validity.ensures in
-    made-ok c.try_new.result _ a is c.try_new.ensures
+    subst (IsTaken a is) (sym c.new.ensures)
     (text-taken _ a (layout_type a) _ (offsets_of a) (bytes_of a) _ _ (validity_of a) _ is c.known.ensures.fits c.known.ensures.kind c.requires
     (c.in_ok-data_type-in-Ok.ensures.ok ∙ c.data_type.ensures)
     (x.offsets ∙ ends-same _ _ _ _ is os va)
     (x.bytes ∙ items-same _ _ _ _ _ _ is (c.as_slice-bytes.ensures ∙ c.values.ensures) os va)
     (x.validity ∙ ap (λ z. taken_validity z is) va)).1
-
-pub returns-in_ok-data_type-in-Ok-clause-err : goal.returns-in_ok-data_type-in-Ok-clause-err
-returns-in_ok-data_type-in-Ok-clause-err g c =
-    let a = c.args.array.now in
-    let is = c.args.places.now in
-    let x = c.in-Ok.ensures in
-    let os = c.offsets-2.ensures in
-    let va = c.validity.ensures in
-    made-err c.try_new.result _ a is _ c.try_new.ensures
-    (text-taken _ a (layout_type a) _ (offsets_of a) (bytes_of a) _ _ (validity_of a) _ is c.known.ensures.fits c.known.ensures.kind c.requires
-    (c.in_ok-data_type-in-Ok.ensures.ok ∙ c.data_type.ensures)
-    (x.offsets ∙ ends-same _ _ _ _ is os va)
-    (x.bytes ∙ items-same _ _ _ _ _ _ is (c.as_slice-bytes.ensures ∙ c.values.ensures) os va)
-    (x.validity ∙ ap (λ z. taken_validity z is) va))

@@ -1,17 +1,15 @@
 //! Builders of any kind as one enum, and builders of records. Each keeps what every builder does; these are the calls that
 //! are theirs alone.
+#![tactic(auto)]
+
 ghost use Rattle.std.specs.Prelude.{◌≡◌, ◌↔◌, ◌⊎◌, OnOk, OnErr, IfErr, IfOk, IsErrOf, IsTrue, MatchResult, Some, alloc_error};
 ghost use Rattle.nest_model.specs.BuilderItem.{null as null_item};
 ghost use Rattle.nest_model.specs.BuilderTree as builders;
-ghost use Rattle.nest_any.specs.Refusals.{first_rows, nested_checks, nested_over, struct_checks};
-ghost use Rattle.nest_any.specs.Trees.{tree_of, trees_of};
-ghost use Rattle.nest_build.specs.Rows.{bits_told};
-ghost use Rattle.nest_model.specs.BuilderRowChecks.{AreEachWhole};
-ghost use Rattle.promises_rows.specs.Words.{Accepted, FailFirst, HasWholeChildren, InvalidArgumentError, IsWhole, Memory, Pass, Told, Unfinished, builder_type, emptied, item_refusal, layout_type, own_slots, row_checks, slots_of, type_of};
+ghost use Rattle.promises_any.specs.Words.{Accepted, AreEachWhole, FailFirst, HasWholeChildren, InvalidArgumentError, IsWhole, Memory, Pass, Told, Unfinished, bits_told, builder_type, emptied, first_rows, item_refusal, layout_type, nested_checks, nested_over, own_slots, row_checks, slots_of, struct_checks, tree_of, trees_of, type_of};
 
-use crate::push_null;
 use nest_any::{AnyMutableArray, MutableStructArray};
 use nest_array::StructArray;
+use nest_build::array::MutableArray;
 use nest_memory::bitmap::mutable::MutableBitmap;
 use nest_memory::datatypes::DataType;
 use nest_memory::error::Error;
@@ -53,7 +51,7 @@ pub fn push_null_of_any(builder: &mut AnyMutableArray) -> Result<(), Error>
     ensures err { OnErr result (tree_of builder.new ≡ tree_of builder.old) }
     ensures refused { IfErr result (λ e. (e ≡ Memory alloc_error) ⊎ (item_refusal null_item (tree_of builder.old) ≡ Some e)) }
 {
-    push_null(builder)
+    builder.push_null()
 }
 
 /// A row of what waits in whole children, or the first check that fails; then no level changes.

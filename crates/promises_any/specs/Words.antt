@@ -1,0 +1,16 @@
+-- The words of these promises, by one name.
+pub use Rattle.nest_any.specs.Refusals.{first_rows, nested_checks, nested_over, struct_checks}
+pub use Rattle.nest_any.specs.Trees.{tree_of, trees_of}
+pub use Rattle.nest_build.specs.Rows.{bits_told}
+pub use Rattle.nest_memory.specs.TypeOf.{type_of}
+pub use Rattle.nest_memory.specs.declared.error.Argument.TheVariants.{Unfinished}
+pub use Rattle.nest_memory.specs.declared.error.Error.TheVariants.{InvalidArgumentError, Memory}
+pub use Rattle.nest_model.specs.BuilderAppend.{Accepted, Told}
+pub use Rattle.nest_model.specs.BuilderLevels.{own_slots}
+pub use Rattle.nest_model.specs.BuilderRefusals.{item_refusal}
+pub use Rattle.nest_model.specs.BuilderRowChecks.{AreEachWhole, HasWholeChildren, row_checks}
+pub use Rattle.nest_model.specs.BuilderTree.{builder_type}
+pub use Rattle.nest_model.specs.BuilderWhole.{IsWhole, emptied}
+pub use Rattle.nest_model.specs.Checks.{FailFirst, Pass}
+pub use Rattle.nest_model.specs.Layout.{layout_type}
+pub use Rattle.nest_model.specs.Meaning.{slots_of}
