@@ -1,4 +1,5 @@
 mod Each
+mod FlatKinds
 mod Frozen
 mod Lent
 mod ListNulls

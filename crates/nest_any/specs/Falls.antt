@@ -3,7 +3,7 @@ use Rattle.std.specs.Prelude.{◌+◌, ◌≤◌, List as Seq, [], ◌∷◌}
 use Rattle.std.proofs.Common.{arith}
 use denote.Param.Weighed.{most}
 use Rattle.nest_any.specs.declared.any.AnyMutableArray.{AnyMutableArray}
-use Rattle.nest_any.specs.declared.any.AnyMutableArray.TheVariants.{Null, Flat, List, Struct}
+use Rattle.nest_any.specs.declared.any.AnyMutableArray.TheVariants.{Null, Flat, Dictionary, List, Struct}
 use Rattle.nest_any.specs.declared.rows.TypedRows.{TypedRows}
 use Rattle.nest_any.specs.declared.rows.TypedRows.TheVariants as any
 use Rattle.nest_any.specs.declared.lists.ListBuilder.TheDeep.{deep-AnyMutableArray}
@@ -14,6 +14,7 @@ use Rattle.nest_any.specs.TypedRows.{lists_over}
 pub deep-size : (b : AnyMutableArray) → deep-AnyMutableArray b ≤ weight (tree_of b) + 1
 deep-size (Null b) = omega arith
 deep-size (Flat b) = omega arith
+deep-size (Dictionary b) = omega arith
 deep-size (List b) = omega arith
 deep-size (Struct b) = omega arith
 

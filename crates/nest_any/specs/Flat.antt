@@ -2,9 +2,11 @@
 use Rattle.nest_any.specs.declared.flat.AnyMutableFlat.{AnyMutableFlat}
 use Rattle.nest_any.specs.declared.flat.AnyMutableFlat.TheVariants.{Boolean, Primitive, Binary, LargeBinary, Utf8, LargeUtf8, FixedSizeBinary}
 use Rattle.nest_build.specs.BuiltKind.{built_kind}
+use Rattle.nest_build.specs.FlatTree.{flat_tree}
 use Rattle.nest_flat.specs.AnyMutablePrimitive.{built_layout}
 use Rattle.nest_memory.specs.declared.datatypes.physical_type.PhysicalType.{PhysicalType}
 use Rattle.nest_memory.specs.declared.datatypes.physical_type.PhysicalType.TheVariants as physical
+use Rattle.nest_model.specs.BuilderTree.{BuilderTree}
 use Rattle.nest_model.specs.Layout.{Layout}
 
 abbrev pub flat_layout : AnyMutableFlat → Layout
@@ -15,6 +17,10 @@ flat_layout (LargeBinary b) = b
 flat_layout (Utf8 b) = b
 flat_layout (LargeUtf8 b) = b
 flat_layout (FixedSizeBinary b) = b
+
+-- its one level
+abbrev pub values_tree : AnyMutableFlat → BuilderTree
+values_tree b = flat_tree (flat_layout b)
 
 abbrev pub physical_kind : AnyMutableFlat → PhysicalType
 physical_kind (Boolean b) = physical.Boolean

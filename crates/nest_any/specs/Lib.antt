@@ -1,4 +1,5 @@
 pub mod BuilderCode
+pub mod Dictionaries
 pub mod Each
 pub mod Falls
 pub mod Flat

@@ -1,6 +1,7 @@
--- Why no builder of lists or of records is made, and what its children are.
-use Rattle.std.specs.Prelude.{◌≡◌, ◌⊎◌, ◌<◌, ◌≤◌, ℕ, suc, Bool, true, false, List as Seq, [], Some}
-use Rattle.nest_memory.specs.TypeTree.{TypeTree, count_fields, fields_of, item_type, size_of}
+-- Why no builder of lists, of dictionaries or of records is made, and what its children are.
+use Rattle.std.specs.Prelude.{◌≡◌, ◌⊎◌, ◌<◌, ◌≤◌, ℕ, suc, Bool, true, false, IsTrue, List as Seq, [], Option, None, Some}
+use Rattle.nest_memory.specs.TypeTree.{TypeTree, count_fields, fields_of, item_type, key_type, size_of, value_type}
+use Rattle.nest_memory.specs.declared.datatypes.IntegerType.{IntegerType}
 use Rattle.nest_memory.specs.Physical.{physical_type}
 use Rattle.nest_memory.specs.declared.datatypes.physical_type.PhysicalType.{PhysicalType}
 use Rattle.nest_memory.specs.declared.datatypes.physical_type.PhysicalType.TheVariants as physical
@@ -9,12 +10,12 @@ use Rattle.nest_memory.specs.declared.error.Error.TheVariants.{InvalidArgumentEr
 use Rattle.nest_memory.specs.declared.error.Spec.TheVariants.{ChildLength, ChildType, FieldCount, NoFields, ValidityLength, WrongType, ZeroSize}
 use Rattle.nest_model.specs.Checks.{Checks, done, check}
 use Rattle.nest_model.specs.Part.{Validity}
-use Rattle.nest_model.specs.Fits.{ValidityFits}
+use Rattle.nest_model.specs.Fits.{IsLogically, ValidityFits}
 use Rattle.nest_model.specs.Layout.{Layouts, no_layouts, more_layouts, layout_type}
 use Rattle.nest_model.specs.Meaning.{slots_of}
 use Rattle.nest_model.specs.BuilderFreeze.{SpellsBits}
 use Rattle.nest_model.specs.BuilderLevels.{own_slots}
-use Rattle.nest_model.specs.BuilderTree.{BuilderTree, BuilderTrees, list, fixed_size_list, struct, no_builders, more_builders, builder_len, builder_type, builder_types, field_types}
+use Rattle.nest_model.specs.BuilderTree.{BuilderTree, BuilderTrees, list, fixed_size_list, dictionary, struct, no_builders, more_builders, builder_len, builder_type, builder_types, field_types}
 use Rattle.nest_model.specs.BuilderWhole.{IsWhole}
 use Rattle.nest_model.specs.BuilderRowChecks.{HaveRows}
 
@@ -22,13 +23,36 @@ use Rattle.nest_model.specs.BuilderRowChecks.{HaveRows}
 abbrev pub IsOfLists : PhysicalType → Type 0
 IsOfLists p = (p ≡ physical.List) ⊎ ((p ≡ physical.LargeList) ⊎ (p ≡ physical.FixedSizeList))
 
+-- a physical type of values without children, but for nulls
+abbrev pub is_flat : PhysicalType → Bool
+is_flat physical.Boolean = true
+is_flat (physical.Primitive p) = true
+is_flat physical.Binary = true
+is_flat physical.FixedSizeBinary = true
+is_flat physical.LargeBinary = true
+is_flat physical.Utf8 = true
+is_flat physical.LargeUtf8 = true
+is_flat _ = false
+
+-- values of dictionaries that are of such a type
+abbrev pub AreFlat : Option TypeTree → Type 0
+AreFlat None = ⊥
+AreFlat (Some t) = IsTrue (is_flat (physical_type t))
+
 -- Why no builder of lists is made of that type over a child.
-abbrev pub nested_checks : TypeTree → BuilderTree → Checks
-nested_checks t c =
+abbrev pub lists_checks : TypeTree → BuilderTree → Checks
+lists_checks t c =
     check (OutOfSpec WrongType) (IsOfLists (physical_type t))
     (check (OutOfSpec ZeroSize) (physical_type t ≡ physical.FixedSizeList → 0 < size_of t)
     (check (InvalidArgumentError ChildNotEmpty) (builder_len c ≡ 0)
     (check (OutOfSpec ChildType) (item_type t ≡ Some (builder_type c)) done)))
+
+-- Why no builder of dictionaries is made of that type over a child.
+abbrev pub keyed_checks : TypeTree → BuilderTree → Checks
+keyed_checks t c =
+    check (OutOfSpec WrongType) (AreFlat (value_type t))
+    (check (InvalidArgumentError ChildNotEmpty) (builder_len c ≡ 0)
+    (check (OutOfSpec ChildType) (IsLogically (value_type t) (builder_type c)) done))
 
 -- no row of lists of that type over a child, by its physical type
 abbrev pub empty_lists : PhysicalType → TypeTree → BuilderTree → BuilderTree
@@ -36,8 +60,21 @@ empty_lists physical.LargeList t c = list true t [] c
 empty_lists physical.FixedSizeList t c = fixed_size_list t [] c
 empty_lists _ t c = list false t [] c
 
+-- both by the type of the keys, which dictionaries have and lists have not
+abbrev checks_by : Option IntegerType → TypeTree → BuilderTree → Checks
+checks_by (Some k) t c = keyed_checks t c
+checks_by None t c = lists_checks t c
+
+abbrev over_by : Option IntegerType → TypeTree → BuilderTree → BuilderTree
+over_by (Some k) t c = dictionary k t [] c
+over_by None t c = empty_lists (physical_type t) t c
+
+-- Why no builder of that type is made over a child, and what is made.
+abbrev pub nested_checks : TypeTree → BuilderTree → Checks
+nested_checks t c = checks_by (key_type t) t c
+
 abbrev pub nested_over : TypeTree → BuilderTree → BuilderTree
-nested_over t c = empty_lists (physical_type t) t c
+nested_over t c = over_by (key_type t) t c
 
 -- the parts of a builder of records; one of another kind has none
 abbrev pub struct_bits : BuilderTree → Seq Bool

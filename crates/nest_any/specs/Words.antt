@@ -1,13 +1,13 @@
 -- The words of this crate's contracts, by one name.
 pub use Rattle.nest_array.specs.Seen.{layout_of, layouts_of}
-pub use Rattle.nest_any.specs.Refusals.{AreEachLong, AreFrozen, IsFrozenAs, count_builders, first_rows, nested_checks, nested_over, struct_bits, struct_checks, struct_children}
+pub use Rattle.nest_any.specs.Refusals.{AreEachLong, AreFlat, AreFrozen, IsFrozenAs, IsOfLists, count_builders, empty_lists, first_rows, is_flat, keyed_checks, lists_checks, nested_checks, nested_over, struct_bits, struct_checks, struct_children}
 pub use Rattle.nest_any.specs.TypedRows.{Fitting, HasItems, HasSize, child_nulls, items_needed, lists_over, rows_len}
 pub use Rattle.nest_build.specs.Children.{list_child}
 pub use Rattle.nest_build.specs.Rows.{bits_told}
 pub use Rattle.nest_build.specs.Told.{TellsNulls, own_slot, reserve_passes, reserve_passes_each}
 pub use Rattle.nest_memory.specs.Physical.{physical_type}
 pub use Rattle.nest_memory.specs.TypeOf.{type_of}
-pub use Rattle.nest_memory.specs.TypeTree.{item_type}
+pub use Rattle.nest_memory.specs.TypeTree.{item_type, key_type, value_type}
 pub use Rattle.nest_memory.specs.declared.error.Argument.TheVariants.{Unfinished}
 pub use Rattle.nest_memory.specs.declared.error.Error.TheVariants.{InvalidArgumentError, Memory, Overflow}
 pub use Rattle.nest_model.specs.BuilderAppend.{Told, told, nulls_appended, nulls_appended_each}

@@ -1,9 +1,11 @@
 //! A builder of any kind.
-ghost use Rattle.std.specs.Prelude.{◌≡◌, ◌≢◌, ◌≤◌, ◌<◌, ◌↔◌, ◌⊎◌, IsTrue, OnOk, OnErr, IfOk, IfErr, IsOkUnless, None, Some, true, false, option_map, alloc_error};
+ghost use Rattle.std.specs.Prelude.{◌≡◌, ◌≢◌, ◌≤◌, ◌<◌, ◌↔◌, ◌⊎◌, IsTrue, MatchOption, OnOk, OnErr, IfOk, IfErr, IsOkUnless, None, Some, true, false, option_map, alloc_error};
+ghost use Rattle.nest_any.specs.Flat.{values_tree};
 ghost use Rattle.nest_any.specs.Trees.{tree_of};
-ghost use Rattle.nest_any.specs.Words.{FailFirst, HasWholeChildren, IsWhole, Memory, Overflow, Pass, Told, builder_len, builder_type, cut_builder, emptied, layout_of, layout_type, nested_checks, nested_over, nulls_appended, nulls_pass, own_slots, reserve_passes, row_checks, slots_of, type_of};
+ghost use Rattle.nest_any.specs.Words.{FailFirst, HasWholeChildren, IsWhole, Memory, Overflow, Pass, Told, builder_len, builder_type, cut_builder, emptied, empty_lists, is_flat, layout_of, layout_type, lists_checks, nested_checks, nested_over, nulls_appended, nulls_pass, own_slots, physical_type, reserve_passes, row_checks, slots_of, type_of};
 
 use crate::children::add_null_to;
+use crate::dictionary::AnyMutableDictionary;
 use crate::flat::AnyMutableFlat;
 use crate::lists::ListBuilder;
 use crate::rows::TypedRows;
@@ -25,6 +27,7 @@ use std::rc::Rc;
 pub enum AnyMutableArray {
     Null(MutableNullArray),
     Flat(AnyMutableFlat),
+    Dictionary(AnyMutableDictionary),
     List(ListBuilder),
     Struct(MutableStructArray),
 }
@@ -35,6 +38,7 @@ macro_rules! each_kind {
         match $any {
             AnyMutableArray::Null($flat) => $leaf,
             AnyMutableArray::Flat($flat) => $leaf,
+            AnyMutableArray::Dictionary($flat) => $leaf,
             AnyMutableArray::List($nested) => $node,
             AnyMutableArray::Struct($nested) => $node,
         }
@@ -49,11 +53,13 @@ impl AnyMutableArray {
     ghost use Rattle.nest_any.specs.declared.any.AnyMutableArray.TheVariants.{List, Struct};
     ghost use Rattle.nest_any.specs.Lent.{as_list, as_struct, child_at};
 
-    /// No row of lists of that type, over an empty child.
+    /// No row of lists or of dictionaries of that type, over an empty child. The values of dictionaries have no children.
     ///
     /// # Errors
-    /// `WrongType` where the physical type is none of lists, `ZeroSize` where each has no item, `ChildNotEmpty` where the
-    /// child has rows, `ChildType` where it is of another type than its field: the first of these; `Memory`.
+    /// `WrongType` where the physical type is none of lists and none of dictionaries of values without children, but for
+    /// nulls; `ZeroSize` where each list has no item, `ChildNotEmpty` where the child has rows, `ChildType` where it is of
+    /// another type than its field, or than the values, of which the logical types are compared: the first of these;
+    /// `Memory`.
     pub fn try_nested(
         alloc: Global,
         data_type: DataType,
@@ -64,15 +70,63 @@ impl AnyMutableArray {
         ensures passed { IfOk result (λ b. Pass (nested_checks (type_of data_type) (tree_of child))) }
         ensures cause { IfErr result (λ e. (e ≡ Memory alloc_error) ⊎ FailFirst e (nested_checks (type_of data_type) (tree_of child))) }
     {
-        let count = child.len();
-        match TypedRows::try_new(alloc, data_type, child.data_type(), count) {
-            Ok(rows) => match ListBuilder::boxed(alloc, rows, child) {
+        match data_type.key_type() {
+            Some(keys) => match AnyMutableDictionary::try_new(alloc, keys, data_type, child) {
+                Ok(keyed) => Ok(AnyMutableArray::Dictionary(keyed)),
+                Err(error) => Err(error),
+            },
+            None => match AnyMutableArray::lists(alloc, data_type, child) {
                 Ok(lists) => Ok(AnyMutableArray::List(lists)),
                 Err(error) => Err(error),
             },
+        }
+    }
+
+    // The same of lists.
+    fn lists(
+        alloc: Global,
+        data_type: DataType,
+        child: AnyMutableArray,
+    ) -> Result<ListBuilder, Error>
+        ensures ok { IfOk result (λ b. b ≡ empty_lists (physical_type (type_of data_type)) (type_of data_type) (tree_of child)) }
+        ensures passed { IfOk result (λ b. Pass (lists_checks (type_of data_type) (tree_of child))) }
+        ensures cause { IfErr result (λ e. (e ≡ Memory alloc_error) ⊎ FailFirst e (lists_checks (type_of data_type) (tree_of child))) }
+    {
+        let count = child.len();
+        match TypedRows::try_new(alloc, data_type, child.data_type(), count) {
+            Ok(rows) => ListBuilder::boxed(alloc, rows, child),
             Err(error) => {
                 drop(child);
                 Err(error)
+            }
+        }
+    }
+
+    // The builder of values without children, if it is one.
+    pub(crate) fn into_flat(self) -> Option<AnyMutableFlat>
+        ensures { MatchOption result (is_flat (physical_type (builder_type (tree_of self))) ≡ false) (λ b. values_tree b ≡ tree_of self) }
+    {
+        match self {
+            AnyMutableArray::Flat(values) => Some(values),
+            AnyMutableArray::Null(nulls) => {
+                nulls.known();
+                drop(nulls);
+                None
+            }
+            AnyMutableArray::Dictionary(keyed) => {
+                keyed.known();
+                drop(keyed);
+                None
+            }
+            AnyMutableArray::List(lists) => {
+                lists.known();
+                drop(lists);
+                None
+            }
+            AnyMutableArray::Struct(records) => {
+                records.known();
+                drop(records);
+                None
             }
         }
     }
@@ -150,6 +204,7 @@ impl AnyMutableArray {
         match self {
             AnyMutableArray::List(lists) => lists.whole(),
             AnyMutableArray::Struct(records) => records.whole(),
+            AnyMutableArray::Dictionary(keyed) => MutableArray::is_whole(keyed),
             _ => true,
         }
     }

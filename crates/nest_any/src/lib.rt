@@ -3,6 +3,7 @@
 
 pub mod any;
 mod children;
+pub mod dictionary;
 pub mod flat;
 pub mod lists;
 mod rows;
@@ -10,6 +11,7 @@ pub mod struct_;
 mod struct_type;
 
 pub use any::AnyMutableArray;
+pub use dictionary::AnyMutableDictionary;
 pub use flat::AnyMutableFlat;
 pub use lists::ListBuilder;
 pub use struct_::MutableStructArray;

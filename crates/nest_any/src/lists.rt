@@ -3,7 +3,7 @@ ghost use Rattle.std.specs.Prelude.{◌≡◌, ◌≢◌, ◌≤◌, ◌<◌, �
 ghost use Rattle.nest_model.specs.Slot as slots;
 ghost use Rattle.nest_any.specs.Trees.{tree_of};
 ghost use Rattle.nest_model.specs.BuilderItem.{PlainValue, takes};
-ghost use Rattle.nest_any.specs.Words.{FailFirst, HasWholeChildren, IsWhole, Memory, Overflow, Pass, TellsNulls, Told, builder_len, builder_type, cut_builder, emptied, layout_of, layout_type, list_child, lists_over, nulls_appended, nulls_pass, own_slot, own_slots, reserve_passes, row_checks, slots_of, type_of};
+ghost use Rattle.nest_any.specs.Words.{FailFirst, HasWholeChildren, IsOfLists, IsWhole, Memory, Overflow, Pass, TellsNulls, Told, builder_len, builder_type, cut_builder, emptied, layout_of, layout_type, list_child, lists_over, nulls_appended, nulls_pass, own_slot, own_slots, physical_type, reserve_passes, row_checks, slots_of, type_of};
 
 use crate::any::AnyMutableArray;
 use crate::children::add_nulls;
@@ -81,11 +81,12 @@ impl ListBuilder {
         }
     }
 
-    /// What holds of every such builder: it takes no plain value.
+    /// What holds of every such builder: it takes no plain value, and its data type is one of lists.
     pub(crate) fn known(&self)
-        ensures { (v : PlainValue) → takes self.now v ≡ false }
+        ensures takes { (v : PlainValue) → takes self.now v ≡ false }
+        ensures lists { IsOfLists (physical_type (builder_type self.now)) }
     {
-        let _len = self.rows.len();
+        self.rows.known();
     }
 
     pub(crate) fn data_type(&self) -> &DataType

@@ -2,7 +2,7 @@
 ghost use Rattle.std.specs.Prelude.{◌≡◌, ◌≢◌, ◌≤◌, ◌<◌, ◌↔◌, ◌⊎◌, IsTrue, OnOk, OnErr, IfOk, IfErr, IsOkUnless, MatchOption, Some, None, true, false, ◌+◌, ◌++◌, ◌∷◌, [], option_map, alloc_error};
 ghost use Rattle.nest_model.specs.BuilderTree as builders;
 ghost use Rattle.nest_model.specs.Slot as slots;
-ghost use Rattle.nest_any.specs.Words.{BuilderTree, FailFirst, Fitting, HasItems, HasSize, HasWholeChildren, IsWhole, Memory, Overflow, Pass, TellsNulls, told, builder_len, builder_type, child_nulls, cut_builder, emptied, item_type, items_needed, largest_length, layout_of, layout_type, lists_over, nested_checks, nested_over, nulls_appended, own_slot, own_slots, reserve_passes, row_checks, rows_len, slots_of, type_of};
+ghost use Rattle.nest_any.specs.Words.{BuilderTree, FailFirst, Fitting, HasItems, HasSize, HasWholeChildren, IsOfLists, IsWhole, Memory, Overflow, Pass, TellsNulls, told, builder_len, builder_type, child_nulls, cut_builder, emptied, empty_lists, item_type, items_needed, largest_length, layout_of, layout_type, lists_checks, lists_over, nulls_appended, own_slot, own_slots, physical_type, reserve_passes, row_checks, rows_len, slots_of, type_of};
 
 use nest_array::AnyArray;
 use nest_array::array::Variant;
@@ -84,18 +84,23 @@ impl TypedRows {
         }
     }
 
-    /// What holds of all such rows: offsets never fall.
+    /// What holds of all such rows: offsets never fall, and the data type is one of lists.
     pub(crate) fn known(&self)
-        ensures { (c : BuilderTree) → IsWhole c → HasWholeChildren (lists_over self.now c) }
+        ensures rising { (c : BuilderTree) → IsWhole c → HasWholeChildren (lists_over self.now c) }
+        ensures lists { (c : BuilderTree) → IsOfLists (physical_type (builder_type (lists_over self.now c))) }
     {
         match self {
-            TypedRows::List(_, rows) => {
+            TypedRows::List(data_type, rows) => {
+                let _lists = data_type.get();
                 let _last = rows.last();
             }
-            TypedRows::LargeList(_, rows) => {
+            TypedRows::LargeList(data_type, rows) => {
+                let _lists = data_type.get();
                 let _last = rows.last();
             }
-            TypedRows::FixedSizeList(_, _) => {}
+            TypedRows::FixedSizeList(data_type, _) => {
+                let _lists = data_type.get();
+            }
         }
     }
 
@@ -306,7 +311,7 @@ fn tell_fixed(
 
 /// Why no builder of lists is made of that type over such a child.
 fn fault(data_type: &DataType, items: &DataType, count: usize) -> Option<Error>
-    ensures { (c : BuilderTree) → type_of items.now ≡ builder_type c → count ≡ builder_len c → MatchOption result (Pass (nested_checks (type_of data_type.now) c)) (λ e. FailFirst e (nested_checks (type_of data_type.now) c)) }
+    ensures { (c : BuilderTree) → type_of items.now ≡ builder_type c → count ≡ builder_len c → MatchOption result (Pass (lists_checks (type_of data_type.now) c)) (λ e. FailFirst e (lists_checks (type_of data_type.now) c)) }
 {
     let physical = data_type.to_physical_type();
     let fixed = physical == PhysicalType::FixedSizeList;
@@ -336,8 +341,8 @@ impl TypedRows {
         items: &DataType,
         count: usize,
     ) -> Result<TypedRows, Error>
-        ensures ok { IfOk result (λ rows. (c : BuilderTree) → type_of items.now ≡ builder_type c → count ≡ builder_len c → Pass (nested_checks (type_of data_type) c) × (lists_over rows c ≡ nested_over (type_of data_type) c)) }
-        ensures cause { IfErr result (λ e. (c : BuilderTree) → type_of items.now ≡ builder_type c → count ≡ builder_len c → (e ≡ Memory alloc_error) ⊎ FailFirst e (nested_checks (type_of data_type) c)) }
+        ensures ok { IfOk result (λ rows. (c : BuilderTree) → type_of items.now ≡ builder_type c → count ≡ builder_len c → Pass (lists_checks (type_of data_type) c) × (lists_over rows c ≡ empty_lists (physical_type (type_of data_type)) (type_of data_type) c)) }
+        ensures cause { IfErr result (λ e. (c : BuilderTree) → type_of items.now ≡ builder_type c → count ≡ builder_len c → (e ≡ Memory alloc_error) ⊎ FailFirst e (lists_checks (type_of data_type) c)) }
     {
         if let Some(error) = fault(&data_type, items, count) {
             drop(data_type);

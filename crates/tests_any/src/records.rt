@@ -20,17 +20,17 @@ use nest_memory::error::{Argument, Error, Spec};
 use std::alloc::{AllocError, Global};
 use std::test::Fail;
 
-const UNFINISHED: Error = Error::InvalidArgumentError(Argument::Unfinished);
+pub(super) const UNFINISHED: Error = Error::InvalidArgumentError(Argument::Unfinished);
 
-const OTHER_KIND: Error = Error::InvalidArgumentError(Argument::ItemType);
+pub(super) const OTHER_KIND: Error = Error::InvalidArgumentError(Argument::ItemType);
 
-fn texts(alloc: Global) -> Result<AnyMutableArray, Error>
+pub(crate) fn texts(alloc: Global) -> Result<AnyMutableArray, Error>
     ensures { IfOk result (λ b. IsWhole (tree_of b)) }
 {
     Ok(AnyMutableArray::Flat(AnyMutableFlat::Utf8(MutableUtf8Array::new(alloc)?)))
 }
 
-fn numbers(alloc: Global) -> AnyMutableArray
+pub(crate) fn numbers(alloc: Global) -> AnyMutableArray
     ensures { IsWhole (tree_of result) }
 {
     AnyMutableArray::Flat(AnyMutableFlat::Primitive(AnyMutablePrimitive::Int64(
@@ -39,19 +39,19 @@ fn numbers(alloc: Global) -> AnyMutableArray
 }
 
 /// Lists of such items.
-fn lists_of(alloc: Global, items: DataType) -> Result<DataType, Error> {
+pub(crate) fn lists_of(alloc: Global, items: DataType) -> Result<DataType, Error> {
     let items = Field::new(alloc, "item", items, true)?;
     Ok(DataType::List(Box::new(alloc, items)?))
 }
 
 /// Records of one field.
-fn records_of(alloc: Global, items: DataType) -> Result<DataType, Error> {
+pub(crate) fn records_of(alloc: Global, items: DataType) -> Result<DataType, Error> {
     let field = Field::new(alloc, "a", items, true)?;
     Ok(DataType::Struct(vec![in alloc; field]?))
 }
 
 /// The builder of records over children, if there is memory for them.
-fn over<E: Drop>(
+pub(crate) fn over<E: Drop>(
     alloc: Global,
     data_type: DataType,
     values: Result<Vec<AnyMutableArray>, E>,
@@ -71,7 +71,7 @@ fn over<E: Drop>(
 }
 
 /// Lists over a child that is whole.
-fn nested(
+pub(crate) fn nested(
     alloc: Global,
     data_type: DataType,
     child: AnyMutableArray,
@@ -85,7 +85,10 @@ fn nested(
 }
 
 /// A builder, if what was done with it was accepted.
-fn kept(builder: AnyMutableArray, done: Result<(), Error>) -> Result<AnyMutableArray, Error> {
+pub(crate) fn kept(
+    builder: AnyMutableArray,
+    done: Result<(), Error>,
+) -> Result<AnyMutableArray, Error> {
     match done {
         Ok(()) => Ok(builder),
         Err(error) => {
@@ -108,7 +111,7 @@ fn text_records(alloc: Global) -> Result<MutableStructArray, Error> {
 }
 
 /// Pushes a value into a builder that is whole.
-fn push(builder: &mut AnyMutableArray, value: Plain<'_>) -> Result<(), Error> {
+pub(crate) fn push(builder: &mut AnyMutableArray, value: Plain<'_>) -> Result<(), Error> {
     if !builder.is_whole() {
         return Err(UNFINISHED);
     }
@@ -116,7 +119,7 @@ fn push(builder: &mut AnyMutableArray, value: Plain<'_>) -> Result<(), Error> {
 }
 
 /// Tells a row of what waits in whole children.
-fn tell(builder: &mut AnyMutableArray, valid: bool) -> Result<(), Error> {
+pub(crate) fn tell(builder: &mut AnyMutableArray, valid: bool) -> Result<(), Error> {
     if !builder.has_whole_children() {
         return Err(UNFINISHED);
     }
@@ -124,7 +127,7 @@ fn tell(builder: &mut AnyMutableArray, valid: bool) -> Result<(), Error> {
 }
 
 /// Pushes a value into the first child of a builder and tells a row of it.
-fn push_record(records: &mut AnyMutableArray, value: Plain<'_>) -> Result<(), Error> {
+pub(crate) fn push_record(records: &mut AnyMutableArray, value: Plain<'_>) -> Result<(), Error> {
     match records.child(0) {
         Some(child) => push(child, value)?,
         None => return Err(UNFINISHED),
@@ -133,7 +136,7 @@ fn push_record(records: &mut AnyMutableArray, value: Plain<'_>) -> Result<(), Er
 }
 
 /// A list of two records, and a null list.
-fn push_lists(lists: &mut AnyMutableArray) -> Result<(), Error> {
+pub(crate) fn push_lists(lists: &mut AnyMutableArray) -> Result<(), Error> {
     match lists.child(0) {
         Some(records) => {
             push_record(records, Plain::Text("x"))?;
@@ -178,7 +181,7 @@ fn has_texts(records: &StructArray, wanted: &[&str]) -> bool {
 }
 
 /// Whether lists have these offsets, and the last of them is null.
-fn has_offsets(lists: &ListArray, wanted: &[i32]) -> bool {
+pub(crate) fn has_offsets(lists: &ListArray, wanted: &[i32]) -> bool {
     let offsets = lists.offsets();
     offsets.as_slice() == wanted
 }
@@ -240,7 +243,7 @@ fn refusal_of(made: Result<AnyMutableArray, Error>) -> Option<Error> {
 }
 
 /// Why no lists of texts are made over a builder of numbers.
-fn refused(alloc: Global, filled: bool, data_type: DataType) -> Option<Error> {
+pub(crate) fn refused(alloc: Global, filled: bool, data_type: DataType) -> Option<Error> {
     let mut items = numbers(alloc);
     let pushed = if filled {
         push(&mut items, Plain::Native(AnyNative::Int64(1)))
@@ -505,12 +508,32 @@ fn is_one_record(frozen: &Result<AnyArray, Error>) -> bool {
     }
 }
 
+/// Whether what was not told keeps the lists from being frozen by each call, and goes on waiting.
+fn waits(alloc: Global, lists: &mut RecordLists) -> bool {
+    let boxed = is_unfinished(lists.as_box());
+    let shared = match lists.as_arc(alloc) {
+        Ok(array) => {
+            drop(array);
+            false
+        }
+        Err(error) => error == UNFINISHED,
+    };
+    let frozen = match lists.freeze() {
+        Ok(array) => {
+            drop(array);
+            false
+        }
+        Err(error) => error == UNFINISHED,
+    };
+    boxed && shared && frozen && !lists.is_whole()
+}
+
 #[test]
 fn an_untold_record_waits_under_a_list(rt: HostRuntime) -> Result<(), Fail> {
     let alloc = rt.alloc();
     let mut lists = no_lists(alloc)?;
     let pushed = push_text(&mut lists);
-    let waits = is_unfinished(lists.as_box());
+    let waits = waits(alloc, &mut lists);
     let told = tell_both(&mut lists);
     let frozen = lists.as_box();
     drop(lists);

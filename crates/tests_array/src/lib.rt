@@ -45,6 +45,7 @@
 //! | Comparisons of slots by keys: 2 for the keys 0, 1, 0 cut and others, 1 for a null key and a null value, 1 for values under a type of the user's, 2 behind two keys | `dictionaries::counts` |
 //! | A slot by its key as a scalar, null by the key and by the value; the value at a raw key, also under a null; the data types of both | `dictionaries::scalars` |
 //! | Keys of each width, the largest and negative ones | `dictionaries::widths::signed_keys_name_values`, `dictionaries::widths::the_largest_key_of_each_width` |
+//! | Lists, pairs and dictionaries made again of their own parts, which are not checked again; the scalars of a record's fields | `own_parts` |
 //! | Null and empty arrays of every type | the table at the head of `empties` |
 #![tactic(auto)]
 
@@ -68,6 +69,8 @@ mod generic_binaries;
 mod maps;
 #[cfg(test)]
 mod nulls;
+#[cfg(test)]
+mod own_parts;
 #[cfg(test)]
 mod refusals;
 #[cfg(test)]

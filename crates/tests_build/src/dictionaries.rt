@@ -7,7 +7,7 @@ use nest_build::fixed_size_binary::MutableFixedSizeBinaryArray;
 use nest_build::push::{TryExtend, TryPush};
 use nest_flat::plain::Plain;
 use nest_memory::error::{Argument, Error};
-use std::alloc::{AllocError, Global};
+use std::alloc::Global;
 use std::rc::Rc;
 use std::test::Fail;
 
@@ -133,24 +133,6 @@ fn a_value_of_another_size_leaves_no_key(rt: HostRuntime) -> Result<(), Fail> {
     assert!(rt; rows == 0);
     assert!(rt; values == 0);
     Ok(())
-}
-
-// Holds where any one request for memory is refused: a refused value leaves neither a key nor a value.
-#[test]
-fn a_refused_value_changes_nothing(rt: HostRuntime) {
-    let Ok(mut pairs) = no_pairs(rt.alloc()) else {
-        return;
-    };
-    let mut accepted = 0usize;
-    for last in 0..40u8 {
-        match push_pair(&mut pairs, last) {
-            Ok(()) => accepted = accepted.saturating_add(1),
-            Err(error) => assert!(rt; error == Error::Memory(AllocError)),
-        }
-        assert!(rt; pairs.len() == accepted);
-        assert!(rt; pairs.values().len() == accepted);
-    }
-    drop(pairs);
 }
 
 #[test]

@@ -1,15 +1,13 @@
-//! Builders over builders over builders: the largest offset, cuts at both ends, and what a refused request leaves.
+//! Builders over builders over builders: the largest offset, and cuts at both ends.
 use nest_build::array::MutableArray;
 use nest_build::fixed_size_list::MutableFixedSizeListArray;
 use nest_build::list::MutableListArray;
 use nest_build::null::MutableNullArray;
 use nest_build::push::TryExtend;
-use nest_flat::binary::mutable::MutableBinaryArray;
-use nest_flat::plain::Plain;
 use nest_flat::primitive::mutable::MutablePrimitiveArray;
 use nest_memory::datatypes::DataType;
 use nest_memory::error::{Argument, Error};
-use std::alloc::{AllocError, Global};
+use std::alloc::Global;
 use std::mem;
 use std::test::Fail;
 
@@ -78,22 +76,6 @@ fn push_three(alloc: Global, rows: &mut Rows) -> Result<(), Error> {
     rows.try_extend(three)
 }
 
-// Holds where any one request for memory is refused.
-#[test]
-fn all_levels_take_three_rows_or_none(rt: HostRuntime) {
-    let Ok(mut rows) = no_rows(rt.alloc()) else {
-        return;
-    };
-    let first = push_three(rt.alloc(), &mut rows);
-    let taken = if first.is_ok() { (3, 4, 8) } else { (0, 0, 0) };
-    assert!(rt; first == Ok(()) || first == Err(Error::Memory(AllocError)));
-    assert!(rt; levels(&rows) == taken);
-    let again = push_three(rt.alloc(), &mut rows);
-    assert!(rt; again.is_err() || levels(&rows) == (taken.0 + 3, taken.1 + 4, taken.2 + 8));
-    assert!(rt; again.is_ok() || levels(&rows) == taken);
-    drop(rows);
-}
-
 /// Cuts where it may be cut there.
 fn cut(rows: &mut Rows, n: usize) {
     if rows.is_whole() && n <= rows.len() {
@@ -114,45 +96,4 @@ fn rows_are_cut_to_all_and_to_none(rt: HostRuntime) -> Result<(), Fail> {
     assert!(rt; rows.is_whole());
     drop(rows);
     Ok(())
-}
-
-/// Lists of whatever the boxed child takes.
-type BoxedLists = MutableListArray<i32, Box<dyn MutableArray>>;
-
-/// Pushes bytes into the child, and tells a row of them.
-fn push_bytes(rows: &mut BoxedLists) -> Result<(), Error> {
-    let child = rows.mut_values();
-    if !child.is_whole() {
-        return Err(UNFINISHED);
-    }
-    child.try_push_plain(Some(Plain::Bytes(b"7")))?;
-    if !rows.values().is_whole() {
-        return Err(UNFINISHED);
-    }
-    rows.known();
-    rows.try_push_valid()
-}
-
-// Holds where any one request for memory is refused: an item that waits is told with the next.
-#[test]
-fn a_boxed_child_keeps_what_it_took(rt: HostRuntime) {
-    let Ok(bytes) = MutableBinaryArray::<i32>::new(rt.alloc()) else {
-        return;
-    };
-    let child: Box<dyn MutableArray> = match Box::new(rt.alloc(), bytes) {
-        Ok(child) => child,
-        Err(_) => return,
-    };
-    assert!(rt; child.is_whole());
-    let Ok(made) = MutableListArray::new(rt.alloc(), child) else {
-        return;
-    };
-    let mut rows: BoxedLists = made;
-    let first = push_bytes(&mut rows);
-    assert!(rt; first == Ok(()) || first == Err(Error::Memory(AllocError)));
-    assert!(rt; first.is_err() || (rows.len() == 1 && rows.values().len() == 1));
-    assert!(rt; first.is_ok() || (rows.len() == 0 && rows.values().len() <= 1));
-    let second = push_bytes(&mut rows);
-    assert!(rt; second.is_err() || rows.is_whole());
-    drop(rows);
 }

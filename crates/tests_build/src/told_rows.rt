@@ -1,9 +1,10 @@
 //! Rows by themselves: told by their ends, their lengths or their number, joined, cut and frozen.
-
-use nest_build::fixed_size_list::FixedRows;
+use nest_array::{AnyArray, FixedSizeListArray, ListArray, NullArray};
+use nest_build::fixed_size_list::{FixedRows, freeze_over};
 use nest_build::list::ListRows;
-use nest_build::list::width::ToldRows;
+use nest_build::list::width::{FrozenRows, ToldRows};
 use nest_flat::validity;
+use nest_memory::datatypes::DataType;
 use nest_memory::error::Error;
 use std::alloc::Global;
 use std::test::Fail;
@@ -67,5 +68,40 @@ fn rows_of_one_size_are_counted(rt: HostRuntime) -> Result<(), Fail> {
     assert!(rt; count == 3);
     assert!(rt; validity::null_count(&bits) == 1);
     assert!(rt; rows.len() == 0);
+    Ok(())
+}
+
+/// Four rows over five nulls.
+fn frozen_rows(alloc: Global) -> Result<ListArray, Error> {
+    let mut rows = four_rows(alloc)?;
+    let data_type = ListArray::default_datatype(alloc, DataType::Null)?;
+    let items = NullArray::new(DataType::Null, rows.last());
+    let lists = rows.freeze_over(alloc, data_type, AnyArray::Null(items));
+    drop(rows);
+    lists
+}
+
+/// A pair and a null, over four nulls.
+fn frozen_pairs(alloc: Global) -> Result<FixedSizeListArray, Error> {
+    let mut rows = FixedRows::new(alloc);
+    rows.push(true)?;
+    rows.push(false)?;
+    let data_type = FixedSizeListArray::default_datatype(alloc, DataType::Null, 2)?;
+    let items = AnyArray::Null(NullArray::new(DataType::Null, 4));
+    let pairs = freeze_over(alloc, data_type, &mut rows, items);
+    drop(rows);
+    pairs
+}
+
+#[test]
+fn rows_are_frozen_over_their_items(rt: HostRuntime) -> Result<(), Fail> {
+    let lists = frozen_rows(rt.alloc())?;
+    let found = (lists.len(), lists.null_count(), lists.values().len());
+    drop(lists);
+    assert!(rt; found == (4, 1, 5));
+    let pairs = frozen_pairs(rt.alloc())?;
+    let found = (pairs.len(), pairs.null_count(), pairs.values().len());
+    drop(pairs);
+    assert!(rt; found == (2, 1, 4));
     Ok(())
 }

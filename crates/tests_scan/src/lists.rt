@@ -2,7 +2,7 @@
 use crate::parts::{gave_nothing, gave_null, gave_numbers, list_array, not_null, numbers};
 use nest_array::ListArray;
 use nest_memory::error::Error;
-use nest_scan::{ListIter, ListValuesIter, Scan, ScanValues};
+use nest_scan::{ListIter, ListValuesIter, Scan, ScanValues, TryPlaces};
 use std::alloc::Global;
 
 /// [1,2], [], [3], [4,5].
@@ -51,5 +51,17 @@ fn nulls_among_lists(rt: HostRuntime) {
     assert!(rt; gave_numbers(values.next(), &[]));
     assert!(rt; gave_numbers(values.next(), &[3]));
     drop(values);
+    drop(lists);
+}
+
+#[test]
+fn the_item_of_a_place(rt: HostRuntime) {
+    let alloc = rt.alloc();
+    let lists = four_lists(alloc, None).expect(&rt, "four lists");
+    let places = &lists;
+    assert!(rt; places.count() == 4);
+    if places.count() == 4 {
+        assert!(rt; gave_numbers(Some(places.item(alloc, 3)), &[4, 5]));
+    }
     drop(lists);
 }

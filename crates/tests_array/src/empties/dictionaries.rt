@@ -4,6 +4,7 @@ use nest_array::{AnyArray, DictionaryArray};
 use nest_memory::datatypes::{DataType, IntegerType};
 use nest_memory::error::{Error, Spec};
 use std::alloc::{AllocError, Global};
+use std::test::Fail;
 
 fn lists_by_keys(alloc: Global) -> Result<DataType, Error> {
     dictionary(alloc, IntegerType::Int8, list(alloc, Ok(DataType::Int32)))
@@ -66,6 +67,28 @@ fn values_are_looked_at(rt: HostRuntime) {
     let wrong = Some(Error::OutOfSpec(Spec::WrongType));
     assert!(rt; DictionaryArray::new_null(alloc, DataType::Float64, 1).err() == wrong);
     assert!(rt; DictionaryArray::new_empty(alloc, DataType::Int8).err() == wrong);
+}
+
+/// How long an array is, how many of its keys are null, and how many values it has; it is let go.
+fn counts(array: Result<DictionaryArray, Error>) -> Result<(usize, usize, usize), Error> {
+    match array {
+        Ok(array) => {
+            let found = (array.len(), array.null_count(), array.values().len());
+            drop(array);
+            Ok(found)
+        }
+        Err(error) => Err(error),
+    }
+}
+
+#[test]
+fn null_keys_by_the_call_of_their_kind(rt: HostRuntime) -> Result<(), Fail> {
+    let alloc = rt.alloc();
+    let data_type = lists_by_keys(alloc)?;
+    assert!(rt; counts(DictionaryArray::new_null(alloc, data_type, 2)) == Ok((2, 2, 1)));
+    let data_type = lists_by_keys(alloc)?;
+    assert!(rt; counts(DictionaryArray::new_empty(alloc, data_type)) == Ok((0, 0, 0)));
+    Ok(())
 }
 
 fn lists_and_names(alloc: Global) -> Result<DataType, Error> {

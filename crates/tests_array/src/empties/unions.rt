@@ -4,6 +4,7 @@ use nest_array::{AnyArray, AnyScalar, UnionArray};
 use nest_memory::datatypes::{DataType, UnionMode};
 use nest_memory::error::{Error, Spec};
 use std::alloc::Global;
+use std::test::Fail;
 
 fn number_or_text(alloc: Global, ids: Option<&[i32]>) -> Result<DataType, Error> {
     let fields = two(alloc, Ok(DataType::Int32), Ok(DataType::Utf8));
@@ -54,6 +55,25 @@ fn the_first_id_is_the_type(rt: HostRuntime) {
     assert!(rt; picks_null_of(rt.alloc(), &union, 0, &DataType::Int32));
     assert!(rt; picks_null_of(rt.alloc(), &union, 1, &DataType::Int32));
     drop(union);
+}
+
+/// How many slots a union has, and how many fields; it is let go.
+fn counts(array: Result<UnionArray, Error>) -> Result<(usize, usize), Error> {
+    match array {
+        Ok(array) => {
+            let found = (array.len(), array.fields().len());
+            drop(array);
+            Ok(found)
+        }
+        Err(error) => Err(error),
+    }
+}
+
+#[test]
+fn nulls_by_the_call_of_their_kind(rt: HostRuntime) -> Result<(), Fail> {
+    let data_type = number_or_text(rt.alloc(), None)?;
+    assert!(rt; counts(UnionArray::new_null(rt.alloc(), data_type, 3)) == Ok((3, 2)));
+    Ok(())
 }
 
 #[test]

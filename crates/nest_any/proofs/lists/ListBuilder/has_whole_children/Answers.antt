@@ -9,6 +9,6 @@ pub returns : goal.returns
 returns c =
     let b = tree_of c.self.inside.values.value in
     let v = ap tree_of c.deref.ensures in (
-      λ t. subst HasWholeChildren c.self.view_is (c.known.ensures b (subst IsWhole v (c.whole.ensures.0 t))),
+      λ t. subst HasWholeChildren c.self.view_is (c.known.ensures.rising b (subst IsWhole v (c.whole.ensures.0 t))),
       λ w. c.whole.ensures.1 (subst IsWhole (sym v) (child_is_whole c.self.inside.rows b (subst HasWholeChildren (sym c.self.view_is) w))),
     )

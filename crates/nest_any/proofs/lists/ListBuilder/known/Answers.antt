@@ -1,8 +1,14 @@
 use Rattle.std.proofs.Common.{◌≡◌, false, subst}
+use Rattle.nest_memory.specs.Physical.{physical_type}
 use Rattle.nest_model.specs.BuilderItem.{takes}
+use Rattle.nest_model.specs.BuilderTree.{builder_type}
+use Rattle.nest_any.specs.Refusals.{IsOfLists}
 use Rattle.nest_any.specs.Trees.{tree_of}
 use Rattle.nest_any.proofs.TellLaws.{takes-none}
 use Rattle.nest_any.proofs.lists.ListBuilder.known.Goals as goal
 
-pub returns : goal.returns
-returns c = λ v. subst (λ t. takes t v ≡ false) c.self.view_is (takes-none c.self.inside.rows (tree_of c.self.inside.values.value) v)
+pub returns-clause-takes : goal.returns-clause-takes
+returns-clause-takes c = λ v. subst (λ t. takes t v ≡ false) c.self.view_is (takes-none c.self.inside.rows (tree_of c.self.inside.values.value) v)
+
+pub returns-clause-lists : goal.returns-clause-lists
+returns-clause-lists c = subst (λ t. IsOfLists (physical_type (builder_type t))) c.self.view_is (c.known.ensures.lists (tree_of c.self.inside.values.value))

@@ -1,0 +1,289 @@
+//! A builder of dictionaries, by keys of any width.
+ghost use Rattle.std.specs.Prelude.{◌≡◌, ◌⊎◌, ◌↔◌, ℕ, [], IfErr, IfOk, IsOkUnless, IsTrue, MatchOption, Some, alloc_error};
+ghost use Rattle.nest_any.specs.Dictionaries.{dictionary_tree};
+ghost use Rattle.nest_any.specs.Flat.{values_tree};
+ghost use Rattle.nest_any.specs.Trees.{tree_of};
+ghost use Rattle.nest_any.specs.Words.{AreFlat, FailFirst, Memory, Pass, builder_len, builder_type, is_flat, key_type, keyed_checks, own_slots, type_of, value_type};
+ghost use Rattle.nest_build.specs.Keys.{dictionary_child};
+ghost use Rattle.nest_model.specs.BuilderItem.{Stands};
+ghost use Rattle.nest_model.specs.BuilderTree as builders;
+ghost use Rattle.nest_model.specs.BuilderWhole.{AreDifferent};
+ghost use Rattle.nest_model.specs.Fits.{IsLogically, is_dictionary};
+
+use crate::any::AnyMutableArray;
+use crate::flat::AnyMutableFlat;
+use nest_array::AnyArray;
+use nest_build::array::{MutableArray, shared};
+use nest_build::dictionary::{BuilderKey, MutableDictionaryArray};
+use nest_flat::plain::{AsPlain, Plain};
+use nest_memory::bitmap::mutable::MutableBitmap;
+use nest_memory::datatypes::physical_type::PhysicalType;
+use nest_memory::datatypes::{DataType, IntegerType};
+use nest_memory::error::{Argument, Error, Spec};
+use std::alloc::Global;
+use std::rc::Rc;
+
+/// A builder of dictionaries over values without children, each of them once, in the variant of its keys. Each is
+/// a box, since the type of all of them would have too many fields for the toolchain.
+#[derive(Drop)]
+pub enum AnyMutableDictionary {
+    Int8(Box<MutableDictionaryArray<i8, AnyMutableFlat>>),
+    Int16(Box<MutableDictionaryArray<i16, AnyMutableFlat>>),
+    Int32(Box<MutableDictionaryArray<i32, AnyMutableFlat>>),
+    Int64(Box<MutableDictionaryArray<i64, AnyMutableFlat>>),
+    UInt8(Box<MutableDictionaryArray<u8, AnyMutableFlat>>),
+    UInt16(Box<MutableDictionaryArray<u16, AnyMutableFlat>>),
+    UInt32(Box<MutableDictionaryArray<u32, AnyMutableFlat>>),
+    UInt64(Box<MutableDictionaryArray<u64, AnyMutableFlat>>),
+}
+
+// The same expression over the builder by keys of each width.
+macro_rules! each_width {
+    ($any:expr, $keyed:ident => $body:expr) => {
+        match $any {
+            AnyMutableDictionary::Int8($keyed) => $body,
+            AnyMutableDictionary::Int16($keyed) => $body,
+            AnyMutableDictionary::Int32($keyed) => $body,
+            AnyMutableDictionary::Int64($keyed) => $body,
+            AnyMutableDictionary::UInt8($keyed) => $body,
+            AnyMutableDictionary::UInt16($keyed) => $body,
+            AnyMutableDictionary::UInt32($keyed) => $body,
+            AnyMutableDictionary::UInt64($keyed) => $body,
+        }
+    };
+}
+
+// The builder by keys of that width, where there is memory for its box.
+macro_rules! made {
+    ($width:ident, $alloc:ident, $data_type:ident, $values:ident) => {
+        match boxed($alloc, $data_type, $values) {
+            Ok(keyed) => Ok(AnyMutableDictionary::$width(keyed)),
+            Err(error) => Err(error),
+        }
+    };
+}
+
+impl AnyMutableDictionary {
+    /// No row of a data type of dictionaries by such keys, over a child that is looked at.
+    ///
+    /// # Errors
+    /// `WrongType` where the values of such dictionaries are nulls or have children, `ChildNotEmpty` where the child has
+    /// rows, `ChildType` where its logical type is another: the first of these; `Memory`.
+    pub(crate) fn try_new(
+        alloc: Global,
+        keys: IntegerType,
+        data_type: DataType,
+        child: AnyMutableArray,
+    ) -> Result<AnyMutableDictionary, Error>
+        requires { key_type (type_of data_type) ≡ Some keys }
+        ensures ok { IfOk result (λ b. dictionary_tree b ≡ builders.dictionary keys (type_of data_type) [] (tree_of child)) }
+        ensures passed { IfOk result (λ b. Pass (keyed_checks (type_of data_type) (tree_of child))) }
+        ensures cause { IfErr result (λ e. (e ≡ Memory alloc_error) ⊎ FailFirst e (keyed_checks (type_of data_type) (tree_of child))) }
+    {
+        if let Some(error) = fault(&data_type, &child) {
+            drop(child);
+            drop(data_type);
+            return Err(error);
+        }
+        match child.into_flat() {
+            Some(values) => AnyMutableDictionary::of_type(alloc, keys, data_type, values),
+            None => {
+                drop(data_type);
+                Err(Error::OutOfSpec(Spec::ChildType))
+            }
+        }
+    }
+
+    // No row of that data type, over an empty child.
+    fn of_type(
+        alloc: Global,
+        keys: IntegerType,
+        data_type: DataType,
+        values: AnyMutableFlat,
+    ) -> Result<AnyMutableDictionary, Error>
+        requires keys { key_type (type_of data_type) ≡ Some keys }
+        requires empty { builder_len (values_tree values) ≡ 0 }
+        ensures ok { IfOk result (λ b. dictionary_tree b ≡ builders.dictionary keys (type_of data_type) [] (values_tree values)) }
+        ensures memory { IsOkUnless result (Memory alloc_error) }
+    {
+        match keys {
+            IntegerType::Int8 => made!(Int8, alloc, data_type, values),
+            IntegerType::Int16 => made!(Int16, alloc, data_type, values),
+            IntegerType::Int32 => made!(Int32, alloc, data_type, values),
+            IntegerType::Int64 => made!(Int64, alloc, data_type, values),
+            IntegerType::UInt8 => made!(UInt8, alloc, data_type, values),
+            IntegerType::UInt16 => made!(UInt16, alloc, data_type, values),
+            IntegerType::UInt32 => made!(UInt32, alloc, data_type, values),
+            IntegerType::UInt64 => made!(UInt64, alloc, data_type, values),
+        }
+    }
+
+    /// What holds of every such builder: its data type is one of dictionaries.
+    pub(crate) fn known(&self)
+        ensures { IsTrue (is_dictionary (builder_type (dictionary_tree self.now))) }
+    {
+        each_width!(self, keyed => keyed.known())
+    }
+
+    /// The values.
+    pub fn values(&self) -> &AnyMutableFlat
+        ensures value { values_tree result.now ≡ dictionary_child (dictionary_tree self.now) }
+        ensures different { AreDifferent (own_slots (values_tree result.now)) }
+    {
+        each_width!(self, keyed => keyed.values())
+    }
+
+    /// The key of a value as a place among the values, `None` where none of the values is it. No memory is taken.
+    pub fn key_of<T: AsPlain>(&self, value: &T) -> Option<usize>
+        ensures { (k : ℕ) → (result ≡ Some k) ↔ Stands (dictionary_child (dictionary_tree self.now)) (T.value value.now) k }
+    {
+        each_width!(self, keyed => place_of(keyed, value))
+    }
+}
+
+/// Why no builder of dictionaries is made of that type over such a child.
+fn fault(data_type: &DataType, child: &AnyMutableArray) -> Option<Error>
+    ensures { MatchOption result
+        (Pass (keyed_checks (type_of data_type.now) (tree_of child.now)))
+        (λ e. FailFirst e (keyed_checks (type_of data_type.now) (tree_of child.now))) }
+{
+    if !has_flat_values(data_type) {
+        return Some(Error::OutOfSpec(Spec::WrongType));
+    }
+    if child.len() != 0 {
+        return Some(Error::InvalidArgumentError(Argument::ChildNotEmpty));
+    }
+    if !has_values(data_type, child.data_type()) {
+        return Some(Error::OutOfSpec(Spec::ChildType));
+    }
+    None
+}
+
+/// Whether such dictionaries have values, which have no children and aren't nulls.
+fn has_flat_values(data_type: &DataType) -> bool
+    ensures { IsTrue result ↔ AreFlat (value_type (type_of data_type.now)) }
+{
+    match data_type.value_type() {
+        None => false,
+        Some(values) => is_flat(values.to_physical_type()),
+    }
+}
+
+/// Whether such dictionaries have values of that type, looked through extensions.
+fn has_values(data_type: &DataType, values: &DataType) -> bool
+    ensures { IsTrue result ↔ IsLogically (value_type (type_of data_type.now)) (type_of values.now) }
+{
+    match data_type.value_type() {
+        None => false,
+        Some(value) => *values.to_logical_type() == *value.to_logical_type(),
+    }
+}
+
+/// Whether values of that type have no children and aren't nulls.
+fn is_flat(physical: PhysicalType) -> bool
+    ensures { result ≡ is_flat physical }
+{
+    match physical {
+        PhysicalType::Boolean
+        | PhysicalType::Primitive(_)
+        | PhysicalType::Binary
+        | PhysicalType::FixedSizeBinary
+        | PhysicalType::LargeBinary
+        | PhysicalType::Utf8
+        | PhysicalType::LargeUtf8 => true,
+        _ => false,
+    }
+}
+
+// No row of dictionaries by keys of one width, over an empty child.
+fn boxed<K: BuilderKey>(
+    alloc: Global,
+    data_type: DataType,
+    values: AnyMutableFlat,
+) -> Result<Box<MutableDictionaryArray<K, AnyMutableFlat>>, Error>
+    requires keys { key_type (type_of data_type) ≡ Some K.KEY_TYPE }
+    requires empty { builder_len (values_tree values) ≡ 0 }
+    ensures ok { IfOk result (λ b. ⟦<MutableDictionaryArray<K, AnyMutableFlat> as MutableArray>⟧.model b.value ≡ builders.dictionary K.KEY_TYPE (type_of data_type) [] (values_tree values)) }
+    ensures memory { IsOkUnless result (Memory alloc_error) }
+{
+    match Box::new(
+        alloc,
+        MutableDictionaryArray::of_type(alloc, data_type, values),
+    ) {
+        Ok(keyed) => Ok(keyed),
+        Err(error) => Err(error.into()),
+    }
+}
+
+// The key of a value as a place.
+fn place_of<K: BuilderKey, T: AsPlain>(
+    keyed: &MutableDictionaryArray<K, AnyMutableFlat>,
+    value: &T,
+) -> Option<usize>
+    ensures { (k : ℕ) → (result ≡ Some k) ↔ Stands (dictionary_child (⟦<MutableDictionaryArray<K, AnyMutableFlat> as MutableArray>⟧.model keyed.now)) (T.value value.now) k }
+{
+    match keyed.key_of(value) {
+        Some(key) => key.to_index(),
+        None => None,
+    }
+}
+
+impl MutableArray for AnyMutableDictionary {
+    ghost model = { dictionary_tree };
+
+    fn data_type(&self) -> &DataType {
+        each_width!(self, keyed => keyed.data_type())
+    }
+
+    fn len(&self) -> usize {
+        each_width!(self, keyed => keyed.len())
+    }
+
+    fn is_empty(&self) -> bool {
+        self.len() == 0
+    }
+
+    fn validity(&self) -> Option<&MutableBitmap> {
+        each_width!(self, keyed => keyed.validity())
+    }
+
+    fn is_valid(&self, i: usize) -> bool {
+        each_width!(self, keyed => keyed.is_valid(i))
+    }
+
+    fn is_whole(&self) -> bool {
+        each_width!(self, keyed => keyed.is_whole())
+    }
+
+    fn holds(&self, i: usize, value: &Plain<'_>) -> bool {
+        each_width!(self, keyed => keyed.holds(i, value))
+    }
+
+    fn push_null(&mut self) -> Result<(), Error> {
+        each_width!(self, keyed => keyed.push_null())
+    }
+
+    fn try_push_plain(&mut self, value: Option<Plain<'_>>) -> Result<(), Error> {
+        each_width!(self, keyed => keyed.try_push_plain(value))
+    }
+
+    fn truncate(&mut self, n: usize) {
+        each_width!(self, keyed => keyed.truncate(n))
+    }
+
+    fn reserve(&mut self, additional: usize) -> Result<(), Error> {
+        each_width!(self, keyed => keyed.reserve(additional))
+    }
+
+    fn shrink_to_fit(&mut self) -> Result<(), Error> {
+        each_width!(self, keyed => keyed.shrink_to_fit())
+    }
+
+    fn as_box(&mut self) -> Result<AnyArray, Error> {
+        each_width!(self, keyed => keyed.as_box())
+    }
+
+    fn as_arc(&mut self, alloc: Global) -> Result<Rc<AnyArray>, Error> {
+        shared(self.as_box(), alloc)
+    }
+}
