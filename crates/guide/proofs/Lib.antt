@@ -1,3 +1,2 @@
 mod People
-mod Rows
 mod Sums

@@ -1,7 +1,7 @@
 -- What a person more adds to their builder, and how a cell is taken back.
 use Rattle.std.specs.Prelude.{Option, None, Some, if◌then◌else◌, ◌&&◌}
-use Rattle.std.proofs.Common.{◌≡◌, ℕ, zero, suc, ◌+◌, ◌≤◌, ◌<◌, Bool, true, false, List, [], ◌∷◌, ◌++◌, length, take, refl, sym, ap, subst, ◌∙◌, arith}
-use Rattle.std.proofs.Math.Seq.{take-length}
+use Rattle.std.proofs.Common.{◌≡◌, ℕ, zero, suc, ◌+◌, ◌≤◌, ◌<◌, Bool, true, false, List, [], ◌∷◌, ◌++◌, length, get_or, take, refl, sym, ap, subst, ◌∙◌, arith}
+use Rattle.std.proofs.Math.Seq.{take-length, take-suc}
 use Rattle.std.proofs.lemmas.List.{length_push, take-append-le}
 use Rattle.nest_memory.specs.TypeTree as types
 use Rattle.nest_memory.specs.TypeTree.{TypeTree}
@@ -88,3 +88,22 @@ cut_none b h =
     let names = ap (λ k. take k (names_in b)) (sym w.0.1) ∙ take-length (names_in b) in
     let ages = ap (λ k. take k (ages_in b)) (sym w.0.2.1) ∙ take-length (ages_in b) in
     ap (λ x. cut_builder x (builder_len x)) h.1 ∙ (rw (take-length (struct_bits b), names, ages) refl) ∙ sym h.1
+
+-- several and then others
+pub with_more : (cs ds : List Cells) (b : BuilderTree) → with_people (cs ++ ds) b ≡ with_people ds (with_people cs b)
+with_more [] ds b = refl
+with_more (c ∷ cs) ds b = with_more cs ds (if is_person c then with_person c b else b)
+
+-- no fewer rows than before
+pub longer_all : (cs : List Cells) (b : BuilderTree) (n : ℕ) → ArePeople b → n ≤ builder_len b → n ≤ builder_len (with_people cs b)
+longer_all [] b n h k = k
+longer_all (c ∷ cs) b n h k =
+    let one = one_or_none (is_person c) b c n h k in
+    longer_all cs (if is_person c then with_person c b else b) n one.0 one.1
+
+-- one row of cells more
+pub one_more : (rows : List Cells) (k : ℕ) (d : Cells) (old p q : BuilderTree) → k < length rows → p ≡ with_people (take k rows) old → q ≡ with_people (get_or rows k d ∷ []) p → q ≡ with_people (take (k + 1) rows) old
+one_more rows k d old p q h e f =
+    let s : k + 1 ≡ suc k = omega arith in
+    let x = get_or rows k d in
+    f ∙ ap (with_people (x ∷ [])) e ∙ sym (with_more (take k rows) (x ∷ []) old) ∙ ap (λ z. with_people z old) (sym (take-suc rows k d h)) ∙ ap (λ j. with_people (take j rows) old) (sym s)

@@ -1,6 +1,6 @@
 //! Rows of records, and of lists of records, loaded cell by cell. The children of records are builders of any kind, as one
 //! enum.
-ghost use Rattle.std.specs.Prelude.{◌≡◌, [], true, false, IfOk, OnErr, OnOk, IsErrOf};
+ghost use Rattle.std.specs.Prelude.{◌≡◌, ◌∷◌, [], true, false, IfOk, OnErr, OnOk, IsErrOf};
 ghost use Rattle.nest_any.specs.Trees.{trees_of};
 ghost use Rattle.nest_build.specs.Words.{InvalidArgumentError, IsWhole, ItemType};
 ghost use Rattle.guide.specs.People.{ArePeople, columns, is_person, no_people, no_teams, people_in, person_type, with_people, with_person, with_team};
@@ -61,9 +61,9 @@ pub fn no_people(alloc: Global) -> Result<MutableStructArray, Error>
 /// the row is refused, what waits is taken back.
 pub fn push_person(people: &mut MutableStructArray, cells: Cells<'_>) -> Result<(), Error>
     requires { ArePeople people.old }
-    ensures told { OnOk result ((is_person cells ≡ true) × (people.new ≡ with_person cells people.old)) }
+    ensures told { OnOk result ((is_person cells.entry ≡ true) × (people.new ≡ with_person cells.entry people.old)) }
     ensures refused { OnErr result (people.new ≡ people.old) }
-    ensures kind { IsErrOf result (InvalidArgumentError ItemType) → is_person cells ≡ false }
+    ensures kind { IsErrOf result (InvalidArgumentError ItemType) → is_person cells.entry ≡ false }
 {
     let rows = people.len();
     people.value(0).try_push_plain(cells.0)?;
@@ -79,6 +79,18 @@ pub fn push_person(people: &mut MutableStructArray, cells: Cells<'_>) -> Result<
     Ok(())
 }
 
+/// A person more, where the cells are one.
+fn push_or_pass(people: &mut MutableStructArray, cells: Cells<'_>) -> Result<(), Error>
+    requires { ArePeople people.old }
+    ensures pushed { OnOk result (people.new ≡ with_people (cells.entry ∷ []) people.old) }
+    ensures refused { OnErr result (people.new ≡ people.old) }
+{
+    match push_person(people, cells) {
+        Err(Error::InvalidArgumentError(Argument::ItemType)) => Ok(()),
+        pushed => pushed,
+    }
+}
+
 /// Each row of cells that is a person; the others are passed. For want of memory none is loaded.
 pub fn load(people: &mut MutableStructArray, rows: &[Cells<'_>]) -> Result<(), Error>
     requires { ArePeople people.old }
@@ -87,12 +99,9 @@ pub fn load(people: &mut MutableStructArray, rows: &[Cells<'_>]) -> Result<(), E
 {
     let count = people.len();
     for cells in rows {
-        match push_person(people, *cells) {
-            Ok(()) | Err(Error::InvalidArgumentError(Argument::ItemType)) => {}
-            Err(error) => {
-                people.truncate(count);
-                return Err(error);
-            }
+        if let Err(error) = push_or_pass(people, *cells) {
+            people.truncate(count);
+            return Err(error);
         }
     }
     Ok(())
