@@ -1,4 +1,4 @@
--- Builders of people: records of a name and an age, and lists of them.
+-- Builders of people: records of a name and an age.
 use Rattle.std.specs.Prelude.{◌≡◌, Bool, true, false, ◌&&◌, if◌then◌else◌, Option, None, Some, List, [], ◌∷◌, ◌++◌, codes}
 use Rattle.nest_any.specs.Refusals.{struct_bits}
 use Rattle.nest_flat.specs.Plain.{plain_value}
@@ -8,7 +8,6 @@ use Rattle.nest_memory.specs.TypeTree.{TypeTree, field, more_fields, no_fields}
 use Rattle.nest_memory.specs.declared.datatypes.physical_type.PhysicalType.{PhysicalType}
 use Rattle.nest_memory.specs.declared.datatypes.physical_type.PhysicalType.TheVariants as physical
 use Rattle.nest_memory.specs.declared.datatypes.physical_type.PrimitiveType.TheVariants as primitives
-use Rattle.nest_model.specs.BuilderAppend.{told}
 use Rattle.nest_model.specs.BuilderItem.{holds_kind, slot_of_value}
 use Rattle.nest_model.specs.BuilderTree as builders
 use Rattle.nest_model.specs.BuilderTree.{BuilderTree, BuilderTrees, more_builders, no_builders}
@@ -69,16 +68,3 @@ is_person c = is_cell physical.Utf8 c.0 && is_cell (physical.Primitive primitive
 abbrev pub with_people : List Cells → BuilderTree → BuilderTree
 with_people [] b = b
 with_people (c ∷ cs) b = with_people cs (if is_person c then with_person c b else b)
-
--- lists of people
-abbrev pub no_teams : BuilderTree
-no_teams = builders.list false (types.list (field (codes "item") person_type true [])) [] no_people
-
-abbrev pub people_in : BuilderTree → BuilderTree
-people_in (builders.list large t rows c) = c
-people_in b = b
-
--- a list more, of those that are people
-abbrev pub with_team : List Cells → BuilderTree → BuilderTree
-with_team cs (builders.list large t rows c) = told true (builders.list large t rows (with_people cs c))
-with_team cs b = b

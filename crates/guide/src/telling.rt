@@ -240,22 +240,6 @@ fn building_people<R: Print + AllocGlobal>(rt: &R) -> Result<()> {
     told
 }
 
-/// Lists of people loaded.
-fn building_teams<R: Print + AllocGlobal>(rt: &R) -> Result<()> {
-    let mut builder = people::no_teams(rt.alloc())?;
-    let ann = (
-        Some(Plain::Text("Ann")),
-        Some(Plain::Native(AnyNative::Int32(31))),
-    );
-    let bob = (Some(Plain::Text("Bob")), Some(Plain::Text("?")));
-    let pushed = people::push_two_teams(&mut builder, &[ann, bob], &[bob]);
-    let frozen = builder.as_box();
-    drop(builder);
-    let told = tell(rt, "teams", frozen);
-    pushed?;
-    told
-}
-
 /// A dictionary built.
 fn building_keys<R: Print + AllocGlobal>(rt: &R) -> Result<()> {
     let (array, key) = dictionaries::keyed(rt.alloc())?;
@@ -264,10 +248,9 @@ fn building_keys<R: Print + AllocGlobal>(rt: &R) -> Result<()> {
     Ok(())
 }
 
-/// Rows of records, of lists of them, and of values by keys.
+/// Rows of records, and of values by keys.
 pub fn building_nested<R: Print + AllocGlobal>(rt: &R) -> Result<()> {
     building_people(rt)?;
-    building_teams(rt)?;
     building_keys(rt)
 }
 

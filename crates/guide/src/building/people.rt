@@ -1,14 +1,12 @@
-//! Rows of records, and of lists of records, loaded cell by cell. The children of records are builders of any kind, as one
-//! enum.
+//! Rows of records, loaded cell by cell. The children of records are builders of any kind, as one enum.
 ghost use Rattle.std.specs.Prelude.{◌≡◌, ◌∷◌, [], true, false, IfOk, OnErr, OnOk, IsErrOf};
 ghost use Rattle.nest_any.specs.Trees.{trees_of};
-ghost use Rattle.nest_build.specs.Words.{InvalidArgumentError, IsWhole, ItemType};
-ghost use Rattle.guide.specs.People.{ArePeople, columns, is_person, no_people, no_teams, people_in, person_type, with_people, with_person, with_team};
+ghost use Rattle.nest_build.specs.Words.{InvalidArgumentError, ItemType};
+ghost use Rattle.guide.specs.People.{ArePeople, columns, is_person, no_people, person_type, with_people, with_person};
 ghost use Rattle.guide.specs.Words.{type_of};
 
 use nest_any::{AnyMutableArray, AnyMutableFlat, MutableStructArray};
 use nest_build::array::MutableArray;
-use nest_build::list::MutableListArray;
 use nest_flat::any_primitive::mutable::AnyMutablePrimitive;
 use nest_flat::plain::Plain;
 use nest_flat::primitive::mutable::MutablePrimitiveArray;
@@ -105,48 +103,4 @@ pub fn load(people: &mut MutableStructArray, rows: &[Cells<'_>]) -> Result<(), E
         }
     }
     Ok(())
-}
-
-/// A builder of lists of people.
-pub type TeamBuilder = MutableListArray<i32, MutableStructArray>;
-
-/// No list yet.
-pub fn no_teams(alloc: Global) -> Result<TeamBuilder, Error>
-    ensures { IfOk result (λ b. ⟦<TeamBuilder as MutableArray>⟧.model b ≡ no_teams) }
-{
-    match no_people(alloc) {
-        Ok(people) => MutableListArray::new(alloc, people),
-        Err(error) => Err(error),
-    }
-}
-
-/// A list more: the people wait in the child, and then a row of them is told.
-pub fn push_team(teams: &mut TeamBuilder, team: &[Cells<'_>]) -> Result<(), Error>
-    requires whole { IsWhole (⟦<TeamBuilder as MutableArray>⟧.model teams.old) }
-    requires people { ArePeople (people_in (⟦<TeamBuilder as MutableArray>⟧.model teams.old)) }
-    ensures told { OnOk result (⟦<TeamBuilder as MutableArray>⟧.model teams.new ≡ with_team team.now (⟦<TeamBuilder as MutableArray>⟧.model teams.old)) }
-    ensures refused { OnErr result (⟦<TeamBuilder as MutableArray>⟧.model teams.new ≡ ⟦<TeamBuilder as MutableArray>⟧.model teams.old) }
-{
-    teams.known();
-    let count = teams.values().len();
-    load(teams.mut_values(), team)?;
-    if let Err(error) = teams.try_push_valid() {
-        teams.mut_values().truncate(count);
-        return Err(error);
-    }
-    Ok(())
-}
-
-/// Two lists more. Where the second one is refused, the first stays.
-pub fn push_two_teams(
-    teams: &mut TeamBuilder,
-    first: &[Cells<'_>],
-    second: &[Cells<'_>],
-) -> Result<(), Error>
-    requires whole { IsWhole (⟦<TeamBuilder as MutableArray>⟧.model teams.old) }
-    requires people { ArePeople (people_in (⟦<TeamBuilder as MutableArray>⟧.model teams.old)) }
-    ensures { OnOk result (⟦<TeamBuilder as MutableArray>⟧.model teams.new ≡ with_team second.now (with_team first.now (⟦<TeamBuilder as MutableArray>⟧.model teams.old))) }
-{
-    push_team(teams, first)?;
-    push_team(teams, second)
 }
