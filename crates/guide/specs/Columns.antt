@@ -1,12 +1,12 @@
 -- The columns of the guide, slot by slot.
-use Rattle.std.specs.Prelude.{ℕ, pos, true, false, None, Some, List, [], ◌∷◌}
+use Rattle.std.specs.Prelude.{ℕ, suc, ℤ, pos, ◌+ℤ◌, max, true, false, None, Some, List, [], ◌∷◌, codes}
 use Rattle.nest_memory.specs.TypeTree as types
-use Rattle.nest_memory.specs.TypeTree.{TypeTree}
+use Rattle.nest_memory.specs.TypeTree.{TypeTree, FieldTrees, field, more_fields, no_fields}
 use Rattle.nest_memory.specs.declared.datatypes.physical_type.PrimitiveType.TheVariants as primitives
 use Rattle.nest_model.specs.Layout as layouts
 use Rattle.nest_model.specs.Layout.{Layout, Layouts}
 use Rattle.nest_model.specs.Slot as slots
-use Rattle.nest_model.specs.Slot.{Slot, seal}
+use Rattle.nest_model.specs.Slot.{Slot, Slots, seal}
 
 abbrev pub number : ℕ → Slot
 number n = slots.number (pos n ∷ [])
@@ -81,11 +81,21 @@ abbrev pub four_records : List Slot
 four_records = first_record ∷ second_record ∷ third_record ∷ fourth_record ∷ []
 
 -- the parts of that column, by the names of its fields
+abbrev pub record_fields : FieldTrees
+record_fields = more_fields (field (codes "number") types.int64 true []) (more_fields (field (codes "text") types.utf8 true []) no_fields)
+
 abbrev pub records_children : Layouts
 records_children = layouts.more_layouts numbers_parts (layouts.more_layouts texts_parts layouts.no_layouts)
 
-abbrev pub records_parts : TypeTree → Layout
-records_parts t = layouts.struct t records_children None
+abbrev pub records_parts : Layout
+records_parts = layouts.struct (types.struct record_fields) records_children None
+
+-- the types of lists of such records, and of maps
+abbrev pub record_list_type : TypeTree
+record_list_type = types.list (field (codes "item") (types.struct record_fields) true [])
+
+abbrev pub map_type : TypeTree
+map_type = types.map (field (codes "entries") (types.struct record_fields) false []) false
 
 -- the first record, the other three
 abbrev pub two_record_lists : List Slot
@@ -126,3 +136,17 @@ pushed_bytes = slots.bytes (97 ∷ 98 ∷ []) ∷ slots.null ∷ []
 -- "ab", "cd", as bytes
 abbrev pub pushed_codes : List Slot
 pushed_codes = two_codes
+
+-- [1, null], null, [3, 4]
+abbrev pub three_pairs : List Slot
+three_pairs = three_lists
+
+-- "ab", "c", null, "ab"
+abbrev pub pushed_keyed : List Slot
+pushed_keyed = slots.text (97 ∷ 98 ∷ []) ∷ slots.text (99 ∷ []) ∷ slots.null ∷ slots.text (97 ∷ 98 ∷ []) ∷ []
+
+-- the sum of the numbers of slots
+abbrev pub total : List Slot → ℤ
+total [] = pos 0
+total (slots.number (z ∷ []) ∷ xs) = z +ℤ total xs
+total (x ∷ xs) = total xs

@@ -20,5 +20,6 @@ fn main(rt: HostRuntime) -> Result<()> {
     telling::comparing(&rt)?;
     telling::taking(&rt)?;
     telling::building(&rt)?;
+    telling::building_nested(&rt)?;
     telling::sharing(&rt)
 }

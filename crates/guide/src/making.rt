@@ -3,3 +3,4 @@ pub mod flat;
 pub mod nested;
 pub mod parts;
 pub mod refused;
+pub mod tagged;

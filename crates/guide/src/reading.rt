@@ -3,12 +3,13 @@ ghost use Rattle.std.specs.Prelude.{◌≡◌, ◌<◌, IfOk, IfSome, MatchOptio
 ghost use Rattle.nest_memory.specs.declared.datatypes.physical_type.PhysicalType.TheVariants as physical;
 ghost use Rattle.nest_memory.specs.declared.datatypes.physical_type.PrimitiveType.TheVariants as primitives;
 ghost use Rattle.nest_model.specs.Slot as slots;
-ghost use Rattle.guide.specs.Words.{Memory, layout_of, layout_type, len, optional, physical_type, scalar_parts, seal, slot, slots_of, validity_of, where_valid, window_slots};
+ghost use Rattle.guide.specs.Words.{Memory, layout_of, layout_type, len, optional, physical_type, scalar_parts, seal, slot, slots_of, total, validity_of, where_valid, window_slots};
 
 use nest_array::{AnyArray, AnyScalar, ListArray, Window, new_scalar};
 use nest_flat::primitive::PrimitiveArray;
 use nest_flat::utf8::Utf8Array;
 use nest_memory::error::Error;
+use nest_scan::Scan;
 use std::alloc::Global;
 
 /// The text of a row, `None` where it is null.
@@ -52,12 +53,31 @@ pub fn as_numbers(column: &AnyArray) -> Option<&PrimitiveArray<i64>>
 }
 
 /// The sum of the numbers that are there.
-pub fn sum(numbers: &PrimitiveArray<i64>) -> i64 {
-    let mut sum = 0i64;
+pub fn sum(numbers: &PrimitiveArray<i64>) -> i128
+    ensures { result ≡ total (slots_of numbers.now) }
+{
+    let _count = numbers.len();
+    let mut sum = 0i128;
     for number in numbers.iter() {
         if let Some(number) = number {
-            sum = sum.saturating_add(number);
+            sum += i128::from(number);
         }
     }
     sum
+}
+
+/// How many items the longest row has. A null row has none.
+pub fn longest(alloc: Global, lists: &ListArray) -> Result<usize, Error> {
+    let mut longest = 0usize;
+    for row in lists.iter(alloc) {
+        match row {
+            Ok(Some(items)) => {
+                longest = longest.max(items.len());
+                drop(items);
+            }
+            Ok(None) => {}
+            Err(error) => return Err(error),
+        }
+    }
+    Ok(longest)
 }

@@ -9,6 +9,7 @@ fn spell_plain(scalar: &AnyScalar, text: &mut String) -> Result<(), Error> {
     match scalar.value() {
         ScalarValue::Null => text.push_str("null")?,
         ScalarValue::Boolean(truth) => write!(text, "{truth}")?,
+        ScalarValue::Native(AnyNative::Int32(number)) => write!(text, "{number}")?,
         ScalarValue::Native(AnyNative::Int64(number)) => write!(text, "{number}")?,
         ScalarValue::Text(letters) => write!(text, "{:?}", letters.as_str())?,
         ScalarValue::Bytes(bytes) => write!(text, "{:?}", bytes.as_slice())?,

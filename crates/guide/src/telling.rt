@@ -1,12 +1,17 @@
 //! What the program prints of each chapter of the guide.
-use crate::building::{self, any, rows};
+ghost use Rattle.guide.specs.People.{ArePeople};
+
+use crate::building::{self, any, dictionaries, people, rows};
 use crate::making::parts::validity;
-use crate::making::{flat, nested, refused};
+use crate::making::{flat, nested, refused, tagged};
 use crate::showing::made;
 use crate::{comparing, cutting, reading, sharing, taking};
 use anyhow::Result;
+use nest_any::MutableStructArray;
 use nest_array::{AnyArray, Array, ListArray};
 use nest_build::array::MutableArray;
+use nest_flat::any_native::AnyNative;
+use nest_flat::plain::Plain;
 use nest_flat::primitive::mutable::MutablePrimitiveArray;
 use nest_memory::error::Error;
 use std::rc::Rc;
@@ -46,6 +51,7 @@ pub fn making<R: Print + AllocGlobal>(rt: &R) -> Result<()> {
     tell(rt, "maps", nested::maps(alloc))?;
     tell(rt, "picks", nested::picks(alloc))?;
     tell(rt, "keyed", nested::keyed(alloc))?;
+    tell(rt, "tagged", tagged::tagged_lists(alloc))?;
     tell(rt, "null numbers", refused::null_numbers(alloc))?;
     tell(rt, "a list past its items", refused::list_past_items(alloc))
 }
@@ -64,6 +70,8 @@ fn read_lists<R: Print + AllocGlobal>(rt: &R, lists: &ListArray) -> Result<()> {
         "items lent of row 2: {}",
         reading::items_lent(lists, 2).len()
     )?;
+    let longest = reading::longest(rt.alloc(), lists);
+    println!(rt; "the longest row's items: {}", longest?)?;
     tell(
         rt,
         "rows 1 and 2 beside",
@@ -126,6 +134,25 @@ fn compare<R: Print>(rt: &R, column: AnyArray, tail: &AnyArray) -> Result<()> {
     Ok(())
 }
 
+/// Lists of records with a dictionary inside: the last of them, and what it is compared with.
+fn comparing_tagged<R: Print + AllocGlobal>(rt: &R) -> Result<()> {
+    let lists = tagged::tagged_lists(rt.alloc())?.boxed();
+    let told = match tagged::last_list(rt.alloc()) {
+        Ok(last) => compare_last(rt, &lists, last),
+        Err(error) => Err(error.into()),
+    };
+    drop(lists);
+    told
+}
+
+/// Prints whether lists end with the last one, which is printed then.
+fn compare_last<R: Print + AllocGlobal>(rt: &R, lists: &AnyArray, last: AnyArray) -> Result<()> {
+    let same = comparing::are_equal(lists, &last);
+    let ends = last.len() <= lists.len() && comparing::ends_with(lists, &last);
+    println!(rt; "all lists are the last: {same}, they end with it: {ends}")?;
+    tell(rt, "the last", Ok(last))
+}
+
 /// Four rows and their last two.
 pub fn comparing<R: Print + AllocGlobal>(rt: &R) -> Result<()> {
     let tail = rows::two_rows(rt.alloc())?.boxed();
@@ -134,7 +161,8 @@ pub fn comparing<R: Print + AllocGlobal>(rt: &R) -> Result<()> {
         Err(error) => Err(error.into()),
     };
     drop(tail);
-    told
+    told?;
+    comparing_tagged(rt)
 }
 
 fn take<R: Print + AllocGlobal>(rt: &R, column: &AnyArray) -> Result<()> {
@@ -174,6 +202,7 @@ pub fn building<R: Print + AllocGlobal>(rt: &R) -> Result<()> {
     tell(rt, "codes", building::flat::codes(alloc))?;
     tell(rt, "nulls", building::flat::nulls(alloc))?;
     tell(rt, "lists", rows::four_rows(alloc))?;
+    tell(rt, "pairs", rows::pairs(alloc))?;
     println!(rt;
         "a refused row, and the rows and items there: {:?}",
         rows::refused_row(alloc)?
@@ -183,6 +212,46 @@ pub fn building<R: Print + AllocGlobal>(rt: &R) -> Result<()> {
         println!(rt; "a refused text: {:?}", any::push_text(&mut builder, "x"))?;
     }
     tell(rt, "what it left", any::finish(&mut builder))
+}
+
+/// Four rows of cells, of which the second is no person.
+fn load_people(people: &mut MutableStructArray) -> Result<(), Error>
+    requires { ArePeople people.old }
+{
+    let years = |age| Some(Plain::Native(AnyNative::Int32(age)));
+    people::load(
+        people,
+        &[
+            (Some(Plain::Text("Ann")), years(31)),
+            (Some(Plain::Text("Bob")), Some(Plain::Text("?"))),
+            (Some(Plain::Text("Cy")), None),
+        ],
+    )
+}
+
+/// People loaded.
+fn building_people<R: Print + AllocGlobal>(rt: &R) -> Result<()> {
+    let mut builder = people::no_people(rt.alloc())?;
+    let loaded = load_people(&mut builder);
+    let frozen = builder.freeze();
+    drop(builder);
+    let told = tell(rt, "people", frozen);
+    loaded?;
+    told
+}
+
+/// A dictionary built.
+fn building_keys<R: Print + AllocGlobal>(rt: &R) -> Result<()> {
+    let (array, key) = dictionaries::keyed(rt.alloc())?;
+    tell(rt, "keyed", Ok(array))?;
+    println!(rt; "the key of \"c\": {key:?}")?;
+    Ok(())
+}
+
+/// Rows of records, and of values by keys.
+pub fn building_nested<R: Print + AllocGlobal>(rt: &R) -> Result<()> {
+    building_people(rt)?;
+    building_keys(rt)
 }
 
 /// An array with two owners.

@@ -272,6 +272,20 @@ pub fn push_values<O: ListWidth, A: AsPlain + Copy + Drop, M: FlatBuilder + Take
     lists.try_push_slice(row)
 }
 
+/// The same in a builder of lists of one size.
+pub fn push_fixed_values<A: AsPlain + Copy + Drop, M: FlatBuilder + TakesValue<A>>(
+    lists: &mut MutableFixedSizeListArray<M>,
+    row: Option<&[Option<A>]>,
+) -> Result<(), Error>
+    requires { IsWhole (⟦<MutableFixedSizeListArray<M> as MutableArray>⟧.model lists.old) }
+    ensures accepted { OnOk result (Accepted (row_item A.value (option_copied row.entry)) (⟦<MutableFixedSizeListArray<M> as MutableArray>⟧.model lists.old) (⟦<MutableFixedSizeListArray<M> as MutableArray>⟧.model lists.new)) }
+    ensures fits { OnOk result (item_refusal (row_item A.value (option_copied row.entry)) (⟦<MutableFixedSizeListArray<M> as MutableArray>⟧.model lists.old) ≡ None) }
+    ensures err { OnErr result (⟦<MutableFixedSizeListArray<M> as MutableArray>⟧.model lists.new ≡ ⟦<MutableFixedSizeListArray<M> as MutableArray>⟧.model lists.old) }
+    ensures refused { IfErr result (λ e. (e ≡ Memory alloc_error) ⊎ (item_refusal (row_item A.value (option_copied row.entry)) (⟦<MutableFixedSizeListArray<M> as MutableArray>⟧.model lists.old) ≡ Some e)) }
+{
+    lists.try_push_slice(row)
+}
+
 /// A table of hashes, by which builders of dictionaries find their values: a hash more has the next number. A refused
 /// one changes nothing.
 pub fn push_hash(table: &mut KeyTable, hash: u64) -> Result<(), Error>

@@ -1,12 +1,14 @@
 //! What every builder does, whatever it builds.
-ghost use Rattle.std.specs.Prelude.{◌≡◌, IfOk, OnErr};
-ghost use Rattle.nest_build.specs.Words.{IsWhole, own_slots};
+ghost use Rattle.std.specs.Prelude.{◌≡◌, true, IfOk, OnErr, OnOk};
+ghost use Rattle.nest_any.specs.Trees.{tree_of};
+ghost use Rattle.nest_build.specs.Words.{IsWhole, Told, own_slots};
 ghost use Rattle.guide.specs.Words.{layout_of, slots_of};
 
+use nest_any::AnyMutableArray;
 use nest_array::AnyArray;
 use nest_build::array::MutableArray;
 use nest_flat::plain::Plain;
-use nest_memory::error::Error;
+use nest_memory::error::{Argument, Error};
 
 /// A text more. `InvalidArgumentError(ItemType)` of a builder that takes no texts; then, as after any refusal, each of its
 /// levels is as it was.
@@ -23,4 +25,16 @@ pub fn finish<B: MutableArray>(builder: &mut B) -> Result<AnyArray, Error>
     ensures unchanged { ¬ IsWhole (B.model builder.old) → B.model builder.new ≡ B.model builder.old }
 {
     builder.as_box()
+}
+
+/// A row more of a builder of lists or of records of any kind: the items that wait in its children, which are left there.
+/// `ItemType` of a kind without such rows, `Unfinished` where there is no whole row.
+pub fn tell_row(builder: &mut AnyMutableArray) -> Result<(), Error>
+    ensures told { OnOk result (Told true (tree_of builder.old) (tree_of builder.new)) }
+    ensures refused { OnErr result (tree_of builder.new ≡ tree_of builder.old) }
+{
+    if !builder.has_whole_children() {
+        return Err(Error::InvalidArgumentError(Argument::Unfinished));
+    }
+    builder.tell(true)
 }

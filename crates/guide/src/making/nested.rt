@@ -1,7 +1,8 @@
 //! Arrays over other arrays, from parts. What holds a child is made last, and what has a data type is let go by name where
 //! a later part is refused.
 ghost use Rattle.std.specs.Prelude.{◌≡◌, IfOk};
-ghost use Rattle.guide.specs.Words.{four_keyed, four_picks, four_records, layout_type, layouts_of, records_children, records_parts, slots_of, three_lists, two_maps, two_pairs, two_record_lists};
+ghost use Rattle.guide.specs.Tagged.{keyed_parts};
+ghost use Rattle.guide.specs.Words.{field_list_of, four_keyed, four_picks, four_records, layouts_of, map_type, record_fields, record_list_type, records_children, records_parts, slots_of, three_lists, two_maps, two_pairs, two_record_lists, type_of};
 
 use crate::making::flat::{any_numbers, texts};
 use crate::making::parts::{buffer, offsets, validity};
@@ -46,7 +47,9 @@ pub fn pairs(alloc: Global) -> Result<FixedSizeListArray, Error>
 }
 
 /// The fields of records: a number and a text.
-fn fields(alloc: Global) -> Result<Vec<Field>, Error> {
+fn fields(alloc: Global) -> Result<Vec<Field>, Error>
+    ensures { IfOk result (λ v. field_list_of v.items ≡ record_fields) }
+{
     let mut fields = Vec::with_capacity(alloc, 2)?;
     fields.push(Field::new(alloc, "number", DataType::Int64, true)?)?;
     fields.push(Field::new(alloc, "text", DataType::Utf8, true)?)?;
@@ -65,7 +68,7 @@ fn children(alloc: Global) -> Result<Vec<AnyArray>, Error>
 
 /// The records {1, "ab"}, {null, ""}, {3, null}, {4, "c"}.
 pub fn records(alloc: Global) -> Result<StructArray, Error>
-    ensures parts { IfOk result (λ a. a ≡ records_parts (layout_type a)) }
+    ensures parts { IfOk result (λ a. a ≡ records_parts) }
     ensures slots { IfOk result (λ a. slots_of a ≡ four_records) }
 {
     let fields = fields(alloc)?;
@@ -79,7 +82,9 @@ pub fn records(alloc: Global) -> Result<StructArray, Error>
 }
 
 /// The type of lists of records.
-fn record_list_type(alloc: Global) -> Result<DataType, Error> {
+fn record_list_type(alloc: Global) -> Result<DataType, Error>
+    ensures { IfOk result (λ t. type_of t ≡ record_list_type) }
+{
     let item = DataType::Struct(fields(alloc)?);
     ListArray::default_datatype(alloc, item)
 }
@@ -100,7 +105,9 @@ pub fn record_lists(alloc: Global) -> Result<ListArray, Error>
 }
 
 /// The type of maps whose entries are such records.
-fn map_type(alloc: Global) -> Result<DataType, Error> {
+fn map_type(alloc: Global) -> Result<DataType, Error>
+    ensures { IfOk result (λ t. type_of t ≡ map_type) }
+{
     let entries = DataType::Struct(fields(alloc)?);
     let field = Field::new(alloc, "entries", entries, false)?;
     Ok(DataType::Map(Box::new(alloc, field)?, false))
@@ -141,7 +148,8 @@ pub fn picks(alloc: Global) -> Result<UnionArray, Error>
 
 /// The texts "c", null, "ab", "c", by keys that name them in `texts`.
 pub fn keyed(alloc: Global) -> Result<DictionaryArray, Error>
-    ensures { IfOk result (λ a. slots_of a ≡ four_keyed) }
+    ensures parts { IfOk result (λ a. a ≡ keyed_parts) }
+    ensures slots { IfOk result (λ a. slots_of a ≡ four_keyed) }
 {
     let places = buffer(alloc, &[3i32, 0, 0, 3])?;
     let validity = validity(alloc, &[true, false, true, true])?;

@@ -1,0 +1,2 @@
+mod People
+mod Sums
