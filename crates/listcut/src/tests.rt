@@ -1,60 +1,12 @@
 //! Runs over readers and writers in memory.
+mod devices;
+
 use crate::fault::Fault;
 use crate::reading::read_rows;
 use crate::running::run;
 use crate::writing::write_rows;
 use std::alloc::{AllocError, Global};
-use std::io;
-use std::io::{Error, ErrorKind, Read, Write};
 use std::test::*;
-
-/// A reader that gives its bytes one at a time, and then fails.
-struct Failing<'a> {
-    rest: &'a [u8],
-}
-
-impl Read for Failing<'_> {
-    fn read(&mut self, buf: &mut [u8]) -> io::Result<usize> {
-        let [first, rest @ ..] = self.rest else {
-            return Err(Error::from(ErrorKind::Other));
-        };
-        if buf.is_empty() {
-            return Ok(0);
-        }
-        buf[0] = *first;
-        self.rest = rest;
-        Ok(1)
-    }
-}
-
-/// A writer that takes one byte at a time, `room` in all, and can fail to flush.
-#[derive(Drop)]
-struct Narrow {
-    taken: Vec<u8>,
-    room: usize,
-    flushes: bool,
-}
-
-impl Write for Narrow {
-    fn write(&mut self, buf: &[u8]) -> io::Result<usize> {
-        let Some(first) = buf.first() else {
-            return Ok(0);
-        };
-        if self.taken.len() >= self.room {
-            return Ok(0);
-        }
-        self.taken.push(*first)?;
-        Ok(1)
-    }
-
-    fn flush(&mut self) -> io::Result<()> {
-        if self.flushes {
-            Ok(())
-        } else {
-            Err(Error::from(ErrorKind::Other))
-        }
-    }
-}
 
 const ROWS: &str = "[1,2]\nnull\n[]\n[3,null]\n";
 
@@ -175,62 +127,6 @@ fn refuses_lines_and_ranges(rt: HostRuntime) {
         assert!(rt; fault == Some(want), "{input}");
     }
     assert!(rt; cut(rt.alloc(), &["3", "2"], ROWS).err() == Some(Fault::Range));
-}
-
-#[test]
-fn devices_fail(rt: HostRuntime) -> Result<(), Fail> {
-    let words = words_of(rt.alloc(), &["1", "2"])?;
-    let mut out = Vec::new(rt.alloc());
-    let mut failing = Failing {
-        rest: ROWS.as_bytes(),
-    };
-    let result = run(rt.alloc(), &words, &mut failing, &mut out);
-    let Failing { rest } = failing;
-    assert!(rt; result.err() == Some(Fault::Input));
-    assert!(rt; rest.len() == 0);
-    assert!(rt; out.len() == 0);
-    for (room, flushes, want, fault) in [
-        (100, true, "null\n[]\n", None),
-        (3, true, "nul", Some(Fault::Output)),
-        (100, false, "null\n[]\n", Some(Fault::Output)),
-    ] {
-        let mut reader = ROWS.as_bytes();
-        let mut writer = Narrow {
-            taken: Vec::new(rt.alloc()),
-            room,
-            flushes,
-        };
-        let result = run(rt.alloc(), &words, &mut reader, &mut writer);
-        assert!(rt; writer.taken.as_slice() == want.as_bytes());
-        assert!(rt; result.err() == fault);
-    }
-    Ok(())
-}
-
-/// With memory refused anywhere the run tells so, and writes nothing.
-fn refused_or_written(alloc: Global, words: &[&str]) -> Result<bool, AllocError> {
-    let words = words_of(alloc, words)?;
-    let mut reader = ROWS.as_bytes();
-    let mut writer = Narrow {
-        taken: Vec::with_capacity(alloc, 100)?,
-        room: 100,
-        flushes: true,
-    };
-    let result = run(alloc, &words, &mut reader, &mut writer);
-    let want = match result {
-        Ok(()) => b"null\n[]\n".as_slice(),
-        Err(_) => b"".as_slice(),
-    };
-    Ok(result.err().unwrap_or(Fault::Memory) == Fault::Memory && writer.taken.as_slice() == want)
-}
-
-#[test]
-fn memory_is_refused(rt: HostRuntime) -> Result<(), Fail> {
-    let fine = refused_or_written(rt.alloc(), &["1", "2"])?;
-    assert!(rt; fine);
-    let fine = refused_or_written(rt.alloc(), &["take", "1", "2"])?;
-    assert!(rt; fine);
-    Ok(())
 }
 
 #[test]
