@@ -29,10 +29,10 @@ refuse() {
                 cat "$logs/$n"
                 exit 2
             fi
-            if grep -q "^test $2 .* FAILED\$" "$logs/$n"; then
+            if grep -q "^test .*$2 .* FAILED\$" "$logs/$n"; then
                 failed=1
                 echo "$1: request $n refused:"
-                grep -A 2 "^test $2 .* FAILED\$" "$logs/$n"
+                grep -A 2 "^test .*$2 .* FAILED\$" "$logs/$n"
             fi
             here=$(grep -c '^ *refused$' "$logs/$n")
             refused=$((refused + here))
@@ -49,6 +49,6 @@ refuse() {
     fi
 }
 
-refuse listcut '.*a_refused_request_is_told'
+refuse listcut a_refused_request_is_told
 refuse tests_hostile ''
 exit $failed
