@@ -1,2 +1,3 @@
 mod People
+mod Rows
 mod Sums

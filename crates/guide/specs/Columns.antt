@@ -150,3 +150,14 @@ abbrev pub total : List Slot → ℤ
 total [] = pos 0
 total (slots.number (z ∷ []) ∷ xs) = z +ℤ total xs
 total (x ∷ xs) = total xs
+
+-- how many items a slot has
+abbrev pub item_count : Slots → ℕ
+item_count slots.no_slots = 0
+item_count (slots.more_slots x xs) = suc (item_count xs)
+
+-- the most items of a list among slots
+abbrev pub longest : List Slot → ℕ
+longest [] = 0
+longest (slots.list xs ∷ rest) = max (item_count xs) (longest rest)
+longest (x ∷ rest) = longest rest

@@ -3,7 +3,7 @@ ghost use Rattle.std.specs.Prelude.{◌≡◌, ◌<◌, IfOk, IfSome, MatchOptio
 ghost use Rattle.nest_memory.specs.declared.datatypes.physical_type.PhysicalType.TheVariants as physical;
 ghost use Rattle.nest_memory.specs.declared.datatypes.physical_type.PrimitiveType.TheVariants as primitives;
 ghost use Rattle.nest_model.specs.Slot as slots;
-ghost use Rattle.guide.specs.Words.{Memory, layout_of, layout_type, len, optional, physical_type, scalar_parts, seal, slot, slots_of, total, validity_of, where_valid, window_slots};
+ghost use Rattle.guide.specs.Words.{Memory, layout_of, layout_type, len, optional, physical_type, longest, scalar_parts, seal, slot, slots_of, total, validity_of, where_valid, window_slots};
 
 use nest_array::{AnyArray, AnyScalar, ListArray, Window, new_scalar};
 use nest_flat::primitive::PrimitiveArray;
@@ -67,7 +67,9 @@ pub fn sum(numbers: &PrimitiveArray<i64>) -> i128
 }
 
 /// How many items the longest row has. A null row has none.
-pub fn longest(alloc: Global, lists: &ListArray) -> Result<usize, Error> {
+pub fn longest(alloc: Global, lists: &ListArray) -> Result<usize, Error>
+    ensures { IfOk result (λ n. n ≡ longest (slots_of lists.now)) }
+{
     let mut longest = 0usize;
     for row in lists.iter(alloc) {
         match row {

@@ -1,5 +1,6 @@
 //! Builders of lists, over a builder of their items.
 ghost use Rattle.std.specs.Prelude.{◌≡◌, IfOk};
+ghost use Rattle.nest_build.specs.Words.{InvalidArgumentError, ItemSize};
 ghost use Rattle.guide.specs.Words.{four_rows, last_two, slots_of, three_pairs};
 
 use nest_array::{FixedSizeListArray, ListArray};
@@ -54,7 +55,10 @@ pub fn pairs(alloc: Global) -> Result<FixedSizeListArray, Error>
 }
 
 /// What pushing a row of three numbers to a builder of pairs answers, and how many rows and items it leaves there.
-pub fn refused_row(alloc: Global) -> Result<(Error, usize, usize), Error> {
+pub fn refused_row(alloc: Global) -> Result<(Error, usize, usize), Error>
+    ensures answer { IfOk result (λ r. r.0 ≡ InvalidArgumentError ItemSize) }
+    ensures left { IfOk result (λ r. (r.1 ≡ 0) × (r.2 ≡ 0)) }
+{
     let mut builder: PairBuilder = MutableFixedSizeListArray::new(
         alloc,
         MutablePrimitiveArray::new(alloc),
