@@ -151,7 +151,7 @@ total [] = pos 0
 total (slots.number (z ∷ []) ∷ xs) = z +ℤ total xs
 total (x ∷ xs) = total xs
 
--- how many items a slot has
+-- how many slots there are
 abbrev pub item_count : Slots → ℕ
 item_count slots.no_slots = 0
 item_count (slots.more_slots x xs) = suc (item_count xs)

@@ -1,5 +1,5 @@
 //! Rows taken at places, and where a mask is true.
-ghost use Rattle.std.specs.Prelude.{◌≡◌, IsTrue, IfOk};
+ghost use Rattle.std.specs.Prelude.{◌≡◌, ◌↔◌, IsTrue, IfOk};
 ghost use Rattle.nest_take.specs.Places.{AreBelow};
 ghost use Rattle.guide.specs.Words.{chosen, layout_of, layout_type, len, mask_places, slots_of};
 
@@ -10,7 +10,7 @@ use std::alloc::Global;
 
 /// Whether each place is one of so many rows.
 pub fn are_places(places: &[usize], rows: usize) -> bool
-    ensures { IsTrue result → AreBelow places.now rows }
+    ensures { IsTrue result ↔ AreBelow places.now rows }
 {
     places.iter().all(|place| *place < rows)
 }

@@ -1,7 +1,9 @@
 //! What every builder does, whatever it builds.
 ghost use Rattle.std.specs.Prelude.{◌≡◌, true, IfOk, OnErr, OnOk};
 ghost use Rattle.nest_any.specs.Trees.{tree_of};
-ghost use Rattle.nest_build.specs.Words.{IsWhole, Told, own_slots};
+ghost use Rattle.nest_build.specs.Words.{Accepted, IsWhole, Told, own_slots};
+ghost use Rattle.nest_model.specs.BuilderItem as items;
+ghost use Rattle.nest_model.specs.BuilderItem.{plain};
 ghost use Rattle.guide.specs.Words.{layout_of, slots_of};
 
 use nest_any::AnyMutableArray;
@@ -14,7 +16,8 @@ use nest_memory::error::{Argument, Error};
 /// levels is as it was.
 pub fn push_text<B: MutableArray>(builder: &mut B, text: &str) -> Result<(), Error>
     requires { IsWhole (B.model builder.old) }
-    ensures { OnErr result (B.model builder.new ≡ B.model builder.old) }
+    ensures accepted { OnOk result (Accepted (plain (items.text text.now)) (B.model builder.old) (B.model builder.new)) }
+    ensures refused { OnErr result (B.model builder.new ≡ B.model builder.old) }
 {
     builder.try_push_plain(Some(Plain::Text(text)))
 }
