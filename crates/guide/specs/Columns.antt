@@ -3,6 +3,8 @@ use Rattle.std.specs.Prelude.{ℕ, suc, ℤ, pos, ◌+ℤ◌, max, true, false, 
 use Rattle.nest_memory.specs.TypeTree as types
 use Rattle.nest_memory.specs.TypeTree.{TypeTree, FieldTrees, field, more_fields, no_fields}
 use Rattle.nest_memory.specs.declared.datatypes.physical_type.PrimitiveType.TheVariants as primitives
+use Rattle.nest_model.specs.BuilderTree as builders
+use Rattle.nest_model.specs.BuilderTree.{BuilderTree}
 use Rattle.nest_model.specs.Layout as layouts
 use Rattle.nest_model.specs.Layout.{Layout, Layouts}
 use Rattle.nest_model.specs.Slot as slots
@@ -161,3 +163,7 @@ abbrev pub longest : List Slot → ℕ
 longest [] = 0
 longest (slots.list xs ∷ rest) = max (item_count xs) (longest rest)
 longest (x ∷ rest) = longest rest
+
+-- a builder of pairs of numbers of 64 bits, without a row
+abbrev pub no_pairs : BuilderTree
+no_pairs = builders.fixed_size_list (types.fixed_size_list (field (codes "item") types.int64 true []) 2) [] (builders.flat types.int64 [])

@@ -1,5 +1,5 @@
 -- The words of this crate's contracts, by one name.
-pub use Rattle.guide.specs.Columns.{longest, total, numbers_parts, record_fields, record_list_type, map_type, pushed_keyed, three_pairs, texts_parts, records_children, records_parts, four_numbers, three_numbers, four_truths, four_texts, two_bytes, three_nulls, two_codes, three_lists, two_pairs, four_records, two_maps, four_keyed, four_picks, two_record_lists, four_rows, last_two, pushed_texts, pushed_truths, pushed_bytes, pushed_codes}
+pub use Rattle.guide.specs.Columns.{longest, no_pairs, total, numbers_parts, record_fields, record_list_type, map_type, pushed_keyed, three_pairs, texts_parts, records_children, records_parts, four_numbers, three_numbers, four_truths, four_texts, two_bytes, three_nulls, two_codes, three_lists, two_pairs, four_records, two_maps, four_keyed, four_picks, two_record_lists, four_rows, last_two, pushed_texts, pushed_truths, pushed_bytes, pushed_codes}
 pub use Rattle.nest_array.specs.ScalarParts.{scalar_parts}
 pub use Rattle.nest_array.specs.Seen.{layout_of, layouts_of}
 pub use Rattle.nest_array.specs.WindowParts.{window_slots}

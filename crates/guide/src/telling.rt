@@ -203,15 +203,22 @@ pub fn building<R: Print + AllocGlobal>(rt: &R) -> Result<()> {
     tell(rt, "nulls", building::flat::nulls(alloc))?;
     tell(rt, "lists", rows::four_rows(alloc))?;
     tell(rt, "pairs", rows::pairs(alloc))?;
-    println!(rt;
-        "a refused row, and the rows and items there: {:?}",
-        rows::refused_row(alloc)?
-    )?;
+    refusing_a_row(rt)?;
     let mut builder = MutablePrimitiveArray::<i64>::new(alloc);
     if builder.is_whole() {
         println!(rt; "a refused text: {:?}", any::push_text(&mut builder, "x"))?;
     }
     tell(rt, "what it left", any::finish(&mut builder))
+}
+
+/// What a row of three answers where pairs are built, and what it leaves there.
+fn refusing_a_row<R: Print + AllocGlobal>(rt: &R) -> Result<()> {
+    let mut builder = rows::no_pairs(rt.alloc())?;
+    let pushed = rows::refused_row(&mut builder);
+    let (rows, items) = (builder.len(), builder.values().len());
+    drop(builder);
+    println!(rt; "a refused row: {pushed:?}, which leaves {rows} rows and {items} items")?;
+    Ok(())
 }
 
 /// Four rows of cells, of which the second is no person.

@@ -1,7 +1,7 @@
 //! Builders of lists, over a builder of their items.
-ghost use Rattle.std.specs.Prelude.{◌≡◌, IfOk};
+ghost use Rattle.std.specs.Prelude.{◌≡◌, ◌⊎◌, IfErr, IfOk, alloc_error};
 ghost use Rattle.nest_build.specs.Words.{InvalidArgumentError, ItemSize};
-ghost use Rattle.guide.specs.Words.{four_rows, last_two, slots_of, three_pairs};
+ghost use Rattle.guide.specs.Words.{Memory, four_rows, last_two, no_pairs, slots_of, three_pairs};
 
 use nest_array::{FixedSizeListArray, ListArray};
 use nest_build::array::MutableArray;
@@ -37,36 +37,32 @@ pub fn two_rows(alloc: Global) -> Result<ListArray, Error>
 }
 
 /// A builder of lists of two numbers each.
-type PairBuilder = MutableFixedSizeListArray<MutablePrimitiveArray<i64>>;
+pub type PairBuilder = MutableFixedSizeListArray<MutablePrimitiveArray<i64>>;
+
+/// A builder of pairs, of which there is none yet.
+pub fn no_pairs(alloc: Global) -> Result<PairBuilder, Error>
+    ensures { IfOk result (λ b. ⟦<PairBuilder as MutableArray>⟧.model b ≡ no_pairs) }
+{
+    MutableFixedSizeListArray::new(alloc, MutablePrimitiveArray::new(alloc), 2)
+}
 
 /// The rows [1, null], null and [3, 4]. Under the null lie two null items.
 pub fn pairs(alloc: Global) -> Result<FixedSizeListArray, Error>
     ensures { IfOk result (λ a. slots_of a ≡ three_pairs) }
 {
-    let mut builder: PairBuilder = MutableFixedSizeListArray::new(
-        alloc,
-        MutablePrimitiveArray::new(alloc),
-        2,
-    )?;
+    let mut builder = no_pairs(alloc)?;
     builder.try_push_slice(Some(&[Some(1), None]))?;
     builder.try_push_slice(None)?;
     builder.try_push_slice(Some(&[Some(3), Some(4)]))?;
     builder.freeze()
 }
 
-/// What pushing a row of three numbers to a builder of pairs answers, and how many rows and items it leaves there.
-pub fn refused_row(alloc: Global) -> Result<(Error, usize, usize), Error>
-    ensures answer { IfOk result (λ r. r.0 ≡ InvalidArgumentError ItemSize) }
-    ensures left { IfOk result (λ r. (r.1 ≡ 0) × (r.2 ≡ 0)) }
+/// A row of three numbers, which no builder of pairs takes: none of its levels changes.
+pub fn refused_row(pairs: &mut PairBuilder) -> Result<(), Error>
+    requires { ⟦<PairBuilder as MutableArray>⟧.model pairs.old ≡ no_pairs }
+    ensures answer { IfOk result (λ _. ⊥) }
+    ensures cause { IfErr result (λ e. (e ≡ Memory alloc_error) ⊎ (e ≡ InvalidArgumentError ItemSize)) }
+    ensures same { ⟦<PairBuilder as MutableArray>⟧.model pairs.new ≡ ⟦<PairBuilder as MutableArray>⟧.model pairs.old }
 {
-    let mut builder: PairBuilder = MutableFixedSizeListArray::new(
-        alloc,
-        MutablePrimitiveArray::new(alloc),
-        2,
-    )?;
-    match builder.try_push_slice(Some(&[Some(1), Some(2), Some(3)])) {
-        Err(Error::Memory(refused)) => Err(Error::Memory(refused)),
-        Err(error) => Ok((error, builder.len(), builder.values().len())),
-        Ok(()) => Err(Error::Overflow),
-    }
+    pairs.try_push_slice(Some(&[Some(1), Some(2), Some(3)]))
 }
