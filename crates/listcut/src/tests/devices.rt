@@ -1,5 +1,5 @@
 //! Readers and writers that fail, that give or take one byte at a time, and input that ends within a row.
-use super::{words_of, ROWS};
+use super::{ROWS, words_of};
 use crate::fault::Fault;
 use crate::running::run;
 use std::alloc::{AllocError, Global};
@@ -133,14 +133,22 @@ fn writes_narrowly(
     let whole = want.len() <= room;
     let begun = if whole { want } else { want.split_at(room).0 };
     let fails = !whole || refusal == Refusal::FailsToFlush;
-    Ok(fault.is_some() == fails && fault.unwrap_or(Fault::Output) == Fault::Output && writer.taken.as_slice() == begun)
+    Ok(
+        fault.is_some() == fails
+            && fault.unwrap_or(Fault::Output) == Fault::Output
+            && writer.taken.as_slice() == begun,
+    )
 }
 
 #[test]
 fn each_write_fails(rt: HostRuntime) -> Result<(), Fail> {
     for (words, want) in REQUESTS {
         for room in 0..want.len() + 1 {
-            for refusal in [Refusal::TakesNoByte, Refusal::FailsToWrite, Refusal::FailsToFlush] {
+            for refusal in [
+                Refusal::TakesNoByte,
+                Refusal::FailsToWrite,
+                Refusal::FailsToFlush,
+            ] {
                 let fine = writes_narrowly(rt.alloc(), words, want.as_bytes(), room, refusal)?;
                 assert!(rt; fine, "{room} {want}");
             }
@@ -149,20 +157,23 @@ fn each_write_fails(rt: HostRuntime) -> Result<(), Fail> {
     Ok(())
 }
 
-/// Each length at which a line is no row, and that line.
+/// What is wrong with so many bytes of the rows.
+fn fault_after(count: usize) -> Option<Fault> {
+    match count {
+        1..=4 => Some(Fault::Line(1)),
+        7..=9 => Some(Fault::Line(2)),
+        12 => Some(Fault::Line(3)),
+        15..=21 => Some(Fault::Line(4)),
+        _ => None,
+    }
+}
+
 #[test]
 fn input_ends_within_a_row(rt: HostRuntime) -> Result<(), Fail> {
-    for (first, past, line) in [(1, 5, 1), (7, 10, 2), (12, 13, 3), (15, 22, 4)] {
-        for count in first..past {
-            let (bytes, _) = ROWS.as_bytes().split_at(count);
-            let want = (Some(Fault::Line(line)), "");
-            let fine = reads_slowly(rt.alloc(), &["0", "0"], bytes, true, want)?;
-            assert!(rt; fine, "{count}");
-        }
-    }
-    for count in [0, 5, 6, 10, 11, 13, 14, 22, 23] {
+    for count in 0..ROWS.len() + 1 {
         let (bytes, _) = ROWS.as_bytes().split_at(count);
-        let fine = reads_slowly(rt.alloc(), &["0", "0"], bytes, true, (None, ""))?;
+        let want = (fault_after(count), "");
+        let fine = reads_slowly(rt.alloc(), &["0", "0"], bytes, true, want)?;
         assert!(rt; fine, "{count}");
     }
     Ok(())
