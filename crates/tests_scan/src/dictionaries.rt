@@ -1,9 +1,7 @@
 //! Dictionaries gone through from both ends, by their keys and by their texts.
 use crate::maps::texts;
-use crate::parts::{
-    both, buffer, gave_nothing, gave_null, not_null, numbers, offsets_of, validity,
-};
-use crate::scalars::spelled;
+use crate::parts::{both, buffer, numbers, offsets_of, validity};
+use crate::walks::{expect_spelled, walk, walked};
 use nest_array::{AnyArray, AnyKeys, DictionaryArray};
 use nest_flat::primitive::PrimitiveArray;
 use nest_flat::utf8::Utf8Array;
@@ -43,22 +41,31 @@ fn four_keys(alloc: Global) -> Result<DictionaryArray, Error> {
     dictionary(alloc, &[0, 1, 1, 2], Some(bits), values)
 }
 
+/// A walk over the values, also under nulls; of raw keys past the values nothing is spelled.
+fn raw_values(alloc: Global, array: &DictionaryArray, turns: &str) -> Result<String, Error> {
+    if array.all_in_range() {
+        return walked(alloc, array.values_iter(alloc), turns);
+    }
+    Ok(String::new(alloc))
+}
+
+/// A walk over the raw keys; of those past the values nothing is spelled.
+fn raw_keys(alloc: Global, array: &DictionaryArray, turns: &str) -> Result<String, Error> {
+    if array.all_in_range() {
+        return walked(alloc, array.keys_values_iter(), turns);
+    }
+    Ok(String::new(alloc))
+}
+
 #[test]
 fn scalars_from_both_ends(rt: HostRuntime) {
     let alloc = rt.alloc();
     let array = four_keys(alloc).expect(&rt, "four keys");
-    let mut slots = array.iter(alloc);
-    let last = spelled(alloc, not_null(slots.next_back()));
-    assert!(rt; last.as_str() == "'C' ");
-    assert!(rt; gave_null(slots.next_back()));
-    assert!(rt; slots.len() == 2);
-    let first = spelled(alloc, not_null(slots.next()));
-    assert!(rt; first.as_str() == "'A' ");
-    let second = spelled(alloc, not_null(slots.next()));
-    assert!(rt; second.as_str() == "'B' ");
-    assert!(rt; gave_nothing(slots.next()));
-    assert!(rt; gave_nothing(slots.next_back()));
-    drop(slots);
+    expect_spelled(
+        &rt,
+        walked(alloc, array.iter(alloc), "<<#>>><"),
+        "C null 2 A B - - ",
+    );
     drop(array);
 }
 
@@ -66,89 +73,43 @@ fn scalars_from_both_ends(rt: HostRuntime) {
 fn scalars_under_nulls(rt: HostRuntime) {
     let alloc = rt.alloc();
     let array = four_keys(alloc).expect(&rt, "four keys");
-    if array.all_in_range() {
-        let mut values = array.values_iter(alloc);
-        let last = spelled(alloc, values.next_back());
-        assert!(rt; last.as_str() == "'C' ");
-        let under_the_null = spelled(alloc, values.next_back());
-        assert!(rt; under_the_null.as_str() == "'B' ");
-        assert!(rt; values.size_hint() == (2, Some(2)));
-        drop(values);
-    }
+    expect_spelled(&rt, raw_values(alloc, &array, "<<#"), "C B 2 ");
     drop(array);
+}
+
+/// A walk of a clone that was made after the first key came, and of the rest.
+fn keys_once_more(alloc: Global, array: &DictionaryArray) -> Result<String, Error> {
+    let mut text = String::new(alloc);
+    let mut keys = array.keys_iter();
+    walk(&mut keys, ">", &mut text)?;
+    let mut rest = keys.clone()?;
+    walk(&mut rest, "<#", &mut text)?;
+    walk(&mut keys, ">>#>>", &mut text)?;
+    Ok(text)
 }
 
 #[test]
 fn keys_and_nulls(rt: HostRuntime) {
     let alloc = rt.alloc();
     let array = four_keys(alloc).expect(&rt, "four keys");
-    let mut keys = array.keys_iter();
-    assert!(rt; keys.next() == Some(Some(0)));
-    let mut rest = keys.clone().expect(&rt, "the same keys once more");
-    assert!(rt; rest.next_back() == Some(Some(2)));
-    assert!(rt; keys.next() == Some(Some(1)));
-    assert!(rt; keys.next() == Some(None));
-    assert!(rt; keys.len() == 1);
-    assert!(rt; keys.next() == Some(Some(2)));
-    assert!(rt; keys.next() == None);
-    assert!(rt; rest.len() == 2);
-    drop(keys);
-    drop(rest);
-    if array.all_in_range() {
-        let mut raw = array.keys_values_iter();
-        assert!(rt; raw.next_back() == Some(2));
-        assert!(rt; raw.next_back() == Some(1));
-        assert!(rt; raw.next() == Some(0));
-        assert!(rt; raw.len() == 1);
-        drop(raw);
-    }
+    expect_spelled(&rt, keys_once_more(alloc, &array), "0 2 2 1 null 1 2 - ");
+    expect_spelled(&rt, raw_keys(alloc, &array, "<<>#"), "2 1 0 1 ");
     drop(array);
 }
 
-/// Whether this text came.
-fn gave_text(item: Option<&str>, text: &str) -> bool {
-    match item {
-        Some(found) => *found == *text,
-        None => false,
-    }
-}
-
-/// Whether a slot of this text came.
-fn gave_text_slot(item: Option<Option<&str>>, text: &str) -> bool {
-    match item {
-        Some(item) => gave_text(item, text),
-        None => false,
-    }
-}
-
-/// Whether a slot came that is null.
-fn gave_null_slot(item: Option<Option<&str>>) -> bool {
-    match item {
-        Some(item) => item.is_none(),
-        None => false,
-    }
-}
-
-/// A, B, null and C, from the front.
-fn are_four_texts<O: TextOffset>(slots: &mut DictionaryIterTyped<'_, O>) -> bool {
-    let first = gave_text_slot(slots.next(), "A");
-    let second = gave_text_slot(slots.next(), "B");
-    let third = gave_null_slot(slots.next());
-    let fourth = gave_text_slot(slots.next(), "C");
-    first && second && third && fourth && slots.next().is_none()
-}
-
-/// Whether the slots of a dictionary are A, B, null and C; the refusal of its values, where they are no such texts.
-fn typed<O: TextOffset>(array: Result<DictionaryArray, Error>) -> Result<bool, Error> {
+/// A walk over the texts of a dictionary; the refusal of its values, where they are no such texts.
+fn typed<O: TextOffset>(
+    alloc: Global,
+    array: Result<DictionaryArray, Error>,
+    turns: &str,
+) -> Result<String, Error> {
     let array = array?;
-    let mut answer = Ok(false);
+    let mut answer = Ok(String::new(alloc));
     if array.values().null_count() == 0 {
         answer = match array.iter_typed::<O>() {
             Ok(slots) => {
-                let mut slots = slots;
-                let same = are_four_texts(&mut slots);
-                drop(slots);
-                Ok(same)
+                let slots: DictionaryIterTyped<'_, O> = slots;
+                walked(alloc, slots, turns)
             }
             Err(error) => Err(error),
         };
@@ -157,7 +118,7 @@ fn typed<O: TextOffset>(array: Result<DictionaryArray, Error>) -> Result<bool, E
     answer
 }
 
-const NO_TEXTS: Error = Error::InvalidArgumentError(Argument::ValuesType);
+const NO_TEXTS: Option<Error> = Some(Error::InvalidArgumentError(Argument::ValuesType));
 
 fn large_texts(alloc: Global, offsets: &[i64], bytes: &[u8]) -> Result<AnyArray, Error> {
     match both(offsets_of(alloc, offsets), buffer(alloc, bytes)) {
@@ -168,11 +129,26 @@ fn large_texts(alloc: Global, offsets: &[i64], bytes: &[u8]) -> Result<AnyArray,
     }
 }
 
+/// What the values of a dictionary were refused for.
+fn refusal(answer: Result<String, Error>) -> Option<Error> {
+    match answer {
+        Ok(text) => {
+            drop(text);
+            None
+        }
+        Err(error) => Some(error),
+    }
+}
+
 #[test]
 fn texts_and_nulls(rt: HostRuntime) {
     let alloc = rt.alloc();
-    assert!(rt; typed::<i32>(four_keys(alloc)) == Ok(true));
-    assert!(rt; typed::<i64>(four_keys(alloc)) == Err(NO_TEXTS));
+    expect_spelled(
+        &rt,
+        typed::<i32>(alloc, four_keys(alloc), ">>>>>"),
+        "A B null C - ",
+    );
+    assert!(rt; refusal(typed::<i64>(alloc, four_keys(alloc), ">")) == NO_TEXTS);
 }
 
 #[test]
@@ -180,24 +156,24 @@ fn values_of_other_types_are_refused(rt: HostRuntime) {
     let alloc = rt.alloc();
     let large = large_texts(alloc, &[0, 1], b"x");
     let over_large = dictionary(alloc, &[0], None, large);
-    assert!(rt; typed::<i32>(over_large) == Err(NO_TEXTS));
+    assert!(rt; refusal(typed::<i32>(alloc, over_large, ">")) == NO_TEXTS);
     let over_numbers = dictionary(alloc, &[0], None, numbers(alloc, &[7]));
-    assert!(rt; typed::<i32>(over_numbers) == Err(NO_TEXTS));
+    assert!(rt; refusal(typed::<i32>(alloc, over_numbers, ">")) == NO_TEXTS);
 }
 
-/// Whether the texts of a dictionary without nulls are B and A.
-fn typed_values<O: TextOffset>(array: Result<DictionaryArray, Error>) -> Result<bool, Error> {
+/// A walk over the texts of a dictionary without nulls.
+fn typed_values<O: TextOffset>(
+    alloc: Global,
+    array: Result<DictionaryArray, Error>,
+    turns: &str,
+) -> Result<String, Error> {
     let array = array?;
-    let mut answer = Ok(false);
+    let mut answer = Ok(String::new(alloc));
     if array.null_count() == 0 && array.values().null_count() == 0 {
         answer = match array.values_iter_typed::<O>() {
             Ok(values) => {
-                let mut values: DictionaryValuesIterTyped<'_, O> = values;
-                let last = gave_text(values.next_back(), "A");
-                let first = gave_text(values.next(), "B");
-                let same = first && last && values.len() == 0;
-                drop(values);
-                Ok(same)
+                let values: DictionaryValuesIterTyped<'_, O> = values;
+                walked(alloc, values, turns)
             }
             Err(error) => Err(error),
         };
@@ -210,12 +186,12 @@ fn typed_values<O: TextOffset>(array: Result<DictionaryArray, Error>) -> Result<
 fn texts_without_nulls(rt: HostRuntime) {
     let alloc = rt.alloc();
     let small = dictionary(alloc, &[1, 0], None, texts(alloc, &[0, 1, 2], b"AB"));
-    assert!(rt; typed_values::<i32>(small) == Ok(true));
+    expect_spelled(&rt, typed_values::<i32>(alloc, small, "<>#"), "A B 0 ");
     let large = large_texts(alloc, &[0, 1, 2], b"AB");
     let large = dictionary(alloc, &[1, 0], None, large);
-    assert!(rt; typed_values::<i64>(large) == Ok(true));
+    expect_spelled(&rt, typed_values::<i64>(alloc, large, "<>#"), "A B 0 ");
     let other = dictionary(alloc, &[1, 0], None, numbers(alloc, &[1, 2]));
-    assert!(rt; typed_values::<i32>(other) == Err(NO_TEXTS));
+    assert!(rt; refusal(typed_values::<i32>(alloc, other, "<")) == NO_TEXTS);
 }
 
 #[test]
@@ -225,14 +201,7 @@ fn null_keys_past_the_values(rt: HostRuntime) {
     let values = texts(alloc, &[0, 1], b"x");
     let array = dictionary(alloc, &[9, 9], Some(bits), values).expect(&rt, "two null keys");
     assert!(rt; !array.all_in_range());
-    let mut slots = array.iter(alloc);
-    assert!(rt; gave_null(slots.next()));
-    assert!(rt; gave_null(slots.next()));
-    assert!(rt; gave_nothing(slots.next()));
-    drop(slots);
-    let mut keys = array.keys_iter();
-    assert!(rt; keys.next_back() == Some(None));
-    assert!(rt; keys.len() == 1);
-    drop(keys);
+    expect_spelled(&rt, walked(alloc, array.iter(alloc), ">>>"), "null null - ");
+    expect_spelled(&rt, walked(alloc, array.keys_iter(), "<#"), "null 1 ");
     drop(array);
 }

@@ -29,8 +29,8 @@ mod parts;
 #[cfg(test)]
 mod records;
 #[cfg(test)]
-mod scalars;
-#[cfg(test)]
 mod sized;
 #[cfg(test)]
 mod unions;
+#[cfg(test)]
+mod walks;

@@ -1,11 +1,12 @@
 //! Maps gone through from both ends.
-use crate::parts::{both, buffer, gave_nothing, gave_null, not_null, offsets_of, two, validity};
+use crate::parts::{both, buffer, offsets_of, two, validity};
+use crate::walks::{expect_spelled, slots, values, walk, walked};
 use nest_array::{AnyArray, MapArray, StructArray};
 use nest_flat::utf8::Utf8Array;
 use nest_memory::datatypes::DataType;
 use nest_memory::datatypes::field::Field;
 use nest_memory::error::Error;
-use nest_scan::{MapValuesIter, Scan, ScanValues};
+use nest_scan::{MapValuesIter, ScanValues};
 use std::alloc::Global;
 
 /// Texts, as an array of any kind.
@@ -55,51 +56,23 @@ fn two_maps(alloc: Global, bits: Option<&[bool]>) -> Result<MapArray, Error> {
     }
 }
 
-/// Whether the array has this text alone.
-fn is_text(array: &AnyArray, text: &str) -> bool {
-    match array {
-        AnyArray::Utf8(texts) => texts.len() == 1 && *texts.value(0) == *text,
-        _ => false,
-    }
-}
-
-fn is_entry(array: &AnyArray, key: &str, value: &str) -> bool {
-    match array {
-        AnyArray::Struct(records) => match records.values() {
-            [keys, values] => is_text(keys, key) && is_text(values, value),
-            _ => false,
-        },
-        _ => false,
-    }
-}
-
-/// Whether the one entry from this key to this value came; it is let go.
-fn gave_entry(item: Option<Result<AnyArray, Error>>, key: &str, value: &str) -> bool {
-    match item {
-        Some(Ok(entries)) => {
-            let same = is_entry(&entries, key, value);
-            drop(entries);
-            same
-        }
-        _ => false,
-    }
+/// A walk of a clone that was made after the last map came.
+fn once_more(alloc: Global, maps: &MapArray) -> Result<String, Error> {
+    let mut text = String::new(alloc);
+    let mut values = maps.values_iter(alloc);
+    walk(&mut values, "<", &mut text)?;
+    let mut rest = values.clone()?;
+    walk(&mut rest, "#><", &mut text)?;
+    walk(&mut values, "#", &mut text)?;
+    Ok(text)
 }
 
 #[test]
 fn maps_from_both_ends(rt: HostRuntime) {
     let alloc = rt.alloc();
     let maps = two_maps(alloc, None).expect(&rt, "two maps");
-    let mut values = maps.values_iter(alloc);
-    assert!(rt; gave_entry(values.next_back(), "aa", "bb"));
-    let mut rest = values.clone().expect(&rt, "the same map once more");
-    assert!(rt; rest.len() == 1);
-    assert!(rt; gave_entry(rest.next(), "a", "b"));
-    assert!(rt; gave_nothing(rest.next()));
-    assert!(rt; gave_nothing(rest.next_back()));
-    assert!(rt; values.len() == 1);
-    assert!(rt; gave_entry(values.next_back(), "a", "b"));
-    drop(rest);
-    drop(values);
+    expect_spelled(&rt, values(alloc, &maps, "<#<>"), "{aa;bb;} 1 {a;b;} - ");
+    expect_spelled(&rt, once_more(alloc, &maps), "{aa;bb;} 1 {a;b;} - 1 ");
     drop(maps);
 }
 
@@ -108,14 +81,8 @@ fn nulls_among_maps(rt: HostRuntime) {
     let alloc = rt.alloc();
     let bits = [false, true].as_slice();
     let maps = two_maps(alloc, Some(bits)).expect(&rt, "two maps");
-    let mut slots = maps.iter(alloc);
-    assert!(rt; gave_null(slots.next()));
-    assert!(rt; gave_entry(not_null(slots.next()), "aa", "bb"));
-    assert!(rt; gave_nothing(slots.next()));
-    drop(slots);
-    let mut values = MapValuesIter::new(alloc, &maps);
-    assert!(rt; gave_entry(values.next(), "a", "b"));
-    assert!(rt; values.size_hint() == (1, Some(1)));
-    drop(values);
+    expect_spelled(&rt, slots(alloc, &maps, ">>>"), "null {aa;bb;} - ");
+    let values = MapValuesIter::new(alloc, &maps);
+    expect_spelled(&rt, walked(alloc, values, ">#"), "{a;b;} 1 ");
     drop(maps);
 }

@@ -1,7 +1,6 @@
-//! Parts of arrays, and what an iterator gave. What has a data type is let go in generic helpers and by `drop`, which keeps the
-//! proofs short.
+//! Parts of arrays. What has a data type is let go in generic helpers and by `drop`, which keeps the proofs short.
 use nest_array::{AnyArray, ListArray};
-use nest_flat::any_primitive::{AnyPrimitive, NativeArray};
+use nest_flat::any_primitive::NativeArray;
 use nest_flat::primitive::PrimitiveArray;
 use nest_memory::bitmap::immutable::Bitmap;
 use nest_memory::buffer::Buffer;
@@ -57,51 +56,6 @@ pub(crate) fn numbers(alloc: Global, items: &[i32]) -> Result<AnyArray, Error> {
             |array| AnyArray::Primitive(i32::wrap(array)),
         ),
         Err(error) => Err(error),
-    }
-}
-
-pub(crate) fn is_numbers(array: &AnyArray, items: &[i32]) -> bool {
-    match array {
-        AnyArray::Primitive(AnyPrimitive::Int32(array)) => *array.values().as_slice() == *items,
-        _ => false,
-    }
-}
-
-/// Whether an array of these numbers of 32 bits came; it is let go.
-pub(crate) fn gave_numbers(item: Option<Result<AnyArray, Error>>, items: &[i32]) -> bool {
-    match item {
-        Some(Ok(array)) => {
-            let same = is_numbers(&array, items);
-            drop(array);
-            same
-        }
-        _ => false,
-    }
-}
-
-/// Whether no item came; what came is let go.
-pub(crate) fn gave_nothing<T: Drop>(item: Option<T>) -> bool {
-    let nothing = item.is_none();
-    drop(item);
-    nothing
-}
-
-/// Whether an item came that is null; what came is let go.
-pub(crate) fn gave_null<T: Drop>(item: Option<Result<Option<T>, Error>>) -> bool {
-    match item {
-        Some(Ok(item)) => gave_nothing(item),
-        _ => false,
-    }
-}
-
-/// The item that came, where it is not null.
-pub(crate) fn not_null<T: Drop>(
-    item: Option<Result<Option<T>, Error>>,
-) -> Option<Result<T, Error>> {
-    match item {
-        Some(Ok(Some(item))) => Some(Ok(item)),
-        Some(Err(error)) => Some(Err(error)),
-        _ => None,
     }
 }
 

@@ -1,13 +1,13 @@
 //! Records gone through from both ends.
-use crate::parts::{both, gave_nothing, gave_null, not_null, numbers, two, validity};
-use crate::scalars::record;
+use crate::parts::{both, numbers, two, validity};
+use crate::walks::{expect_spelled, slots, values, walked};
 use nest_array::{AnyArray, StructArray};
 use nest_flat::boolean::BooleanArray;
 use nest_memory::bitmap::immutable::Bitmap;
 use nest_memory::datatypes::DataType;
 use nest_memory::datatypes::field::Field;
 use nest_memory::error::Error;
-use nest_scan::{Scan, ScanValues, StructValueIter};
+use nest_scan::StructValueIter;
 use std::alloc::Global;
 
 fn truths(alloc: Global, items: &[bool]) -> Result<AnyArray, Error> {
@@ -38,20 +38,9 @@ pub(crate) fn four_records(alloc: Global, bits: Option<&[bool]>) -> Result<Struc
 fn two_scalars_a_row(rt: HostRuntime) {
     let alloc = rt.alloc();
     let records = four_records(alloc, None).expect(&rt, "four records");
-    let mut slots = records.iter(alloc);
-    assert!(rt; slots.len() == 4);
-    let first = record(alloc, not_null(slots.next()));
-    assert!(rt; first.as_str() == "false Int32(42) ");
-    let last = record(alloc, not_null(slots.next_back()));
-    assert!(rt; last.as_str() == "true Int32(31) ");
-    let second = record(alloc, not_null(slots.next()));
-    assert!(rt; second.as_str() == "false Int32(28) ");
-    let third = record(alloc, not_null(slots.next()));
-    assert!(rt; third.as_str() == "true Int32(19) ");
-    assert!(rt; slots.len() == 0);
-    assert!(rt; gave_nothing(slots.next()));
-    assert!(rt; gave_nothing(slots.next_back()));
-    drop(slots);
+    let wanted =
+        "4 {false;Int32(42);} {true;Int32(31);} {false;Int32(28);} {true;Int32(19);} 0 - - ";
+    expect_spelled(&rt, slots(alloc, &records, "#><>>#><"), wanted);
     drop(records);
 }
 
@@ -60,21 +49,14 @@ fn nulls_among_records(rt: HostRuntime) {
     let alloc = rt.alloc();
     let bits = [true, true, false, true].as_slice();
     let records = four_records(alloc, Some(bits)).expect(&rt, "four records");
-    let mut slots = records.iter(alloc);
-    let last = record(alloc, not_null(slots.next_back()));
-    assert!(rt; last.as_str() == "true Int32(31) ");
-    assert!(rt; gave_null(slots.next_back()));
-    assert!(rt; slots.len() == 2);
-    drop(slots);
-    let mut values = StructValueIter::new(alloc, &records);
-    let last = record(alloc, values.next_back());
-    assert!(rt; last.as_str() == "true Int32(31) ");
-    let under_the_null = record(alloc, values.next_back());
-    assert!(rt; under_the_null.as_str() == "true Int32(19) ");
-    drop(values);
-    let mut values = records.values_iter(alloc);
-    let first = record(alloc, values.next());
-    assert!(rt; first.as_str() == "false Int32(42) ");
-    drop(values);
+    expect_spelled(
+        &rt,
+        slots(alloc, &records, "<<#"),
+        "{true;Int32(31);} null 2 ",
+    );
+    let wanted = "{true;Int32(31);} {true;Int32(19);} ";
+    let values_of: StructValueIter<'_> = StructValueIter::new(alloc, &records);
+    expect_spelled(&rt, walked(alloc, values_of, "<<"), wanted);
+    expect_spelled(&rt, values(alloc, &records, ">"), "{false;Int32(42);} ");
     drop(records);
 }

@@ -1,7 +1,6 @@
 //! Lists of one size, and byte strings of one size, gone through from both ends.
-use crate::parts::{
-    both, buffer, gave_nothing, gave_null, gave_numbers, not_null, numbers, validity,
-};
+use crate::parts::{both, buffer, numbers, validity};
+use crate::walks::{expect_spelled, slots, walked};
 use nest_array::{AnyArray, FixedSizeBinaryArray, FixedSizeListArray};
 use nest_memory::error::Error;
 use nest_scan::{FixedSizeListValuesIter, Scan, ScanValues};
@@ -35,20 +34,13 @@ fn pairs_from_both_ends(rt: HostRuntime) {
     let alloc = rt.alloc();
     let bits = [true, false, true].as_slice();
     let array = pairs(alloc, Some(bits)).expect(&rt, "three pairs");
-    let mut values = FixedSizeListValuesIter::new(alloc, &array);
-    assert!(rt; gave_numbers(values.next_back(), &[5, 6]));
-    assert!(rt; gave_numbers(values.next(), &[1, 2]));
-    assert!(rt; values.len() == 1);
-    assert!(rt; gave_numbers(values.next_back(), &[3, 4]));
-    assert!(rt; gave_nothing(values.next_back()));
-    assert!(rt; gave_nothing(values.next()));
-    drop(values);
-    let mut slots = array.iter(alloc);
-    assert!(rt; gave_numbers(not_null(slots.next()), &[1, 2]));
-    assert!(rt; gave_null(slots.next()));
-    assert!(rt; gave_numbers(not_null(slots.next()), &[5, 6]));
-    assert!(rt; gave_nothing(slots.next()));
-    drop(slots);
+    let values = FixedSizeListValuesIter::new(alloc, &array);
+    expect_spelled(
+        &rt,
+        walked(alloc, values, "<>#<<>"),
+        "[5;6;] [1;2;] 1 [3;4;] - - ",
+    );
+    expect_spelled(&rt, slots(alloc, &array, ">>>>"), "[1;2;] null [5;6;] - ");
     drop(array);
 }
 
@@ -63,43 +55,16 @@ fn three_strings(alloc: Global, bits: Option<&[bool]>) -> Result<FixedSizeBinary
     }
 }
 
-/// Whether these bytes came.
-fn gave_bytes(item: Option<&[u8]>, bytes: &[u8]) -> bool {
-    match item {
-        Some(found) => *found == *bytes,
-        None => false,
-    }
-}
-
-/// Whether a slot of these bytes came.
-fn gave_slot(item: Option<Option<&[u8]>>, bytes: &[u8]) -> bool {
-    match item {
-        Some(item) => gave_bytes(item, bytes),
-        None => false,
-    }
-}
-
-/// Whether a slot came that is null.
-fn gave_null_slot(item: Option<Option<&[u8]>>) -> bool {
-    match item {
-        Some(item) => item.is_none(),
-        None => false,
-    }
-}
-
 #[test]
 fn values_of_byte_strings(rt: HostRuntime) {
     let alloc = rt.alloc();
     let bits = [true, false, true].as_slice();
     let array = three_strings(alloc, Some(bits)).expect(&rt, "three strings");
-    let mut values = array.values_iter(alloc);
-    assert!(rt; gave_bytes(values.next_back(), b"ef"));
-    assert!(rt; values.len() == 2);
-    assert!(rt; gave_bytes(values.next(), b"ab"));
-    assert!(rt; gave_bytes(values.next(), b"cd"));
-    assert!(rt; values.next().is_none());
-    assert!(rt; values.next_back().is_none());
-    drop(values);
+    expect_spelled(
+        &rt,
+        walked(alloc, array.values_iter(alloc), "<#>>><"),
+        "ef 2 ab cd - - ",
+    );
     drop(array);
 }
 
@@ -108,12 +73,10 @@ fn nulls_among_byte_strings(rt: HostRuntime) {
     let alloc = rt.alloc();
     let bits = [true, false, true].as_slice();
     let array = three_strings(alloc, Some(bits)).expect(&rt, "three strings");
-    let mut slots = array.iter(alloc);
-    assert!(rt; gave_slot(slots.next(), b"ab"));
-    assert!(rt; gave_null_slot(slots.next()));
-    assert!(rt; gave_slot(slots.next_back(), b"ef"));
-    assert!(rt; slots.size_hint() == (0, Some(0)));
-    assert!(rt; slots.next_back().is_none());
-    drop(slots);
+    expect_spelled(
+        &rt,
+        walked(alloc, array.iter(alloc), ">><#<"),
+        "ab null ef 0 - ",
+    );
     drop(array);
 }

@@ -1,7 +1,7 @@
 //! What the slots of unions pick, one after another.
 use crate::maps::texts;
-use crate::parts::{both, buffer, gave_nothing, numbers, two};
-use crate::scalars::spelled;
+use crate::parts::{both, buffer, numbers, two};
+use crate::walks::{expect_spelled, spell};
 use nest_array::{AnyArray, UnionArray};
 use nest_memory::datatypes::field::Field;
 use nest_memory::datatypes::{DataType, UnionMode};
@@ -45,23 +45,25 @@ fn eleven(alloc: Global) -> Result<UnionArray, Error> {
     sparse(alloc, fields, Some(&[5, 7]), types.as_slice(), children)
 }
 
+/// So many picks from the front, each after how many were left.
+fn picks(alloc: Global, slots: UnionIter<'_>, n: usize) -> Result<String, Error> {
+    let mut slots = slots;
+    let mut text = String::new(alloc);
+    for _ in 0..n {
+        spell(Some(slots.len()), &mut text)?;
+        spell(slots.next(), &mut text)?;
+    }
+    drop(slots);
+    Ok(text)
+}
+
 #[test]
 fn eleven_picks_and_none_left(rt: HostRuntime) {
     let alloc = rt.alloc();
     let array = eleven(alloc).expect(&rt, "eleven slots");
-    let mut slots = UnionIter::new(alloc, &array);
-    let wanted = [0, 101, 2, 103, 104, 105, 6, 107, 108, 9, 10];
-    let mut left = 11usize;
-    for number in wanted {
-        assert!(rt; slots.len() == left);
-        let text = format!(in alloc; "Int32({number}) ").expect(&rt, "a short text");
-        assert!(rt; spelled(alloc, slots.next()).as_str() == text.as_str());
-        left = left.saturating_sub(1);
-    }
-    assert!(rt; slots.size_hint() == (0, Some(0)));
-    assert!(rt; gave_nothing(slots.next()));
-    assert!(rt; gave_nothing(slots.next()));
-    drop(slots);
+    let wanted = "11 Int32(0) 10 Int32(101) 9 Int32(2) 8 Int32(103) 7 Int32(104) 6 Int32(105) \
+        5 Int32(6) 4 Int32(107) 3 Int32(108) 2 Int32(9) 1 Int32(10) 0 - 0 - ";
+    expect_spelled(&rt, picks(alloc, UnionIter::new(alloc, &array), 13), wanted);
     drop(array);
 }
 
@@ -74,20 +76,27 @@ fn in_turn(alloc: Global) -> Result<UnionArray, Error> {
     sparse(alloc, fields, None, &[0, 1, 0, 1], children)
 }
 
+/// What a clone picks that was made after the first pick, and the rest.
+fn after_the_first(alloc: Global, array: &UnionArray) -> Result<String, Error> {
+    let mut text = String::new(alloc);
+    let mut slots = array.iter(alloc);
+    spell(slots.next(), &mut text)?;
+    let again = slots.clone()?;
+    text.push_str(picks(alloc, again, 2)?.as_str())?;
+    text.push_str(picks(alloc, slots, 2)?.as_str())?;
+    Ok(text)
+}
+
 #[test]
 fn picks_of_a_cut(rt: HostRuntime) {
     let alloc = rt.alloc();
     let array = in_turn(alloc).expect(&rt, "four slots");
     assert!(rt; array.len() == 4);
     let array = array.sliced(1, 2);
-    let mut slots = array.iter(alloc);
-    assert!(rt; spelled(alloc, slots.next()).as_str() == "'b' ");
-    let mut again = slots.clone().expect(&rt, "the same slot once more");
-    assert!(rt; spelled(alloc, again.next()).as_str() == "Int32(12) ");
-    assert!(rt; gave_nothing(again.next()));
-    assert!(rt; spelled(alloc, slots.next()).as_str() == "Int32(12) ");
-    assert!(rt; gave_nothing(slots.next()));
-    drop(again);
-    drop(slots);
+    expect_spelled(
+        &rt,
+        after_the_first(alloc, &array),
+        "b 1 Int32(12) 0 - 1 Int32(12) 0 - ",
+    );
     drop(array);
 }
