@@ -41,6 +41,11 @@ fn four_keys(alloc: Global) -> Result<DictionaryArray, Error> {
     dictionary(alloc, &[0, 1, 1, 2], Some(bits), values)
 }
 
+/// A walk over the slots.
+fn slots(alloc: Global, array: &DictionaryArray, turns: &str) -> Result<String, Error> {
+    walked(alloc, array.iter(alloc), turns)
+}
+
 /// A walk over the values, also under nulls; of raw keys past the values nothing is spelled.
 fn raw_values(alloc: Global, array: &DictionaryArray, turns: &str) -> Result<String, Error> {
     if array.all_in_range() {
@@ -61,11 +66,7 @@ fn raw_keys(alloc: Global, array: &DictionaryArray, turns: &str) -> Result<Strin
 fn scalars_from_both_ends(rt: HostRuntime) {
     let alloc = rt.alloc();
     let array = four_keys(alloc).expect(&rt, "four keys");
-    expect_spelled(
-        &rt,
-        walked(alloc, array.iter(alloc), "<<#>>><"),
-        "C null 2 A B - - ",
-    );
+    expect_spelled(&rt, slots(alloc, &array, "<<#>>><"), "C null 2 A B - - ");
     drop(array);
 }
 
@@ -75,6 +76,11 @@ fn scalars_under_nulls(rt: HostRuntime) {
     let array = four_keys(alloc).expect(&rt, "four keys");
     expect_spelled(&rt, raw_values(alloc, &array, "<<#"), "C B 2 ");
     drop(array);
+}
+
+/// A walk over the keys.
+fn keys_of(alloc: Global, array: &DictionaryArray, turns: &str) -> Result<String, Error> {
+    walked(alloc, array.keys_iter(), turns)
 }
 
 /// A walk of a clone that was made after the first key came, and of the rest.
@@ -201,7 +207,7 @@ fn null_keys_past_the_values(rt: HostRuntime) {
     let values = texts(alloc, &[0, 1], b"x");
     let array = dictionary(alloc, &[9, 9], Some(bits), values).expect(&rt, "two null keys");
     assert!(rt; !array.all_in_range());
-    expect_spelled(&rt, walked(alloc, array.iter(alloc), ">>>"), "null null - ");
-    expect_spelled(&rt, walked(alloc, array.keys_iter(), "<#"), "null 1 ");
+    expect_spelled(&rt, slots(alloc, &array, ">>>"), "null null - ");
+    expect_spelled(&rt, keys_of(alloc, &array, "<#"), "null 1 ");
     drop(array);
 }

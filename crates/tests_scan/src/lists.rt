@@ -1,15 +1,27 @@
 //! Lists gone through from both ends.
 use crate::parts::{list_array, numbers};
-use crate::walks::{expect_spelled, spell, values, walked};
+use crate::walks::{expect_spelled, spell, walked};
 use nest_array::ListArray;
 use nest_memory::error::Error;
-use nest_scan::{ListIter, ListValuesIter, Scan, TryPlaces};
+use nest_scan::{ListIter, ListValuesIter, Scan, ScanValues, TryPlaces};
 use std::alloc::Global;
 
 /// [1,2], [], [3], [4,5].
 pub(crate) fn four_lists(alloc: Global, bits: Option<&[bool]>) -> Result<ListArray, Error> {
     let items = numbers(alloc, &[1, 2, 3, 4, 5]);
     list_array(alloc, items, &[0, 2, 2, 3, 5], bits)
+}
+
+/// A walk over the slots.
+fn slots(alloc: Global, lists: &ListArray, turns: &str) -> Result<String, Error> {
+    let slots: ListIter<'_, i32> = lists.iter(alloc);
+    walked(alloc, slots, turns)
+}
+
+/// A walk over the lists, also under nulls.
+fn values(alloc: Global, lists: &ListArray, turns: &str) -> Result<String, Error> {
+    let values: ListValuesIter<'_, i32> = lists.values_iter(alloc);
+    walked(alloc, values, turns)
 }
 
 #[test]
@@ -26,14 +38,9 @@ fn nulls_among_lists(rt: HostRuntime) {
     let alloc = rt.alloc();
     let bits = [true, false, false, true].as_slice();
     let lists = four_lists(alloc, Some(bits)).expect(&rt, "four lists");
-    let slots: ListIter<'_, i32> = lists.iter(alloc);
-    expect_spelled(
-        &rt,
-        walked(alloc, slots, "<<>#><>"),
-        "[4;5;] null [1;2;] 1 null - - ",
-    );
-    let values = ListValuesIter::<'_, i32>::new(alloc, &lists);
-    expect_spelled(&rt, walked(alloc, values, ">>>"), "[1;2;] [] [3;] ");
+    let wanted = "[4;5;] null [1;2;] 1 null - - ";
+    expect_spelled(&rt, slots(alloc, &lists, "<<>#><>"), wanted);
+    expect_spelled(&rt, values(alloc, &lists, ">>>"), "[1;2;] [] [3;] ");
     drop(lists);
 }
 

@@ -1,12 +1,12 @@
 //! Maps gone through from both ends.
 use crate::parts::{both, buffer, offsets_of, two, validity};
-use crate::walks::{expect_spelled, slots, values, walk, walked};
+use crate::walks::{expect_spelled, walk, walked};
 use nest_array::{AnyArray, MapArray, StructArray};
 use nest_flat::utf8::Utf8Array;
 use nest_memory::datatypes::DataType;
 use nest_memory::datatypes::field::Field;
 use nest_memory::error::Error;
-use nest_scan::{MapValuesIter, ScanValues};
+use nest_scan::{MapValuesIter, Scan};
 use std::alloc::Global;
 
 /// Texts, as an array of any kind.
@@ -56,14 +56,19 @@ fn two_maps(alloc: Global, bits: Option<&[bool]>) -> Result<MapArray, Error> {
     }
 }
 
-/// A walk of a clone that was made after the last map came.
-fn once_more(alloc: Global, maps: &MapArray) -> Result<String, Error> {
+/// A walk over the slots.
+fn slots(alloc: Global, maps: &MapArray, turns: &str) -> Result<String, Error> {
+    walked(alloc, maps.iter(alloc), turns)
+}
+
+/// A walk over the maps, also under nulls, from a clone that is made before each turn but the first.
+fn values(alloc: Global, maps: &MapArray, turns: &str) -> Result<String, Error> {
     let mut text = String::new(alloc);
-    let mut values = maps.values_iter(alloc);
-    walk(&mut values, "<", &mut text)?;
-    let mut rest = values.clone()?;
-    walk(&mut rest, "#><", &mut text)?;
-    walk(&mut values, "#", &mut text)?;
+    let mut values = MapValuesIter::new(alloc, maps);
+    for turn in turns.split(' ') {
+        walk(&mut values, turn, &mut text)?;
+        values = values.clone()?;
+    }
     Ok(text)
 }
 
@@ -71,8 +76,7 @@ fn once_more(alloc: Global, maps: &MapArray) -> Result<String, Error> {
 fn maps_from_both_ends(rt: HostRuntime) {
     let alloc = rt.alloc();
     let maps = two_maps(alloc, None).expect(&rt, "two maps");
-    expect_spelled(&rt, values(alloc, &maps, "<#<>"), "{aa;bb;} 1 {a;b;} - ");
-    expect_spelled(&rt, once_more(alloc, &maps), "{aa;bb;} 1 {a;b;} - 1 ");
+    expect_spelled(&rt, values(alloc, &maps, "< # <>"), "{aa;bb;} 1 {a;b;} - ");
     drop(maps);
 }
 
@@ -82,7 +86,6 @@ fn nulls_among_maps(rt: HostRuntime) {
     let bits = [false, true].as_slice();
     let maps = two_maps(alloc, Some(bits)).expect(&rt, "two maps");
     expect_spelled(&rt, slots(alloc, &maps, ">>>"), "null {aa;bb;} - ");
-    let values = MapValuesIter::new(alloc, &maps);
-    expect_spelled(&rt, walked(alloc, values, ">#"), "{a;b;} 1 ");
+    expect_spelled(&rt, values(alloc, &maps, ">#"), "{a;b;} 1 ");
     drop(maps);
 }

@@ -1,13 +1,13 @@
 //! Records gone through from both ends.
 use crate::parts::{both, numbers, two, validity};
-use crate::walks::{expect_spelled, slots, values, walked};
+use crate::walks::{expect_spelled, walked};
 use nest_array::{AnyArray, StructArray};
 use nest_flat::boolean::BooleanArray;
 use nest_memory::bitmap::immutable::Bitmap;
 use nest_memory::datatypes::DataType;
 use nest_memory::datatypes::field::Field;
 use nest_memory::error::Error;
-use nest_scan::StructValueIter;
+use nest_scan::{Scan, ScanValues, StructValueIter};
 use std::alloc::Global;
 
 fn truths(alloc: Global, items: &[bool]) -> Result<AnyArray, Error> {
@@ -34,6 +34,17 @@ pub(crate) fn four_records(alloc: Global, bits: Option<&[bool]>) -> Result<Struc
     }
 }
 
+/// A walk over the slots.
+fn slots(alloc: Global, records: &StructArray, turns: &str) -> Result<String, Error> {
+    walked(alloc, records.iter(alloc), turns)
+}
+
+/// A walk over the records, also under nulls.
+fn values(alloc: Global, records: &StructArray, turns: &str) -> Result<String, Error> {
+    let values: StructValueIter<'_> = records.values_iter(alloc);
+    walked(alloc, values, turns)
+}
+
 #[test]
 fn two_scalars_a_row(rt: HostRuntime) {
     let alloc = rt.alloc();
@@ -54,9 +65,7 @@ fn nulls_among_records(rt: HostRuntime) {
         slots(alloc, &records, "<<#"),
         "{true;Int32(31);} null 2 ",
     );
-    let wanted = "{true;Int32(31);} {true;Int32(19);} ";
-    let values_of: StructValueIter<'_> = StructValueIter::new(alloc, &records);
-    expect_spelled(&rt, walked(alloc, values_of, "<<"), wanted);
-    expect_spelled(&rt, values(alloc, &records, ">"), "{false;Int32(42);} ");
+    let wanted = "{true;Int32(31);} {true;Int32(19);} {false;Int32(42);} ";
+    expect_spelled(&rt, values(alloc, &records, "<<>"), wanted);
     drop(records);
 }

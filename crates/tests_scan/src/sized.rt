@@ -1,6 +1,6 @@
 //! Lists of one size, and byte strings of one size, gone through from both ends.
 use crate::parts::{both, buffer, numbers, validity};
-use crate::walks::{expect_spelled, slots, walked};
+use crate::walks::{expect_spelled, walked};
 use nest_array::{AnyArray, FixedSizeBinaryArray, FixedSizeListArray};
 use nest_memory::error::Error;
 use nest_scan::{FixedSizeListValuesIter, Scan, ScanValues};
@@ -29,17 +29,24 @@ fn pairs(alloc: Global, bits: Option<&[bool]>) -> Result<FixedSizeListArray, Err
     numbers(alloc, &[1, 2, 3, 4, 5, 6]).and_then(|items| lists_of_two(alloc, items, bits))
 }
 
+/// A walk over the slots.
+fn slots(alloc: Global, pairs: &FixedSizeListArray, turns: &str) -> Result<String, Error> {
+    walked(alloc, pairs.iter(alloc), turns)
+}
+
+/// A walk over the pairs, also under nulls.
+fn values(alloc: Global, pairs: &FixedSizeListArray, turns: &str) -> Result<String, Error> {
+    let values: FixedSizeListValuesIter<'_> = pairs.values_iter(alloc);
+    walked(alloc, values, turns)
+}
+
 #[test]
 fn pairs_from_both_ends(rt: HostRuntime) {
     let alloc = rt.alloc();
     let bits = [true, false, true].as_slice();
     let array = pairs(alloc, Some(bits)).expect(&rt, "three pairs");
-    let values = FixedSizeListValuesIter::new(alloc, &array);
-    expect_spelled(
-        &rt,
-        walked(alloc, values, "<>#<<>"),
-        "[5;6;] [1;2;] 1 [3;4;] - - ",
-    );
+    let wanted = "[5;6;] [1;2;] 1 [3;4;] - - ";
+    expect_spelled(&rt, values(alloc, &array, "<>#<<>"), wanted);
     expect_spelled(&rt, slots(alloc, &array, ">>>>"), "[1;2;] null [5;6;] - ");
     drop(array);
 }

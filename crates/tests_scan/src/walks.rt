@@ -2,7 +2,7 @@
 use nest_array::{AnyArray, AnyScalar, ScalarValue};
 use nest_flat::any_primitive::AnyPrimitive;
 use nest_memory::error::Error;
-use nest_scan::{BothEnds, NullPlaces, Places, PlacesIter, Scan, ScanValues};
+use nest_scan::{BothEnds, Places, PlacesIter};
 use std::alloc::Global;
 use std::process::Abort;
 
@@ -180,22 +180,6 @@ where
         Ok(()) => Ok(text),
         Err(error) => Err(error),
     }
-}
-
-/// What a walk over the slots of an array spells.
-pub(crate) fn slots<A: NullPlaces>(alloc: Global, array: A, turns: &str) -> Result<String, Error>
-where
-    A::Item: Given,
-{
-    walked(alloc, array.iter(alloc), turns)
-}
-
-/// What a walk over the values of an array spells, also of those under nulls.
-pub(crate) fn values<A: NullPlaces>(alloc: Global, array: A, turns: &str) -> Result<String, Error>
-where
-    A::Item: Given,
-{
-    walked(alloc, array.values_iter(alloc), turns)
 }
 
 /// That a walk spells this.
