@@ -13,11 +13,13 @@ ghost use Rattle.nest_model.specs.Fits.{is_dictionary};
 ghost use Rattle.nest_model.specs.Layout as layouts;
 ghost use Rattle.nest_memory.specs.TypeTree.{key_type};
 ghost use Rattle.nest_array.specs.SeenKeys.{keys_layout};
+ghost use Rattle.nest_build.specs.Hashes.{value_hash};
 ghost use Rattle.nest_build.specs.Keys.{dictionary_child, told_keys};
 ghost use Rattle.nest_build.specs.Words.{Accepted, ChildNotEmpty, Fits, InvalidArgumentError, IsWhole, ItemType, Memory, Overflow, ReadsValue, Unfinished, builder_len, builder_type, emptied, layout_of, layout_type, own_slots, plain_refusal, plain_value, slots_of, type_of};
 
 use crate::array::{MutableArray, shared};
 use crate::dictionary::data_type::DictionaryType;
+use crate::dictionary::hash::hash_of;
 use crate::dictionary::key::BuilderKey;
 use crate::dictionary::rows::DictionaryRows;
 use crate::dictionary::values::KeyedValues;
@@ -122,7 +124,7 @@ impl<K: BuilderKey, M: MutableArray> MutableDictionaryArray<K, M> {
         ensures { (k : ℕ) → (option_map (λ key. whole (K.numbers key)) result ≡ Some (pos k)) ↔ Stands (dictionary_child (⟦<MutableDictionaryArray<K, M> as MutableArray>⟧.model self.now)) (T.value value.now) k }
     {
         let value = value.as_plain();
-        match self.values.find(&value) {
+        match self.values.find(&value, hash_of(&value)) {
             Some(number) => K::from_index(number),
             None => None,
         }
@@ -143,13 +145,14 @@ impl<K: BuilderKey, M: MutableArray> MutableDictionaryArray<K, M> {
         ensures err { OnErr result (⟦<MutableDictionaryArray<K, M> as MutableArray>⟧.model self.new ≡ ⟦<MutableDictionaryArray<K, M> as MutableArray>⟧.model self.old) }
         ensures cause { IfErr result (λ e. (e ≡ Memory alloc_error) ⊎ (value_refusal (plain_value value.entry) (⟦<MutableDictionaryArray<K, M> as MutableArray>⟧.model self.old) ≡ Some e)) }
     {
-        match self.values.find(&value) {
+        let hash = hash_of(&value);
+        match self.values.find(&value, hash) {
             Some(number) => self.push_known(&value, number),
             None => {
                 if !self.has_key() {
                     return Err(Error::Overflow);
                 }
-                self.push_new(value)
+                self.push_new(value, hash)
             }
         }
     }
@@ -163,13 +166,14 @@ impl<K: BuilderKey, M: MutableArray> MutableDictionaryArray<K, M> {
         ensures kind { IsErrOf result (InvalidArgumentError ItemType) ↔ (takes (⟦<MutableDictionaryArray<K, M> as MutableArray>⟧.model self.old) (plain_value value.entry) ≡ false) }
         ensures cause { IfErr result (λ e. (e ≡ Memory alloc_error) ⊎ (plain_refusal (plain_value value.entry) (⟦<MutableDictionaryArray<K, M> as MutableArray>⟧.model self.old) ≡ Some e)) }
     {
-        match self.values.find(&value) {
+        let hash = hash_of(&value);
+        match self.values.find(&value, hash) {
             Some(number) => self.push_known(&value, number),
             None => {
                 if !self.has_key() {
-                    return Err(self.refusal(value));
+                    return Err(self.refusal(value, hash));
                 }
-                self.push_new(value)
+                self.push_new(value, hash)
             }
         }
     }
@@ -190,8 +194,9 @@ impl<K: BuilderKey, M: MutableArray> MutableDictionaryArray<K, M> {
         Ok(())
     }
 
-    // Adds a row of a value that none of the values is, and for which there is a key.
-    fn push_new(&mut self, value: Plain<'_>) -> Result<(), Error>
+    // Adds a row of a value of that hash that none of the values is, and for which there is a key.
+    fn push_new(&mut self, value: Plain<'_>, hash: u64) -> Result<(), Error>
+        requires hash { hash ≡ value_hash (plain_value value) }
         requires whole { IsWhole (⟦<MutableDictionaryArray<K, M> as MutableArray>⟧.model self.old) }
         requires unknown { Lacks (dictionary_child (⟦<MutableDictionaryArray<K, M> as MutableArray>⟧.model self.old)) (plain_value value) }
         requires room { builder_len (dictionary_child (⟦<MutableDictionaryArray<K, M> as MutableArray>⟧.model self.old)) < key_count K.KEY_TYPE }
@@ -202,7 +207,7 @@ impl<K: BuilderKey, M: MutableArray> MutableDictionaryArray<K, M> {
         ensures cause { IfErr result (λ e. (e ≡ Memory alloc_error) ⊎ (plain_refusal (plain_value value.entry) (dictionary_child (⟦<MutableDictionaryArray<K, M> as MutableArray>⟧.model self.old)) ≡ Some e)) }
     {
         let number = self.values.get().len();
-        if let Err(refusal) = self.values.push(value) {
+        if let Err(refusal) = self.values.push(value, hash) {
             return Err(refusal);
         }
         let _more = self.values.get().len();
@@ -216,7 +221,8 @@ impl<K: BuilderKey, M: MutableArray> MutableDictionaryArray<K, M> {
     }
 
     // What refuses a new value where no key is left. What the child takes is learned by asking it.
-    fn refusal(&mut self, value: Plain<'_>) -> Error
+    fn refusal(&mut self, value: Plain<'_>, hash: u64) -> Error
+        requires hash { hash ≡ value_hash (plain_value value) }
         requires whole { IsWhole (⟦<MutableDictionaryArray<K, M> as MutableArray>⟧.model self.old) }
         requires unknown { Lacks (dictionary_child (⟦<MutableDictionaryArray<K, M> as MutableArray>⟧.model self.old)) (plain_value value) }
         requires full { key_count K.KEY_TYPE ≤ builder_len (dictionary_child (⟦<MutableDictionaryArray<K, M> as MutableArray>⟧.model self.old)) }
@@ -225,7 +231,7 @@ impl<K: BuilderKey, M: MutableArray> MutableDictionaryArray<K, M> {
         ensures cause { plain_refusal (plain_value value.entry) (⟦<MutableDictionaryArray<K, M> as MutableArray>⟧.model self.old) ≡ Some result }
     {
         let number = self.values.get().len();
-        if let Err(refusal) = self.values.push(value) {
+        if let Err(refusal) = self.values.push(value, hash) {
             return kind_first(refusal);
         }
         self.values.truncate(number);

@@ -1,12 +1,12 @@
 //! The values of a builder of dictionaries.
 ghost use Rattle.std.specs.Prelude.{◌≡◌, ◌≤◌, ◌<◌, ◌⊎◌, ◌↔◌, false, IfOk, IfErr, IsErrOf, IsOkUnless, IsTrue, MatchOption, None, OnErr, OnOk, Some, alloc_error};
 ghost use Rattle.nest_model.specs.BuilderItem.{Lacks, Stands, plain, takes};
+ghost use Rattle.nest_build.specs.Hashes.{value_hash};
 ghost use Rattle.nest_build.specs.Keyed.{AreKeyed};
 ghost use Rattle.nest_build.specs.Words.{Accepted, Holds, InvalidArgumentError, IsWhole, ItemType, Memory, builder_len, builder_type, cut_builder, emptied, layout_of, layout_type, own_slots, plain_refusal, plain_value, slots_of, type_of};
 
 use crate::array::MutableArray;
 use crate::child::frozen_parts;
-use crate::dictionary::hash::hash_of;
 use crate::dictionary::table::KeyTable;
 use nest_array::AnyArray;
 use nest_flat::plain::Plain;
@@ -42,11 +42,11 @@ impl<M: MutableArray> KeyedValues<M> {
         &self.values
     }
 
-    /// Where the value stands.
-    pub(super) fn find(&self, value: &Plain<'_>) -> Option<usize>
+    /// Where the value of that hash stands.
+    pub(super) fn find(&self, value: &Plain<'_>, hash: u64) -> Option<usize>
+        requires { hash ≡ value_hash (plain_value value.now) }
         ensures { MatchOption result (Lacks (M.model self.now.values) (plain_value value.now)) (Stands (M.model self.now.values) (plain_value value.now)) }
     {
-        let hash = hash_of(value);
         let values = &self.values;
         self.table.find(
             hash,
@@ -57,11 +57,12 @@ impl<M: MutableArray> KeyedValues<M> {
         )
     }
 
-    /// Adds a value that none of the values is.
+    /// Adds a value that none of the values is, by its hash.
     ///
     /// # Errors
     /// Those of the builder of the values; then no value is added.
-    pub(super) fn push(&mut self, value: Plain<'_>) -> Result<(), Error>
+    pub(super) fn push(&mut self, value: Plain<'_>, hash: u64) -> Result<(), Error>
+        requires hash { hash ≡ value_hash (plain_value value) }
         requires whole { IsWhole (M.model self.old.values) }
         requires unknown { Lacks (M.model self.old.values) (plain_value value) }
         ensures accepted { OnOk result (Accepted (plain (plain_value value.entry)) (M.model self.old.values) (M.model self.new.values)) }
@@ -71,7 +72,6 @@ impl<M: MutableArray> KeyedValues<M> {
         ensures cause { IfErr result (λ e. (e ≡ Memory alloc_error) ⊎ (plain_refusal (plain_value value.entry) (M.model self.old.values) ≡ Some e)) }
     {
         let count = self.values.len();
-        let hash = hash_of(&value);
         if let Err(refusal) = self.values.try_push_plain(Some(value)) {
             return Err(refusal);
         }

@@ -10,6 +10,6 @@ returns g c =
     let tree = g.M.MutableArray.model c.args.self.now.values in
     let v = plain_value c.args.value.now in
     let hashes = c.args.self.now.table in
-    let some : IfSome c.find.result (λ k. (slice_get hashes k ≡ Some c.hash_of-hash.result) × (IsTrue true ↔ Holds tree k v)) = search (rules, of_calls) in
-    let none : IfNone c.find.result ((k : ℕ) → slice_get hashes k ≡ Some c.hash_of-hash.result → IsTrue false ↔ Holds tree k v) = search (rules, of_calls) in
-    found_place c.find.result hashes tree v c.hash_of-hash.result c.args.self.now.keyed c.hash_of-hash.ensures some none
+    let some : IfSome c.find.result (λ k. (slice_get hashes k ≡ Some c.args.hash) × (IsTrue true ↔ Holds tree k v)) = search (rules, of_calls) in
+    let none : IfNone c.find.result ((k : ℕ) → slice_get hashes k ≡ Some c.args.hash → IsTrue false ↔ Holds tree k v) = search (rules, of_calls) in
+    found_place c.find.result hashes tree v c.args.hash c.args.self.now.keyed c.requires some none

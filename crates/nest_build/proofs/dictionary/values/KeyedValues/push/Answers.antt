@@ -10,7 +10,7 @@ invariant_of-self-in-Ok g c =
     let before = g.M.MutableArray.model old.values in
     let after = g.M.MutableArray.model c.try_push_plain.new.self in
     let v = plain_value c.args.value in
-    let hashes = c.in-Ok.ensures.ok ∙ ap (λ h. old.table ++ h ∷ []) c.hash_of-hash.ensures in
+    let hashes = c.in-Ok.ensures.ok ∙ ap (λ h. old.table ++ h ∷ []) c.requires.hash in
     record {
       keyed = subst (λ hs. AreKeyed hs after) (sym hashes) (keyed_push old.table before after v old.keyed (plain_taken v before c.in_default.ensures.unrefused) c.in_default.ensures.accepted c.requires.unknown);
     }
