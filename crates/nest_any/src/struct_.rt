@@ -388,7 +388,9 @@ impl MutableStructArray {
         ensures errors { IfErr result (λ e. (e ≡ InvalidArgumentError Unfinished) ⊎ (e ≡ Memory alloc_error)) }
     {
         let mut records = self;
-        match records.freeze() {
+        let frozen = records.freeze();
+        drop(records);
+        match frozen {
             Ok(array) => shared(Ok(array.into_any()), alloc),
             Err(error) => Err(error),
         }

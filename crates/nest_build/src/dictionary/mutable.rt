@@ -275,7 +275,9 @@ impl<K: BuilderKey, M: MutableArray> MutableDictionaryArray<K, M> {
         ensures errors { IfErr result (λ e. (e ≡ InvalidArgumentError Unfinished) ⊎ (e ≡ Memory alloc_error)) }
     {
         let mut rows = self;
-        rows.as_box()
+        let array = rows.as_box();
+        drop(rows);
+        array
     }
 
     /// The same array, owned by what shares it.
@@ -289,7 +291,9 @@ impl<K: BuilderKey, M: MutableArray> MutableDictionaryArray<K, M> {
         ensures errors { IfErr result (λ e. (e ≡ InvalidArgumentError Unfinished) ⊎ (e ≡ Memory alloc_error)) }
     {
         let mut rows = self;
-        rows.as_arc(alloc)
+        let array = rows.as_arc(alloc);
+        drop(rows);
+        array
     }
 }
 

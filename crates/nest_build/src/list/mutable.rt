@@ -298,7 +298,9 @@ impl<O: ListWidth, M: MutableArray> MutableListArray<O, M> {
         ensures errors { IfErr result (λ e. (e ≡ InvalidArgumentError Unfinished) ⊎ (e ≡ Memory alloc_error)) }
     {
         let mut lists = self;
-        lists.as_box()
+        let array = lists.as_box();
+        drop(lists);
+        array
     }
 
     /// The same array, owned by what shares it.
@@ -312,7 +314,9 @@ impl<O: ListWidth, M: MutableArray> MutableListArray<O, M> {
         ensures errors { IfErr result (λ e. (e ≡ InvalidArgumentError Unfinished) ⊎ (e ≡ Memory alloc_error)) }
     {
         let mut lists = self;
-        lists.as_arc(alloc)
+        let array = lists.as_arc(alloc);
+        drop(lists);
+        array
     }
 }
 
