@@ -11,7 +11,6 @@ use nest_flat::primitive::mutable::MutablePrimitiveArray;
 use nest_flat::utf8::mutable::MutableUtf8Array;
 use nest_memory::error::{Argument, Error};
 use std::alloc::Global;
-use std::test::Fail;
 
 /// Values of any kind without children by keys of which there are 256.
 type Keyed = MutableDictionaryArray<u8, AnyMutableFlat>;
@@ -77,8 +76,8 @@ fn push_four(keyed: &mut Keyed) -> Result<(), Error> {
 }
 
 #[test]
-fn each_text_is_kept_once(rt: HostRuntime) -> Result<(), Fail> {
-    let mut keyed = no_texts(rt.alloc())?;
+fn each_text_is_kept_once(rt: HostRuntime) {
+    let mut keyed = no_texts(rt.alloc()).expect(&rt, "no texts");
     let pushed = push_four(&mut keyed);
     let first = text_of(rt.alloc(), keyed.freeze());
     let again = push(&mut keyed, Plain::Text("C"));
@@ -86,14 +85,13 @@ fn each_text_is_kept_once(rt: HostRuntime) -> Result<(), Fail> {
     drop(keyed);
     assert!(rt; pushed == Ok(()));
     assert!(rt; again == Ok(()));
-    assert!(rt; first?.as_str() == "0 1 null 0 AB");
-    assert!(rt; second?.as_str() == "0 C");
-    Ok(())
+    assert!(rt; first.expect(&rt, "first").as_str() == "0 1 null 0 AB");
+    assert!(rt; second.expect(&rt, "a text").as_str() == "0 C");
 }
 
 #[test]
-fn a_number_is_found_by_its_own_kind(rt: HostRuntime) -> Result<(), Fail> {
-    let mut keyed = no_numbers(rt.alloc())?;
+fn a_number_is_found_by_its_own_kind(rt: HostRuntime) {
+    let mut keyed = no_numbers(rt.alloc()).expect(&rt, "no numbers");
     let pushed = push(&mut keyed, Plain::Native(AnyNative::Int64(7)));
     let other = push(&mut keyed, Plain::Text("7"));
     let narrow = keyed.key_of(&7i32);
@@ -103,7 +101,6 @@ fn a_number_is_found_by_its_own_kind(rt: HostRuntime) -> Result<(), Fail> {
     assert!(rt; other == Err(Error::InvalidArgumentError(Argument::ItemType)));
     assert!(rt; narrow == None);
     assert!(rt; own == Some(0));
-    Ok(())
 }
 
 /// How many of so many different numbers are taken.
@@ -120,8 +117,8 @@ fn taken(keyed: &mut Keyed, wanted: i64) -> Result<usize, Error> {
 }
 
 #[test]
-fn there_are_as_many_values_as_keys(rt: HostRuntime) -> Result<(), Fail> {
-    let mut keyed = no_numbers(rt.alloc())?;
+fn there_are_as_many_values_as_keys(rt: HostRuntime) {
+    let mut keyed = no_numbers(rt.alloc()).expect(&rt, "no numbers");
     let count = taken(&mut keyed, 300);
     let again = taken(&mut keyed, 256);
     let rows = keyed.len();
@@ -131,5 +128,4 @@ fn there_are_as_many_values_as_keys(rt: HostRuntime) -> Result<(), Fail> {
     assert!(rt; again == Ok(256));
     assert!(rt; rows == 512);
     assert!(rt; values == 256);
-    Ok(())
 }

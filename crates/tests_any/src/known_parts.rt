@@ -12,7 +12,6 @@ use nest_flat::plain::Plain;
 use nest_memory::datatypes::DataType;
 use nest_memory::error::{Argument, Error};
 use std::alloc::{AllocError, Global};
-use std::test::Fail;
 
 /// The records of parts that were checked once, made of them again.
 fn made_again(
@@ -57,8 +56,8 @@ fn tell(records: &mut MutableStructArray) -> Result<(), Error> {
 }
 
 #[test]
-fn a_number_is_pushed_into_the_child_that_records_lend(rt: HostRuntime) -> Result<(), Fail> {
-    let mut records = number_records(rt.alloc())?;
+fn a_number_is_pushed_into_the_child_that_records_lend(rt: HostRuntime) {
+    let mut records = number_records(rt.alloc()).expect(&rt, "number records");
     let pushed = push(records.value(0), Plain::Native(AnyNative::Int64(7)));
     let told = tell(&mut records);
     let rows = MutableArray::len(&records);
@@ -66,5 +65,4 @@ fn a_number_is_pushed_into_the_child_that_records_lend(rt: HostRuntime) -> Resul
     assert!(rt; pushed == Ok(()));
     assert!(rt; told == Ok(()));
     assert!(rt; rows == 1);
-    Ok(())
 }

@@ -15,7 +15,6 @@ use nest_flat::plain::Plain;
 use nest_memory::datatypes::{DataType, IntegerType};
 use nest_memory::error::{Argument, Error, Spec};
 use std::alloc::Global;
-use std::test::Fail;
 
 /// Dictionaries of such values, by keys of 8 bits.
 fn keyed_type(alloc: Global, values: DataType) -> Result<DataType, Error> {
@@ -133,8 +132,8 @@ fn is_one_text_twice(frozen: &Result<AnyArray, Error>) -> bool {
 }
 
 #[test]
-fn lists_of_records_of_dictionaries_are_frozen(rt: HostRuntime) -> Result<(), Fail> {
-    let mut lists = keyed_lists(rt.alloc())?;
+fn lists_of_records_of_dictionaries_are_frozen(rt: HostRuntime) {
+    let mut lists = keyed_lists(rt.alloc()).expect(&rt, "keyed lists");
     let pushed = push_lists(&mut lists);
     let frozen = lists.as_box();
     let is_new = lists.is_empty() && lists.is_whole();
@@ -144,12 +143,11 @@ fn lists_of_records_of_dictionaries_are_frozen(rt: HostRuntime) -> Result<(), Fa
     assert!(rt; pushed == Ok(()));
     assert!(rt; is_new);
     assert!(rt; shown);
-    Ok(())
 }
 
 #[test]
-fn a_dictionary_has_no_child_and_tells_no_row(rt: HostRuntime) -> Result<(), Fail> {
-    let mut keyed = keyed_texts(rt.alloc())?;
+fn a_dictionary_has_no_child_and_tells_no_row(rt: HostRuntime) {
+    let mut keyed = keyed_texts(rt.alloc()).expect(&rt, "keyed texts");
     let childless = keyed.child(0).is_none();
     let told = tell(&mut keyed, true);
     let pushed = push(&mut keyed, Plain::Native(AnyNative::Int64(7)));
@@ -159,21 +157,44 @@ fn a_dictionary_has_no_child_and_tells_no_row(rt: HostRuntime) -> Result<(), Fai
     assert!(rt; told == Err(OTHER_KIND));
     assert!(rt; pushed == Err(OTHER_KIND));
     assert!(rt; rows == 0);
-    Ok(())
 }
 
 #[test]
-fn dictionaries_over_another_child_are_refused(rt: HostRuntime) -> Result<(), Fail> {
+fn dictionaries_over_another_child_are_refused(rt: HostRuntime) {
     let alloc = rt.alloc();
     let child_type = Some(Error::OutOfSpec(Spec::ChildType));
     let not_empty = Some(Error::InvalidArgumentError(Argument::ChildNotEmpty));
     let wrong_type = Some(Error::OutOfSpec(Spec::WrongType));
-    let lists = lists_of(alloc, DataType::Int64)?;
-    assert!(rt; refused(alloc, true, keyed_type(alloc, lists)?) == wrong_type);
-    assert!(rt; refused(alloc, true, keyed_type(alloc, DataType::Utf8)?) == not_empty);
-    assert!(rt; refused(alloc, false, keyed_type(alloc, DataType::Utf8)?) == child_type);
-    assert!(rt; refused(alloc, false, keyed_type(alloc, DataType::Int64)?).is_none());
-    Ok(())
+    let lists = lists_of(alloc, DataType::Int64).expect(&rt, "a data type");
+    assert!(rt;
+        refused(
+            alloc,
+            true,
+            keyed_type(alloc, lists).expect(&rt, "a data type")
+        ) == wrong_type
+    );
+    assert!(rt;
+        refused(
+            alloc,
+            true,
+            keyed_type(alloc, DataType::Utf8).expect(&rt, "a data type")
+        ) == not_empty
+    );
+    assert!(rt;
+        refused(
+            alloc,
+            false,
+            keyed_type(alloc, DataType::Utf8).expect(&rt, "a data type")
+        ) == child_type
+    );
+    assert!(rt;
+        refused(
+            alloc,
+            false,
+            keyed_type(alloc, DataType::Int64).expect(&rt, "a data type")
+        )
+        .is_none()
+    );
 }
 
 /// "A", "B", null and "A".
@@ -195,8 +216,8 @@ fn is_frozen(frozen: &Result<AnyArray, Error>, keys: &[Option<i8>], texts: &[&st
 }
 
 #[test]
-fn each_text_has_one_key(rt: HostRuntime) -> Result<(), Fail> {
-    let mut keyed = keyed_texts(rt.alloc())?;
+fn each_text_has_one_key(rt: HostRuntime) {
+    let mut keyed = keyed_texts(rt.alloc()).expect(&rt, "keyed texts");
     let pushed = push_four(&mut keyed);
     let frozen = keyed.as_box();
     let first = is_frozen(&frozen, &[Some(0), Some(1), None, Some(0)], &["A", "B"]);
@@ -210,7 +231,6 @@ fn each_text_has_one_key(rt: HostRuntime) -> Result<(), Fail> {
     assert!(rt; again == Ok(()));
     assert!(rt; first);
     assert!(rt; second);
-    Ok(())
 }
 
 /// The key of a number, and how many values there are.
@@ -222,8 +242,8 @@ fn key_and_count(keyed: &AnyMutableArray, number: i64) -> (Option<usize>, usize)
 }
 
 #[test]
-fn a_number_is_looked_up(rt: HostRuntime) -> Result<(), Fail> {
-    let mut keyed = keyed_numbers(rt.alloc())?;
+fn a_number_is_looked_up(rt: HostRuntime) {
+    let mut keyed = keyed_numbers(rt.alloc()).expect(&rt, "keyed numbers");
     let pushed = push(&mut keyed, Plain::Native(AnyNative::Int64(7)));
     let again = push(&mut keyed, Plain::Native(AnyNative::Int64(7)));
     let known = key_and_count(&keyed, 7);
@@ -233,5 +253,4 @@ fn a_number_is_looked_up(rt: HostRuntime) -> Result<(), Fail> {
     assert!(rt; again == Ok(()));
     assert!(rt; known == (Some(0), 1));
     assert!(rt; other == (None, 1));
-    Ok(())
 }

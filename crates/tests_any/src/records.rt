@@ -18,7 +18,6 @@ use nest_memory::datatypes::DataType;
 use nest_memory::datatypes::field::Field;
 use nest_memory::error::{Argument, Error, Spec};
 use std::alloc::{AllocError, Global};
-use std::test::Fail;
 
 pub(super) const UNFINISHED: Error = Error::InvalidArgumentError(Argument::Unfinished);
 
@@ -203,9 +202,9 @@ fn are_two_records_and_a_null(frozen: &Result<AnyArray, Error>) -> bool {
 }
 
 #[test]
-fn lists_of_records_are_told_and_frozen(rt: HostRuntime) -> Result<(), Fail> {
+fn lists_of_records_are_told_and_frozen(rt: HostRuntime) {
     let alloc = rt.alloc();
-    let mut lists = two_records_and_a_null(alloc)?;
+    let mut lists = two_records_and_a_null(alloc).expect(&rt, "two records and a null");
     let rows = lists.len();
     let frozen = lists.as_box();
     let is_new = lists.is_empty() && lists.is_whole();
@@ -215,11 +214,10 @@ fn lists_of_records_are_told_and_frozen(rt: HostRuntime) -> Result<(), Fail> {
     assert!(rt; rows == 2);
     assert!(rt; is_new);
     assert!(rt; shown);
-    Ok(())
 }
 
 #[test]
-fn a_flat_builder_has_no_child_and_tells_no_row(rt: HostRuntime) -> Result<(), Fail> {
+fn a_flat_builder_has_no_child_and_tells_no_row(rt: HostRuntime) {
     let mut flat = numbers(rt.alloc());
     let childless = flat.child(0).is_none();
     let told = tell(&mut flat, true);
@@ -228,7 +226,6 @@ fn a_flat_builder_has_no_child_and_tells_no_row(rt: HostRuntime) -> Result<(), F
     assert!(rt; childless);
     assert!(rt; told == Err(OTHER_KIND));
     assert!(rt; pushed == Err(OTHER_KIND));
-    Ok(())
 }
 
 /// Why a builder was refused; an accepted one is let go.
@@ -260,16 +257,34 @@ pub(crate) fn refused(alloc: Global, filled: bool, data_type: DataType) -> Optio
 }
 
 #[test]
-fn lists_over_another_child_are_refused(rt: HostRuntime) -> Result<(), Fail> {
+fn lists_over_another_child_are_refused(rt: HostRuntime) {
     let alloc = rt.alloc();
     let child_type = Some(Error::OutOfSpec(Spec::ChildType));
     let not_empty = Some(Error::InvalidArgumentError(Argument::ChildNotEmpty));
     let wrong_type = Some(Error::OutOfSpec(Spec::WrongType));
-    assert!(rt; refused(alloc, false, lists_of(alloc, DataType::Utf8)?) == child_type);
-    assert!(rt; refused(alloc, true, lists_of(alloc, DataType::Utf8)?) == not_empty);
+    assert!(rt;
+        refused(
+            alloc,
+            false,
+            lists_of(alloc, DataType::Utf8).expect(&rt, "a data type")
+        ) == child_type
+    );
+    assert!(rt;
+        refused(
+            alloc,
+            true,
+            lists_of(alloc, DataType::Utf8).expect(&rt, "a data type")
+        ) == not_empty
+    );
     assert!(rt; refused(alloc, true, DataType::Utf8) == wrong_type);
-    assert!(rt; refused(alloc, false, lists_of(alloc, DataType::Int64)?).is_none());
-    Ok(())
+    assert!(rt;
+        refused(
+            alloc,
+            false,
+            lists_of(alloc, DataType::Int64).expect(&rt, "a data type")
+        )
+        .is_none()
+    );
 }
 
 /// Two numbers that wait in the child.
@@ -305,10 +320,10 @@ fn is_null_of_two(frozen: &Result<AnyArray, Error>) -> bool {
 }
 
 #[test]
-fn items_stand_under_an_untrue_row(rt: HostRuntime) -> Result<(), Fail> {
+fn items_stand_under_an_untrue_row(rt: HostRuntime) {
     let alloc = rt.alloc();
-    let data_type = lists_of(alloc, DataType::Int64)?;
-    let mut lists = nested(alloc, data_type, numbers(alloc))?;
+    let data_type = lists_of(alloc, DataType::Int64).expect(&rt, "a data type");
+    let mut lists = nested(alloc, data_type, numbers(alloc)).expect(&rt, "lists");
     let pushed = push_two(&mut lists);
     let waits = is_unfinished(lists.as_box());
     let told = tell(&mut lists, false);
@@ -320,7 +335,6 @@ fn items_stand_under_an_untrue_row(rt: HostRuntime) -> Result<(), Fail> {
     assert!(rt; waits);
     assert!(rt; told == Ok(()));
     assert!(rt; shown);
-    Ok(())
 }
 
 /// Records of two numbers each, one of which waits.
@@ -343,8 +357,8 @@ fn half_a_row(alloc: Global) -> Result<AnyMutableArray, Error> {
 }
 
 #[test]
-fn half_a_row_waits(rt: HostRuntime) -> Result<(), Fail> {
-    let mut records = half_a_row(rt.alloc())?;
+fn half_a_row_waits(rt: HostRuntime) {
+    let mut records = half_a_row(rt.alloc()).expect(&rt, "half a row");
     let told = tell(&mut records, true);
     let waits = is_unfinished(records.as_box());
     let rows = records.len();
@@ -357,7 +371,6 @@ fn half_a_row_waits(rt: HostRuntime) -> Result<(), Fail> {
     assert!(rt; waits);
     assert!(rt; rows == 0);
     assert!(rt; waiting == 1);
-    Ok(())
 }
 
 /// Records of a number and a text, none yet.
@@ -456,10 +469,9 @@ fn is_masked(alloc: Global) -> Result<bool, Error> {
 }
 
 #[test]
-fn freeze_drops_a_validity_without_nulls(rt: HostRuntime) -> Result<(), Fail> {
-    assert!(rt; is_bare(rt.alloc())?);
-    assert!(rt; is_masked(rt.alloc())?);
-    Ok(())
+fn freeze_drops_a_validity_without_nulls(rt: HostRuntime) {
+    assert!(rt; is_bare(rt.alloc()).expect(&rt, "is bare"));
+    assert!(rt; is_masked(rt.alloc()).expect(&rt, "is masked"));
 }
 
 /// Lists of records.
@@ -529,9 +541,9 @@ fn waits(alloc: Global, lists: &mut RecordLists) -> bool {
 }
 
 #[test]
-fn an_untold_record_waits_under_a_list(rt: HostRuntime) -> Result<(), Fail> {
+fn an_untold_record_waits_under_a_list(rt: HostRuntime) {
     let alloc = rt.alloc();
-    let mut lists = no_lists(alloc)?;
+    let mut lists = no_lists(alloc).expect(&rt, "no row");
     let pushed = push_text(&mut lists);
     let waits = waits(alloc, &mut lists);
     let told = tell_both(&mut lists);
@@ -543,7 +555,6 @@ fn an_untold_record_waits_under_a_list(rt: HostRuntime) -> Result<(), Fail> {
     assert!(rt; waits);
     assert!(rt; told == Ok(()));
     assert!(rt; shown);
-    Ok(())
 }
 
 /// Tells a row of what waits in a whole child.
@@ -555,10 +566,10 @@ fn tell_list(lists: &mut ListBuilder) -> Result<(), Error> {
 }
 
 #[test]
-fn what_is_written_to_a_lent_child_stays(rt: HostRuntime) -> Result<(), Fail> {
+fn what_is_written_to_a_lent_child_stays(rt: HostRuntime) {
     let alloc = rt.alloc();
-    let data_type = lists_of(alloc, DataType::Int64)?;
-    let mut lists = nested(alloc, data_type, numbers(alloc))?;
+    let data_type = lists_of(alloc, DataType::Int64).expect(&rt, "a data type");
+    let mut lists = nested(alloc, data_type, numbers(alloc)).expect(&rt, "lists");
     let pushed = match lists.as_list_mut() {
         Some(lists) => push(lists.child(), Plain::Native(AnyNative::Int64(1))),
         None => Err(UNFINISHED),
@@ -574,24 +585,26 @@ fn what_is_written_to_a_lent_child_stays(rt: HostRuntime) -> Result<(), Fail> {
     assert!(rt; no_records);
     assert!(rt; told == Ok(()));
     assert!(rt; rows == 1);
-    Ok(())
 }
 
 #[test]
-fn records_are_shared_and_taken_apart(rt: HostRuntime) -> Result<(), Fail> {
+fn records_are_shared_and_taken_apart(rt: HostRuntime) {
     let alloc = rt.alloc();
-    let shared = text_records(alloc)?.into_arc(alloc);
+    let shared = text_records(alloc)
+        .expect(&rt, "text records")
+        .into_arc(alloc);
     let is_empty = match &shared {
         Ok(array) => array.len() == 0,
         Err(_) => false,
     };
     drop(shared);
-    let (data_type, values, validity) = text_records(alloc)?.into_inner();
+    let (data_type, values, validity) = text_records(alloc)
+        .expect(&rt, "text records")
+        .into_inner();
     let count = values.len();
     drop(values);
     drop(data_type);
     assert!(rt; is_empty);
     assert!(rt; count == 1);
     assert!(rt; validity.is_none());
-    Ok(())
 }

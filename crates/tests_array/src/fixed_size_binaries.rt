@@ -7,7 +7,6 @@ use nest_memory::datatypes::DataType;
 use nest_memory::datatypes::physical_type::PhysicalType;
 use nest_memory::error::{Error, Spec};
 use std::alloc::Global;
-use std::test::Fail;
 
 const ROWS: [[u8; 2]; 3] = [*b"ab", *b"cd", *b"ef"];
 
@@ -49,7 +48,7 @@ fn refusal(array: Result<FixedSizeBinaryArray, Error>) -> Option<Error> {
 }
 
 #[test]
-fn the_first_failed_check_answers(rt: HostRuntime) -> Result<(), Fail> {
+fn the_first_failed_check_answers(rt: HostRuntime) {
     let bits = [true, false].as_slice();
     let table = [
         (0usize, Spec::ZeroSize),
@@ -57,14 +56,17 @@ fn the_first_failed_check_answers(rt: HostRuntime) -> Result<(), Fail> {
         (2, Spec::ValidityLength),
     ];
     for (size, fault) in table {
-        let found = refused(rt.alloc(), size, b"abcdef", Some(bits))?;
+        let found = refused(rt.alloc(), size, b"abcdef", Some(bits)).expect(&rt, "refused");
         assert!(rt; found == Some(Error::OutOfSpec(fault)));
     }
-    assert!(rt; refused(rt.alloc(), 3, b"abcdef", Some(bits))?.is_none());
-    let values = bytes_of(rt.alloc(), b"abcdef")?;
+    assert!(rt;
+        refused(rt.alloc(), 3, b"abcdef", Some(bits))
+            .expect(&rt, "refused")
+            .is_none()
+    );
+    let values = bytes_of(rt.alloc(), b"abcdef").expect(&rt, "bytes of");
     let other = FixedSizeBinaryArray::try_new(DataType::Binary, values, None);
     assert!(rt; refusal(other) == Some(Error::OutOfSpec(Spec::WrongType)));
-    Ok(())
 }
 
 /// The rows, of which those with a bit that is 0 are null.
@@ -104,13 +106,14 @@ fn holds_the_rest(array: FixedSizeBinaryArray) -> bool {
 }
 
 #[test]
-fn rows_are_the_slots(rt: HostRuntime) -> Result<(), Fail> {
-    let array = pairs(rt.alloc(), ROWS.as_slice(), [true, false, true].as_slice())?;
+fn rows_are_the_slots(rt: HostRuntime) {
+    let array = pairs(rt.alloc(), ROWS.as_slice(), [true, false, true].as_slice()).expect(
+        &rt, "pairs",
+    );
     assert!(rt; has(&array, 0, b"ab"));
     assert!(rt; holds_the_rest(array));
     let short = pairs(rt.alloc(), ROWS.as_slice(), [true, false].as_slice());
     assert!(rt; refusal(short) == Some(Error::OutOfSpec(Spec::ValidityLength)));
-    Ok(())
 }
 
 /// A type of the user's over byte strings of two bytes.
@@ -155,9 +158,9 @@ fn is_same(array: &FixedSizeBinaryArray, other: Result<FixedSizeBinaryArray, Err
 }
 
 #[test]
-fn nulls_and_types_tell_arrays_apart(rt: HostRuntime) -> Result<(), Fail> {
+fn nulls_and_types_tell_arrays_apart(rt: HostRuntime) {
     let bits = [true, false, true].as_slice();
-    let array = pairs(rt.alloc(), ROWS.as_slice(), bits)?;
+    let array = pairs(rt.alloc(), ROWS.as_slice(), bits).expect(&rt, "pairs");
     assert!(rt; is_same(&array, array.clone(rt.alloc())));
     assert!(rt; is_same(&array, pairs(rt.alloc(), OTHER_ROWS.as_slice(), bits)));
     assert!(rt;
@@ -168,5 +171,4 @@ fn nulls_and_types_tell_arrays_apart(rt: HostRuntime) -> Result<(), Fail> {
     );
     assert!(rt; !is_same(&array, extended(rt.alloc(), &array)));
     drop(array);
-    Ok(())
 }

@@ -8,7 +8,6 @@ use nest_memory::datatypes::DataType;
 use nest_memory::error::Error;
 use nest_memory::offsets::OffsetsBuffer;
 use std::alloc::Global;
-use std::test::Fail;
 
 /// How many bytes and how many offsets an array shows.
 fn counts<A: GenericBinaryArray<i32>>(array: &A) -> (usize, usize) {
@@ -44,11 +43,12 @@ fn text_counts(alloc: Global) -> Result<(usize, usize), Error> {
 }
 
 #[test]
-fn arrays_show_all_their_bytes(rt: HostRuntime) -> Result<(), Fail> {
-    assert!(rt; binary_counts(rt.alloc())? == (4, 3));
-    assert!(rt; text_counts(rt.alloc())? == (4, 3));
-    let array = FixedSizeBinaryArray::from_slice(rt.alloc(), [*b"ab", *b"cd"].as_slice())?;
+fn arrays_show_all_their_bytes(rt: HostRuntime) {
+    assert!(rt; binary_counts(rt.alloc()).expect(&rt, "binary counts") == (4, 3));
+    assert!(rt; text_counts(rt.alloc()).expect(&rt, "text counts") == (4, 3));
+    let array = FixedSizeBinaryArray::from_slice(rt.alloc(), [*b"ab", *b"cd"].as_slice()).expect(
+        &rt, "items",
+    );
     assert!(rt; sizes(&array) == (4, 2));
     drop(array);
-    Ok(())
 }

@@ -14,7 +14,6 @@ use nest_memory::buffer::Buffer;
 use nest_memory::datatypes::{DataType, Field};
 use nest_memory::error::Error;
 use std::alloc::Global;
-use std::test::Fail;
 
 /// A truth and a null, joined to another builder's slots and frozen.
 fn by_parts<B: FlatBuilder>(builder: &mut B, other: &B) -> Result<AnyArray, Error> {
@@ -38,15 +37,14 @@ fn counted(array: Result<AnyArray, Error>) -> Result<(usize, usize), Error> {
 }
 
 #[test]
-fn a_flat_builder_by_its_parts(rt: HostRuntime) -> Result<(), Fail> {
+fn a_flat_builder_by_its_parts(rt: HostRuntime) {
     let mut truths = MutableBooleanArray::new(rt.alloc());
     let mut more = MutableBooleanArray::new(rt.alloc());
-    more.try_push(None)?;
+    more.try_push(None).expect(&rt, "a row more");
     let frozen = counted(by_parts(&mut truths, &more));
     drop(more);
     drop(truths);
     assert!(rt; frozen == Ok((3, 2)));
-    Ok(())
 }
 
 /// Pushes a truth and three nulls.
@@ -63,29 +61,27 @@ fn push_four(truths: &mut MutableBooleanArray) -> Result<bool, Error> {
 }
 
 #[test]
-fn items_and_nulls_are_pushed_by_other_calls(rt: HostRuntime) -> Result<(), Fail> {
+fn items_and_nulls_are_pushed_by_other_calls(rt: HostRuntime) {
     let mut truths = MutableBooleanArray::new(rt.alloc());
-    assert!(rt; push_four(&mut truths)?);
-    let array = shared(truths.as_box(), rt.alloc())?;
+    assert!(rt; push_four(&mut truths).expect(&rt, "four rows"));
+    let array = shared(truths.as_box(), rt.alloc()).expect(&rt, "a shared array");
     let counts = (array.len(), array.null_count());
     drop(array);
     drop(truths);
     assert!(rt; counts == (4, 3));
-    Ok(())
 }
 
 #[test]
-fn data_types_of_a_field(rt: HostRuntime) -> Result<(), Fail> {
-    let items = Field::new(rt.alloc(), "item", DataType::Int8, true)?;
-    let sized = FixedType::of_field(rt.alloc(), items, 3)?;
+fn data_types_of_a_field(rt: HostRuntime) {
+    let items = Field::new(rt.alloc(), "item", DataType::Int8, true).expect(&rt, "memory");
+    let sized = FixedType::of_field(rt.alloc(), items, 3).expect(&rt, "a data type");
     assert!(rt; sized.size() == 3);
     drop(sized);
-    let items = Field::new(rt.alloc(), "item", DataType::Int8, true)?;
-    let lists: ListType<i32> = ListType::of_field(rt.alloc(), items)?;
+    let items = Field::new(rt.alloc(), "item", DataType::Int8, true).expect(&rt, "memory");
+    let lists: ListType<i32> = ListType::of_field(rt.alloc(), items).expect(&rt, "a data type");
     let is_list = matches!(lists.get(), DataType::List(_));
     drop(lists);
     assert!(rt; is_list);
-    Ok(())
 }
 
 /// The keys 0 and 1, of any type of keys.
@@ -95,11 +91,10 @@ fn two_keys<K: BuilderKey>(alloc: Global, keys: Vec<K>) -> Result<AnyKeys, Error
 }
 
 #[test]
-fn keys_of_any_width(rt: HostRuntime) -> Result<(), Fail> {
-    let keys = vec![in rt.alloc(); 0i8, 1]?;
-    let keys = two_keys(rt.alloc(), keys)?;
+fn keys_of_any_width(rt: HostRuntime) {
+    let keys = vec![in rt.alloc(); 0i8, 1].expect(&rt, "memory");
+    let keys = two_keys(rt.alloc(), keys).expect(&rt, "two keys");
     let count = keys.len();
     drop(keys);
     assert!(rt; count == 2);
-    Ok(())
 }

@@ -8,7 +8,6 @@ use nest_flat::binary::mutable::MutableBinaryArray;
 use nest_flat::plain::Plain;
 use nest_memory::error::{Argument, Error};
 use std::alloc::Global;
-use std::test::Fail;
 
 type Bytes = MutableBinaryArray<i64>;
 
@@ -47,20 +46,19 @@ fn counts_of(array: &AnyArray) -> Option<(usize, usize)> {
 }
 
 #[test]
-fn bytes_of_its_type_are_pushed(rt: HostRuntime) -> Result<(), Fail> {
-    let mut bytes = two(rt.alloc())?;
+fn bytes_of_its_type_are_pushed(rt: HostRuntime) {
+    let mut bytes = two(rt.alloc()).expect(&rt, "two strings");
     assert!(rt; TryPush::try_push(&mut bytes, Some(b"".as_slice())) == Ok(()));
     assert!(rt; bytes.try_push_plain(Some(Plain::Bytes(b"x"))) == Ok(()));
     assert!(rt; bytes.try_push_plain(Some(Plain::Text("x"))) == Err(OTHER_KIND));
     assert!(rt; counts(bytes.as_box()) == Some((3, 4)));
     drop(bytes);
-    Ok(())
 }
 
 #[test]
-fn bytes_are_joined(rt: HostRuntime) -> Result<(), Fail> {
-    let mut bytes = two(rt.alloc())?;
-    let more = two(rt.alloc())?;
+fn bytes_are_joined(rt: HostRuntime) {
+    let mut bytes = two(rt.alloc()).expect(&rt, "two strings");
+    let more = two(rt.alloc()).expect(&rt, "two strings");
     assert!(rt; TryExtendFromSelf::try_extend_from_self(&mut bytes, &more) == Ok(()));
     drop(more);
     assert!(rt; MutableArray::len(&bytes) == 4);
@@ -70,7 +68,6 @@ fn bytes_are_joined(rt: HostRuntime) -> Result<(), Fail> {
     }
     assert!(rt; counts(bytes.as_box()) == Some((4, 4)));
     drop(bytes);
-    Ok(())
 }
 
 /// Adds bytes where nothing waits.
@@ -89,14 +86,13 @@ fn keep_one(builder: &mut Box<dyn MutableArray>) {
 }
 
 #[test]
-fn a_boxed_builder_of_bytes(rt: HostRuntime) -> Result<(), Fail> {
-    let bytes = two(rt.alloc())?;
-    let mut builder: Box<dyn MutableArray> = Box::new(rt.alloc(), bytes)?;
+fn a_boxed_builder_of_bytes(rt: HostRuntime) {
+    let bytes = two(rt.alloc()).expect(&rt, "two strings");
+    let mut builder: Box<dyn MutableArray> = Box::new(rt.alloc(), bytes).expect(&rt, "memory");
     assert!(rt; push(&mut builder, b"abc") == Ok(()));
     assert!(rt; builder.len() == 3);
     keep_one(&mut builder);
     assert!(rt; push(&mut builder, b"d") == Ok(()));
     assert!(rt; counts(builder.as_box()) == Some((3, 2)));
     drop(builder);
-    Ok(())
 }

@@ -9,7 +9,6 @@ use nest_flat::plain::Plain;
 use nest_memory::error::{Argument, Error};
 use std::alloc::Global;
 use std::rc::Rc;
-use std::test::Fail;
 
 /// Byte strings of two bytes by keys of which there are 128.
 type Pairs = MutableDictionaryArray<i8, MutableFixedSizeBinaryArray>;
@@ -76,22 +75,21 @@ fn push_four(pairs: &mut Pairs) -> Result<(), Error> {
 }
 
 #[test]
-fn rows_are_the_keys_of_their_values(rt: HostRuntime) -> Result<(), Fail> {
-    let mut pairs = no_pairs(rt.alloc())?;
-    push_four(&mut pairs)?;
-    let first = text_of(rt.alloc(), pairs.freeze())?;
-    push_pair(&mut pairs, 3)?;
-    let second = text_of(rt.alloc(), pairs.freeze())?;
+fn rows_are_the_keys_of_their_values(rt: HostRuntime) {
+    let mut pairs = no_pairs(rt.alloc()).expect(&rt, "no pairs");
+    push_four(&mut pairs).expect(&rt, "four rows");
+    let first = text_of(rt.alloc(), pairs.freeze()).expect(&rt, "its text");
+    push_pair(&mut pairs, 3).expect(&rt, "a pair");
+    let second = text_of(rt.alloc(), pairs.freeze()).expect(&rt, "its text");
     drop(pairs);
     assert!(rt; first.as_str() == "0 1 null 2 010203");
     assert!(rt; second.as_str() == "0 03");
-    Ok(())
 }
 
 #[test]
-fn a_key_is_of_its_own_kind(rt: HostRuntime) -> Result<(), Fail> {
-    let mut pairs = no_pairs(rt.alloc())?;
-    push_pair(&mut pairs, 1)?;
+fn a_key_is_of_its_own_kind(rt: HostRuntime) {
+    let mut pairs = no_pairs(rt.alloc()).expect(&rt, "no pairs");
+    push_pair(&mut pairs, 1).expect(&rt, "a pair");
     let other = pairs.key_of(&true);
     let own = pairs.key_of(&[0u8, 1].as_slice());
     let unknown = pairs.key_of(&[0u8, 2].as_slice());
@@ -99,14 +97,13 @@ fn a_key_is_of_its_own_kind(rt: HostRuntime) -> Result<(), Fail> {
     assert!(rt; other == None);
     assert!(rt; own == Some(0));
     assert!(rt; unknown == None);
-    Ok(())
 }
 
 #[test]
-fn a_full_key_type_takes_known_values(rt: HostRuntime) -> Result<(), Fail> {
-    let mut pairs = no_pairs(rt.alloc())?;
+fn a_full_key_type_takes_known_values(rt: HostRuntime) {
+    let mut pairs = no_pairs(rt.alloc()).expect(&rt, "no pairs");
     for last in 0..128u8 {
-        push_pair(&mut pairs, last)?;
+        push_pair(&mut pairs, last).expect(&rt, "a pair");
     }
     let new = push_pair(&mut pairs, 128);
     let other_kind = push_plain(&mut pairs, Plain::Boolean(true));
@@ -119,12 +116,11 @@ fn a_full_key_type_takes_known_values(rt: HostRuntime) -> Result<(), Fail> {
     assert!(rt; known == Ok(()));
     assert!(rt; values == 128);
     assert!(rt; rows == 129);
-    Ok(())
 }
 
 #[test]
-fn a_value_of_another_size_leaves_no_key(rt: HostRuntime) -> Result<(), Fail> {
-    let mut pairs = no_pairs(rt.alloc())?;
+fn a_value_of_another_size_leaves_no_key(rt: HostRuntime) {
+    let mut pairs = no_pairs(rt.alloc()).expect(&rt, "no pairs");
     let refused = push_plain(&mut pairs, Plain::Bytes(b"abc"));
     let rows = pairs.len();
     let values = pairs.values().len();
@@ -132,21 +128,20 @@ fn a_value_of_another_size_leaves_no_key(rt: HostRuntime) -> Result<(), Fail> {
     assert!(rt; refused == Err(Error::InvalidArgumentError(Argument::ItemSize)));
     assert!(rt; rows == 0);
     assert!(rt; values == 0);
-    Ok(())
 }
 
 #[test]
-fn rows_refuse_a_key_past_their_type(rt: HostRuntime) -> Result<(), Fail> {
+fn rows_refuse_a_key_past_their_type(rt: HostRuntime) {
     let mut rows: DictionaryRows<u8> = DictionaryRows::new(rt.alloc());
-    rows.reserve(3)?;
-    rows.push(Some(255))?;
-    rows.push(None)?;
+    rows.reserve(3).expect(&rt, "room");
+    rows.push(Some(255)).expect(&rt, "a row more");
+    rows.push(None).expect(&rt, "a row more");
     let past = rows.push(Some(256));
     let needed = rows.needed();
     rows.truncate(1);
     rows.shrink_to_fit();
     let first = rows.key(0);
-    let keys = rows.freeze()?;
+    let keys = rows.freeze().expect(&rt, "an array");
     let count = keys.len();
     drop(keys);
     assert!(rt; past == Err(Error::Overflow));
@@ -154,7 +149,6 @@ fn rows_refuse_a_key_past_their_type(rt: HostRuntime) -> Result<(), Fail> {
     assert!(rt; first == Some(255));
     assert!(rt; count == 1);
     assert!(rt; rows.len() == 0);
-    Ok(())
 }
 
 /// Pushes an item of bytes.
@@ -195,8 +189,8 @@ fn rows_of_ab(pairs: &Pairs) -> usize {
 }
 
 #[test]
-fn items_of_bytes_stand_once_among_the_values(rt: HostRuntime) -> Result<(), Fail> {
-    let pairs = four_items(rt.alloc())?;
+fn items_of_bytes_stand_once_among_the_values(rt: HostRuntime) {
+    let pairs = four_items(rt.alloc()).expect(&rt, "four items");
     let keys = pairs.keys().len();
     let values = pairs.values().len();
     let held = rows_of_ab(&pairs);
@@ -204,7 +198,6 @@ fn items_of_bytes_stand_once_among_the_values(rt: HostRuntime) -> Result<(), Fai
     assert!(rt; keys == 4);
     assert!(rt; values == 2);
     assert!(rt; held == 2);
-    Ok(())
 }
 
 /// Keeps the first rows of a whole builder.
@@ -215,16 +208,15 @@ fn keep(pairs: &mut Pairs, n: usize) {
 }
 
 #[test]
-fn the_first_rows_are_kept(rt: HostRuntime) -> Result<(), Fail> {
-    let mut pairs = four_items(rt.alloc())?;
+fn the_first_rows_are_kept(rt: HostRuntime) {
+    let mut pairs = four_items(rt.alloc()).expect(&rt, "four items");
     keep(&mut pairs, 2);
-    pairs.shrink_to_fit()?;
+    pairs.shrink_to_fit().expect(&rt, "less room");
     let rows = pairs.len();
     let values = pairs.values().len();
     drop(pairs);
     assert!(rt; rows == 2);
     assert!(rt; values == 1);
-    Ok(())
 }
 
 /// How many slots, and how many of them are null; the array is let go.
@@ -252,21 +244,23 @@ fn counted_shared(array: Result<Rc<AnyArray>, Error>) -> Result<(usize, usize), 
 }
 
 #[test]
-fn rows_are_frozen_and_shared(rt: HostRuntime) -> Result<(), Fail> {
-    let mut pairs = four_items(rt.alloc())?;
+fn rows_are_frozen_and_shared(rt: HostRuntime) {
+    let mut pairs = four_items(rt.alloc()).expect(&rt, "four items");
     let first = counted(pairs.as_box());
     let second = counted_shared(pairs.as_arc(rt.alloc()));
     drop(pairs);
     assert!(rt; first == Ok((4, 1)));
     assert!(rt; second == Ok((0, 0)));
-    Ok(())
 }
 
 #[test]
-fn a_builder_becomes_its_array(rt: HostRuntime) -> Result<(), Fail> {
-    let boxed = counted(four_items(rt.alloc())?.into_box());
-    let arced = counted_shared(four_items(rt.alloc())?.into_arc(rt.alloc()));
+fn a_builder_becomes_its_array(rt: HostRuntime) {
+    let boxed = counted(four_items(rt.alloc()).expect(&rt, "four items").into_box());
+    let arced = counted_shared(
+        four_items(rt.alloc())
+            .expect(&rt, "four items")
+            .into_arc(rt.alloc()),
+    );
     assert!(rt; boxed == Ok((4, 1)));
     assert!(rt; arced == Ok((4, 1)));
-    Ok(())
 }

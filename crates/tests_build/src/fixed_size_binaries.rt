@@ -9,7 +9,6 @@ use nest_memory::bitmap::mutable::MutableBitmap;
 use nest_memory::datatypes::DataType;
 use nest_memory::error::{Argument, Error, Spec};
 use std::alloc::Global;
-use std::test::Fail;
 
 const OTHER_SIZE: Error = Error::InvalidArgumentError(Argument::ItemSize);
 
@@ -21,7 +20,7 @@ fn extended(
 }
 
 #[test]
-fn all_items_are_taken_or_none(rt: HostRuntime) -> Result<(), Fail> {
+fn all_items_are_taken_or_none(rt: HostRuntime) {
     let mut pairs = MutableFixedSizeBinaryArray::new(rt.alloc(), 2);
     let mixed = [
         Some(b"ab".as_slice()),
@@ -30,14 +29,13 @@ fn all_items_are_taken_or_none(rt: HostRuntime) -> Result<(), Fail> {
     ];
     assert!(rt; extended(&mut pairs, mixed.as_slice()) == Err(OTHER_SIZE));
     assert!(rt; pairs.is_empty());
-    extended(&mut pairs, [Some(b"ab".as_slice()), None].as_slice())?;
-    assert!(rt; pairs.pop()?.is_none());
+    extended(&mut pairs, [Some(b"ab".as_slice()), None].as_slice()).expect(&rt, "extended");
+    assert!(rt; pairs.pop().expect(&rt, "a row or none").is_none());
     assert!(rt; pairs.len() == 1);
-    let last = pairs.pop()?;
+    let last = pairs.pop().expect(&rt, "a row or none");
     assert!(rt; is_bytes(&last, b"ab"));
-    assert!(rt; pairs.pop()?.is_none());
+    assert!(rt; pairs.pop().expect(&rt, "a row or none").is_none());
     drop(pairs);
-    Ok(())
 }
 
 fn is_bytes(item: &Option<Vec<u8>>, bytes: &[u8]) -> bool {
@@ -60,14 +58,16 @@ fn counts(array: Result<FixedSizeBinaryArray, Error>) -> Option<(usize, usize)> 
 }
 
 #[test]
-fn plain_bytes_of_the_size_are_pushed(rt: HostRuntime) -> Result<(), Fail> {
+fn plain_bytes_of_the_size_are_pushed(rt: HostRuntime) {
     let mut pairs = MutableFixedSizeBinaryArray::new(rt.alloc(), 2);
-    pairs.try_push_plain(Some(Plain::Bytes(b"ab")))?;
+    pairs
+        .try_push_plain(Some(Plain::Bytes(b"ab")))
+        .expect(&rt, "a value more");
     assert!(rt; pairs.try_push_plain(Some(Plain::Bytes(b"abc"))) == Err(OTHER_SIZE));
     let text = pairs.try_push_plain(Some(Plain::Text("ab")));
     assert!(rt; text == Err(Error::InvalidArgumentError(Argument::ItemType)));
-    TryPush::try_push(&mut pairs, Some(b"cd".as_slice()))?;
-    pairs.push(None)?;
+    TryPush::try_push(&mut pairs, Some(b"cd".as_slice())).expect(&rt, "a row more");
+    pairs.push(None).expect(&rt, "a row more");
     assert!(rt; pairs.len() == 3);
     if pairs.len() == 3 {
         assert!(rt; pairs.value(1) == b"cd".as_slice());
@@ -81,7 +81,6 @@ fn plain_bytes_of_the_size_are_pushed(rt: HostRuntime) -> Result<(), Fail> {
     assert!(rt; counts(pairs.freeze()) == Some((3, 1)));
     assert!(rt; pairs.validity().is_none());
     drop(pairs);
-    Ok(())
 }
 
 /// The bytes of all slots from the back, zeros under nulls; the same of the values alone.
@@ -96,39 +95,42 @@ fn backwards(pairs: &MutableFixedSizeBinaryArray, text: &mut Vec<u8>) -> Result<
 }
 
 #[test]
-fn slots_are_read_from_both_ends(rt: HostRuntime) -> Result<(), Fail> {
+fn slots_are_read_from_both_ends(rt: HostRuntime) {
     let mut pairs = MutableFixedSizeBinaryArray::new(rt.alloc(), 2);
-    extended(&mut pairs, [Some(b"ab".as_slice()), None].as_slice())?;
+    extended(&mut pairs, [Some(b"ab".as_slice()), None].as_slice()).expect(&rt, "extended");
     let mut text = Vec::new(rt.alloc());
-    backwards(&pairs, &mut text)?;
+    backwards(&pairs, &mut text).expect(&rt, "backwards");
     assert!(rt; text.as_slice() == b"-ab\0\0ab".as_slice());
     drop(pairs);
-    Ok(())
 }
 
 #[test]
-fn builders_of_the_same_slots_are_equal(rt: HostRuntime) -> Result<(), Fail> {
+fn builders_of_the_same_slots_are_equal(rt: HostRuntime) {
     let mut pushed = MutableFixedSizeBinaryArray::new(rt.alloc(), 2);
-    extended(&mut pushed, [Some(b"ab".as_slice()), None].as_slice())?;
-    let made = MutableFixedSizeBinaryArray::from(rt.alloc(), [Some(*b"ab"), None].as_slice())?;
+    extended(&mut pushed, [Some(b"ab".as_slice()), None].as_slice()).expect(&rt, "extended");
+    let made = MutableFixedSizeBinaryArray::from(
+        rt.alloc(),
+        [Some(*b"ab"), None].as_slice(),
+    ).expect(&rt, "text");
     assert!(rt; pushed == made);
     drop(made);
-    let full = MutableFixedSizeBinaryArray::from(rt.alloc(), [Some(*b"ab")].as_slice())?;
+    let full = MutableFixedSizeBinaryArray::from(rt.alloc(), [Some(*b"ab")].as_slice()).expect(
+        &rt, "text",
+    );
     assert!(rt; full.validity().is_none());
     assert!(rt; pushed != full);
     drop(full);
     drop(pushed);
-    Ok(())
 }
 
 #[test]
-fn builders_of_one_type_are_joined(rt: HostRuntime) -> Result<(), Fail> {
+fn builders_of_one_type_are_joined(rt: HostRuntime) {
     let alloc = rt.alloc();
     let mut first = MutableFixedSizeBinaryArray::new(alloc, 2);
     let mut second = MutableFixedSizeBinaryArray::new(alloc, 2);
-    extended(&mut first, [Some(b"ab".as_slice())].as_slice())?;
-    extended(&mut second, [None, Some(b"cd".as_slice())].as_slice())?;
-    TryExtendFromSelf::try_extend_from_self(&mut first, &second)?;
+    extended(&mut first, [Some(b"ab".as_slice())].as_slice()).expect(&rt, "extended");
+    extended(&mut second, [None, Some(b"cd".as_slice())].as_slice()).expect(&rt, "extended");
+    TryExtendFromSelf::try_extend_from_self(&mut first, &second).expect(&rt, "rows more");
     assert!(rt; first.values().as_slice() == b"ab\0\0cd".as_slice());
     let single = MutableFixedSizeBinaryArray::new(alloc, 1);
     let other = TryExtendFromSelf::try_extend_from_self(&mut first, &single);
@@ -137,7 +139,6 @@ fn builders_of_one_type_are_joined(rt: HostRuntime) -> Result<(), Fail> {
     drop(first);
     drop(second);
     drop(single);
-    Ok(())
 }
 
 /// What a maker refused; a builder is let go.
@@ -193,18 +194,21 @@ fn too_much_room_is_refused(rt: HostRuntime) {
 }
 
 #[test]
-fn items_are_pushed_and_joined_by_its_own_calls(rt: HostRuntime) -> Result<(), Fail> {
-    let mut pairs = MutableFixedSizeBinaryArray::with_capacity(rt.alloc(), 2, 3)?;
-    pairs.reserve(3)?;
-    pairs.try_push(Some(b"ab".as_slice()))?;
+fn items_are_pushed_and_joined_by_its_own_calls(rt: HostRuntime) {
+    let mut pairs = MutableFixedSizeBinaryArray::with_capacity(rt.alloc(), 2, 3).expect(
+        &rt, "memory",
+    );
+    pairs.reserve(3).expect(&rt, "room");
+    pairs
+        .try_push(Some(b"ab".as_slice()))
+        .expect(&rt, "a row more");
     let mut more = MutableFixedSizeBinaryArray::new(rt.alloc(), 2);
-    more.try_push(None)?;
-    pairs.try_extend_from_self(&more)?;
+    more.try_push(None).expect(&rt, "a row more");
+    pairs.try_extend_from_self(&more).expect(&rt, "rows more");
     drop(more);
     let rows = pairs.len();
     let bytes = pairs.values().len();
     drop(pairs);
     assert!(rt; rows == 2);
     assert!(rt; bytes == 4);
-    Ok(())
 }

@@ -10,7 +10,6 @@ use nest_flat::primitive::mutable::MutablePrimitiveArray;
 use nest_memory::datatypes::DataType;
 use nest_memory::error::{Argument, Error, Spec};
 use std::alloc::Global;
-use std::test::Fail;
 
 /// Lists of one size of whole numbers.
 type Lists = MutableFixedSizeListArray<MutablePrimitiveArray<i64>>;
@@ -43,8 +42,8 @@ fn frozen_lens(array: Result<FixedSizeListArray, Error>) -> Option<(usize, usize
 }
 
 #[test]
-fn rows_of_another_size_are_refused(rt: HostRuntime) -> Result<(), Fail> {
-    let mut rows = no_lists(rt.alloc(), 2)?;
+fn rows_of_another_size_are_refused(rt: HostRuntime) {
+    let mut rows = no_lists(rt.alloc(), 2).expect(&rt, "no row");
     let four = push(&mut rows, Some(&[Some(1), Some(2), Some(3), Some(4)]));
     let none = push(&mut rows, Some(&[]));
     let before = rows.values().len();
@@ -57,7 +56,6 @@ fn rows_of_another_size_are_refused(rt: HostRuntime) -> Result<(), Fail> {
     assert!(rt; two == Ok(()));
     assert!(rt; after == (1, 2));
     assert!(rt; array == Some((1, 2)));
-    Ok(())
 }
 
 /// Pushes a row of the values of a slice.
@@ -69,8 +67,8 @@ fn push_slice(rows: &mut Lists, row: Option<&[Option<i64>]>) -> Result<(), Error
 }
 
 #[test]
-fn rows_of_slices(rt: HostRuntime) -> Result<(), Fail> {
-    let mut rows = no_lists(rt.alloc(), 2)?;
+fn rows_of_slices(rt: HostRuntime) {
+    let mut rows = no_lists(rt.alloc(), 2).expect(&rt, "no row");
     let two = push_slice(&mut rows, Some(&[Some(5), None]));
     let one = push_slice(&mut rows, Some(&[Some(1)]));
     let null = push_slice(&mut rows, None);
@@ -79,7 +77,6 @@ fn rows_of_slices(rt: HostRuntime) -> Result<(), Fail> {
     assert!(rt; two == Ok(()) && null == Ok(()));
     assert!(rt; one == ITEM_SIZE);
     assert!(rt; array == Some((2, 4)));
-    Ok(())
 }
 
 fn push_item(rows: &mut Lists, item: i64) -> Result<(), Error> {
@@ -94,8 +91,8 @@ fn push_items_from(rows: &mut Lists, items: &[i64]) -> Result<(), Error> {
 }
 
 #[test]
-fn waiting_items_of_another_number_make_no_row(rt: HostRuntime) -> Result<(), Fail> {
-    let mut rows = no_lists(rt.alloc(), 2)?;
+fn waiting_items_of_another_number_make_no_row(rt: HostRuntime) {
+    let mut rows = no_lists(rt.alloc(), 2).expect(&rt, "no row");
     let first = push_items_from(&mut rows, &[1]);
     let one = rows.push_valid();
     let more = push_items_from(&mut rows, &[2, 3, 4]);
@@ -109,7 +106,6 @@ fn waiting_items_of_another_number_make_no_row(rt: HostRuntime) -> Result<(), Fa
     assert!(rt; four == ITEM_SIZE);
     assert!(rt; frozen == None);
     assert!(rt; (waiting, still) == (4, 4));
-    Ok(())
 }
 
 /// Tells a row of two items, pushes a null, and says whether a validity was there before and after.
@@ -133,8 +129,8 @@ fn keep_first(rows: &mut Lists) -> bool {
 }
 
 #[test]
-fn a_row_is_told_and_a_null_pushed(rt: HostRuntime) -> Result<(), Fail> {
-    let mut rows = no_lists(rt.alloc(), 2)?;
+fn a_row_is_told_and_a_null_pushed(rt: HostRuntime) {
+    let mut rows = no_lists(rt.alloc(), 2).expect(&rt, "no row");
     let validities = tell_and_push_null(&mut rows);
     let items = rows.values().len();
     let cut = keep_first(&mut rows);
@@ -149,7 +145,6 @@ fn a_row_is_told_and_a_null_pushed(rt: HostRuntime) -> Result<(), Fail> {
     assert!(rt; cut);
     assert!(rt; shared == 1);
     assert!(rt; empty);
-    Ok(())
 }
 
 /// What a maker refused.
@@ -164,21 +159,26 @@ fn not_made(made: Result<Lists, Error>) -> Option<Error> {
 }
 
 #[test]
-fn lists_of_a_data_type_and_size(rt: HostRuntime) -> Result<(), Fail> {
+fn lists_of_a_data_type_and_size(rt: HostRuntime) {
     let alloc = rt.alloc();
     assert!(rt; not_made(no_lists(alloc, 0)) == Some(Error::OutOfSpec(Spec::ZeroSize)));
-    let pairs = FixedSizeListArray::default_datatype(alloc, DataType::Int64, 2)?;
+    let pairs = FixedSizeListArray::default_datatype(alloc, DataType::Int64, 2).expect(
+        &rt,
+        "a data type",
+    );
     let child = MutablePrimitiveArray::new(alloc);
     let wrong = MutableFixedSizeListArray::new_from(alloc, child, pairs, 3);
     assert!(rt; not_made(wrong) == Some(Error::OutOfSpec(Spec::WrongType)));
-    let pairs = FixedSizeListArray::default_datatype(alloc, DataType::Utf8, 2)?;
+    let pairs = FixedSizeListArray::default_datatype(alloc, DataType::Utf8, 2).expect(
+        &rt,
+        "a data type",
+    );
     let child = MutablePrimitiveArray::new(alloc);
     let wrong = MutableFixedSizeListArray::new_from(alloc, child, pairs, 2);
     assert!(rt; not_made(wrong) == Some(Error::OutOfSpec(Spec::ChildType)));
     let child = MutablePrimitiveArray::new(alloc);
     let named = MutableFixedSizeListArray::new_with_field(alloc, child, "x", false, 2);
     assert!(rt; not_made(named) == None);
-    Ok(())
 }
 
 /// The rows [1], [2,3] and null.
@@ -208,14 +208,13 @@ fn push_each(
 }
 
 #[test]
-fn accepted_rows_are_kept_and_others_left(rt: HostRuntime) -> Result<(), Fail> {
-    let mut rows = no_lists(rt.alloc(), 1)?;
+fn accepted_rows_are_kept_and_others_left(rt: HostRuntime) {
+    let mut rows = no_lists(rt.alloc(), 1).expect(&rt, "no row");
     let marked = push_each(rt.alloc(), &mut rows, three_rows(rt.alloc()));
     let found = (rows.len(), rows.values().len());
     drop(rows);
     assert!(rt; marked == Ok(true));
     assert!(rt; found == (2, 2));
-    Ok(())
 }
 
 /// Lists of pairs.
@@ -260,8 +259,8 @@ fn levels(rows: &Rows) -> (usize, usize, usize) {
 }
 
 #[test]
-fn a_refused_pair_takes_its_row_back(rt: HostRuntime) -> Result<(), Fail> {
-    let mut rows = no_rows(rt.alloc())?;
+fn a_refused_pair_takes_its_row_back(rt: HostRuntime) {
+    let mut rows = no_rows(rt.alloc()).expect(&rt, "no rows");
     let refused = push_row(&mut rows, pair_and(rt.alloc(), &[Some(3)]));
     let before = levels(&rows);
     let taken = push_row(&mut rows, pair_and(rt.alloc(), &[Some(5), None]));
@@ -271,7 +270,6 @@ fn a_refused_pair_takes_its_row_back(rt: HostRuntime) -> Result<(), Fail> {
     assert!(rt; before == (0, 0, 0));
     assert!(rt; taken == Ok(()));
     assert!(rt; after == (1, 2, 4));
-    Ok(())
 }
 
 /// Pushes all rows, or none.
@@ -292,8 +290,8 @@ fn extend(
 }
 
 #[test]
-fn all_rows_are_taken_or_none(rt: HostRuntime) -> Result<(), Fail> {
-    let mut rows = no_lists(rt.alloc(), 2)?;
+fn all_rows_are_taken_or_none(rt: HostRuntime) {
+    let mut rows = no_lists(rt.alloc(), 2).expect(&rt, "no row");
     let refused = extend(&mut rows, pair_and(rt.alloc(), &[Some(3)]));
     let before = rows.len();
     let taken = extend(&mut rows, pair_and(rt.alloc(), &[Some(3), None]));
@@ -303,5 +301,4 @@ fn all_rows_are_taken_or_none(rt: HostRuntime) -> Result<(), Fail> {
     assert!(rt; before == 0);
     assert!(rt; taken == Ok(()));
     assert!(rt; after == (2, 4));
-    Ok(())
 }

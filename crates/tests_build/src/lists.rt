@@ -16,7 +16,6 @@ use nest_memory::offsets::Offsets;
 use std::alloc::{AllocError, Global};
 use std::mem;
 use std::rc::Rc;
-use std::test::Fail;
 
 /// Lists of whole numbers.
 type Lists = MutableListArray<i32, MutablePrimitiveArray<i64>>;
@@ -102,13 +101,12 @@ fn offsets_are(array: &Result<ListArray, Error>, offsets: &[i32]) -> bool {
 }
 
 #[test]
-fn pushed_rows_are_the_slots(rt: HostRuntime) -> Result<(), Fail> {
-    let text = text_of(rt.alloc(), pushed(rt.alloc()))?;
+fn pushed_rows_are_the_slots(rt: HostRuntime) {
+    let text = text_of(rt.alloc(), pushed(rt.alloc())).expect(&rt, "its text");
     assert!(rt; text.as_str() == "[ 1 null ] null [ ] ");
     let array = pushed(rt.alloc());
     assert!(rt; offsets_are(&array, [0i32, 2, 2, 2].as_slice()));
     drop(array);
-    Ok(())
 }
 
 /// What a call refused.
@@ -133,14 +131,13 @@ fn wait_and_tell(rows: &mut Lists) -> Result<bool, Error> {
 }
 
 #[test]
-fn items_wait_for_their_row(rt: HostRuntime) -> Result<(), Fail> {
-    let mut rows = no_lists(rt.alloc())?;
+fn items_wait_for_their_row(rt: HostRuntime) {
+    let mut rows = no_lists(rt.alloc()).expect(&rt, "no row");
     assert!(rt; wait_and_tell(&mut rows) == Ok(true));
     let array = rows.freeze();
     assert!(rt; rows.is_whole());
     drop(rows);
-    assert!(rt; text_of(rt.alloc(), array)?.as_str() == "[ 7 ] ");
-    Ok(())
+    assert!(rt; text_of(rt.alloc(), array).expect(&rt, "its text").as_str() == "[ 7 ] ");
 }
 
 // Holds where any one request for memory is refused: a refused row changes nothing, and a freeze empties the builder.
@@ -196,8 +193,8 @@ fn tell_lengths(rows: &mut Lists, lengths: &[Option<usize>]) -> Result<(), Error
 }
 
 #[test]
-fn rows_by_their_lengths(rt: HostRuntime) -> Result<(), Fail> {
-    let mut rows = three_waiting(rt.alloc())?;
+fn rows_by_their_lengths(rt: HostRuntime) {
+    let mut rows = three_waiting(rt.alloc()).expect(&rt, "three waiting");
     let too_few = tell_lengths(&mut rows, [Some(2)].as_slice());
     assert!(rt; too_few == Err(Error::InvalidArgumentError(Argument::LengthsSum)));
     assert!(rt; rows.len() == 0);
@@ -206,8 +203,9 @@ fn rows_by_their_lengths(rt: HostRuntime) -> Result<(), Fail> {
     assert!(rt; rows.validity().is_some());
     let array = rows.freeze();
     drop(rows);
-    assert!(rt; text_of(rt.alloc(), array)?.as_str() == "[ 1 2 ] null [ 3 ] ");
-    Ok(())
+    assert!(rt;
+        text_of(rt.alloc(), array).expect(&rt, "its text").as_str() == "[ 1 2 ] null [ 3 ] "
+    );
 }
 
 /// What a maker refused.
@@ -222,26 +220,25 @@ fn not_made(made: Result<Lists, Error>) -> Option<Error> {
 }
 
 #[test]
-fn a_child_with_rows_makes_no_lists(rt: HostRuntime) -> Result<(), Fail> {
+fn a_child_with_rows_makes_no_lists(rt: HostRuntime) {
     let alloc = rt.alloc();
     let mut child = MutablePrimitiveArray::<i64>::new(alloc);
-    TryPush::try_push(&mut child, Some(1i64))?;
+    TryPush::try_push(&mut child, Some(1i64)).expect(&rt, "a row more");
     let not_empty = Some(Error::InvalidArgumentError(Argument::ChildNotEmpty));
     assert!(rt; not_made(MutableListArray::new(alloc, child)) == not_empty);
-    Ok(())
 }
 
 #[test]
-fn lists_of_a_data_type(rt: HostRuntime) -> Result<(), Fail> {
+fn lists_of_a_data_type(rt: HostRuntime) {
     let alloc = rt.alloc();
     let child = MutablePrimitiveArray::new(alloc);
     let wrong = MutableListArray::new_from(alloc, child, DataType::Int64, 2);
     assert!(rt; not_made(wrong) == Some(Error::OutOfSpec(Spec::WrongType)));
-    let texts = ListArray::default_datatype(alloc, DataType::Utf8)?;
+    let texts = ListArray::default_datatype(alloc, DataType::Utf8).expect(&rt, "a data type");
     let child = MutablePrimitiveArray::new(alloc);
     let wrong = MutableListArray::new_from(alloc, child, texts, 2);
     assert!(rt; not_made(wrong) == Some(Error::OutOfSpec(Spec::ChildType)));
-    let numbers = ListArray::default_datatype(alloc, DataType::Int64)?;
+    let numbers = ListArray::default_datatype(alloc, DataType::Int64).expect(&rt, "a data type");
     let child = MutablePrimitiveArray::new(alloc);
     assert!(rt; not_made(MutableListArray::new_from(alloc, child, numbers, 2)) == None);
     let child = MutablePrimitiveArray::new(alloc);
@@ -250,7 +247,6 @@ fn lists_of_a_data_type(rt: HostRuntime) -> Result<(), Fail> {
     assert!(rt; not_made(MutableListArray::with_capacity(alloc, child, 3)) == None);
     let child = MutablePrimitiveArray::new(alloc);
     assert!(rt; not_made(MutableListArray::new_with_capacity(alloc, child, 3)) == None);
-    Ok(())
 }
 
 fn push_each(rows: &mut Lists, items: &[Option<&[Option<i64>]>]) -> Result<(), Error> {
@@ -313,18 +309,17 @@ fn len_of(array: Result<AnyArray, Error>) -> Option<usize> {
 }
 
 #[test]
-fn a_boxed_child_takes_the_items(rt: HostRuntime) -> Result<(), Fail> {
+fn a_boxed_child_takes_the_items(rt: HostRuntime) {
     let numbers: MutablePrimitiveArray<i64> = MutablePrimitiveArray::new(rt.alloc());
-    let child: Box<dyn MutableArray> = Box::new(rt.alloc(), numbers)?;
+    let child: Box<dyn MutableArray> = Box::new(rt.alloc(), numbers).expect(&rt, "memory");
     assert!(rt; child.is_whole());
-    let mut rows: BoxedLists = MutableListArray::new(rt.alloc(), child)?;
+    let mut rows: BoxedLists = MutableListArray::new(rt.alloc(), child).expect(&rt, "memory");
     let both = take_both(&mut rows);
     let lists = takes_no_value(&mut rows);
     let found = len_of(rows.into_box());
     assert!(rt; both);
     assert!(rt; lists);
     assert!(rt; found == Some(1));
-    Ok(())
 }
 
 /// Whether a null is taken below, and a row of it is told.
@@ -333,20 +328,19 @@ fn take_null(rows: &mut BoxedLists) -> bool {
 }
 
 #[test]
-fn a_boxed_builder_of_lists_takes_rows(rt: HostRuntime) -> Result<(), Fail> {
+fn a_boxed_builder_of_lists_takes_rows(rt: HostRuntime) {
     let numbers: MutablePrimitiveArray<i64> = MutablePrimitiveArray::new(rt.alloc());
     let lists: MutableListArray<i32, MutablePrimitiveArray<i64>> = MutableListArray::new(
         rt.alloc(),
         numbers,
-    )?;
-    let child: Box<dyn MutableArray> = Box::new(rt.alloc(), lists)?;
+    ).expect(&rt, "memory");
+    let child: Box<dyn MutableArray> = Box::new(rt.alloc(), lists).expect(&rt, "memory");
     assert!(rt; child.is_whole());
-    let mut rows: BoxedLists = MutableListArray::new(rt.alloc(), child)?;
+    let mut rows: BoxedLists = MutableListArray::new(rt.alloc(), child).expect(&rt, "memory");
     let taken = take_null(&mut rows) && take_null(&mut rows);
     let found = len_of(rows.into_box());
     assert!(rt; taken);
     assert!(rt; found == Some(2));
-    Ok(())
 }
 
 /// Lists of lists of whatever the boxed child takes.
@@ -374,13 +368,13 @@ fn shared_len(array: Result<Rc<AnyArray>, Error>) -> Option<usize> {
 }
 
 #[test]
-fn a_list_over_a_list_of_a_boxed_builder_is_filled_again(rt: HostRuntime) -> Result<(), Fail> {
+fn a_list_over_a_list_of_a_boxed_builder_is_filled_again(rt: HostRuntime) {
     let numbers: MutablePrimitiveArray<i64> = MutablePrimitiveArray::new(rt.alloc());
-    let child: Box<dyn MutableArray> = Box::new(rt.alloc(), numbers)?;
+    let child: Box<dyn MutableArray> = Box::new(rt.alloc(), numbers).expect(&rt, "memory");
     assert!(rt; child.is_whole());
-    let inner: BoxedLists = MutableListArray::new(rt.alloc(), child)?;
+    let inner: BoxedLists = MutableListArray::new(rt.alloc(), child).expect(&rt, "memory");
     assert!(rt; inner.is_whole());
-    let mut rows: Nested = MutableListArray::new(rt.alloc(), inner)?;
+    let mut rows: Nested = MutableListArray::new(rt.alloc(), inner).expect(&rt, "memory");
     let told = tell_outer(&mut rows).is_ok() && tell_outer(&mut rows).is_ok();
     let first = shared_len(rows.as_arc(rt.alloc()));
     let empty = rows.is_empty();
@@ -389,7 +383,6 @@ fn a_list_over_a_list_of_a_boxed_builder_is_filled_again(rt: HostRuntime) -> Res
     assert!(rt; told && again == Ok(()));
     assert!(rt; first == Some(2) && empty);
     assert!(rt; second == Some(1));
-    Ok(())
 }
 
 /// Tells a row over another child, then over the one before.
@@ -402,18 +395,17 @@ fn tell_over_both(rows: &mut BoxedLists, other: &mut Box<dyn MutableArray>) -> (
 }
 
 #[test]
-fn a_child_of_another_type_makes_no_row(rt: HostRuntime) -> Result<(), Fail> {
+fn a_child_of_another_type_makes_no_row(rt: HostRuntime) {
     let numbers: MutablePrimitiveArray<i64> = MutablePrimitiveArray::new(rt.alloc());
-    let child: Box<dyn MutableArray> = Box::new(rt.alloc(), numbers)?;
+    let child: Box<dyn MutableArray> = Box::new(rt.alloc(), numbers).expect(&rt, "memory");
     assert!(rt; child.is_whole());
-    let mut rows: BoxedLists = MutableListArray::new(rt.alloc(), child)?;
+    let mut rows: BoxedLists = MutableListArray::new(rt.alloc(), child).expect(&rt, "memory");
     let nulls = MutableNullArray::new(rt.alloc(), DataType::Null, 0);
-    let mut other: Box<dyn MutableArray> = Box::new(rt.alloc(), nulls)?;
+    let mut other: Box<dyn MutableArray> = Box::new(rt.alloc(), nulls).expect(&rt, "memory");
     let seen = tell_over_both(&mut rows, &mut other);
     drop(rows);
     drop(other);
     assert!(rt; seen == (true, true));
-    Ok(())
 }
 
 /// Cuts, room, and a null.
@@ -429,20 +421,19 @@ fn keep_first(rows: &mut Lists) -> Result<(), Error> {
 }
 
 #[test]
-fn rows_are_cut_with_their_items(rt: HostRuntime) -> Result<(), Fail> {
-    let mut rows = no_lists(rt.alloc())?;
+fn rows_are_cut_with_their_items(rt: HostRuntime) {
+    let mut rows = no_lists(rt.alloc()).expect(&rt, "no row");
     let two = [
         Some([Some(1)].as_slice()),
         Some([Some(2), Some(3)].as_slice()),
     ];
-    push_each(&mut rows, two.as_slice())?;
-    keep_first(&mut rows)?;
+    push_each(&mut rows, two.as_slice()).expect(&rt, "each row");
+    keep_first(&mut rows).expect(&rt, "keep first");
     assert!(rt; rows.is_whole());
     assert!(rt; rows.values().len() == 1);
     let array = rows.freeze();
     drop(rows);
-    assert!(rt; text_of(rt.alloc(), array)?.as_str() == "[ 1 ] ");
-    Ok(())
+    assert!(rt; text_of(rt.alloc(), array).expect(&rt, "its text").as_str() == "[ 1 ] ");
 }
 
 /// Lists by these offsets over the numbers from 1 to 3.
@@ -457,19 +448,18 @@ fn by_offsets(alloc: Global, ends: &[usize], bits: usize) -> Result<Lists, Error
 }
 
 #[test]
-fn lists_by_offsets(rt: HostRuntime) -> Result<(), Fail> {
+fn lists_by_offsets(rt: HostRuntime) {
     let alloc = rt.alloc();
     let short = by_offsets(alloc, [2].as_slice(), 1);
     assert!(rt; not_made(short) == Some(Error::InvalidArgumentError(Argument::LengthsSum)));
     let long = by_offsets(alloc, [2, 1].as_slice(), 3);
     assert!(rt; not_made(long) == Some(Error::OutOfSpec(Spec::ValidityLength)));
-    let mut rows = by_offsets(alloc, [2, 1].as_slice(), 2)?;
+    let mut rows = by_offsets(alloc, [2, 1].as_slice(), 2).expect(&rt, "by offsets");
     assert!(rt; rows.is_whole());
     assert!(rt; rows.offsets().len_proxy() == 2);
     let array = rows.freeze();
     drop(rows);
-    assert!(rt; text_of(alloc, array)?.as_str() == "[ 1 2 ] [ 3 ] ");
-    Ok(())
+    assert!(rt; text_of(alloc, array).expect(&rt, "its text").as_str() == "[ 1 2 ] [ 3 ] ");
 }
 /// Adds another builder's rows where both are whole.
 fn join(rows: &mut Lists, other: &Lists) -> Result<(), Error> {
@@ -508,21 +498,22 @@ fn joined(alloc: Global) -> Result<ListArray, Error> {
 }
 
 #[test]
-fn rows_of_another_builder_are_joined(rt: HostRuntime) -> Result<(), Fail> {
-    let text = text_of(rt.alloc(), joined(rt.alloc()))?;
+fn rows_of_another_builder_are_joined(rt: HostRuntime) {
+    let text = text_of(rt.alloc(), joined(rt.alloc())).expect(&rt, "its text");
     assert!(rt; text.as_str() == "[ 1 ] [ 2 3 ] null [ 4 ] ");
-    Ok(())
 }
 
 #[test]
-fn rows_of_another_type_are_not_joined(rt: HostRuntime) -> Result<(), Fail> {
+fn rows_of_another_type_are_not_joined(rt: HostRuntime) {
     let alloc = rt.alloc();
-    let mut rows = no_lists(alloc)?;
+    let mut rows = no_lists(alloc).expect(&rt, "no row");
     let child = MutablePrimitiveArray::new(alloc);
-    let other: Lists = MutableListArray::new_with_field(alloc, child, "x", true)?;
+    let other: Lists = MutableListArray::new_with_field(alloc, child, "x", true).expect(
+        &rt,
+        "new with field",
+    );
     assert!(rt; join(&mut rows, &other) == Err(Error::InvalidArgumentError(Argument::ItemType)));
     assert!(rt; rows.len() == 0);
     drop(other);
     drop(rows);
-    Ok(())
 }

@@ -4,7 +4,6 @@ use nest_array::FixedSizeBinaryArray;
 use nest_build::fixed_size_binary::MutableFixedSizeBinaryArray;
 use nest_memory::error::{Argument, Error, Spec};
 use std::alloc::Global;
-use std::test::Fail;
 
 const OTHER_SIZE: Error = Error::InvalidArgumentError(Argument::ItemSize);
 
@@ -56,14 +55,15 @@ fn items_of_another_size_make_no_array(rt: HostRuntime) {
 }
 
 #[test]
-fn arrays_of_rows(rt: HostRuntime) -> Result<(), Fail> {
+fn arrays_of_rows(rt: HostRuntime) {
     let full = FixedSizeBinaryArray::from(rt.alloc(), [Some(*b"ab")].as_slice());
     assert!(rt; counts(full) == Ok((1, 0, 2, false)));
-    let array = FixedSizeBinaryArray::from(rt.alloc(), [None, Some(*b"ab")].as_slice())?;
+    let array = FixedSizeBinaryArray::from(rt.alloc(), [None, Some(*b"ab")].as_slice()).expect(
+        &rt, "text",
+    );
     assert!(rt; array.values().as_slice() == b"\0\0ab".as_slice());
     assert!(rt; array.null_count() == 1);
     drop(array);
-    Ok(())
 }
 
 fn builder_of(
@@ -106,11 +106,13 @@ fn write_over(builder: &mut MutableFixedSizeBinaryArray) {
 }
 
 #[test]
-fn bytes_are_written_over(rt: HostRuntime) -> Result<(), Fail> {
-    let mut builder = builder_of(rt.alloc(), [Some(b"ab".as_slice()), None].as_slice(), 2)?;
+fn bytes_are_written_over(rt: HostRuntime) {
+    let mut builder = builder_of(rt.alloc(), [Some(b"ab".as_slice()), None].as_slice(), 2).expect(
+        &rt,
+        "builder of",
+    );
     write_over(&mut builder);
     assert!(rt; builder.values().as_slice() == b"xb\0\0".as_slice());
     assert!(rt; builder.len() == 2);
     drop(builder);
-    Ok(())
 }

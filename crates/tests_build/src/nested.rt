@@ -9,7 +9,6 @@ use nest_memory::datatypes::DataType;
 use nest_memory::error::{Argument, Error};
 use std::alloc::Global;
 use std::mem;
-use std::test::Fail;
 
 const UNFINISHED: Error = Error::InvalidArgumentError(Argument::Unfinished);
 
@@ -32,15 +31,14 @@ fn full_of_nulls(alloc: Global) -> Result<NullLists, Error> {
 }
 
 #[test]
-fn a_row_ends_at_the_largest_offset_and_none_past_it(rt: HostRuntime) -> Result<(), Fail> {
-    let mut rows = full_of_nulls(rt.alloc())?;
+fn a_row_ends_at_the_largest_offset_and_none_past_it(rt: HostRuntime) {
+    let mut rows = full_of_nulls(rt.alloc()).expect(&rt, "full of nulls");
     assert!(rt; tell(&mut rows) == Ok(()));
-    rows.mut_values().push_null()?;
+    rows.mut_values().push_null().expect(&rt, "a null more");
     assert!(rt; tell(&mut rows) == Err(Error::Overflow));
     assert!(rt; rows.len() == 1);
     assert!(rt; rows.values().len() == 2147483648);
     drop(rows);
-    Ok(())
 }
 
 /// Lists of pairs.
@@ -84,9 +82,9 @@ fn cut(rows: &mut Rows, n: usize) {
 }
 
 #[test]
-fn rows_are_cut_to_all_and_to_none(rt: HostRuntime) -> Result<(), Fail> {
-    let mut rows = no_rows(rt.alloc())?;
-    push_three(rt.alloc(), &mut rows)?;
+fn rows_are_cut_to_all_and_to_none(rt: HostRuntime) {
+    let mut rows = no_rows(rt.alloc()).expect(&rt, "no rows");
+    push_three(rt.alloc(), &mut rows).expect(&rt, "three rows");
     cut(&mut rows, 3);
     assert!(rt; levels(&rows) == (3, 4, 8));
     cut(&mut rows, 2);
@@ -95,5 +93,4 @@ fn rows_are_cut_to_all_and_to_none(rt: HostRuntime) -> Result<(), Fail> {
     assert!(rt; levels(&rows) == (0, 0, 0));
     assert!(rt; rows.is_whole());
     drop(rows);
-    Ok(())
 }

@@ -6,7 +6,6 @@ use nest_build::null::MutableNullArray;
 use nest_flat::plain::Plain;
 use nest_memory::datatypes::DataType;
 use nest_memory::error::{Argument, Error};
-use std::test::Fail;
 
 #[test]
 fn a_full_builder_takes_no_null(rt: HostRuntime) {
@@ -44,12 +43,12 @@ fn push_two(nulls: &mut Box<dyn MutableArray>) -> Result<bool, Error> {
 }
 
 #[test]
-fn nulls_are_pushed_and_frozen(rt: HostRuntime) -> Result<(), Fail> {
+fn nulls_are_pushed_and_frozen(rt: HostRuntime) {
     let three = MutableNullArray::new(rt.alloc(), DataType::Null, 3);
-    let mut nulls: Box<dyn MutableArray> = Box::new(rt.alloc(), three)?;
+    let mut nulls: Box<dyn MutableArray> = Box::new(rt.alloc(), three).expect(&rt, "memory");
     assert!(rt; push_two(&mut nulls) == Ok(true));
-    nulls.reserve(7)?;
-    nulls.shrink_to_fit()?;
+    nulls.reserve(7).expect(&rt, "room");
+    nulls.shrink_to_fit().expect(&rt, "less room");
     if nulls.is_whole() && nulls.len() == 5 {
         assert!(rt; !nulls.is_valid(4));
         assert!(rt; !nulls.holds(4, &Plain::Boolean(false)));
@@ -58,19 +57,17 @@ fn nulls_are_pushed_and_frozen(rt: HostRuntime) -> Result<(), Fail> {
     assert!(rt; nulls_in(nulls.as_box()) == Some(4));
     assert!(rt; nulls.is_empty());
     drop(nulls);
-    Ok(())
 }
 
 #[test]
-fn a_builder_of_nulls_keeps_its_type(rt: HostRuntime) -> Result<(), Fail> {
+fn a_builder_of_nulls_keeps_its_type(rt: HostRuntime) {
     let mut nulls = MutableNullArray::new(rt.alloc(), DataType::Null, 2);
-    let array = nulls.freeze()?;
+    let array = nulls.freeze().expect(&rt, "an array");
     assert!(rt; array.len() == 2);
     drop(array);
     assert!(rt; *nulls.data_type() == DataType::Null);
-    let shared = nulls.as_arc(rt.alloc())?;
+    let shared = nulls.as_arc(rt.alloc()).expect(&rt, "an array");
     drop(shared);
     assert!(rt; nulls.len() == 0);
     drop(nulls);
-    Ok(())
 }

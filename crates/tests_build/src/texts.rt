@@ -10,7 +10,6 @@ use nest_flat::plain::Plain;
 use nest_flat::utf8::mutable::MutableUtf8Array;
 use nest_memory::error::{Argument, Error};
 use std::alloc::Global;
-use std::test::Fail;
 
 type Texts = MutableUtf8Array<i32>;
 
@@ -73,8 +72,8 @@ fn are_texts(array: &AnyArray, expected: &[Option<&str>]) -> bool {
 }
 
 #[test]
-fn texts_of_its_type_are_pushed(rt: HostRuntime) -> Result<(), Fail> {
-    let mut texts = three_texts(rt.alloc())?;
+fn texts_of_its_type_are_pushed(rt: HostRuntime) {
+    let mut texts = three_texts(rt.alloc()).expect(&rt, "three texts");
     assert!(rt; TryPush::try_push(&mut texts, Some("é")) == Ok(()));
     assert!(rt; MutableArray::len(&texts) == 4);
     assert!(rt;
@@ -86,51 +85,47 @@ fn texts_of_its_type_are_pushed(rt: HostRuntime) -> Result<(), Fail> {
     assert!(rt; MutableArray::is_empty(&texts));
     assert!(rt; MutableArray::validity(&texts).is_none());
     drop(texts);
-    Ok(())
 }
 
 #[test]
-fn plain_texts_are_pushed(rt: HostRuntime) -> Result<(), Fail> {
-    let mut texts = three_texts(rt.alloc())?;
+fn plain_texts_are_pushed(rt: HostRuntime) {
+    let mut texts = three_texts(rt.alloc()).expect(&rt, "three texts");
     assert!(rt; push_plain(&mut texts, Plain::Text("c")) == Ok(()));
     assert!(rt; push_plain(&mut texts, Plain::Bytes(b"c")) == Err(OTHER_KIND));
     assert!(rt; push_plain(&mut texts, Plain::Native(AnyNative::Int64(7))) == Err(OTHER_KIND));
     assert!(rt; texts.push_null() == Ok(()));
     assert!(rt; MutableArray::len(&texts) == 5);
     drop(texts);
-    Ok(())
 }
 
 #[test]
-fn a_text_is_found_at_its_place(rt: HostRuntime) -> Result<(), Fail> {
-    let texts = three_texts(rt.alloc())?;
+fn a_text_is_found_at_its_place(rt: HostRuntime) {
+    let texts = three_texts(rt.alloc()).expect(&rt, "three texts");
     assert!(rt; holds(&texts, 0, Plain::Text("ab")));
     assert!(rt; holds(&texts, 2, Plain::Text("")));
     assert!(rt; !holds(&texts, 1, Plain::Text("")));
     assert!(rt; !holds(&texts, 0, Plain::Bytes(b"ab")));
     assert!(rt; is_null(&texts, 1) && !is_null(&texts, 2));
     drop(texts);
-    Ok(())
 }
 
 #[test]
-fn no_byte_is_left_behind_the_last_text(rt: HostRuntime) -> Result<(), Fail> {
-    let mut texts = three_texts(rt.alloc())?;
-    TryPush::try_push(&mut texts, Some("cde"))?;
+fn no_byte_is_left_behind_the_last_text(rt: HostRuntime) {
+    let mut texts = three_texts(rt.alloc()).expect(&rt, "three texts");
+    TryPush::try_push(&mut texts, Some("cde")).expect(&rt, "a row more");
     if MutableArray::len(&texts) >= 2 {
         MutableArray::truncate(&mut texts, 2);
     }
     assert!(rt; texts.values().as_slice() == b"ab".as_slice());
-    TryPush::try_push(&mut texts, Some("f"))?;
+    TryPush::try_push(&mut texts, Some("f")).expect(&rt, "a row more");
     assert!(rt; texts_are(texts.as_box(), [Some("ab"), None, Some("f")].as_slice()));
     drop(texts);
-    Ok(())
 }
 
 #[test]
-fn texts_are_joined(rt: HostRuntime) -> Result<(), Fail> {
-    let mut texts = three_texts(rt.alloc())?;
-    let more = three_texts(rt.alloc())?;
+fn texts_are_joined(rt: HostRuntime) {
+    let mut texts = three_texts(rt.alloc()).expect(&rt, "three texts");
+    let more = three_texts(rt.alloc()).expect(&rt, "three texts");
     assert!(rt; TryExtendFromSelf::try_extend_from_self(&mut texts, &more) == Ok(()));
     drop(more);
     assert!(rt; MutableArray::reserve(&mut texts, 9223372036854775807) != Err(Error::Overflow));
@@ -138,5 +133,4 @@ fn texts_are_joined(rt: HostRuntime) -> Result<(), Fail> {
     let twice = [Some("ab"), None, Some(""), Some("ab"), None, Some("")];
     assert!(rt; texts_are(texts.as_box(), twice.as_slice()));
     drop(texts);
-    Ok(())
 }

@@ -7,7 +7,6 @@ use nest_flat::validity;
 use nest_memory::datatypes::DataType;
 use nest_memory::error::Error;
 use std::alloc::Global;
-use std::test::Fail;
 
 /// Rows of two items, a null, and rows of three items and of none.
 fn four_rows(alloc: Global) -> Result<ListRows<i32>, Error> {
@@ -19,16 +18,15 @@ fn four_rows(alloc: Global) -> Result<ListRows<i32>, Error> {
 }
 
 #[test]
-fn rows_are_told_and_frozen(rt: HostRuntime) -> Result<(), Fail> {
-    let mut rows = four_rows(rt.alloc())?;
-    let more = four_rows(rt.alloc())?;
-    rows.append(&more)?;
-    let (offsets, bits) = rows.freeze()?;
+fn rows_are_told_and_frozen(rt: HostRuntime) {
+    let mut rows = four_rows(rt.alloc()).expect(&rt, "four rows");
+    let more = four_rows(rt.alloc()).expect(&rt, "four rows");
+    rows.append(&more).expect(&rt, "rows more");
+    let (offsets, bits) = rows.freeze().expect(&rt, "an array");
     let ends = [0i32, 2, 2, 5, 5, 7, 7, 10, 10];
     assert!(rt; offsets.as_slice() == ends.as_slice());
     assert!(rt; validity::null_count(&bits) == 2);
     assert!(rt; rows.len() == 0);
-    Ok(())
 }
 
 /// Two rows, told by what all widths have, and two more of their own.
@@ -45,30 +43,28 @@ fn doubled<R: ToldRows>(alloc: Global) -> Result<R, Error> {
 }
 
 #[test]
-fn rows_of_any_width(rt: HostRuntime) -> Result<(), Fail> {
-    let narrow: ListRows<i32> = doubled(rt.alloc())?;
-    let wide: ListRows<i64> = doubled(rt.alloc())?;
+fn rows_of_any_width(rt: HostRuntime) {
+    let narrow: ListRows<i32> = doubled(rt.alloc()).expect(&rt, "doubled");
+    let wide: ListRows<i64> = doubled(rt.alloc()).expect(&rt, "doubled");
     assert!(rt; narrow.len() == 3);
     assert!(rt; wide.len() == 3);
     assert!(rt; narrow.last() == 3);
     assert!(rt; wide.last() == 3);
-    Ok(())
 }
 
 #[test]
-fn rows_of_one_size_are_counted(rt: HostRuntime) -> Result<(), Fail> {
+fn rows_of_one_size_are_counted(rt: HostRuntime) {
     let mut rows = FixedRows::new(rt.alloc());
-    rows.reserve(2)?;
-    rows.push(true)?;
-    rows.push(false)?;
+    rows.reserve(2).expect(&rt, "room");
+    rows.push(true).expect(&rt, "a row more");
+    rows.push(false).expect(&rt, "a row more");
     let mut more = FixedRows::new(rt.alloc());
-    more.push(true)?;
-    rows.append(&more)?;
-    let (count, bits) = rows.freeze()?;
+    more.push(true).expect(&rt, "a row more");
+    rows.append(&more).expect(&rt, "rows more");
+    let (count, bits) = rows.freeze().expect(&rt, "an array");
     assert!(rt; count == 3);
     assert!(rt; validity::null_count(&bits) == 1);
     assert!(rt; rows.len() == 0);
-    Ok(())
 }
 
 /// Four rows over five nulls.
@@ -94,14 +90,13 @@ fn frozen_pairs(alloc: Global) -> Result<FixedSizeListArray, Error> {
 }
 
 #[test]
-fn rows_are_frozen_over_their_items(rt: HostRuntime) -> Result<(), Fail> {
-    let lists = frozen_rows(rt.alloc())?;
+fn rows_are_frozen_over_their_items(rt: HostRuntime) {
+    let lists = frozen_rows(rt.alloc()).expect(&rt, "frozen rows");
     let found = (lists.len(), lists.null_count(), lists.values().len());
     drop(lists);
     assert!(rt; found == (4, 1, 5));
-    let pairs = frozen_pairs(rt.alloc())?;
+    let pairs = frozen_pairs(rt.alloc()).expect(&rt, "frozen pairs");
     let found = (pairs.len(), pairs.null_count(), pairs.values().len());
     drop(pairs);
     assert!(rt; found == (2, 1, 4));
-    Ok(())
 }

@@ -114,8 +114,8 @@ fn ends_are(array: Result<BinaryArray<i64>, Error>, ends: &[i64]) -> bool {
 }
 
 #[test]
-fn bytes_are_frozen(rt: HostRuntime) -> Result<(), Fail> {
-    let mut bytes = MutableBinaryArray::new(rt.alloc())?;
+fn bytes_are_frozen(rt: HostRuntime) {
+    let mut bytes = MutableBinaryArray::new(rt.alloc()).expect(&rt, "memory");
     let pushed = push_bytes(rt.alloc(), &mut bytes);
     let array = bytes.freeze();
     let again = bytes.freeze();
@@ -123,7 +123,6 @@ fn bytes_are_frozen(rt: HostRuntime) -> Result<(), Fail> {
     assert!(rt; pushed == Ok(()));
     assert!(rt; ends_are(array, &[0, 2, 2, 5]));
     assert!(rt; ends_are(again, &[0]));
-    Ok(())
 }
 
 // Holds where any one request for memory is refused: a refused call adds no slot and no byte, and a freeze empties the

@@ -4,7 +4,6 @@ use nest_flat::boolean::mutable::MutableBooleanArray;
 use nest_flat::primitive::mutable::MutablePrimitiveArray;
 use nest_flat::utf8::mutable::MutableUtf8Array;
 use nest_memory::bitmap::immutable::Bitmap;
-use std::test::Fail;
 
 /// How many nulls a validity tells, and whether there is one.
 fn told(validity: Option<&Bitmap>) -> Option<usize> {
@@ -12,7 +11,7 @@ fn told(validity: Option<&Bitmap>) -> Option<usize> {
 }
 
 #[test]
-fn natives_without_nulls(rt: HostRuntime) -> Result<(), Fail> {
+fn natives_without_nulls(rt: HostRuntime) {
     let mut builder = MutablePrimitiveArray::<i64>::new(rt.alloc());
     assert!(rt; builder.try_push(Some(7)) == Ok(()));
     assert!(rt; builder.try_extend([Some(8i64), Some(9)]) == Ok(()));
@@ -25,11 +24,10 @@ fn natives_without_nulls(rt: HostRuntime) -> Result<(), Fail> {
     assert!(rt; told(frozen.validity()) == Some(1));
     drop(frozen);
     drop(builder);
-    Ok(())
 }
 
 #[test]
-fn truths_without_nulls(rt: HostRuntime) -> Result<(), Fail> {
+fn truths_without_nulls(rt: HostRuntime) {
     let mut builder = MutableBooleanArray::new(rt.alloc());
     assert!(rt; builder.try_push(Some(false)) == Ok(()));
     let frozen = builder.freeze().expect(&rt, "a truth");
@@ -40,12 +38,11 @@ fn truths_without_nulls(rt: HostRuntime) -> Result<(), Fail> {
     assert!(rt; told(frozen.validity()) == Some(1));
     drop(frozen);
     drop(builder);
-    Ok(())
 }
 
 #[test]
-fn bytes_without_nulls(rt: HostRuntime) -> Result<(), Fail> {
-    let mut builder = MutableBinaryArray::<i32>::new(rt.alloc())?;
+fn bytes_without_nulls(rt: HostRuntime) {
+    let mut builder = MutableBinaryArray::<i32>::new(rt.alloc()).expect(&rt, "memory");
     assert!(rt; builder.try_push(Some(b"ab".as_slice())) == Ok(()));
     let frozen = builder.freeze().expect(&rt, "two bytes");
     assert!(rt; told(frozen.validity()).is_none());
@@ -55,12 +52,11 @@ fn bytes_without_nulls(rt: HostRuntime) -> Result<(), Fail> {
     assert!(rt; told(frozen.validity()) == Some(1));
     drop(frozen);
     drop(builder);
-    Ok(())
 }
 
 #[test]
-fn texts_without_nulls(rt: HostRuntime) -> Result<(), Fail> {
-    let mut builder = MutableUtf8Array::<i64>::new(rt.alloc())?;
+fn texts_without_nulls(rt: HostRuntime) {
+    let mut builder = MutableUtf8Array::<i64>::new(rt.alloc()).expect(&rt, "memory");
     assert!(rt; builder.try_push(Some("")) == Ok(()));
     let frozen = builder.freeze().expect(&rt, "a text");
     assert!(rt; told(frozen.validity()).is_none());
@@ -70,5 +66,4 @@ fn texts_without_nulls(rt: HostRuntime) -> Result<(), Fail> {
     assert!(rt; told(frozen.validity()) == Some(1));
     drop(frozen);
     drop(builder);
-    Ok(())
 }

@@ -19,17 +19,19 @@ use nest_memory::datatypes::DataType;
 use nest_memory::datatypes::physical_type::PrimitiveType;
 use nest_memory::error::Error;
 use std::alloc::Global;
-use std::test::Fail;
 
 #[test]
-fn a_validity_is_made_and_shared(rt: HostRuntime) -> Result<(), Fail> {
-    let nulls = validity::none_valid(rt.alloc(), 3, 1)?;
-    let shared = validity::clone(&nulls)?;
+fn a_validity_is_made_and_shared(rt: HostRuntime) {
+    let nulls = validity::none_valid(rt.alloc(), 3, 1).expect(&rt, "none valid");
+    let shared = validity::clone(&nulls).expect(&rt, "a copy");
     assert!(rt; validity::null_count(&nulls) == 3);
     assert!(rt; validity::null_count(&shared) == 3);
     assert!(rt; validity::fits(&shared, 3));
-    assert!(rt; validity::none_valid(rt.alloc(), 3, 0)?.is_none());
-    Ok(())
+    assert!(rt;
+        validity::none_valid(rt.alloc(), 3, 0)
+            .expect(&rt, "none valid")
+            .is_none()
+    );
 }
 
 /// The bits of a valid place and a null one.
@@ -41,15 +43,14 @@ fn two_bits(alloc: Global) -> Result<Option<MutableBitmap>, Error> {
 }
 
 #[test]
-fn bits_begin_with_the_first_null(rt: HostRuntime) -> Result<(), Fail> {
-    let mut bits = two_bits(rt.alloc())?;
-    growth::validity::reserve(&mut bits, 8)?;
+fn bits_begin_with_the_first_null(rt: HostRuntime) {
+    let mut bits = two_bits(rt.alloc()).expect(&rt, "two bits");
+    growth::validity::reserve(&mut bits, 8).expect(&rt, "room");
     growth::validity::shrink_to_fit(&mut bits);
-    let frozen = growth::validity::freeze(&mut bits)?;
+    let frozen = growth::validity::freeze(&mut bits).expect(&rt, "an array");
     assert!(rt; bits.is_none());
     assert!(rt; validity::fits(&frozen, 2));
     assert!(rt; validity::null_count(&frozen) == 1);
-    Ok(())
 }
 
 /// The bits of three valid places and a null one.
@@ -62,24 +63,22 @@ fn four_bits(alloc: Global) -> Result<Option<MutableBitmap>, Error> {
 }
 
 #[test]
-fn bits_are_joined_behind_valid_places(rt: HostRuntime) -> Result<(), Fail> {
-    let mut bits = four_bits(rt.alloc())?;
-    let frozen = growth::validity::freeze(&mut bits)?;
+fn bits_are_joined_behind_valid_places(rt: HostRuntime) {
+    let mut bits = four_bits(rt.alloc()).expect(&rt, "four bits");
+    let frozen = growth::validity::freeze(&mut bits).expect(&rt, "an array");
     assert!(rt; validity::fits(&frozen, 4));
     assert!(rt; validity::null_count(&frozen) == 1);
-    Ok(())
 }
 
 #[test]
-fn bits_are_appended(rt: HostRuntime) -> Result<(), Fail> {
+fn bits_are_appended(rt: HostRuntime) {
     let mut bits = MutableBitmap::new(rt.alloc());
     let mut more = MutableBitmap::new(rt.alloc());
-    more.push(true)?;
-    more.push(false)?;
-    growth::bits::append(&mut bits, &more)?;
+    more.push(true).expect(&rt, "a row more");
+    more.push(false).expect(&rt, "a row more");
+    growth::bits::append(&mut bits, &more).expect(&rt, "rows more");
     assert!(rt; bits.len() == 2);
     assert!(rt; bits.unset_bits() == 1);
-    Ok(())
 }
 
 /// A builder of any native kind, with 7 and a null.
@@ -110,71 +109,76 @@ fn counted(array: Result<AnyPrimitive, Error>) -> Result<(usize, usize), Error> 
 }
 
 #[test]
-fn any_natives_are_frozen_and_copied(rt: HostRuntime) -> Result<(), Fail> {
-    let array = frozen(rt.alloc())?;
+fn any_natives_are_frozen_and_copied(rt: HostRuntime) {
+    let array = frozen(rt.alloc()).expect(&rt, "frozen");
     let copy = counted(array.clone(rt.alloc()));
     drop(array);
     assert!(rt; copy == Ok((2, 1)));
-    Ok(())
 }
 
 #[test]
-fn bytes_have_room_and_are_joined(rt: HostRuntime) -> Result<(), Fail> {
-    let mut bytes: MutableBinaryArray<i32> = MutableBinaryArray::new(rt.alloc())?;
-    bytes.reserve(2)?;
-    bytes.try_push(Some(b"ab".as_slice()))?;
-    let mut more: MutableBinaryArray<i32> = MutableBinaryArray::new(rt.alloc())?;
-    more.try_push(None)?;
-    bytes.try_extend_from_self(&more)?;
+fn bytes_have_room_and_are_joined(rt: HostRuntime) {
+    let mut bytes: MutableBinaryArray<i32> = MutableBinaryArray::new(rt.alloc()).expect(
+        &rt, "memory",
+    );
+    bytes.reserve(2).expect(&rt, "room");
+    bytes
+        .try_push(Some(b"ab".as_slice()))
+        .expect(&rt, "a row more");
+    let mut more: MutableBinaryArray<i32> = MutableBinaryArray::new(rt.alloc()).expect(
+        &rt, "memory",
+    );
+    more.try_push(None).expect(&rt, "a row more");
+    bytes.try_extend_from_self(&more).expect(&rt, "rows more");
     drop(more);
     let count = bytes.len();
     drop(bytes);
     assert!(rt; count == 2);
-    Ok(())
 }
 
 #[test]
-fn truths_have_room(rt: HostRuntime) -> Result<(), Fail> {
+fn truths_have_room(rt: HostRuntime) {
     let mut truths = MutableBooleanArray::new(rt.alloc());
-    truths.reserve(2)?;
-    truths.try_push(Some(true))?;
+    truths.reserve(2).expect(&rt, "room");
+    truths.try_push(Some(true)).expect(&rt, "a row more");
     let count = truths.len();
     drop(truths);
     assert!(rt; count == 1);
-    Ok(())
 }
 
 #[test]
-fn nulls_of_numbers_and_truths(rt: HostRuntime) -> Result<(), Fail> {
+fn nulls_of_numbers_and_truths(rt: HostRuntime) {
     let numbers: PrimitiveArray<i32> = PrimitiveArray::of_nulls(
         rt.alloc(),
         &DataType::Int32,
         2,
         1,
-    )?;
+    ).expect(&rt, "nulls");
     let nulls = numbers.null_count();
     drop(numbers);
     assert!(rt; nulls == 2);
     let any = AnyPrimitive::of_nulls(rt.alloc(), PrimitiveType::Int32, &DataType::Int32, 2, 1);
     assert!(rt; counted(any) == Ok((2, 2)));
-    let truths = BooleanArray::of_nulls(rt.alloc(), &DataType::Boolean, 2, 1)?;
+    let truths = BooleanArray::of_nulls(rt.alloc(), &DataType::Boolean, 2, 1).expect(&rt, "nulls");
     let nulls = truths.null_count();
     drop(truths);
     assert!(rt; nulls == 2);
-    Ok(())
 }
 
 #[test]
-fn nulls_of_bytes_and_texts(rt: HostRuntime) -> Result<(), Fail> {
-    let bytes: BinaryArray<i32> = BinaryArray::of_nulls(rt.alloc(), &DataType::Binary, 2, 1)?;
+fn nulls_of_bytes_and_texts(rt: HostRuntime) {
+    let bytes: BinaryArray<i32> = BinaryArray::of_nulls(rt.alloc(), &DataType::Binary, 2, 1).expect(
+        &rt, "nulls",
+    );
     let nulls = bytes.null_count();
     drop(bytes);
     assert!(rt; nulls == 2);
-    let texts: Utf8Array<i32> = Utf8Array::of_nulls(rt.alloc(), &DataType::Utf8, 2, 1)?;
+    let texts: Utf8Array<i32> = Utf8Array::of_nulls(rt.alloc(), &DataType::Utf8, 2, 1).expect(
+        &rt, "nulls",
+    );
     let nulls = texts.null_count();
     drop(texts);
     assert!(rt; nulls == 2);
-    Ok(())
 }
 
 /// A validity again.
@@ -198,15 +202,16 @@ fn of_its_parts(alloc: Global, texts: &Utf8Array<i32>) -> Result<Utf8Array<i32>,
 }
 
 #[test]
-fn texts_are_made_of_parts_that_fit(rt: HostRuntime) -> Result<(), Fail> {
-    let mut builder: MutableUtf8Array<i32> = MutableUtf8Array::new(rt.alloc())?;
-    builder.try_push(Some("ab"))?;
-    builder.try_push(None)?;
-    let texts = builder.freeze()?;
-    let same = of_its_parts(rt.alloc(), &texts)?;
+fn texts_are_made_of_parts_that_fit(rt: HostRuntime) {
+    let mut builder: MutableUtf8Array<i32> = MutableUtf8Array::new(rt.alloc()).expect(
+        &rt, "memory",
+    );
+    builder.try_push(Some("ab")).expect(&rt, "a row more");
+    builder.try_push(None).expect(&rt, "a row more");
+    let texts = builder.freeze().expect(&rt, "an array");
+    let same = of_its_parts(rt.alloc(), &texts).expect(&rt, "the same texts");
     assert!(rt; same.len() == 2);
     assert!(rt; same.get(0) == Some("ab"));
     assert!(rt; same.is_null(1));
     assert!(rt; same == texts);
-    Ok(())
 }

@@ -4,7 +4,6 @@ use nest_memory::datatypes::{
 use nest_memory::error::{Argument, Error, Spec};
 use std::alloc::{AllocError, Global};
 use std::process::Abort;
-use std::test::Fail;
 
 // Data types are let go in generic helpers and by `drop`, which keeps the proofs short.
 
@@ -271,7 +270,7 @@ fn native_data_types(rt: HostRuntime) {
 }
 
 #[test]
-fn texts_of_errors(rt: HostRuntime) -> Result<(), Fail> {
+fn texts_of_errors(rt: HostRuntime) {
     let alloc = rt.alloc();
     for (error, text) in [
         (
@@ -284,9 +283,8 @@ fn texts_of_errors(rt: HostRuntime) -> Result<(), Fail> {
         ),
         (Error::Memory(AllocError), "out of memory"),
     ] {
-        assert!(rt; format!(in alloc; "{error}")?.as_str() == text);
+        assert!(rt; format!(in alloc; "{error}").expect(&rt, "format").as_str() == text);
     }
-    Ok(())
 }
 
 #[test]

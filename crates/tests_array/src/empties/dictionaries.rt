@@ -4,7 +4,6 @@ use nest_array::{AnyArray, DictionaryArray};
 use nest_memory::datatypes::{DataType, IntegerType};
 use nest_memory::error::{Error, Spec};
 use std::alloc::{AllocError, Global};
-use std::test::Fail;
 
 fn lists_by_keys(alloc: Global) -> Result<DataType, Error> {
     dictionary(alloc, IntegerType::Int8, list(alloc, Ok(DataType::Int32)))
@@ -82,13 +81,12 @@ fn counts(array: Result<DictionaryArray, Error>) -> Result<(usize, usize, usize)
 }
 
 #[test]
-fn null_keys_by_the_call_of_their_kind(rt: HostRuntime) -> Result<(), Fail> {
+fn null_keys_by_the_call_of_their_kind(rt: HostRuntime) {
     let alloc = rt.alloc();
-    let data_type = lists_by_keys(alloc)?;
+    let data_type = lists_by_keys(alloc).expect(&rt, "lists by keys");
     assert!(rt; counts(DictionaryArray::new_null(alloc, data_type, 2)) == Ok((2, 2, 1)));
-    let data_type = lists_by_keys(alloc)?;
+    let data_type = lists_by_keys(alloc).expect(&rt, "lists by keys");
     assert!(rt; counts(DictionaryArray::new_empty(alloc, data_type)) == Ok((0, 0, 0)));
-    Ok(())
 }
 
 fn lists_and_names(alloc: Global) -> Result<DataType, Error> {

@@ -4,7 +4,6 @@ use nest_array::{AnyArray, AnyScalar, UnionArray};
 use nest_memory::datatypes::{DataType, UnionMode};
 use nest_memory::error::{Error, Spec};
 use std::alloc::Global;
-use std::test::Fail;
 
 fn number_or_text(alloc: Global, ids: Option<&[i32]>) -> Result<DataType, Error> {
     let fields = two(alloc, Ok(DataType::Int32), Ok(DataType::Utf8));
@@ -70,10 +69,9 @@ fn counts(array: Result<UnionArray, Error>) -> Result<(usize, usize), Error> {
 }
 
 #[test]
-fn nulls_by_the_call_of_their_kind(rt: HostRuntime) -> Result<(), Fail> {
-    let data_type = number_or_text(rt.alloc(), None)?;
+fn nulls_by_the_call_of_their_kind(rt: HostRuntime) {
+    let data_type = number_or_text(rt.alloc(), None).expect(&rt, "number or text");
     assert!(rt; counts(UnionArray::new_null(rt.alloc(), data_type, 3)) == Ok((3, 2)));
-    Ok(())
 }
 
 #[test]
