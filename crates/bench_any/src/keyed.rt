@@ -1,4 +1,7 @@
 //! Dictionaries of texts, whose values are found by a table of hashes.
+ghost use Rattle.std.specs.Prelude.{IfOk};
+ghost use Rattle.nest_model.specs.BuilderWhole.{IsWhole};
+
 use anyhow::Result;
 use bench_tools::{begin, tell};
 use nest_any::AnyMutableFlat;
@@ -6,7 +9,7 @@ use nest_build::array::MutableArray;
 use nest_build::dictionary::MutableDictionaryArray;
 use nest_flat::plain::Plain;
 use nest_flat::utf8::mutable::MutableUtf8Array;
-use nest_memory::error::{Argument, Error};
+use nest_memory::error::Error;
 use std::alloc::{AllocError, Global};
 use std::rt::Clock;
 
@@ -31,24 +34,21 @@ fn different(alloc: Global, n: usize) -> Result<Vec<String>, AllocError> {
     Ok(texts)
 }
 
-fn no_texts(alloc: Global) -> Result<Keyed, Error> {
+fn no_texts(alloc: Global) -> Result<Keyed, Error>
+    ensures { IfOk result (λ b. IsWhole (⟦<Keyed as MutableArray>⟧.model b)) }
+{
     let texts = AnyMutableFlat::Utf8(MutableUtf8Array::new(alloc)?);
     MutableDictionaryArray::try_from_values(alloc, texts)
 }
 
-fn push(keyed: &mut Keyed, text: &str) -> Result<(), Error> {
-    if !keyed.is_whole() {
-        return Err(Error::InvalidArgumentError(Argument::Unfinished));
-    }
-    keyed.try_push_plain(Some(Plain::Text(text)))
-}
-
 /// Pushes n texts, each so far from the one before.
-fn push_texts(keyed: &mut Keyed, texts: &[String], n: usize, stride: usize) -> Result<(), Error> {
-    for i in 0..n {
+fn push_texts(keyed: &mut Keyed, texts: &[String], n: usize, stride: usize) -> Result<(), Error>
+    requires { IsWhole (⟦<Keyed as MutableArray>⟧.model keyed.old) }
+{
+    'texts: for i in 0..n {
         let place = i.wrapping_mul(stride) % texts.len().max(1);
         if let Some(text) = texts.get(place) {
-            push(keyed, text.as_str())?;
+            keyed.try_push_plain(Some(Plain::Text(text.as_str())))?;
         }
     }
     Ok(())

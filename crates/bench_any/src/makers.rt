@@ -1,7 +1,7 @@
 //! Builders of records of a number and a text, and of lists of them.
 ghost use Rattle.std.specs.Prelude.{IfOk};
 ghost use Rattle.nest_any.specs.Trees.{tree_of, trees_of};
-ghost use Rattle.nest_model.specs.BuilderRowChecks.{AreEachWhole};
+ghost use Rattle.nest_model.specs.BuilderRowChecks.{AreEachWhole, HasWholeChildren};
 ghost use Rattle.nest_model.specs.BuilderWhole.{IsWhole};
 
 use nest_any::{AnyMutableArray, AnyMutableFlat, MutableStructArray};
@@ -51,6 +51,7 @@ fn over<E: Drop>(
     values: Result<Vec<AnyMutableArray>, E>,
 ) -> Result<MutableStructArray, Error>
     requires { IfOk values (λ vs. AreEachWhole (trees_of vs.items)) }
+    ensures { IfOk result (λ b. HasWholeChildren b) }
 {
     match values {
         Ok(values) => MutableStructArray::try_new(alloc, data_type, values, None),
@@ -63,7 +64,9 @@ fn over<E: Drop>(
 }
 
 /// Builds records of a number and a text.
-pub fn records(alloc: Global) -> Result<MutableStructArray, Error> {
+pub fn records(alloc: Global) -> Result<MutableStructArray, Error>
+    ensures { IfOk result (λ b. HasWholeChildren b) }
+{
     let data_type = record_type(alloc)?;
     match texts(alloc) {
         Ok(texts) => over(alloc, data_type, vec![in alloc; numbers(alloc), texts]),

@@ -1,4 +1,8 @@
 //! Records of a number and a text, and lists of two of them, told row by row.
+ghost use Rattle.nest_any.specs.Trees.{tree_of, trees_of};
+ghost use Rattle.nest_model.specs.BuilderRowChecks.{AreEachWhole, HasWholeChildren};
+ghost use Rattle.nest_model.specs.BuilderWhole.{IsWhole};
+
 use crate::makers;
 use crate::makers::UNFINISHED;
 use anyhow::Result;
@@ -23,7 +27,10 @@ const NUMBER: i64 = 19;
 const TEXT: &str = "nineteen";
 
 /// Pushes a number into the first child, as what it is.
-fn push_number(child: &mut AnyMutableArray, number: i64) -> Result<(), Error> {
+fn push_number(child: &mut AnyMutableArray, number: i64) -> Result<(), Error>
+    requires { IsWhole (tree_of child.old) }
+    ensures { IsWhole (tree_of child.new) }
+{
     match child {
         AnyMutableArray::Flat(AnyMutableFlat::Primitive(AnyMutablePrimitive::Int64(numbers))) => {
             numbers.try_push(Some(number))
@@ -33,7 +40,10 @@ fn push_number(child: &mut AnyMutableArray, number: i64) -> Result<(), Error> {
 }
 
 /// Pushes a text into the second child, as what it is.
-fn push_text(child: &mut AnyMutableArray, text: &str) -> Result<(), Error> {
+fn push_text(child: &mut AnyMutableArray, text: &str) -> Result<(), Error>
+    requires { IsWhole (tree_of child.old) }
+    ensures { IsWhole (tree_of child.new) }
+{
     match child {
         AnyMutableArray::Flat(AnyMutableFlat::Utf8(texts)) => texts.try_push(Some(text)),
         _ => Ok(()),
@@ -41,25 +51,33 @@ fn push_text(child: &mut AnyMutableArray, text: &str) -> Result<(), Error> {
 }
 
 /// The cells of a record, by children whose kinds are known.
-fn push_cells(children: &mut [AnyMutableArray]) -> Result<(), Error> {
-    if let [first, second] = children {
-        push_number(first, NUMBER)?;
-        push_text(second, TEXT)?;
+fn push_cells(children: &mut [AnyMutableArray]) -> Result<(), Error>
+    requires { AreEachWhole (trees_of children.old) }
+    ensures { AreEachWhole (trees_of children.new) }
+{
+    if children.len() == 2 {
+        push_number(&mut children[0], NUMBER)?;
+        push_text(&mut children[1], TEXT)?;
     }
     Ok(())
 }
 
-/// A record, cell by cell.
-fn push_typed(records: &mut MutableStructArray) -> Result<(), Error> {
+/// A record, cell by cell. That the children stay whole is proved, and need not be asked.
+fn push_typed(records: &mut MutableStructArray) -> Result<(), Error>
+    requires { HasWholeChildren records.old }
+    ensures { HasWholeChildren records.new }
+{
     push_cells(records.mut_values())?;
-    tell_record(records)
+    records.push(true)
 }
 
-fn tell_record(records: &mut MutableStructArray) -> Result<(), Error> {
-    if !records.has_whole_children() {
-        return Err(UNFINISHED);
+fn push_all_typed(records: &mut MutableStructArray, n: usize) -> Result<(), Error>
+    requires { HasWholeChildren records.old }
+{
+    'rows: for _ in 0..n {
+        push_typed(records)?;
     }
-    records.push(true)
+    Ok(())
 }
 
 fn push_plain(builder: &mut AnyMutableArray, value: Plain<'_>) -> Result<(), Error> {
@@ -98,15 +116,24 @@ fn push_list(lists: &mut AnyMutableArray) -> Result<(), Error> {
 
 fn typed(alloc: Global, n: usize) -> Result<AnyArray, Error> {
     let mut records = makers::records(alloc)?;
-    let mut done = Ok(());
-    for _ in 0..n {
-        if done.is_ok() {
-            done = push_typed(&mut records);
-        }
-    }
+    let done = push_all_typed(&mut records, n);
     let frozen = records.as_box();
     drop(records);
-    frozen
+    unless_refused(frozen, done)
+}
+
+/// The array, unless a row of it was refused.
+fn unless_refused(
+    array: Result<AnyArray, Error>,
+    done: Result<(), Error>,
+) -> Result<AnyArray, Error> {
+    match done {
+        Ok(()) => array,
+        Err(error) => {
+            drop(array);
+            Err(error)
+        }
+    }
 }
 
 /// By plain values: records, or lists of two of them.
@@ -128,7 +155,7 @@ fn plain(alloc: Global, n: usize, listed: bool) -> Result<AnyArray, Error> {
     }
     let frozen = builder.as_box();
     drop(builder);
-    frozen
+    unless_refused(frozen, done)
 }
 
 /// What is built.

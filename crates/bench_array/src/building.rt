@@ -1,4 +1,5 @@
 //! Arrays built row by row.
+ghost use Rattle.std.specs.Prelude.{OnOk};
 ghost use Rattle.nest_model.specs.BuilderWhole.{IsWhole};
 ghost use Rattle.bench_array.specs.Trees.{list_tree, sized_tree};
 
@@ -11,7 +12,7 @@ use nest_build::fixed_size_list::MutableFixedSizeListArray;
 use nest_build::list::MutableListArray;
 use nest_build::push::TryPush;
 use nest_flat::primitive::mutable::MutablePrimitiveArray;
-use nest_memory::error::{Argument, Error};
+use nest_memory::error::Error;
 use std::alloc::Global;
 use std::rt::Clock;
 
@@ -22,6 +23,8 @@ const ROWS: usize = 500_000;
 type Numbers = MutablePrimitiveArray<i64>;
 
 type Lists = MutableListArray<i32, Numbers>;
+
+type Nested = MutableListArray<i32, Lists>;
 
 const NUMBERS: [Option<i64>; 8] = [
     Some(1),
@@ -104,25 +107,32 @@ fn push_bytes(
 }
 
 /// Pushes a list into the child of a builder of lists of lists.
-fn push_below(child: &mut Lists, items: &[Option<i64>]) -> Result<(), Error> {
-    if !child.is_whole() {
-        return Err(Error::InvalidArgumentError(Argument::Unfinished));
-    }
+fn push_below(child: &mut Lists, items: &[Option<i64>]) -> Result<(), Error>
+    requires { IsWhole (⟦<Lists as MutableArray>⟧.model child.old) }
+    ensures { IsWhole (⟦<Lists as MutableArray>⟧.model child.new) }
+{
     child.try_push_slice(Some(items))
 }
 
-/// Tells a row of two lists, which were pushed into the child; that it is whole is tested for each.
-fn push_nested(
-    builder: &mut MutableListArray<i32, Lists>,
-    items: &[Option<i64>],
-) -> Result<(), Error> {
+/// Tells a row of two lists, which were pushed into the child. That it is whole is proved, and need not be asked.
+fn push_nested(builder: &mut Nested, items: &[Option<i64>]) -> Result<(), Error>
+    requires { IsWhole (⟦<Nested as MutableArray>⟧.model builder.old) }
+    ensures { OnOk result (IsWhole (⟦<Nested as MutableArray>⟧.model builder.new)) }
+{
     push_below(builder.mut_values(), items)?;
     push_below(builder.mut_values(), items)?;
-    if !builder.values().is_whole() {
-        return Err(Error::InvalidArgumentError(Argument::Unfinished));
-    }
     builder.known();
     builder.try_push_valid()
+}
+
+/// So many rows of two lists of these items.
+fn push_all_nested(builder: &mut Nested, items: &[Option<i64>], n: usize) -> Result<(), Error>
+    requires { IsWhole (⟦<Nested as MutableArray>⟧.model builder.old) }
+{
+    'rows: for _ in 0..n {
+        push_nested(builder, items)?;
+    }
+    Ok(())
 }
 
 fn numbers(nulls: bool) -> [Option<i64>; 8] {
@@ -164,14 +174,11 @@ fn byte_strings(alloc: Global, n: usize, nulls: bool) -> Result<AnyArray, Error>
 /// So many rows of two lists of four numbers.
 fn nested_lists(alloc: Global, n: usize) -> Result<AnyArray, Error> {
     let items: Lists = MutableListArray::new(alloc, MutablePrimitiveArray::new(alloc))?;
-    let mut builder: MutableListArray<i32, Lists> = MutableListArray::new(alloc, items)?;
-    let mut done = Ok(());
-    for _i in 0..n {
-        if done.is_ok() {
-            done = push_nested(&mut builder, &NUMBERS[..4]);
-        }
-    }
-    let frozen = builder.as_box();
+    let mut builder: Nested = MutableListArray::new(alloc, items)?;
+    let frozen = match push_all_nested(&mut builder, &NUMBERS[..4], n) {
+        Ok(()) => builder.as_box(),
+        Err(error) => Err(error),
+    };
     drop(builder);
     frozen
 }

@@ -1,0 +1,7 @@
+use Rattle.nest_model.specs.BuilderRowChecks.{HasWholeChildren}
+use Rattle.bench_any.proofs.records.push_all_typed.Given as goal
+
+abbrev pub invariant-rows : goal.invariant-rows
+invariant-rows l = record {
+  whole : HasWholeChildren l.records;
+}
