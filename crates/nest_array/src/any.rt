@@ -4,7 +4,6 @@ ghost use Rattle.nest_memory.specs.declared.datatypes.physical_type.PhysicalType
 ghost use Rattle.nest_model.specs.Checks.{Pass};
 ghost use Rattle.nest_model.specs.Fits.{validity_checks};
 ghost use Rattle.nest_model.specs.Slot as slots;
-ghost use Rattle.nest_flat.specs.AnyPrimitive.{primitive_layout};
 ghost use Rattle.nest_array.specs.Words.{IsCut, Memory, TopFits, ValidityFault, cut, cut_layout, has_keys, is_null_at, layout_of, layout_type, len, null_count, physical_type, slot, type_of, validity_of, with_validity};
 
 use crate::array::Array;
@@ -246,77 +245,52 @@ impl AnyArray {
     }
 
     /// The same array, on shared memory.
+    // Each kind returns at once, and where the copy is wanted: what a match or a call gives is else written once more.
     #[cycle(clone)]
+    #[inline(always)]
     pub fn clone(&self, alloc: Global) -> Result<AnyArray, Error>
         ensures ok { IfOk result (λ a. layout_of a ≡ layout_of self.now) }
         ensures err { IsOkUnless result (Memory alloc_error) }
     {
         match self {
-            AnyArray::Null(array) => array.to_boxed(alloc),
-            AnyArray::Boolean(array) => array.to_boxed(alloc),
-            AnyArray::Primitive(array) => boxed_primitive(alloc, array),
-            AnyArray::Binary(array) => array.to_boxed(alloc),
-            AnyArray::LargeBinary(array) => array.to_boxed(alloc),
-            AnyArray::Utf8(array) => array.to_boxed(alloc),
-            AnyArray::LargeUtf8(array) => array.to_boxed(alloc),
-            AnyArray::FixedSizeBinary(array) => array.to_boxed(alloc),
-            AnyArray::FixedSizeList(array) => boxed_fixed_size_list(alloc, array),
-            AnyArray::List(array) => boxed_list(alloc, array),
-            AnyArray::LargeList(array) => boxed_large_list(alloc, array),
-            AnyArray::Struct(array) => boxed_struct(alloc, array),
-            AnyArray::Map(array) => boxed_map(alloc, array),
-            AnyArray::Union(array) => boxed_union(alloc, array),
-            AnyArray::Dictionary(array) => boxed_dictionary(alloc, array),
+            AnyArray::Null(array) => return array.to_boxed(alloc),
+            AnyArray::Boolean(array) => return array.to_boxed(alloc),
+            AnyArray::Primitive(AnyPrimitive::Int8(array)) => return array.to_boxed(alloc),
+            AnyArray::Primitive(AnyPrimitive::Int16(array)) => return array.to_boxed(alloc),
+            AnyArray::Primitive(AnyPrimitive::Int32(array)) => return array.to_boxed(alloc),
+            AnyArray::Primitive(AnyPrimitive::Int64(array)) => return array.to_boxed(alloc),
+            AnyArray::Primitive(AnyPrimitive::Int128(array)) => return array.to_boxed(alloc),
+            AnyArray::Primitive(AnyPrimitive::Int256(array)) => return array.to_boxed(alloc),
+            AnyArray::Primitive(AnyPrimitive::UInt8(array)) => return array.to_boxed(alloc),
+            AnyArray::Primitive(AnyPrimitive::UInt16(array)) => return array.to_boxed(alloc),
+            AnyArray::Primitive(AnyPrimitive::UInt32(array)) => return array.to_boxed(alloc),
+            AnyArray::Primitive(AnyPrimitive::UInt64(array)) => return array.to_boxed(alloc),
+            AnyArray::Primitive(AnyPrimitive::DaysMs(array)) => return array.to_boxed(alloc),
+            AnyArray::Primitive(AnyPrimitive::MonthDayNano(array)) => return array.to_boxed(alloc),
+            AnyArray::Binary(array) => return array.to_boxed(alloc),
+            AnyArray::LargeBinary(array) => return array.to_boxed(alloc),
+            AnyArray::Utf8(array) => return array.to_boxed(alloc),
+            AnyArray::LargeUtf8(array) => return array.to_boxed(alloc),
+            AnyArray::FixedSizeBinary(array) => return array.to_boxed(alloc),
+            AnyArray::FixedSizeList(array) => return boxed_fixed_size_list(alloc, array),
+            AnyArray::List(array) => return array.to_boxed(alloc),
+            AnyArray::LargeList(array) => return array.to_boxed(alloc),
+            AnyArray::Struct(array) => return boxed_struct(alloc, array),
+            AnyArray::Map(array) => return array.to_boxed(alloc),
+            AnyArray::Union(array) => return boxed_union(alloc, array),
+            AnyArray::Dictionary(array) => return array.to_boxed(alloc),
         }
     }
 }
 
-// Copies by kind, each out of line: else the room for all of them would be cleared for each.
-#[inline(never)]
-fn boxed_primitive(alloc: Global, array: &AnyPrimitive) -> Result<AnyArray, Error>
-    ensures ok { IfOk result (λ a. layout_of a ≡ primitive_layout array.now) }
-    ensures err { IsOkUnless result (Memory alloc_error) }
-{
-    match array.clone(alloc) {
-        Ok(array) => Ok(AnyArray::Primitive(array)),
-        Err(error) => Err(error),
-    }
-}
-
+// Copies of kinds whose children are copied too, each out of line: else the room for all of them would be cleared for each.
 #[cycle(clone)]
 #[inline(never)]
 fn boxed_fixed_size_list(alloc: Global, array: &FixedSizeListArray) -> Result<AnyArray, Error>
     ensures ok { IfOk result (λ a. layout_of a ≡ array.now) }
     ensures err { IsOkUnless result (Memory alloc_error) }
 {
-    match array.clone(alloc) {
-        Ok(array) => Ok(array.boxed()),
-        Err(error) => Err(error),
-    }
-}
-
-#[cycle(clone)]
-#[inline(never)]
-fn boxed_list(alloc: Global, array: &ListArray) -> Result<AnyArray, Error>
-    ensures ok { IfOk result (λ a. layout_of a ≡ array.now) }
-    ensures err { IsOkUnless result (Memory alloc_error) }
-{
-    match array.clone(alloc) {
-        Ok(array) => Ok(array.boxed()),
-        Err(error) => Err(error),
-    }
-}
-
-#[cycle(clone)]
-#[inline(never)]
-fn boxed_large_list(alloc: Global, array: &LargeListArray) -> Result<AnyArray, Error>
-    ensures ok { IfOk result (λ a. layout_of a ≡ array.now) }
-    ensures err { IsOkUnless result (Memory alloc_error) }
-{
-    match array.clone(alloc) {
-        Ok(array) => Ok(array.boxed()),
-        Err(error) => Err(error),
-    }
+    Ok(array.clone(alloc)?.boxed())
 }
 
 #[cycle(clone)]
@@ -325,34 +299,7 @@ fn boxed_struct(alloc: Global, array: &StructArray) -> Result<AnyArray, Error>
     ensures ok { IfOk result (λ a. layout_of a ≡ array.now) }
     ensures err { IsOkUnless result (Memory alloc_error) }
 {
-    match array.clone(alloc) {
-        Ok(array) => Ok(array.boxed()),
-        Err(error) => Err(error),
-    }
-}
-
-#[cycle(clone)]
-#[inline(never)]
-fn boxed_map(alloc: Global, array: &MapArray) -> Result<AnyArray, Error>
-    ensures ok { IfOk result (λ a. layout_of a ≡ array.now) }
-    ensures err { IsOkUnless result (Memory alloc_error) }
-{
-    match array.clone(alloc) {
-        Ok(array) => Ok(array.boxed()),
-        Err(error) => Err(error),
-    }
-}
-
-#[cycle(clone)]
-#[inline(never)]
-fn boxed_dictionary(alloc: Global, array: &DictionaryArray) -> Result<AnyArray, Error>
-    ensures ok { IfOk result (λ a. layout_of a ≡ array.now) }
-    ensures err { IsOkUnless result (Memory alloc_error) }
-{
-    match array.clone(alloc) {
-        Ok(array) => Ok(array.boxed()),
-        Err(error) => Err(error),
-    }
+    Ok(array.clone(alloc)?.boxed())
 }
 
 // It copies the fields itself, so that `clone` of a union stands outside the cycle.

@@ -11,32 +11,14 @@ decreases-any::AnyArray::clone l = 4 * weight (layout_of l.self.now) + 3
 abbrev pub decreases-any::boxed_fixed_size_list : goal.decreases-any::boxed_fixed_size_list
 decreases-any::boxed_fixed_size_list l = 4 * weight l.array.now + 2
 
-abbrev pub decreases-any::boxed_list : goal.decreases-any::boxed_list
-decreases-any::boxed_list l = 4 * weight l.array.now + 2
-
-abbrev pub decreases-any::boxed_large_list : goal.decreases-any::boxed_large_list
-decreases-any::boxed_large_list l = 4 * weight l.array.now + 2
-
 abbrev pub decreases-any::boxed_struct : goal.decreases-any::boxed_struct
 decreases-any::boxed_struct l = 4 * weight l.array.now + 2
-
-abbrev pub decreases-any::boxed_map : goal.decreases-any::boxed_map
-decreases-any::boxed_map l = 4 * weight l.array.now + 2
 
 abbrev pub decreases-any::boxed_union : goal.decreases-any::boxed_union
 decreases-any::boxed_union l = 4 * weight l.array.now + 2
 
 abbrev pub decreases-fixed_size_list::FixedSizeListArray::clone : goal.decreases-fixed_size_list::FixedSizeListArray::clone
 decreases-fixed_size_list::FixedSizeListArray::clone l = 4 * weight l.self.now + 1
-
-abbrev pub decreases-list::ListArray::clone : goal.decreases-list::ListArray::clone
-decreases-list::ListArray::clone l = 4 * weight l.self.now + 1
-
-abbrev pub decreases-list::large::LargeListArray::clone : goal.decreases-list::large::LargeListArray::clone
-decreases-list::large::LargeListArray::clone l = 4 * weight l.self.now + 1
-
-abbrev pub decreases-map::MapArray::clone : goal.decreases-map::MapArray::clone
-decreases-map::MapArray::clone l = 4 * weight l.self.now + 1
 
 abbrev pub decreases-struct_::StructArray::clone : goal.decreases-struct_::StructArray::clone
 decreases-struct_::StructArray::clone l = 4 * weight l.self.now + 1
@@ -51,9 +33,3 @@ invariant-struct_::clone_all-loop-i l =
       room : length l.children ≤ vec_capacity l.copies;
       done : (k : ℕ) (d : AnyArray) → k < l.i → layout_of (get_or l.copies.items k d) ≡ layout_of (get_or l.children k d);
     }
-
-abbrev pub decreases-any::boxed_dictionary : goal.decreases-any::boxed_dictionary
-decreases-any::boxed_dictionary l = 4 * weight l.array.now + 2
-
-abbrev pub decreases-dictionary::DictionaryArray::clone : goal.decreases-dictionary::DictionaryArray::clone
-decreases-dictionary::DictionaryArray::clone l = 4 * weight l.self.now + 1

@@ -150,10 +150,7 @@ impl<A: Variant> Array for A {
 
     #[inline(never)]
     fn to_boxed(&self, alloc: Global) -> Result<AnyArray, Error> {
-        match self.again(alloc) {
-            Ok(array) => Ok(array.into_any()),
-            Err(error) => Err(error),
-        }
+        Ok(self.again(alloc)?.into_any())
     }
 
     fn sliced(&self, alloc: Global, o: usize, n: usize) -> Result<AnyArray, Error> {

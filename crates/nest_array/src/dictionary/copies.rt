@@ -2,16 +2,12 @@
 ghost use Rattle.std.specs.Prelude.{◌≡◌, IfOk, IsOkUnless, MatchResult, alloc_error};
 ghost use Rattle.nest_model.specs.Checks.{Pass};
 ghost use Rattle.nest_model.specs.Fits.{validity_checks};
-ghost use Rattle.nest_model.specs.Layout as layouts;
-ghost use Rattle.nest_array.specs.SeenKeys.{keys_layout};
-ghost use Rattle.nest_array.specs.Words.{Keeps, Memory, ValidityFault, layout_of, type_of, with_validity};
+ghost use Rattle.nest_array.specs.Words.{Memory, ValidityFault, layout_of, with_validity};
 
 use crate::any::AnyArray;
 use crate::dictionary::DictionaryArray;
-use crate::dictionary::keys::AnyKeys;
 use nest_flat::validity;
 use nest_memory::bitmap::immutable::Bitmap;
-use nest_memory::datatypes::DataType;
 use nest_memory::error::{Error, Spec};
 use std::alloc::Global;
 use std::rc::Rc;
@@ -50,43 +46,32 @@ impl DictionaryArray {
         }
     }
 
-    /// The same array, on shared memory.
-    #[cycle(clone)]
+    /// The same array, on shared memory: the values have one owner more.
     pub fn clone(&self, alloc: Global) -> Result<DictionaryArray, Error>
         ensures ok { IfOk result (λ a. a ≡ self.now) }
         ensures err { IsOkUnless result (Memory alloc_error) }
     {
-        let values: &AnyArray = &self.values;
-        let values = values.clone(alloc)?;
-        DictionaryArray::again(alloc, &self.data_type, &self.keys, values)
-    }
-
-    // The array of a type and of keys that are shared, and of values.
-    fn again(
-        alloc: Global,
-        data_type: &DataType,
-        keys: &AnyKeys,
-        values: AnyArray,
-    ) -> Result<DictionaryArray, Error>
-        requires { Keeps (layouts.dictionary (type_of data_type.now) (keys_layout keys.now) (layout_of values)) }
-        ensures ok { IfOk result (λ a. a ≡ layouts.dictionary (type_of data_type.now) (keys_layout keys.now) (layout_of values)) }
-        ensures err { IsOkUnless result (Memory alloc_error) }
-    {
-        let keys = match keys.clone(alloc) {
-            Ok(keys) => keys,
+        let keys = self.keys.clone(alloc)?;
+        let values = match self.values.clone() {
+            Ok(values) => values,
+            Err(error) => {
+                drop(keys);
+                return Err(error.into());
+            }
+        };
+        let data_type = match self.data_type.clone(alloc) {
+            Ok(data_type) => data_type,
             Err(error) => {
                 drop(values);
+                drop(keys);
                 return Err(error);
             }
         };
-        match data_type.clone(alloc) {
-            Ok(data_type) => DictionaryArray::of(alloc, data_type, keys, values),
-            Err(error) => {
-                drop(keys);
-                drop(values);
-                Err(error)
-            }
-        }
+        Ok(DictionaryArray {
+            data_type,
+            keys,
+            values,
+        })
     }
 
     /// The same array in its variant.

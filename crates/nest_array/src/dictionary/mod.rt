@@ -26,6 +26,7 @@ use nest_memory::datatypes::DataType;
 use nest_memory::error::{Error, Spec};
 use std::alloc::Global;
 use std::marker::Model;
+use std::rc::Rc;
 
 /// Values that are looked up by keys: the Dictionary-encoded Layout of the Arrow format.
 ///
@@ -35,7 +36,7 @@ use std::marker::Model;
 pub struct DictionaryArray {
     data_type: DataType,
     keys: AnyKeys,
-    values: Box<AnyArray>,
+    values: Rc<AnyArray>,
 }
 
 impl Model for DictionaryArray {
@@ -141,7 +142,7 @@ impl DictionaryArray {
         ensures err { IsOkUnless result (Memory alloc_error) }
     {
         keys.known();
-        match Box::new(alloc, values) {
+        match Rc::new(alloc, values) {
             Ok(values) => Ok(DictionaryArray {
                 data_type,
                 keys,

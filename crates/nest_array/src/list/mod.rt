@@ -21,6 +21,7 @@ use nest_memory::error::Error;
 use nest_memory::offsets::OffsetsBuffer;
 use std::alloc::Global;
 use std::marker::Model;
+use std::rc::Rc;
 
 /// Lists of items of any kind, by offsets of 32 bits: the Variable-size List Layout of the Arrow format.
 #[cycle(array)]
@@ -28,7 +29,7 @@ use std::marker::Model;
 pub struct ListArray {
     data_type: DataType,
     ranges: Ranges<i32>,
-    values: Box<AnyArray>,
+    values: Rc<AnyArray>,
 }
 
 impl Model for ListArray {
@@ -108,7 +109,7 @@ impl ListArray {
         ensures ok { IfOk result (λ a. a ≡ layouts.list false (type_of data_type) ranges.offsets (layout_of values) ranges.validity) }
         ensures err { IsOkUnless result (Memory alloc_error) }
     {
-        match Box::new(alloc, values) {
+        match Rc::new(alloc, values) {
             Ok(values) => Ok(ListArray {
                 data_type,
                 ranges,
@@ -199,7 +200,8 @@ impl ListArray {
         ensures err { IsOkUnless result (Memory alloc_error) }
     {
         let (start, count) = self.range(i);
-        let mut items = self.values.clone(alloc);
+        let values: &AnyArray = &self.values;
+        let mut items = values.clone(alloc);
         if let Ok(items) = &mut items {
             items.slice(start, count);
         }

@@ -92,25 +92,6 @@ impl<O: Offset> Ranges<O> {
             validity: validity::clone(&self.validity)?,
         })
     }
-
-    /// The same ranges beside the same data type, on shared memory.
-    pub(crate) fn again(
-        &self,
-        alloc: Global,
-        data_type: &DataType,
-    ) -> Result<(DataType, Ranges<O>), Error>
-        ensures ok { IfOk result (λ p. (type_of p.0 ≡ type_of data_type.now) × (p.1.offsets ≡ self.now.offsets) × (p.1.validity ≡ self.now.validity)) }
-        ensures err { IsOkUnless result (Memory alloc_error) }
-    {
-        let ranges = self.clone()?;
-        match data_type.clone(alloc) {
-            Ok(data_type) => Ok((data_type, ranges)),
-            Err(error) => {
-                drop(ranges);
-                Err(error)
-            }
-        }
-    }
 }
 
 /// The physical type of lists by the width of their offsets.

@@ -38,21 +38,16 @@ impl MapArray {
         }
     }
 
-    /// The same array, on shared memory.
-    #[cycle(clone)]
+    /// The same array, on shared memory: the entries have one owner more.
     pub fn clone(&self, alloc: Global) -> Result<MapArray, Error>
         ensures ok { IfOk result (λ a. a ≡ self.now) }
         ensures err { IsOkUnless result (Memory alloc_error) }
     {
-        let field: &AnyArray = &self.field;
-        let field = field.clone(alloc)?;
-        match self.ranges.again(alloc, &self.data_type) {
-            Ok((data_type, ranges)) => MapArray::of(alloc, data_type, ranges, field),
-            Err(error) => {
-                drop(field);
-                Err(error)
-            }
-        }
+        Ok(MapArray {
+            data_type: self.data_type.clone(alloc)?,
+            ranges: self.ranges.clone()?,
+            field: self.field.clone()?,
+        })
     }
 
     /// The same array in its variant.

@@ -20,6 +20,7 @@ use nest_memory::error::{Argument, Error, Spec};
 use nest_memory::offsets::OffsetsBuffer;
 use std::alloc::Global;
 use std::marker::Model;
+use std::rc::Rc;
 
 /// Lists of entries, each a record of a key and a value, by offsets of 32 bits: the Variable-size List Layout of the
 /// Arrow format, under the type `Map` of its schema.
@@ -28,7 +29,7 @@ use std::marker::Model;
 pub struct MapArray {
     data_type: DataType,
     ranges: Ranges<i32>,
-    field: Box<AnyArray>,
+    field: Rc<AnyArray>,
 }
 
 impl Model for MapArray {
@@ -109,7 +110,7 @@ impl MapArray {
         ensures ok { IfOk result (λ a. a ≡ layouts.map (type_of data_type) ranges.offsets (layout_of field) ranges.validity) }
         ensures err { IsOkUnless result (Memory alloc_error) }
     {
-        match Box::new(alloc, field) {
+        match Rc::new(alloc, field) {
             Ok(field) => Ok(MapArray {
                 data_type,
                 ranges,
@@ -200,7 +201,8 @@ impl MapArray {
         ensures err { IsOkUnless result (Memory alloc_error) }
     {
         let (start, count) = self.range(i);
-        let mut entries = self.field.clone(alloc);
+        let field: &AnyArray = &self.field;
+        let mut entries = field.clone(alloc);
         if let Ok(entries) = &mut entries {
             entries.slice(start, count);
         }

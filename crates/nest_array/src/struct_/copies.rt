@@ -1,13 +1,11 @@
 //! New validities and copies of arrays of records.
 ghost use Rattle.std.specs.Prelude.{◌≡◌, IfOk, IsOkUnless, MatchResult, alloc_error};
-ghost use Rattle.nest_model.specs.Layout as layouts;
-ghost use Rattle.nest_array.specs.Words.{HasValidity, Memory, RefusesValidity, TopFits, layout_of, layouts_of, type_of, with_validity};
+ghost use Rattle.nest_array.specs.Words.{HasValidity, Memory, RefusesValidity, layout_of, with_validity};
 
 use crate::any::AnyArray;
 use crate::struct_::{StructArray, clone_all};
 use nest_flat::validity;
 use nest_memory::bitmap::immutable::Bitmap;
-use nest_memory::datatypes::DataType;
 use nest_memory::error::{Error, Spec};
 use std::alloc::Global;
 use std::rc::Rc;
@@ -49,36 +47,12 @@ impl StructArray {
         ensures ok { IfOk result (λ a. a ≡ self.now) }
         ensures err { IsOkUnless result (Memory alloc_error) }
     {
-        let values = clone_all(alloc, &self.values)?;
-        StructArray::again(alloc, &self.data_type, values, &self.validity)
-    }
-
-    // The array of a type and a validity that are shared, and of children.
-    fn again(
-        alloc: Global,
-        data_type: &DataType,
-        values: Vec<AnyArray>,
-        validity: &Option<Bitmap>,
-    ) -> Result<StructArray, Error>
-        requires { TopFits (layouts.struct (type_of data_type.now) (layouts_of values.items) validity.now) }
-        ensures ok { IfOk result (λ a. a ≡ layouts.struct (type_of data_type.now) (layouts_of values.items) validity.now) }
-        ensures err { IsOkUnless result (Memory alloc_error) }
-    {
-        let validity = match validity::clone(validity) {
-            Ok(validity) => validity,
-            Err(error) => {
-                drop(values);
-                return Err(error);
-            }
-        };
-        match data_type.clone(alloc) {
-            Ok(data_type) => Ok(StructArray::new(data_type, values, validity)),
-            Err(error) => {
-                drop(validity);
-                drop(values);
-                Err(error)
-            }
-        }
+        Ok(StructArray {
+            data_type: self.data_type.clone(alloc)?,
+            count: self.count,
+            validity: validity::clone(&self.validity)?,
+            values: clone_all(alloc, &self.values)?,
+        })
     }
 
     /// The same array in its variant.

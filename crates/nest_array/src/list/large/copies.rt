@@ -41,21 +41,16 @@ impl LargeListArray {
         }
     }
 
-    /// The same array, on shared memory.
-    #[cycle(clone)]
+    /// The same array, on shared memory: the items have one owner more.
     pub fn clone(&self, alloc: Global) -> Result<LargeListArray, Error>
         ensures ok { IfOk result (λ a. a ≡ self.now) }
         ensures err { IsOkUnless result (Memory alloc_error) }
     {
-        let values: &AnyArray = &self.values;
-        let values = values.clone(alloc)?;
-        match self.ranges.again(alloc, &self.data_type) {
-            Ok((data_type, ranges)) => LargeListArray::of(alloc, data_type, ranges, values),
-            Err(error) => {
-                drop(values);
-                Err(error)
-            }
-        }
+        Ok(LargeListArray {
+            data_type: self.data_type.clone(alloc)?,
+            ranges: self.ranges.clone()?,
+            values: self.values.clone()?,
+        })
     }
 
     /// The same array in its variant.

@@ -17,6 +17,7 @@ use nest_memory::error::Error;
 use nest_memory::offsets::OffsetsBuffer;
 use std::alloc::Global;
 use std::marker::Model;
+use std::rc::Rc;
 
 /// Lists of items of any kind, by offsets of 64 bits: the Variable-size List Layout of the Arrow format.
 #[cycle(array)]
@@ -24,7 +25,7 @@ use std::marker::Model;
 pub struct LargeListArray {
     data_type: DataType,
     ranges: Ranges<i64>,
-    values: Box<AnyArray>,
+    values: Rc<AnyArray>,
 }
 
 impl Model for LargeListArray {
@@ -104,7 +105,7 @@ impl LargeListArray {
         ensures ok { IfOk result (λ a. a ≡ layouts.list true (type_of data_type) ranges.offsets (layout_of values) ranges.validity) }
         ensures err { IsOkUnless result (Memory alloc_error) }
     {
-        match Box::new(alloc, values) {
+        match Rc::new(alloc, values) {
             Ok(values) => Ok(LargeListArray {
                 data_type,
                 ranges,
@@ -195,7 +196,8 @@ impl LargeListArray {
         ensures err { IsOkUnless result (Memory alloc_error) }
     {
         let (start, count) = self.range(i);
-        let mut items = self.values.clone(alloc);
+        let values: &AnyArray = &self.values;
+        let mut items = values.clone(alloc);
         if let Ok(items) = &mut items {
             items.slice(start, count);
         }
