@@ -138,16 +138,16 @@ impl<K: BuilderKey, M: MutableArray> MutableDictionaryArray<K, M> {
     }
 
     // Adds a row of the value, which is added to the values where none of them is it.
-    fn push_value(&mut self, value: Plain<'_>) -> Result<(), Error>
+    fn push_value(&mut self, value: &Plain<'_>) -> Result<(), Error>
         requires { IsWhole (⟦<MutableDictionaryArray<K, M> as MutableArray>⟧.model self.old) }
-        ensures accepted { OnOk result (Accepted (plain (plain_value value.entry)) (⟦<MutableDictionaryArray<K, M> as MutableArray>⟧.model self.old) (⟦<MutableDictionaryArray<K, M> as MutableArray>⟧.model self.new)) }
-        ensures unrefused { OnOk result (value_refusal (plain_value value.entry) (⟦<MutableDictionaryArray<K, M> as MutableArray>⟧.model self.old) ≡ None) }
+        ensures accepted { OnOk result (Accepted (plain (plain_value value.now)) (⟦<MutableDictionaryArray<K, M> as MutableArray>⟧.model self.old) (⟦<MutableDictionaryArray<K, M> as MutableArray>⟧.model self.new)) }
+        ensures unrefused { OnOk result (value_refusal (plain_value value.now) (⟦<MutableDictionaryArray<K, M> as MutableArray>⟧.model self.old) ≡ None) }
         ensures err { OnErr result (⟦<MutableDictionaryArray<K, M> as MutableArray>⟧.model self.new ≡ ⟦<MutableDictionaryArray<K, M> as MutableArray>⟧.model self.old) }
-        ensures cause { IfErr result (λ e. (e ≡ Memory alloc_error) ⊎ (value_refusal (plain_value value.entry) (⟦<MutableDictionaryArray<K, M> as MutableArray>⟧.model self.old) ≡ Some e)) }
+        ensures cause { IfErr result (λ e. (e ≡ Memory alloc_error) ⊎ (value_refusal (plain_value value.now) (⟦<MutableDictionaryArray<K, M> as MutableArray>⟧.model self.old) ≡ Some e)) }
     {
-        let hash = hash_of(&value);
-        match self.values.find(&value, hash) {
-            Some(number) => self.push_known(&value, number),
+        let hash = hash_of(value);
+        match self.values.find(value, hash) {
+            Some(number) => self.push_known(value, number),
             None => {
                 if !self.has_key() {
                     return Err(Error::Overflow);
@@ -158,17 +158,17 @@ impl<K: BuilderKey, M: MutableArray> MutableDictionaryArray<K, M> {
     }
 
     // The same, but a value of another kind is refused first.
-    fn push_kind(&mut self, value: Plain<'_>) -> Result<(), Error>
+    fn push_kind(&mut self, value: &Plain<'_>) -> Result<(), Error>
         requires { IsWhole (⟦<MutableDictionaryArray<K, M> as MutableArray>⟧.model self.old) }
-        ensures accepted { OnOk result (Accepted (plain (plain_value value.entry)) (⟦<MutableDictionaryArray<K, M> as MutableArray>⟧.model self.old) (⟦<MutableDictionaryArray<K, M> as MutableArray>⟧.model self.new)) }
-        ensures unrefused { OnOk result (plain_refusal (plain_value value.entry) (⟦<MutableDictionaryArray<K, M> as MutableArray>⟧.model self.old) ≡ None) }
+        ensures accepted { OnOk result (Accepted (plain (plain_value value.now)) (⟦<MutableDictionaryArray<K, M> as MutableArray>⟧.model self.old) (⟦<MutableDictionaryArray<K, M> as MutableArray>⟧.model self.new)) }
+        ensures unrefused { OnOk result (plain_refusal (plain_value value.now) (⟦<MutableDictionaryArray<K, M> as MutableArray>⟧.model self.old) ≡ None) }
         ensures err { OnErr result (⟦<MutableDictionaryArray<K, M> as MutableArray>⟧.model self.new ≡ ⟦<MutableDictionaryArray<K, M> as MutableArray>⟧.model self.old) }
-        ensures kind { IsErrOf result (InvalidArgumentError ItemType) ↔ (takes (⟦<MutableDictionaryArray<K, M> as MutableArray>⟧.model self.old) (plain_value value.entry) ≡ false) }
-        ensures cause { IfErr result (λ e. (e ≡ Memory alloc_error) ⊎ (plain_refusal (plain_value value.entry) (⟦<MutableDictionaryArray<K, M> as MutableArray>⟧.model self.old) ≡ Some e)) }
+        ensures kind { IsErrOf result (InvalidArgumentError ItemType) ↔ (takes (⟦<MutableDictionaryArray<K, M> as MutableArray>⟧.model self.old) (plain_value value.now) ≡ false) }
+        ensures cause { IfErr result (λ e. (e ≡ Memory alloc_error) ⊎ (plain_refusal (plain_value value.now) (⟦<MutableDictionaryArray<K, M> as MutableArray>⟧.model self.old) ≡ Some e)) }
     {
-        let hash = hash_of(&value);
-        match self.values.find(&value, hash) {
-            Some(number) => self.push_known(&value, number),
+        let hash = hash_of(value);
+        match self.values.find(value, hash) {
+            Some(number) => self.push_known(value, number),
             None => {
                 if !self.has_key() {
                     return Err(self.refusal(value, hash));
@@ -195,19 +195,19 @@ impl<K: BuilderKey, M: MutableArray> MutableDictionaryArray<K, M> {
     }
 
     // Adds a row of a value of that hash that none of the values is, and for which there is a key.
-    fn push_new(&mut self, value: Plain<'_>, hash: u64) -> Result<(), Error>
-        requires hash { hash ≡ value_hash (plain_value value) }
+    fn push_new(&mut self, value: &Plain<'_>, hash: u64) -> Result<(), Error>
+        requires hash { hash ≡ value_hash (plain_value value.now) }
         requires whole { IsWhole (⟦<MutableDictionaryArray<K, M> as MutableArray>⟧.model self.old) }
-        requires unknown { Lacks (dictionary_child (⟦<MutableDictionaryArray<K, M> as MutableArray>⟧.model self.old)) (plain_value value) }
+        requires unknown { Lacks (dictionary_child (⟦<MutableDictionaryArray<K, M> as MutableArray>⟧.model self.old)) (plain_value value.now) }
         requires room { builder_len (dictionary_child (⟦<MutableDictionaryArray<K, M> as MutableArray>⟧.model self.old)) < key_count K.KEY_TYPE }
-        ensures accepted { OnOk result (Accepted (plain (plain_value value.entry)) (⟦<MutableDictionaryArray<K, M> as MutableArray>⟧.model self.old) (⟦<MutableDictionaryArray<K, M> as MutableArray>⟧.model self.new)) }
-        ensures unrefused { OnOk result (value_refusal (plain_value value.entry) (⟦<MutableDictionaryArray<K, M> as MutableArray>⟧.model self.old) ≡ None) }
+        ensures accepted { OnOk result (Accepted (plain (plain_value value.now)) (⟦<MutableDictionaryArray<K, M> as MutableArray>⟧.model self.old) (⟦<MutableDictionaryArray<K, M> as MutableArray>⟧.model self.new)) }
+        ensures unrefused { OnOk result (value_refusal (plain_value value.now) (⟦<MutableDictionaryArray<K, M> as MutableArray>⟧.model self.old) ≡ None) }
         ensures err { OnErr result (⟦<MutableDictionaryArray<K, M> as MutableArray>⟧.model self.new ≡ ⟦<MutableDictionaryArray<K, M> as MutableArray>⟧.model self.old) }
-        ensures kind { IsErrOf result (InvalidArgumentError ItemType) ↔ (takes (dictionary_child (⟦<MutableDictionaryArray<K, M> as MutableArray>⟧.model self.old)) (plain_value value.entry) ≡ false) }
-        ensures cause { IfErr result (λ e. (e ≡ Memory alloc_error) ⊎ (plain_refusal (plain_value value.entry) (dictionary_child (⟦<MutableDictionaryArray<K, M> as MutableArray>⟧.model self.old)) ≡ Some e)) }
+        ensures kind { IsErrOf result (InvalidArgumentError ItemType) ↔ (takes (dictionary_child (⟦<MutableDictionaryArray<K, M> as MutableArray>⟧.model self.old)) (plain_value value.now) ≡ false) }
+        ensures cause { IfErr result (λ e. (e ≡ Memory alloc_error) ⊎ (plain_refusal (plain_value value.now) (dictionary_child (⟦<MutableDictionaryArray<K, M> as MutableArray>⟧.model self.old)) ≡ Some e)) }
     {
         let number = self.values.get().len();
-        if let Err(refusal) = self.values.push(value, hash) {
+        if let Err(refusal) = self.values.push(*value, hash) {
             return Err(refusal);
         }
         let _more = self.values.get().len();
@@ -221,17 +221,17 @@ impl<K: BuilderKey, M: MutableArray> MutableDictionaryArray<K, M> {
     }
 
     // What refuses a new value where no key is left. What the child takes is learned by asking it.
-    fn refusal(&mut self, value: Plain<'_>, hash: u64) -> Error
-        requires hash { hash ≡ value_hash (plain_value value) }
+    fn refusal(&mut self, value: &Plain<'_>, hash: u64) -> Error
+        requires hash { hash ≡ value_hash (plain_value value.now) }
         requires whole { IsWhole (⟦<MutableDictionaryArray<K, M> as MutableArray>⟧.model self.old) }
-        requires unknown { Lacks (dictionary_child (⟦<MutableDictionaryArray<K, M> as MutableArray>⟧.model self.old)) (plain_value value) }
+        requires unknown { Lacks (dictionary_child (⟦<MutableDictionaryArray<K, M> as MutableArray>⟧.model self.old)) (plain_value value.now) }
         requires full { key_count K.KEY_TYPE ≤ builder_len (dictionary_child (⟦<MutableDictionaryArray<K, M> as MutableArray>⟧.model self.old)) }
         ensures same { ⟦<MutableDictionaryArray<K, M> as MutableArray>⟧.model self.new ≡ ⟦<MutableDictionaryArray<K, M> as MutableArray>⟧.model self.old }
-        ensures kind { (result ≡ InvalidArgumentError ItemType) ↔ (takes (dictionary_child (⟦<MutableDictionaryArray<K, M> as MutableArray>⟧.model self.old)) (plain_value value.entry) ≡ false) }
-        ensures cause { plain_refusal (plain_value value.entry) (⟦<MutableDictionaryArray<K, M> as MutableArray>⟧.model self.old) ≡ Some result }
+        ensures kind { (result ≡ InvalidArgumentError ItemType) ↔ (takes (dictionary_child (⟦<MutableDictionaryArray<K, M> as MutableArray>⟧.model self.old)) (plain_value value.now) ≡ false) }
+        ensures cause { plain_refusal (plain_value value.now) (⟦<MutableDictionaryArray<K, M> as MutableArray>⟧.model self.old) ≡ Some result }
     {
         let number = self.values.get().len();
-        if let Err(refusal) = self.values.push(value, hash) {
+        if let Err(refusal) = self.values.push(*value, hash) {
             return kind_first(refusal);
         }
         self.values.truncate(number);
@@ -380,7 +380,7 @@ impl<K: BuilderKey, M: MutableArray> MutableArray for MutableDictionaryArray<K, 
     fn try_push_plain(&mut self, value: Option<Plain<'_>>) -> Result<(), Error> {
         match value {
             None => self.push_null(),
-            Some(value) => self.push_kind(value),
+            Some(value) => self.push_kind(&value),
         }
     }
 
@@ -420,7 +420,7 @@ impl<K: BuilderKey, M: TryPush<Option<T>>, T: AsPlain + Drop> TryPush<Option<T>>
     fn try_push(&mut self, item: Option<T>) -> Result<(), Error> {
         match item {
             None => self.push_null(),
-            Some(value) => self.push_value(value.as_plain()),
+            Some(value) => self.push_value(&value.as_plain()),
         }
     }
 }

@@ -158,8 +158,10 @@ impl<K: BuilderKey> DictionaryRows<K> {
         ensures { self.new ≡ take n self.old }
     {
         self.keys.known();
-        self.keys.truncate(n);
-        self.needed = needed_by(&self.keys);
+        if n < self.keys.len() {
+            self.keys.truncate(n);
+            self.needed = needed_by(&self.keys);
+        }
     }
 
     /// Room for so many rows more.

@@ -1,8 +1,10 @@
 //! The builder of texts.
-ghost use Rattle.std.specs.Prelude.{◌≡◌, ◌⊎◌, None, Some, OnOk, OnErr, IfErr, option_map, alloc_error};
+ghost use Rattle.std.specs.Prelude.{◌≡◌, ◌<◌, ◌⊎◌, None, Some, OnOk, OnErr, IfErr, option_map, alloc_error};
 ghost use Rattle.std.specs.Option.{option_copied};
 ghost use Rattle.nest_model.specs.BuilderItem as items;
-ghost use Rattle.nest_build.specs.Words.{Accepted, Memory, Overflow, asked_item, asked_refusal, flat_tree};
+ghost use Rattle.nest_model.specs.Reads.{where_valid};
+ghost use Rattle.nest_model.specs.Slot as slots;
+ghost use Rattle.nest_build.specs.Words.{Accepted, Memory, Overflow, asked_item, asked_refusal, flat_tree, len, slot, validity_of};
 
 use crate::flat::{FlatBuilder, TakesValue};
 use nest_array::AnyArray;
@@ -28,6 +30,17 @@ fn push_text<O: Offset>(values: &mut MutableUtf8Array<O>, item: Option<&str>) ->
     }
     let _len = values.len();
     Ok(())
+}
+
+/// The bytes of slot i. They need not be tested as UTF-8 to be compared, as `value` tests them.
+fn bytes_at<O: Offset>(texts: &MutableUtf8Array<O>, i: usize) -> &[u8]
+    requires { i < len texts.now }
+    ensures { slot texts.now i ≡ where_valid (validity_of texts.now) i (slots.text result.now) }
+{
+    texts.known();
+    texts.offsets().known();
+    let (start, end) = texts.offsets().start_end(i);
+    &texts.values().as_slice()[start..end]
 }
 
 impl<O: Offset> FlatBuilder for MutableUtf8Array<O>
@@ -59,7 +72,7 @@ where
     fn is_value(&self, i: usize, value: &Plain<'_>) -> bool {
         self.known();
         match value {
-            Plain::Text(text) => self.is_valid(i) && self.value(i) == *text,
+            Plain::Text(text) => self.is_valid(i) && *bytes_at(self, i) == *text.as_bytes(),
             _ => false,
         }
     }

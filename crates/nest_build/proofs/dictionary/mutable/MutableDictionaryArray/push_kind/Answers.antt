@@ -7,11 +7,11 @@ use Rattle.nest_build.proofs.dictionary.mutable.MutableDictionaryArray.push_kind
 pub returns-else-not-has_key-clause-unrefused : goal.returns-else-not-has_key-clause-unrefused
 returns-else-not-has_key-clause-unrefused g c =
     let old = c.args.self.now in
-    on_ok_so c.push_new.result (plain_none (plain_value c.args.value) (dictionary g.K.DictionaryKey.KEY_TYPE old.data_type old.rows (g.M.MutableArray.model old.values.values))) c.push_new.ensures.unrefused
+    on_ok_so c.push_new.result (plain_none (plain_value c.args.value.now) (dictionary g.K.DictionaryKey.KEY_TYPE old.data_type old.rows (g.M.MutableArray.model old.values.values))) c.push_new.ensures.unrefused
 
 pub returns-else-not-has_key-clause-cause : goal.returns-else-not-has_key-clause-cause
 returns-else-not-has_key-clause-cause g c =
     let old = c.args.self.now in
     on_err_so c.push_new.result
-    (λ e. kind_cause g.K.DictionaryKey.KEY_TYPE old.data_type old.rows (g.M.MutableArray.model old.values.values) (plain_value c.args.value) e c.in-None.ensures (is_less c.has_key.result _ _ c.if-not-has_key.false c.has_key.ensures))
+    (λ e. kind_cause g.K.DictionaryKey.KEY_TYPE old.data_type old.rows (g.M.MutableArray.model old.values.values) (plain_value c.args.value.now) e c.in-None.ensures (is_less c.has_key.result _ _ c.if-not-has_key.false c.has_key.ensures))
     c.push_new.ensures.cause

@@ -25,5 +25,5 @@ invariant_of-self g c =
       count = c.needed_by-self-inside.ensures;
     }
 
-pub returns : goal.returns
-returns g c = told_take c.self.inside.keys c.truncate.new.self c.args.n c.truncate.ensures.slots ∙ ap (take c.args.n) c.self.view_is
+pub returns-then-n-len : goal.returns-then-n-len
+returns-then-n-len g c = told_take c.self.inside.keys c.truncate.new.self c.args.n c.truncate.ensures.slots ∙ ap (take c.args.n) c.self.view_is
