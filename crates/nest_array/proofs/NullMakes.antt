@@ -1,8 +1,8 @@
 -- What the makers of null arrays need of types without a fault, kind by kind.
-use Rattle.std.specs.Prelude.{Option, Some, None, IsSome, not, nat_eq, nat_lt, ◌&&◌, ◌^◌, List as Seq, [], ◌∷◌, get_or}
+use Rattle.std.specs.Prelude.{Some, None, IsSome, not, nat_eq, nat_lt, ◌&&◌, ◌^◌, List as Seq, [], ◌∷◌, get_or}
 use Rattle.std.proofs.Common.{◌≡◌, ℕ, zero, suc, ◌+◌, ◌*◌, ◌<◌, ◌≤◌, Bool, true, false, List, length, refl, ap, sym, ◌∙◌, arith}
 use Rattle.nest_memory.specs.Physical.{physical_type, list_of_width}
-use Rattle.nest_memory.specs.TypeOf.{type_of, field_of, field_list_of}
+use Rattle.nest_memory.specs.TypeOf.{field_of, field_list_of}
 use Rattle.nest_memory.specs.TypeTree as types
 use Rattle.nest_memory.specs.TypeTree.{TypeTree, FieldTree, field, field_type, count_fields, item_type, size_of, fields_of, ids_of, mode_of, is_dense, is_dense_mode, is_pair, has_pairs, key_type, value_type}
 use Rattle.nest_memory.specs.declared.datatypes.IntegerType.{IntegerType}

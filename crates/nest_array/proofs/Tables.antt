@@ -23,6 +23,25 @@ last-more : (xs : List ℤ) (x z : ℤ) → last_place (xs ++ x ∷ []) z ≡ (i
 last-more [] x z = refl
 last-more (y ∷ xs) x z = ap (before y z) (last-more xs x z) ∙ before-more y z (int_eq x z) (length xs) (last_place xs z)
 
+-- the last place of a number, if there is one
+abbrev pub IsLast : List ℤ → ℤ → ℕ → Type 0
+IsLast ids z p = (f : ℕ) → last_place ids z ≡ Some f → f ≡ p
+
+one-place : (f p : ℕ) → Some f ≡ Some p → f ≡ p
+one-place f p e = cc
+
+last-by : (b : Bool) (ids : List ℤ) (z : ℤ) (n p q : ℕ) → (b ≡ true → n ≡ q) → (b ≡ false → p ≡ q) → IsLast ids z p → (f : ℕ) → (if b then Some n else last_place ids z) ≡ Some f → f ≡ q
+last-by true ids z n p q t u h f e = sym (one-place n f e) ∙ t refl
+last-by false ids z n p q t u h f e = h f e ∙ u refl
+
+pub last-on : (ids : List ℤ) (k p q : ℕ) (x z d : ℤ) → k < length ids → get_or ids k d ≡ x → (x ≡ z → k ≡ q) → ((x ≡ z → ⊥) → p ≡ q) → IsLast (take k ids) z p → IsLast (take (k + 1) ids) z q
+last-on ids k p q x z d l e t u h f g =
+    let w : k + 1 ≡ suc k = omega arith in
+    let y : take (k + 1) ids ≡ take k ids ++ (x ∷ []) = ap (λ j. take j ids) w ∙ take-suc ids k d l ∙ ap (λ a. take k ids ++ (a ∷ [])) e in
+    let s = Decides-int_eq x z in
+    let n : length (take k ids) ≡ k = length-take-le k ids (omega arith) in
+    last-by (int_eq x z) (take k ids) z (length (take k ids)) p q (λ b. n ∙ t (s.0 b)) (λ b. u (λ a. let v : false ≡ true = sym b ∙ s.1 a in cc)) h f (sym (ap (λ a. last_place a z) y ∙ last-more (take k ids) x z) ∙ g)
+
 -- a place is written
 abbrev pub HasIds : List ℕ → List ℤ → Type 0
 HasIds table ids = (k : ℕ) → k < 128 → get_or table k 127 ≡ position (last_place ids (pos k))

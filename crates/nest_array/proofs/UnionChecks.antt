@@ -1,6 +1,6 @@
 -- The checks of a union, one after another.
 use Rattle.std.specs.Int.Signed.{le_z}
-use Rattle.std.specs.Prelude.{◌⊎◌, ◌↔◌, IsTrue, nat_eq, nat_lt, Option, List, Result, Ok, Err, MatchResult}
+use Rattle.std.specs.Prelude.{◌⊎◌, ◌↔◌, IsTrue, nat_eq, nat_lt, Option, Some, None, List, MatchOption}
 use Rattle.std.proofs.Common.{◌≡◌, ℕ, ◌<◌, ◌≤◌, ℤ, pos, negsuc, Bool, true, false, length, refl, sym, ◌∙◌, subst, inl, inr, arith, rules}
 use Rattle.std.proofs.lemmas.Bool.Decides.{nat_tests}
 use lib.IntN.{nat_abs}
@@ -60,9 +60,9 @@ last-fault t ks cs os e h f =
     (later (error_number e) 10 _ _ (omega arith) h.offsets
     (later (error_number e) 11 _ _ (omega arith) h.mode f)))))
 
-pub matched : {A B : Type 0} (r : Result A B) (F P : A → Type 0) (G Q : B → Type 0) → ((a : A) → F a → P a) → ((b : B) → G b → Q b) → MatchResult r F G → MatchResult r P Q
-matched {A} {B} (Ok a) F P G Q f g h = f a h
-matched {A} {B} (Err b) F P G Q f g h = g b h
+pub matched : {A : Type 0} (r : Option A) (F P : Type 0) (G Q : A → Type 0) → (F → P) → ((a : A) → G a → Q a) → MatchOption r F G → MatchOption r P Q
+matched {A} None F P G Q f g h = f h
+matched {A} (Some a) F P G Q f g h = g a h
 
 -- an offset that is not negative names one of so many slots
 pub names-nat : (z : ℤ) (m n : ℕ) → le_z (pos 0) z ≡ true → m ≡ n → IsTrue (nat_lt (nat_abs z) m) ↔ Names z n

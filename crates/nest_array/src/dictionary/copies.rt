@@ -23,7 +23,10 @@ impl DictionaryArray {
         if !validity::fits(&validity, self.len()) {
             return Err(Error::OutOfSpec(Spec::ValidityLength));
         }
-        if !self.keys.each_valid_names(&validity, self.values.len()) {
+        if !self
+            .keys
+            .each_valid_names(&validity, self.shared.values.len())
+        {
             return Err(Error::OutOfSpec(Spec::KeyRange));
         }
         self.keys.set_validity(validity);
@@ -46,32 +49,19 @@ impl DictionaryArray {
         }
     }
 
-    /// The same array, on shared memory: the values have one owner more.
+    /// The same array, on shared memory: the data type and the values have one owner more.
     pub fn clone(&self, alloc: Global) -> Result<DictionaryArray, Error>
         ensures ok { IfOk result (λ a. a ≡ self.now) }
         ensures err { IsOkUnless result (Memory alloc_error) }
     {
         let keys = self.keys.clone(alloc)?;
-        let values = match self.values.clone() {
-            Ok(values) => values,
+        match self.shared.clone() {
+            Ok(shared) => Ok(DictionaryArray { keys, shared }),
             Err(error) => {
                 drop(keys);
-                return Err(error.into());
+                Err(error.into())
             }
-        };
-        let data_type = match self.data_type.clone(alloc) {
-            Ok(data_type) => data_type,
-            Err(error) => {
-                drop(values);
-                drop(keys);
-                return Err(error);
-            }
-        };
-        Ok(DictionaryArray {
-            data_type,
-            keys,
-            values,
-        })
+        }
     }
 
     /// The same array in its variant.

@@ -34,9 +34,16 @@ use std::rc::Rc;
 #[cycle(array)]
 #[derive(Drop)]
 pub struct DictionaryArray {
-    data_type: DataType,
     keys: AnyKeys,
-    values: Rc<AnyArray>,
+    shared: Rc<TypedValues>,
+}
+
+// What no cut and no new validity changes, so that all copies share it.
+#[cycle(array)]
+#[derive(Drop)]
+struct TypedValues {
+    data_type: DataType,
+    values: AnyArray,
 }
 
 impl Model for DictionaryArray {
@@ -59,7 +66,7 @@ impl Model for DictionaryArray {
     ghost use Rattle.std.proofs.Common.{arith};
     ghost use Rattle.nest_array.specs.Falls.{deep-size};
 
-    ghost size_decreases = { λ a h. Prim.omega (arith, deep-size a.values.value) };
+    ghost size_decreases = { λ a h. Prim.omega (arith, deep-size a.shared.value.values) };
 }
 
 impl DictionaryArray {
@@ -68,7 +75,7 @@ impl DictionaryArray {
     /// # Errors
     /// `WrongType` where the logical type isn't `Dictionary`, `KeyType` where it names another type of keys,
     /// `ChildType` where the values have another logical type than its value type, `KeyRange` where a key is negative
-    /// or past the values: the first of these. Then `Memory`, for the box of the values.
+    /// or past the values: the first of these. Then `Memory`, for what copies share: the data type and the values.
     pub fn try_new(
         alloc: Global,
         data_type: DataType,
@@ -142,15 +149,10 @@ impl DictionaryArray {
         ensures err { IsOkUnless result (Memory alloc_error) }
     {
         keys.known();
-        match Rc::new(alloc, values) {
-            Ok(values) => Ok(DictionaryArray {
-                data_type,
-                keys,
-                values,
-            }),
+        match Rc::new(alloc, TypedValues { data_type, values }) {
+            Ok(shared) => Ok(DictionaryArray { keys, shared }),
             Err(error) => {
                 drop(keys);
-                drop(data_type);
                 Err(error.into())
             }
         }
@@ -161,7 +163,7 @@ impl DictionaryArray {
         ensures fits { TopFits self.now }
         ensures kind { self.now ≡ layouts.dictionary (layout_type self.now) (keys_of self.now) (child_of self.now) }
     {
-        let _ = &self.data_type;
+        let _ = &self.shared;
     }
 
     /// How many slots it has.
@@ -175,14 +177,14 @@ impl DictionaryArray {
     pub fn data_type(&self) -> &DataType
         ensures { type_of result.now ≡ layout_type self.now }
     {
-        &self.data_type
+        &self.shared.data_type
     }
 
     /// Whether its type says that the values are ordered.
     pub fn is_ordered(&self) -> bool
         ensures { result ≡ is_ordered (layout_type self.now) }
     {
-        self.data_type.is_ordered()
+        self.shared.data_type.is_ordered()
     }
 
     /// Its keys, one for each slot.
@@ -196,7 +198,7 @@ impl DictionaryArray {
     pub fn values(&self) -> &AnyArray
         ensures { layout_of result.now ≡ child_of self.now }
     {
-        &self.values
+        &self.shared.values
     }
 
     /// Which keys are valid, a bit a key; without it all are.
@@ -231,7 +233,7 @@ impl DictionaryArray {
     {
         match self.keys.index(i) {
             None => false,
-            Some(place) => place < self.values.len(),
+            Some(place) => place < self.shared.values.len(),
         }
     }
 
@@ -239,7 +241,7 @@ impl DictionaryArray {
     pub fn all_in_range(&self) -> bool
         ensures { IsTrue result ↔ EachNames (raw_keys (keys_of self.now)) (len (child_of self.now)) }
     {
-        self.keys.each_names(self.values.len())
+        self.keys.each_names(self.shared.values.len())
     }
 
     /// Raw key i, the place of the value that slot i is, unless it is null.
@@ -249,7 +251,7 @@ impl DictionaryArray {
         ensures key { pos result ≡ key_at (keys_of self.now) i }
         ensures slot { slot self.now i ≡ where_valid (validity_of self.now) i (slot (child_of self.now) result) }
     {
-        let _ = &self.data_type;
+        let _ = &self.shared;
         self.place(i)
     }
 

@@ -1,11 +1,11 @@
 //! Which parts make a union, check by check.
-ghost use Rattle.std.specs.Prelude.{◌≡◌, ◌↔◌, ◌≤◌, IsTrue, MatchResult, length};
+ghost use Rattle.std.specs.Prelude.{◌≡◌, ◌↔◌, ◌≤◌, IsTrue, MatchOption, length};
 ghost use Rattle.std.specs.List.{All};
 ghost use Rattle.nest_memory.specs.TypeTree.{ids_of, is_dense};
 ghost use Rattle.nest_model.specs.Checks.{FailFirst, Pass};
 ghost use Rattle.nest_model.specs.Fits.{EachCovers, IdsCount, IdsInRange, MeansField, Names, OffsetsByMode, OffsetsCount, child_len};
 ghost use Rattle.nest_model.specs.Layout as layouts;
-ghost use Rattle.nest_array.specs.Positions.{EachNamed, IsTable, SlotsMeant, id_checks, meant};
+ghost use Rattle.nest_array.specs.Positions.{EachNamed, SlotsMeant, id_checks, meant};
 ghost use Rattle.nest_array.specs.Words.{FirstFault, Fits, layouts_of, type_of};
 
 use crate::any::AnyArray;
@@ -16,64 +16,64 @@ use nest_memory::datatypes::physical_type::PhysicalType;
 use nest_memory::datatypes::{DataType, UnionMode};
 use nest_memory::error::{Error, Spec};
 
-/// The table of parts that make a union, or the first check that fails.
-pub(super) fn table(
+/// The first check of an array's parts that fails.
+pub(super) fn fault(
     data_type: &DataType,
     types: &Buffer<i8>,
     fields: &[AnyArray],
     offsets: &Option<Buffer<i32>>,
-) -> Result<[u8; 128], Error>
+) -> Option<Error>
     ensures { let parts = layouts.union (type_of data_type.now) types.now (layouts_of fields.now) offsets.now 0 in
-        MatchResult result (λ t. Fits parts × IsTable t (ids_of (type_of data_type.now))) (λ e. FirstFault e parts) }
+        MatchOption result (Fits parts) (λ e. FirstFault e parts) }
 {
     if data_type.to_physical_type() != PhysicalType::Union {
-        return Err(Error::OutOfSpec(Spec::WrongType));
+        return Some(Error::OutOfSpec(Spec::WrongType));
     }
     let named = data_type.fields();
     if named.len() != fields.len() {
-        return Err(Error::OutOfSpec(Spec::FieldCount));
+        return Some(Error::OutOfSpec(Spec::FieldCount));
     }
     if fields.len() > 127 {
-        return Err(Error::OutOfSpec(Spec::TooManyFields));
+        return Some(Error::OutOfSpec(Spec::TooManyFields));
     }
     if !have_types(named, fields) {
-        return Err(Error::OutOfSpec(Spec::ChildType));
+        return Some(Error::OutOfSpec(Spec::ChildType));
     }
     if !has_each_offset(offsets, types.len()) {
-        return Err(Error::OutOfSpec(Spec::OffsetCount));
+        return Some(Error::OutOfSpec(Spec::OffsetCount));
     }
     if !has_mode(data_type, offsets) {
-        return Err(Error::OutOfSpec(Spec::UnionMode));
+        return Some(Error::OutOfSpec(Spec::UnionMode));
     }
-    table_by_ids(data_type, types, fields, offsets)
+    fault_by_ids(data_type, types, fields, offsets)
 }
 
-/// The same of parts that pass the checks before that of the ids.
-fn table_by_ids(
+/// The same of parts that pass the checks before that of the ids. Types are looked up in a table of what each means.
+fn fault_by_ids(
     data_type: &DataType,
     types: &Buffer<i8>,
     fields: &[AnyArray],
     offsets: &Option<Buffer<i32>>,
-) -> Result<[u8; 128], Error>
+) -> Option<Error>
     requires few { length fields.now ≤ 127 }
     requires each_offset { OffsetsCount offsets.now (length types.now) }
     ensures { let checks = id_checks (ids_of (type_of data_type.now)) types.now (layouts_of fields.now) offsets.now in
-        MatchResult result (λ t. Pass checks × IsTable t (ids_of (type_of data_type.now))) (λ e. FailFirst e checks) }
+        MatchOption result (Pass checks) (λ e. FailFirst e checks) }
 {
     if !has_each_id(data_type, fields.len()) {
-        return Err(Error::OutOfSpec(Spec::IdCount));
+        return Some(Error::OutOfSpec(Spec::IdCount));
     }
     if !has_ids_in_range(data_type) {
-        return Err(Error::OutOfSpec(Spec::IdRange));
+        return Some(Error::OutOfSpec(Spec::IdRange));
     }
     let table = positions(data_type, fields.len());
     if !mean_fields(&table, types.as_slice(), fields.len()) {
-        return Err(Error::OutOfSpec(Spec::UnionType));
+        return Some(Error::OutOfSpec(Spec::UnionType));
     }
     if !has_slots(&table, types.as_slice(), fields, offsets) {
-        return Err(Error::OutOfSpec(Spec::UnionSlot));
+        return Some(Error::OutOfSpec(Spec::UnionSlot));
     }
-    Ok(table)
+    None
 }
 
 /// Whether there is an offset for each of n types, or none at all.

@@ -40,7 +40,6 @@ impl UnionArray {
                 types,
                 fields,
                 offsets,
-                table: self.table,
                 start: self.start,
             }),
             Err(error) => {

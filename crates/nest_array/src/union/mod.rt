@@ -41,7 +41,6 @@ pub struct UnionArray {
     types: Buffer<i8>,
     fields: Vec<AnyArray>,
     offsets: Option<Buffer<i32>>,
-    table: [u8; 128],
     start: usize,
 }
 
@@ -55,14 +54,12 @@ impl Model for UnionArray {
 
     ghost use Rattle.std.specs.Prelude.{◌+◌, ◌<◌, ◌^◌, length};
     ghost use Rattle.nest_memory.specs.TypeOf.{type_of};
-    ghost use Rattle.nest_memory.specs.TypeTree.{ids_of};
     ghost use Rattle.nest_model.specs.Array.{TopFits};
-    ghost use Rattle.nest_array.specs.Positions.{IsTable};
     ghost use Rattle.nest_array.specs.SeenUnion.{union_seen};
 
     ghost view = { union_seen };
 
-    ghost invariant = { λ a. TopFits (union_seen a) × IsTable a.table (ids_of (type_of a.data_type)) × (a.start + length a.types < 2 ^ 64) };
+    ghost invariant = { λ a. TopFits (union_seen a) × (a.start + length a.types < 2 ^ 64) };
 
     ghost size = { weight };
 
@@ -91,23 +88,20 @@ impl UnionArray {
         ensures { let parts = layouts.union (type_of data_type) types (layouts_of fields.items) offsets 0 in
             MatchResult result (λ a. Fits parts × (a ≡ parts)) (λ e. FirstFault e parts) }
     {
-        match checks::table(&data_type, &types, &fields, &offsets) {
-            Ok(table) => Ok(UnionArray {
-                data_type,
-                types,
-                fields,
-                offsets,
-                table,
-                start: 0,
-            }),
-            Err(error) => {
-                drop(offsets);
-                drop(fields);
-                drop(types);
-                drop(data_type);
-                Err(error)
-            }
+        if let Some(error) = checks::fault(&data_type, &types, &fields, &offsets) {
+            drop(offsets);
+            drop(fields);
+            drop(types);
+            drop(data_type);
+            return Err(error);
         }
+        Ok(UnionArray {
+            data_type,
+            types,
+            fields,
+            offsets,
+            start: 0,
+        })
     }
 
     /// The array of parts that fit.
@@ -120,13 +114,11 @@ impl UnionArray {
         requires { Fits (layouts.union (type_of data_type) types (layouts_of fields.items) offsets 0) }
         ensures { result ≡ layouts.union (type_of data_type) types (layouts_of fields.items) offsets 0 }
     {
-        let table = table::positions(&data_type, fields.len());
         UnionArray {
             data_type,
             types,
             fields,
             offsets,
-            table,
             start: 0,
         }
     }
@@ -208,12 +200,17 @@ impl UnionArray {
         new_scalar(alloc, self.field_at(field), place)
     }
 
-    // The position of the field that slot i picks: one look-up.
+    // The position of the field that slot i picks. The ids are gone through, as a table of them would have a place for each
+    // of 128 types, in every array of any kind.
     fn field(&self, i: usize) -> usize
         requires { i < len self.now }
         ensures { field_named (ids_of (layout_type self.now)) (get_or (types_of self.now) i (pos 0)) ≡ Some result }
     {
-        self.table[self.types.get(i) as usize] as usize
+        let kind = self.types.get(i);
+        match self.data_type.union_ids() {
+            Some(ids) => table::last_place(ids, kind),
+            None => kind as usize,
+        }
     }
 
     // The slot of that field.

@@ -1,7 +1,9 @@
-//! The table of a union: which field each type means. A type of 8 bits that isn't negative has a place of its own.
-ghost use Rattle.std.specs.Prelude.{◌≡◌, ◌≤◌, ◌↔◌, IsTrue, Some, None, length};
+//! Which field of a union each type means: by a table, in which a type of 8 bits that isn't negative has a place of its own,
+//! or by the ids.
+ghost use Rattle.std.specs.Prelude.{◌≡◌, ◌≢◌, ◌≤◌, ◌↔◌, IsTrue, Some, None, length};
 ghost use Rattle.nest_memory.specs.TypeTree.{ids_of};
 ghost use Rattle.nest_model.specs.Fits.{EachNames, IdsCount, IdsInRange, MeansField};
+ghost use Rattle.nest_model.specs.Part as part;
 ghost use Rattle.nest_array.specs.Positions.{IsTable, meant};
 ghost use Rattle.nest_array.specs.Words.{type_of};
 
@@ -67,4 +69,18 @@ pub(crate) fn means_field(table: &[u8; 128], kind: i8, n: usize) -> bool
         Some(field) => field < n,
         None => false,
     }
+}
+
+/// The place of the last id that is the type.
+pub(crate) fn last_place(ids: &[i32], kind: i8) -> usize
+    requires { part.last_place ids.now kind ≢ None }
+    ensures { part.last_place ids.now kind ≡ Some result }
+{
+    let mut place = 0;
+    for k in 0..ids.len() {
+        if ids[k] == kind as i32 {
+            place = k;
+        }
+    }
+    place
 }

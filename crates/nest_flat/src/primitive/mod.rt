@@ -212,6 +212,8 @@ impl<T: NativeType> PrimitiveArray<T> {
     }
 
     /// The same array, on shared memory.
+    // Inlined, so that what makes a variant of the copy writes it in its place at once.
+    #[inline(always)]
     pub fn clone(&self, alloc: Global) -> Result<PrimitiveArray<T>, Error>
         ensures ok { IfOk result (λ a. a ≡ self.now) }
         ensures err { IsOkUnless result (Memory alloc_error) }

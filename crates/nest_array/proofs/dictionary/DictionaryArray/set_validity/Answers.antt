@@ -11,11 +11,11 @@ use Rattle.nest_array.proofs.dictionary.DictionaryArray.set_validity.Goals as go
 
 pub invariant_of-self : goal.invariant_of-self
 invariant_of-self c =
-    let t = type_of c.self.inside.data_type in
+    let t = type_of c.self.inside.shared.value.data_type in
     let ks = keys_layout c.self.inside.keys in
-    let vs = layout_of c.self.inside.values.value in
+    let vs = layout_of c.self.inside.shared.value.values in
     let m : c.len.result ≡ len ks = c.len.ensures ∙ sym (ap len c.self.view_is) in
-    let n : c.len-2.result ≡ len vs = c.len-2.ensures ∙ ap (λ a. len (layout_of a)) c.deref.ensures in
+    let n : c.len-2.result ≡ len vs = c.len-2.ensures ∙ ap (λ s. len (layout_of s.values)) c.deref.ensures in
     let bits = subst (ValidityFits c.args.validity) m (c.fits.ensures.0 c.if-not-fits.false) in
     let names = subst (EachValidNames c.args.validity ks) n (c.each_valid_names.ensures.0 c.if-not-each_valid_names.false) in
     subst (λ k. TopFits (layouts.dictionary t k vs)) (sym c.set_validity.ensures)

@@ -8,7 +8,7 @@ use Rattle.nest_model.specs.Layout.{count_layouts}
 use Rattle.nest_array.specs.Seen.{layouts_of}
 use Rattle.nest_array.proofs.Children.{layouts-count}
 use Rattle.nest_array.proofs.UnionChecks.{First, both-fit, last-fault, matched, refute}
-use Rattle.nest_array.proofs.union.checks.table.Goals as goal
+use Rattle.nest_array.proofs.union.checks.fault.Goals as goal
 
 pub returns-then-named-fields : goal.returns-then-named-fields
 returns-then-named-fields c =
@@ -64,4 +64,4 @@ returns c =
     let o = subst (OffsetsCount c.args.offsets.now) c.len.ensures (c.has_each_offset.ensures.0 c.if-not-has_each_offset.false) in
     let first : First (type_of c.args.data_type.now) c.args.types.now (layouts_of c.args.fields.now) c.args.offsets.now =
     record { typed = p; as_many = n ∙ sym c.if-named-fields.false ∙ c.fields-named.ensures.count; few = few; types = t; offsets = o; mode = c.has_mode.ensures.0 c.if-not-has_mode.false } in
-    matched c.table_by_ids.result _ _ _ _ (λ a h. (both-fit _ _ _ _ first h.0, h.1)) (λ e f. last-fault _ _ _ _ e first f) c.table_by_ids.ensures
+    matched c.fault_by_ids.result _ _ _ _ (λ h. both-fit _ _ _ _ first h) (λ e f. last-fault _ _ _ _ e first f) c.fault_by_ids.ensures

@@ -9,7 +9,7 @@ use Rattle.nest_array.specs.Seen.{layouts_of}
 use Rattle.nest_array.proofs.Children.{layouts-count}
 use Rattle.nest_array.proofs.Tables.{types-mean, slots-meant}
 use Rattle.nest_array.proofs.UnionChecks.{refute}
-use Rattle.nest_array.proofs.union.checks.table_by_ids.Goals as goal
+use Rattle.nest_array.proofs.union.checks.fault_by_ids.Goals as goal
 
 pub returns-then-not-has_each_id : goal.returns-then-not-has_each_id
 returns-then-not-has_each_id c =
@@ -70,4 +70,4 @@ returns c =
     let few : count_layouts cs ≤ 127 = omega (arith, n, c.requires.few) in
     let w = slots-meant table ids c.args.types.now cs c.args.offsets.now c.positions-table.ensures r few m in
     let there = w.0 (subst (λ ks. SlotsMeant table ks cs c.args.offsets.now) c.as_slice-2.ensures (c.has_slots.ensures.0 c.if-not-has_slots.false)) in
-    ((subst (IdsCount ids) (sym n) (c.has_each_id.ensures.0 c.if-not-has_each_id.false), (r, (m, (there, tt)))), c.positions-table.ensures)
+    (subst (IdsCount ids) (sym n) (c.has_each_id.ensures.0 c.if-not-has_each_id.false), (r, (m, (there, tt))))
