@@ -42,6 +42,23 @@ last-on ids k p q x z d l e t u h f g =
     let n : length (take k ids) ≡ k = length-take-le k ids (omega arith) in
     last-by (int_eq x z) (take k ids) z (length (take k ids)) p q (λ b. n ∙ t (s.0 b)) (λ b. u (λ a. let v : false ≡ true = sym b ∙ s.1 a in cc)) h f (sym (ap (λ a. last_place a z) y ∙ last-more (take k ids) x z) ∙ g)
 
+-- what stands at the last place of a number
+holds-on : (x z : ℤ) (ids : List ℤ) (b : Bool) (o : Option ℕ) (f : ℕ) (d : ℤ) → int_eq x z ≡ b → (b ≡ true → x ≡ z) → ((g : ℕ) → o ≡ Some g → (g < length ids) × (get_or ids g d ≡ z)) → before x z o ≡ Some f → (f < length (x ∷ ids)) × (get_or (x ∷ ids) f d ≡ z)
+holds-on x z ids b (Some g) f d q t h e = let p : f ≡ suc g = cc in let k = h g refl in subst (λ j. (j < length (x ∷ ids)) × (get_or (x ∷ ids) j d ≡ z)) (sym p) (omega (arith, k.0), k.1)
+holds-on x z ids true None f d q t h e =
+    let u : Some 0 ≡ Some f = sym (ap (λ c. if c then Some 0 else None) q) ∙ e in
+    let p : f ≡ 0 = sym (one-place 0 f u) in
+    subst (λ j. (j < length (x ∷ ids)) × (get_or (x ∷ ids) j d ≡ z)) (sym p) (omega arith, t refl)
+holds-on x z ids false None f d q t h e = let u : None ≡ Some f = sym (ap (λ c. if c then Some 0 else None) q) ∙ e in cc
+
+pub last-holds : (ids : List ℤ) (z d : ℤ) (f : ℕ) → last_place ids z ≡ Some f → (f < length ids) × (get_or ids f d ≡ z)
+last-holds [] z d f e = cc
+last-holds (x ∷ ids) z d f e = holds-on x z ids (int_eq x z) (last_place ids z) f d refl (λ b. (Decides-int_eq x z).0 b) (λ g h. last-holds ids z d g h) e
+
+-- ids that stand in their places
+pub in-places : (ids : List ℤ) (d : ℤ) → ((j : ℕ) → j < length ids → get_or ids j d ≡ pos j) → (z : ℤ) (f : ℕ) → last_place ids z ≡ Some f → z ≡ pos f
+in-places ids d h z f e = let p = last-holds ids z d f e in sym p.1 ∙ h f p.0
+
 -- a place is written
 abbrev pub HasIds : List ℕ → List ℤ → Type 0
 HasIds table ids = (k : ℕ) → k < 128 → get_or table k 127 ≡ position (last_place ids (pos k))

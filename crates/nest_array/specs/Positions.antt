@@ -16,6 +16,10 @@ position (Some f) = f
 abbrev pub IsTable : List ℕ → Option (List ℤ) → Type 0
 IsTable table ids = (length table ≡ 128) × ((k : ℕ) → k < 128 → get_or table k 127 ≡ position (field_named ids (pos k)))
 
+-- a type that means a field is the position of that field
+abbrev pub ArePositions : Option (List ℤ) → Type 0
+ArePositions ids = (z : ℤ) (f : ℕ) → field_named ids z ≡ Some f → z ≡ pos f
+
 -- what the table says of a type; a negative one means no field
 abbrev pub meant : List ℕ → ℤ → Option ℕ
 meant table (pos k) = Some (get_or table k 127)

@@ -231,6 +231,19 @@ fn fields_by_ids(rt: HostRuntime) {
 }
 
 #[test]
+fn ids_in_and_out_of_their_places(rt: HostRuntime) {
+    let alloc = rt.alloc();
+    let types = [0, 1, 1].as_slice();
+    let items = [0, 1, 2].as_slice();
+    let counted = sparse(alloc, Some(&[0, 1]), types, items, items).expect(&rt, "ids 0 and 1");
+    assert!(rt; pick(&counted, 2) == Some((1, 2)));
+    drop(counted);
+    let swapped = sparse(alloc, Some(&[1, 0]), types, items, items).expect(&rt, "ids 1 and 0");
+    assert!(rt; pick(&swapped, 2) == Some((0, 2)));
+    drop(swapped);
+}
+
+#[test]
 fn ids_out_of_range(rt: HostRuntime) {
     let alloc = rt.alloc();
     let refused = sparse(alloc, Some(&[5, 7]), &[5, 6], &[1, 2], &[1, 2]);

@@ -41,6 +41,7 @@ impl UnionArray {
                 fields,
                 offsets,
                 start: self.start,
+                plain: self.plain,
             }),
             Err(error) => {
                 drop(offsets);

@@ -42,6 +42,8 @@ pub struct UnionArray {
     fields: Vec<AnyArray>,
     offsets: Option<Buffer<i32>>,
     start: usize,
+    // Whether each type is known to be the position of the field that it means.
+    plain: bool,
 }
 
 impl Model for UnionArray {
@@ -52,14 +54,16 @@ impl Model for UnionArray {
 
     ghost coded = { coded_layout };
 
-    ghost use Rattle.std.specs.Prelude.{◌+◌, ◌<◌, ◌^◌, length};
+    ghost use Rattle.std.specs.Prelude.{◌+◌, ◌<◌, ◌^◌, IsTrue, length};
     ghost use Rattle.nest_memory.specs.TypeOf.{type_of};
+    ghost use Rattle.nest_memory.specs.TypeTree.{ids_of};
     ghost use Rattle.nest_model.specs.Array.{TopFits};
+    ghost use Rattle.nest_array.specs.Positions.{ArePositions};
     ghost use Rattle.nest_array.specs.SeenUnion.{union_seen};
 
     ghost view = { union_seen };
 
-    ghost invariant = { λ a. TopFits (union_seen a) × (a.start + length a.types < 2 ^ 64) };
+    ghost invariant = { λ a. TopFits (union_seen a) × (a.start + length a.types < 2 ^ 64) × (IsTrue a.plain → ArePositions (ids_of (type_of a.data_type))) };
 
     ghost size = { weight };
 
@@ -95,12 +99,14 @@ impl UnionArray {
             drop(data_type);
             return Err(error);
         }
+        let plain = table::are_positions(&data_type);
         Ok(UnionArray {
             data_type,
             types,
             fields,
             offsets,
             start: 0,
+            plain,
         })
     }
 
@@ -114,12 +120,14 @@ impl UnionArray {
         requires { Fits (layouts.union (type_of data_type) types (layouts_of fields.items) offsets 0) }
         ensures { result ≡ layouts.union (type_of data_type) types (layouts_of fields.items) offsets 0 }
     {
+        let plain = table::are_positions(&data_type);
         UnionArray {
             data_type,
             types,
             fields,
             offsets,
             start: 0,
+            plain,
         }
     }
 
@@ -200,13 +208,16 @@ impl UnionArray {
         new_scalar(alloc, self.field_at(field), place)
     }
 
-    // The position of the field that slot i picks. The ids are gone through, as a table of them would have a place for each
-    // of 128 types, in every array of any kind.
+    // The position of the field that slot i picks: its type, but where ids stand in another order, which are gone through.
+    // A table of them would have a place for each of 128 types, in every array of any kind.
     fn field(&self, i: usize) -> usize
         requires { i < len self.now }
         ensures { field_named (ids_of (layout_type self.now)) (get_or (types_of self.now) i (pos 0)) ≡ Some result }
     {
         let kind = self.types.get(i);
+        if self.plain {
+            return kind as usize;
+        }
         match self.data_type.union_ids() {
             Some(ids) => table::last_place(ids, kind),
             None => kind as usize,

@@ -4,7 +4,7 @@ ghost use Rattle.std.specs.Prelude.{◌≡◌, ◌≢◌, ◌≤◌, ◌↔◌, 
 ghost use Rattle.nest_memory.specs.TypeTree.{ids_of};
 ghost use Rattle.nest_model.specs.Fits.{EachNames, IdsCount, IdsInRange, MeansField};
 ghost use Rattle.nest_model.specs.Part as part;
-ghost use Rattle.nest_array.specs.Positions.{IsTable, meant};
+ghost use Rattle.nest_array.specs.Positions.{ArePositions, IsTable, meant};
 ghost use Rattle.nest_array.specs.Words.{type_of};
 
 use nest_memory::datatypes::DataType;
@@ -83,4 +83,26 @@ pub(crate) fn last_place(ids: &[i32], kind: i8) -> usize
         }
     }
     place
+}
+
+/// Whether a type is the position of the field that it means, as far as is known: there are no ids, or each stands at its
+/// own place.
+pub(crate) fn are_positions(data_type: &DataType) -> bool
+    ensures { IsTrue result → ArePositions (ids_of (type_of data_type.now)) }
+{
+    match data_type.union_ids() {
+        Some(ids) => stand_in_place(ids),
+        None => true,
+    }
+}
+
+fn stand_in_place(ids: &[i32]) -> bool
+    ensures { IsTrue result → ArePositions (Some ids.now) }
+{
+    for k in 0..ids.len() {
+        if 127 < k || ids[k] != k as i32 {
+            return false;
+        }
+    }
+    true
 }
