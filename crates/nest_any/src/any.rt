@@ -258,6 +258,24 @@ impl AnyMutableArray {
     }
 }
 
+impl AnyMutableArray {
+    /// Its data type and how many rows it has, by one look at its kind.
+    pub(crate) fn typed_len(&self) -> (&DataType, usize)
+        ensures data_type { type_of result.0.now ≡ builder_type (tree_of self.now) }
+        ensures len { result.1 ≡ builder_len (tree_of self.now) }
+    {
+        match self {
+            AnyMutableArray::Null(builder) => {
+                (MutableArray::data_type(builder), MutableArray::len(builder))
+            }
+            AnyMutableArray::Flat(builder) => builder.typed_len(),
+            AnyMutableArray::Dictionary(builder) => (builder.data_type(), builder.len()),
+            AnyMutableArray::List(builder) => (builder.data_type(), builder.len()),
+            AnyMutableArray::Struct(builder) => (builder.data_type(), builder.len()),
+        }
+    }
+}
+
 impl MutableArray for AnyMutableArray {
     ghost model = { tree_of };
 

@@ -49,13 +49,23 @@ pub(crate) fn have_rows(children: &[AnyMutableArray], n: usize) -> bool
     true
 }
 
-/// Whether each child has a row more than n.
-pub(crate) fn have_row_more(children: &[AnyMutableArray], n: usize) -> bool
-    ensures rows { IsTrue result ↔ HaveRows (trees_of children.now) (n + 1) }
+/// Whether each child has its field's type and a row more than n.
+pub(crate) fn are_ready(fields: &[Field], children: &[AnyMutableArray], n: usize) -> bool
+    ensures types { IsTrue result → builder_types (trees_of children.now) ≡ field_types (field_list_of fields.now) }
+    ensures rows { IsTrue result → HaveRows (trees_of children.now) (n + 1) }
+    ensures ready { builder_types (trees_of children.now) ≡ field_types (field_list_of fields.now) → HaveRows (trees_of children.now) (n + 1) → IsTrue result }
     ensures room { IsTrue result → 0 < count_builders (trees_of children.now) → n + 1 ≤ largest_length }
 {
-    for i in 0..children.len() {
-        if children[i].len().checked_sub(1) != Some(n) {
+    if fields.len() != children.len() {
+        return false;
+    }
+    for i in 0..fields.len() {
+        let (data_type, len) = children[i].typed_len();
+        if len.checked_sub(1) != Some(n) {
+            return false;
+        }
+        let same = *fields[i].data_type() == *data_type;
+        if !same {
             return false;
         }
     }

@@ -1,9 +1,10 @@
 //! A builder of a flat array of any kind.
 ghost use Rattle.std.specs.Prelude.{◌≡◌};
-ghost use Rattle.nest_any.specs.Flat.{flat_layout, physical_kind};
-ghost use Rattle.nest_any.specs.Words.{layout_type, physical_type};
+ghost use Rattle.nest_any.specs.Flat.{flat_layout, physical_kind, values_tree};
+ghost use Rattle.nest_any.specs.Words.{builder_len, builder_type, layout_type, physical_type, type_of};
 
 use nest_array::AnyArray;
+use nest_build::array::MutableArray;
 use nest_build::child::same_types;
 use nest_build::fixed_size_binary::MutableFixedSizeBinaryArray;
 use nest_build::flat::{FlatBuilder, TakesValue, any_primitive};
@@ -66,6 +67,16 @@ fn known(any: &AnyMutableFlat)
         AnyMutableFlat::Utf8(builder) => builder.known(),
         AnyMutableFlat::LargeUtf8(builder) => builder.known(),
         AnyMutableFlat::FixedSizeBinary(builder) => builder.known(),
+    }
+}
+
+impl AnyMutableFlat {
+    /// Its data type and how many rows it has, by one look at its kind.
+    pub(crate) fn typed_len(&self) -> (&DataType, usize)
+        ensures data_type { type_of result.0.now ≡ builder_type (values_tree self.now) }
+        ensures len { result.1 ≡ builder_len (values_tree self.now) }
+    {
+        each_flat!(self, builder => (MutableArray::data_type(builder), MutableArray::len(builder)))
     }
 }
 

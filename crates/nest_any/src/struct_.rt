@@ -9,7 +9,7 @@ ghost use Rattle.nest_any.specs.Words.{AreEachWhole, FailFirst, HasWholeChildren
 
 use crate::any::AnyMutableArray;
 use crate::children::{
-    add_null_each, are_whole, cut_each, each_is_whole, first_rows, frozen_each, have_row_more,
+    add_null_each, are_ready, are_whole, cut_each, each_is_whole, first_rows, frozen_each,
     have_rows, have_types, room_each, shrink_each,
 };
 use crate::struct_type::StructType;
@@ -240,8 +240,7 @@ impl MutableStructArray {
         ensures room { IsTrue result → builder_len self.now + 1 ≤ largest_length }
     {
         self.known();
-        have_types(self.data_type.fields(), &self.values)
-            && have_row_more(&self.values, self.rows.len())
+        are_ready(self.data_type.fields(), &self.values, self.rows.len())
     }
 
     #[cycle(whole)]

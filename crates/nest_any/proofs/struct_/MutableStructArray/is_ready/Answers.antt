@@ -2,15 +2,13 @@ use Rattle.std.proofs.Common.{◌<◌, ap, sym, subst, ◌∙◌, arith}
 use Rattle.nest_memory.specs.TypeOf.{field_list_of}
 use Rattle.nest_memory.specs.TypeTree.{count_fields, fields_of}
 use Rattle.nest_model.specs.BuilderTree.{builder_len, builder_type}
-use Rattle.nest_any.specs.Refusals.{count_builders}
 use Rattle.nest_any.specs.Trees.{trees_of}
 use Rattle.nest_any.proofs.Types.{some-children}
 use Rattle.nest_any.proofs.struct_.MutableStructArray.is_ready.Goals as goal
 
-pub returns-then-have_types-clause-room : goal.returns-then-have_types-clause-room
-returns-then-have_types-clause-room c = λ r.
+pub returns-clause-room : goal.returns-clause-room
+returns-clause-room c = λ r.
     let fields = c.fields.ensures ∙ ap (λ b. fields_of (builder_type b)) c.self.view_is in
     let some = subst (λ fs. 0 < count_fields fs) (sym fields) c.known.ensures.some in
-    let many = some-children (trees_of c.deref.result.now) (field_list_of c.fields.result.now) (c.have_types.ensures.0 c.if-have_types.true) some in
-    let same = ap trees_of (c.deref.ensures.value ∙ sym c.deref-then-have_types.ensures.value) in
-    omega (arith, c.have_row_more.ensures.room r (subst (λ cs. 0 < count_builders cs) same many), c.len.ensures, ap builder_len c.self.view_is)
+    let many = some-children (trees_of c.deref.result.now) (field_list_of c.fields.result.now) (c.are_ready.ensures.types r) some in
+    omega (arith, c.are_ready.ensures.room r many, c.len.ensures, ap builder_len c.self.view_is)
