@@ -8,6 +8,7 @@ mod comparing;
 mod copies;
 mod cuts;
 mod kinds;
+mod least;
 mod nulls;
 mod rows;
 mod scans;
@@ -21,6 +22,7 @@ fn run<R: Clock + Print + AllocGlobal>(rt: &R, measured: bool) -> Result<()> {
     rows::run(rt, measured)?;
     scans::run(rt, measured)?;
     copies::run(rt, measured)?;
+    least::run(rt, measured)?;
     kinds::run(rt, measured)?;
     nulls::run(rt, measured)?;
     building::run(rt, measured)?;

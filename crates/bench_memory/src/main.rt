@@ -97,6 +97,28 @@ fn copies(alloc: Global, types: &[DataType], n: usize) -> Result<usize, Error> {
     Ok(with_items)
 }
 
+/// One of two data types without parts: the least that a call can make and hand up in place of a copy.
+#[inline(never)]
+fn made(like: &DataType) -> Result<DataType, Error> {
+    match like {
+        DataType::Int64 => Ok(DataType::Int64),
+        _ => Ok(DataType::Utf8),
+    }
+}
+
+/// The same count of types that are made like these.
+fn makings(types: &[DataType], n: usize) -> Result<usize, Error> {
+    let mut with_items = 0usize;
+    for _ in 0..n / types.len().max(1) {
+        for data_type in types {
+            let one = made(data_type)?;
+            with_items = with_items.wrapping_add(usize::from(one.item_type().is_some()));
+            drop(one);
+        }
+    }
+    Ok(with_items)
+}
+
 /// Two data types without parts.
 fn plain_types(alloc: Global) -> Result<Vec<DataType>, Error> {
     let mut types = Vec::with_capacity(alloc, 2)?;
@@ -186,6 +208,20 @@ fn tell_copies<R: Clock + Print + AllocGlobal>(
     Ok(())
 }
 
+fn tell_makings<R: Clock + Print>(rt: &R, types: &[DataType], measured: bool) -> Result<()> {
+    let n = if measured { COPIES } else { FEW };
+    let begun = begin(rt, measured)?;
+    let with_items = makings(types, n)?;
+    tell(
+        rt,
+        "plain data types made by a call, with items",
+        with_items,
+        begun,
+        n,
+    )?;
+    Ok(())
+}
+
 fn run_copies<R: Clock + Print + AllocGlobal>(rt: &R, measured: bool) -> Result<()> {
     let plain = plain_types(rt.alloc())?;
     tell_copies(
@@ -194,6 +230,7 @@ fn run_copies<R: Clock + Print + AllocGlobal>(rt: &R, measured: bool) -> Result<
         &plain,
         measured,
     )?;
+    tell_makings(rt, &plain, measured)?;
     let lists = list_types(rt.alloc())?;
     tell_copies(rt, "copies of list types with items", &lists, measured)
 }
