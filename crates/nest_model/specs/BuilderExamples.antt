@@ -1,5 +1,5 @@
 -- Builders of the worked examples.
-use Rattle.std.specs.Prelude.{ℕ, zero, suc, pos, Bool, true, false, List, [], ◌∷◌, map, Some}
+use Rattle.std.specs.Prelude.{◌≡◌, ℕ, zero, suc, pos, Bool, true, false, List, [], ◌∷◌, map, Option, Some, None}
 use Rattle.nest_memory.specs.TypeTree as types
 use Rattle.nest_memory.specs.TypeTree.{TypeTree, no_fields, more_fields}
 use Rattle.nest_memory.specs.declared.datatypes.IntegerType.{IntegerType}
@@ -8,6 +8,7 @@ use Rattle.nest_memory.specs.declared.datatypes.physical_type.PrimitiveType.TheV
 use Rattle.nest_model.specs.Slot as slots
 use Rattle.nest_model.specs.Slot.{Slot}
 use Rattle.nest_model.specs.Examples.{a_field, list_type}
+use Rattle.nest_model.specs.BuilderRow.{Row}
 use Rattle.nest_model.specs.BuilderTree as builders
 use Rattle.nest_model.specs.BuilderTree.{BuilderTree, no_builders, more_builders}
 use Rattle.nest_model.specs.BuilderItem as items
@@ -130,3 +131,22 @@ two_pending = in_child (all_appended (some_ints (2 ∷ 3 ∷ []))) (appended (it
 -- a list over nulls, some of them waiting
 abbrev pub over_nulls : Bool → List Slot → BuilderTree
 over_nulls large xs = builders.list large (list_type types.null) [] (builders.flat types.null xs)
+
+-- the iterator over a list of texts, some of them null
+abbrev pub Texts : Type 0
+Texts = List (Option (List ℕ))
+
+abbrev pub IsIterator : Texts → Texts → Type 0
+IsIterator given rest = given ≡ rest
+
+abbrev pub StepsOf : Texts → Option (Option (List ℕ)) → Texts → Type 0
+StepsOf [] given rest = (given ≡ None) × (rest ≡ [])
+StepsOf (x ∷ xs) given rest = (given ≡ Some x) × (rest ≡ xs)
+
+-- rows of a list of nulls, of which no item is there
+abbrev pub rows_over_nothing : Bool → List Row → BuilderTree
+rows_over_nothing large rows = builders.list large (list_type types.null) rows (builders.flat types.null [])
+
+-- no row by keys of 8 bits of these values, which are said to be of a type and are numbers
+abbrev pub keyed_ints : TypeTree → List Slot → BuilderTree
+keyed_ints t xs = builders.dictionary integers.Int8 (types.dictionary integers.Int8 t false) [] (builders.flat types.int32 xs)

@@ -1,19 +1,22 @@
 -- Values that are pushed one after another, and the first that is refused.
-use Rattle.std.specs.Prelude.{Option, Some, None, Result, Ok, Err}
+use Rattle.std.specs.Prelude.{◌⊎◌, Option, Some, None, Result, Ok, Err, alloc_error}
 use Rattle.std.specs.Result.{is_ok}
-use Rattle.std.proofs.Common.{◌≡◌, List, [], ◌∷◌, ◌++◌, Bool, length, refl, sym, ap, ◌∙◌, inl, inr, OnOk, OnErr}
-use Rattle.std.specs.List.{items_where_true}
+use Rattle.std.proofs.Common.{◌≡◌, List, [], ◌∷◌, ◌++◌, Bool, length, refl, sym, ap, ◌∙◌, inl, inr, OnOk, OnErr, ℕ, map}
+use Rattle.std.specs.List.{items_where_true, AllZip}
+use Rattle.std.proofs.lemmas.List.{map-append}
 use Rattle.nest_memory.specs.declared.error.Error.{Error}
+use Rattle.nest_memory.specs.declared.error.Error.TheVariants.{Memory}
 use Rattle.nest_model.specs.BuilderTree.{BuilderTree, flat, list, fixed_size_list, dictionary, struct}
 use Rattle.nest_model.specs.BuilderWhole.{IsWhole}
+use Rattle.nest_model.specs.BuilderItem as items
 use Rattle.nest_model.specs.BuilderItem.{Item, seal_items}
 use Rattle.nest_model.specs.BuilderAppend.{appended, all_appended}
-use Rattle.nest_model.specs.BuilderSpells.{Begins}
+use Rattle.nest_model.specs.BuilderSpells.{Gives, Begins, value_item}
 use Rattle.nest_model.specs.BuilderSpellsLaws.{AllZip-push, where_true-push, where_false-push}
 use Rattle.nest_model.specs.BuilderAppendLaws.{accepted_none, accepted_more}
 use Rattle.nest_model.specs.Checks.{first_of}
 use Rattle.nest_model.specs.BuilderRefusals.{item_refusal, items_refusal}
-use Rattle.nest_model.specs.BuilderReading.{Read, whole, begun, read_refusal, ReadOf, Took, Refused, TookEach, RefusedSome}
+use Rattle.nest_model.specs.BuilderReading.{Read, whole, begun, read_refusal, ReadOf, ReadsValue, Took, Refused, TookEach, TookAll, RefusedSome}
 use Rattle.nest_model.specs.BuilderRefusalLaws.{none-more, items-both}
 
 pub took_none : {A : Type 0} (reads : A → Read → Type 0) (t : BuilderTree) → IsWhole t → TookEach reads [] t t
@@ -58,3 +61,50 @@ read-refused (begun xs r) x (fixed_size_list k bits c) e b h =
     rw b.2 (begun-refused xs b.1 b.0 (read_refusal r (all_appended xs c)) _ c e (λ f i. read-refused r b.0 (all_appended xs c) f b.3 i) h)
 read-refused (begun xs r) x (dictionary i k keys c) e b h = rw b.2 h
 read-refused (begun xs r) x (struct k bits cs) e b h = rw b.2 h
+
+-- texts that were read, one after another, are those that were given
+item_of : Read → Item
+item_of (whole x) = x
+item_of (begun xs r) = items.null
+
+read-texts : (given : List (Option (List ℕ))) (xs : List Item) → AllZip (λ a x. ReadsValue items.text a (whole x)) given xs → xs ≡ map (value_item items.text) given
+unfolding item_of
+read-texts [] [] h = refl
+read-texts [] (x ∷ xs) h = absurd h
+read-texts (a ∷ given) [] h = absurd h
+read-texts (a ∷ given) (x ∷ xs) h = let p = ap item_of h.0 in let q = read-texts given xs h.1 in λ i. p i ∷ q i
+
+pub took-texts : (given : List (Option (List ℕ))) (old new : BuilderTree) → TookEach (ReadsValue items.text) given old new
+    → (new ≡ all_appended (map (value_item items.text) given) old) × (items_refusal (seal_items (map (value_item items.text) given)) old ≡ None)
+took-texts given old new h =
+    let e = read-texts given h.0 h.1 in
+    (h.2.exact ∙ ap (λ ys. all_appended ys old) e, sym (ap (λ ys. items_refusal (seal_items ys) old) e) ∙ h.3)
+
+-- what was taken of an iterator is what it gives
+pub took-given : {U T A : Type 0} (becomes : U → T → Type 0) (steps : T → Option A → T → Type 0) (reads : A → Read → Type 0) (u : U) (old new : BuilderTree) → TookAll becomes steps reads u old new
+    → (given : List A) × Gives becomes steps u given × TookEach reads given old new
+took-given becomes steps reads u old new h = (h.1.0, h.1.1, (h.0, h.1.2, h.2, h.3))
+
+-- what is refused of texts that an iterator gives is the beginning of them
+pub refused-texts : {U T : Type 0} (becomes : U → T → Type 0) (steps : T → Option (Option (List ℕ)) → T → Type 0) (u : U) (old : BuilderTree) (e : Error) → RefusedSome becomes steps (ReadsValue items.text) u old e
+    → (e ≡ Memory alloc_error) ⊎ ((front : List (Option (List ℕ))) × (next : Option (List ℕ)) × Begins becomes steps u (front ++ next ∷ [])
+    × (items_refusal (seal_items (map (value_item items.text) (front ++ next ∷ []))) old ≡ Some e))
+refused-texts becomes steps u old e (inl m) = inl m
+refused-texts becomes steps u old e (inr k) =
+    let p = read-texts k.2.0 k.0 k.2.3 in
+    let q = k.2.4 in
+    let front = map (value_item items.text) k.2.0 in
+    let next = value_item items.text k.2.1 in
+    let r : first_of (items_refusal (seal_items front) old) (item_refusal next (all_appended front old)) ≡ Some e =
+    sym (λ i. first_of (items_refusal (seal_items (p i)) old) (read_refusal (q i) (all_appended (p i) old))) ∙ k.3 in
+    inr (
+      k.2.0,
+      k.2.1,
+      k.2.2,
+      ap (λ ys. items_refusal (seal_items ys) old) (map-append (value_item items.text) k.2.0 (k.2.1 ∷ [])) ∙ items-both front (next ∷ []) old
+          ∙ ap (first_of (items_refusal (seal_items front) old)) (first-last (item_refusal next (all_appended front old))) ∙ r,
+    )
+  where
+    first-last : (o : Option Error) → first_of o None ≡ o
+    first-last None = refl
+    first-last (Some e) = refl

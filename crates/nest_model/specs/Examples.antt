@@ -1,9 +1,11 @@
 -- Arrays of the worked examples.
 use Rattle.nest_memory.specs.declared.datatypes.IntegerType.{IntegerType}
 use Rattle.nest_memory.specs.declared.datatypes.IntegerType.TheVariants as integers
+use Rattle.nest_memory.specs.declared.datatypes.IntervalUnit.TheVariants as intervals
+use Rattle.nest_memory.specs.declared.datatypes.TimeUnit.TheVariants as times
 use Rattle.nest_memory.specs.declared.datatypes.UnionMode.{UnionMode}
 use Rattle.nest_memory.specs.declared.datatypes.UnionMode.TheVariants as modes
-use Rattle.std.specs.Prelude.{ℕ, zero, suc, ℤ, pos, Bool, true, false, List, [], ◌∷◌, map, Option, Some, None}
+use Rattle.std.specs.Prelude.{ℕ, zero, suc, ℤ, pos, Bool, true, false, List, [], ◌∷◌, map, replicate, Option, Some, None}
 use Rattle.nest_memory.specs.TypeTree as types
 use Rattle.nest_memory.specs.TypeTree.{TypeTree, FieldTree, field, FieldTrees, no_fields, more_fields}
 use Rattle.nest_memory.specs.declared.datatypes.physical_type.PrimitiveType.{PrimitiveType}
@@ -26,6 +28,19 @@ list_type t = types.list (a_field t)
 
 abbrev pub text_dictionary : TypeTree
 text_dictionary = types.dictionary integers.Int32 types.utf8 false
+
+abbrev pub one_field : TypeTree → FieldTrees
+one_field t = more_fields (a_field t) no_fields
+
+abbrev pub extended : TypeTree → TypeTree
+extended t = types.extension (120 ∷ []) t None
+
+-- every type whose arrays have neither offsets nor children nor floats
+abbrev pub plain_types : List TypeTree
+plain_types =
+    types.null ∷ types.boolean ∷ types.int8 ∷ types.int16 ∷ types.int32 ∷ types.int64 ∷ types.uint8 ∷ types.uint16 ∷ types.uint32 ∷ types.uint64
+    ∷ types.timestamp times.Second None ∷ types.date32 ∷ types.date64 ∷ types.time32 times.Second ∷ types.time64 times.Nanosecond
+    ∷ types.duration times.Second ∷ types.interval intervals.DayTime ∷ types.decimal 38 2 ∷ types.decimal256 76 2 ∷ extended types.date64 ∷ []
 
 -- arrays
 abbrev pub ints : List ℕ → Layout
@@ -200,9 +215,6 @@ map_over t c va = layouts.map (types.map (a_field t) false) (0 ∷ 1 ∷ []) c v
 abbrev pub one_entry : Layout
 one_entry = layouts.struct (types.struct (two_fields types.utf8 types.utf8)) (both (texts (0 ∷ 1 ∷ []) (97 ∷ [])) (texts (0 ∷ 1 ∷ []) (98 ∷ []))) None
 
-abbrev pub extended : TypeTree → TypeTree
-extended t = types.extension (120 ∷ []) t None
-
 -- keys of 8 bits over the value "x"
 abbrev pub x_by : PrimitiveType → TypeTree → IntegerType → List ℤ → Validity → Layout
 x_by k t key zs va = layouts.dictionary (types.dictionary key types.utf8 false) (layouts.primitive k t (map (λ z. z ∷ []) zs) va) (texts (0 ∷ 1 ∷ []) (120 ∷ []))
@@ -217,3 +229,40 @@ short_child = layouts.union (sparse_union types.int32 types.utf8 None) (pos 0 �
 -- the union of one number under these types and offsets, of this mode and these ids
 abbrev pub one_number : UnionMode → Option (List ℤ) → List ℤ → Option (List ℤ) → Layout
 one_number mode ids ks os = layouts.union (types.union (more_fields (a_field types.int32) no_fields) ids mode) ks (more_layouts (ints (7 ∷ [])) no_layouts) os 0
+
+-- one bit of this type
+abbrev pub bits_of_type : TypeTree → Validity → Layout
+bits_of_type t va = layouts.boolean t (true ∷ []) va
+
+-- two bytes, of which the first would continue a character, as bytes and as texts by these offsets
+abbrev pub bytes_by : Bool → TypeTree → List ℕ → Validity → Layout
+bytes_by large t os va = layouts.binary large t os (169 ∷ 97 ∷ []) va
+
+abbrev pub text_by : Bool → TypeTree → List ℕ → Validity → Layout
+text_by large t os va = layouts.text large t os (169 ∷ 97 ∷ []) va
+
+-- "abc" of this type
+abbrev pub fixed_bytes : TypeTree → Validity → Layout
+fixed_bytes t va = layouts.fixed_size_binary t (97 ∷ 98 ∷ 99 ∷ []) va
+
+-- a sparse union of n fields with ids over these children
+abbrev pub union_by : ℕ → List ℤ → List ℤ → Layouts → Option (List ℤ) → Layout
+union_by n ids ks cs os = layouts.union (types.union (int_fields n) (Some ids) modes.Sparse) ks cs os 0
+
+-- the key 9 of 8 bits over these values
+abbrev pub keyed_by_bytes : TypeTree → Layout → Layout
+keyed_by_bytes t c = layouts.dictionary t (layouts.primitive primitives.Int8 types.int8 ((pos 9 ∷ []) ∷ []) None) c
+
+-- two nulls, null dates of 32 bits, no number
+abbrev pub two_nulls : Validity
+two_nulls = Some (false ∷ false ∷ [])
+
+abbrev pub null_dates : ℕ → Layout
+null_dates n = layouts.primitive primitives.Int32 types.date32 (replicate n (pos 0 ∷ [])) (Some (replicate n false))
+
+abbrev pub empty_ints : Layout
+empty_ints = ints []
+
+-- a type of which no slot can be
+abbrev pub no_slot_type : TypeTree
+no_slot_type = types.union no_fields None modes.Sparse

@@ -51,6 +51,7 @@ pub mod BuilderRowCheckLaws
 pub mod BuilderLimitLaws
 pub mod BuilderToldLaws
 pub mod BuilderTakesLaws
+pub mod BuilderKindLaws
 pub mod BuilderExamples
 pub mod BuilderFreeze
 pub mod BuilderFreezeLaws

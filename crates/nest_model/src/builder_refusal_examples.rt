@@ -12,11 +12,12 @@ ghost use Rattle.nest_model.specs.Slot.{Slot};
 ghost use Rattle.nest_model.specs.BuilderTree as builders;
 ghost use Rattle.nest_model.specs.BuilderTree.{BuilderTree, BuilderTrees, key_count};
 ghost use Rattle.nest_model.specs.BuilderItem as items;
+ghost use Rattle.nest_model.specs.BuilderSpells.{value_item};
 ghost use Rattle.nest_model.specs.BuilderAppend.{appended, all_appended};
-ghost use Rattle.nest_model.specs.BuilderRefusals.{flat_passes, item_refusal, value_refusal, plain_refusal};
+ghost use Rattle.nest_model.specs.BuilderRefusals.{flat_passes, item_refusal, value_refusal, plain_refusal, asked_item, asked_refusal};
 ghost use Rattle.nest_model.specs.BuilderReading.{whole, begun, read_refusal};
 ghost use Rattle.nest_model.specs.BuilderRowChecks.{row_checks, lengths_checks, join_checks};
-ghost use Rattle.nest_model.specs.Examples.{list_type};
+ghost use Rattle.nest_model.specs.Examples.{list_type, extended};
 ghost use Rattle.nest_model.specs.BuilderRow.{Row};
 ghost use Rattle.nest_model.specs.BuilderExamples.{pair_type, an_int, some_ints, items_of, a_text, some_bytes, no_ints, no_lists, no_pairs, no_records, no_bytes, list_of, pairs_of, records_of, in_child, three_pending, two_pending, letters, full_dictionary, numbers_by, bytes_by, over_nulls};
 
@@ -41,6 +42,30 @@ pub fn values()
     ensures shorter { item_refusal (some_bytes (1 ∷ [])) no_bytes ≡ Some (InvalidArgumentError ItemSize) }
     ensures longer { item_refusal (some_bytes (1 ∷ 2 ∷ 3 ∷ [])) no_bytes ≡ Some (InvalidArgumentError ItemSize) }
     ensures of_that_size { item_refusal (some_bytes (1 ∷ 2 ∷ [])) no_bytes ≡ None }
+{}
+
+/// Lists and records take no value, and others than lists no list; what was begun of one is refused alike.
+pub fn other_kinds()
+    ensures value_for_pairs { item_refusal (an_int 1) no_pairs ≡ Some (InvalidArgumentError ItemType) }
+    ensures value_for_a_record { item_refusal (an_int 1) (no_records no_ints) ≡ Some (InvalidArgumentError ItemType) }
+    ensures list_for_numbers { item_refusal (items_of []) no_ints ≡ Some (InvalidArgumentError ItemType) }
+    ensures list_for_keys { item_refusal (items_of []) letters ≡ Some (InvalidArgumentError ItemType) }
+    ensures list_for_a_record { item_refusal (items_of []) (no_records no_ints) ≡ Some (InvalidArgumentError ItemType) }
+    ensures begun_for_numbers { read_refusal (begun [] (whole items.null)) no_ints ≡ Some (InvalidArgumentError ItemType) }
+    ensures begun_for_keys { read_refusal (begun [] (whole items.null)) letters ≡ Some (InvalidArgumentError ItemType) }
+    ensures begun_for_a_record { read_refusal (begun [] (whole items.null)) (no_records no_ints) ≡ Some (InvalidArgumentError ItemType) }
+{}
+
+/// Where a value or none is asked for, none is null, and the kind of a value is looked at first.
+pub fn asked_values()
+    ensures none { asked_item None ≡ items.null }
+    ensures value { asked_item (Some (items.text (120 ∷ []))) ≡ a_text 120 }
+    ensures no_room { (xs : List Slot) → length xs ≡ 2 ^ 64 - 1 → asked_refusal None (builders.flat types.null xs) ≡ Some Overflow }
+    ensures room { asked_refusal None no_ints ≡ None }
+    ensures kind_first { asked_refusal (Some (items.text (120 ∷ []))) full_dictionary ≡ Some (InvalidArgumentError ItemType) }
+    ensures no_key { asked_refusal (Some (items.native primitives.Int32 (pos 128 ∷ []))) full_dictionary ≡ Some Overflow }
+    ensures given_none { value_item items.text None ≡ items.null }
+    ensures given { value_item items.text (Some (120 ∷ [])) ≡ a_text 120 }
 {}
 
 /// A dictionary with no key left refuses a new value for that, before its values refuse it, and takes a known one; where the kind is checked first,
@@ -73,6 +98,7 @@ pub fn told_rows()
     ensures untold { FailFirst (InvalidArgumentError Unfinished) (row_checks (no_records no_ints)) }
     ensures two_records { FailFirst (InvalidArgumentError Unfinished) (row_checks (in_child (all_appended (some_ints (1 ∷ 2 ∷ []))) (no_records no_ints))) }
     ensures record_of_another { FailFirst (InvalidArgumentError Unfinished) (row_checks (in_child (appended (an_int 1)) (records_of types.utf8 no_ints))) }
+    ensures row_of_numbers { FailFirst (InvalidArgumentError ItemType) (row_checks no_ints) }
     ensures no_rows { FailFirst (InvalidArgumentError ItemType) (row_checks letters) }
     ensures never_past_of_size { (t : TypeTree) (bits : List Bool) (c : BuilderTree) → FailFirst Overflow (row_checks (builders.fixed_size_list t bits c)) → ⊥ }
     ensures never_past_of_records { (t : TypeTree) (bits : List Bool) (cs : BuilderTrees) → FailFirst Overflow (row_checks (builders.struct t bits cs)) → ⊥ }
@@ -84,6 +110,10 @@ pub fn told_lengths()
     ensures fewer { FailFirst (InvalidArgumentError LengthsSum) (lengths_checks (Some 2 ∷ []) three_pending) }
     ensures after_a_row { Pass (lengths_checks (Some 2 ∷ []) two_pending) }
     ensures with_that_row { FailFirst (InvalidArgumentError LengthsSum) (lengths_checks (Some 3 ∷ []) two_pending) }
+    ensures of_numbers { FailFirst (InvalidArgumentError ItemType) (lengths_checks [] no_ints) }
+    ensures of_pairs { FailFirst (InvalidArgumentError ItemType) (lengths_checks [] no_pairs) }
+    ensures of_keys { FailFirst (InvalidArgumentError ItemType) (lengths_checks [] letters) }
+    ensures of_records { FailFirst (InvalidArgumentError ItemType) (lengths_checks [] (no_records no_ints)) }
     ensures of_another { FailFirst (InvalidArgumentError Unfinished) (lengths_checks (Some 2 ∷ []) (list_of types.utf8 (all_appended (some_ints (1 ∷ 2 ∷ 3 ∷ [])) no_ints))) }
 {}
 
@@ -92,6 +122,9 @@ pub fn joins()
     ensures same { Pass (join_checks three_pending two_pending) }
     ensures texts { Pass (join_checks (builders.flat types.large_utf8 []) (builders.flat types.large_utf8 [])) }
     ensures another { FailFirst (InvalidArgumentError ItemType) (join_checks no_ints (builders.flat types.date32 [])) }
+    ensures extension { FailFirst (InvalidArgumentError ItemType) (join_checks no_ints (builders.flat (extended types.int32) [])) }
+    ensures of_extension { FailFirst (InvalidArgumentError ItemType) (join_checks (builders.flat (extended types.int32) []) no_ints) }
+    ensures list_of_extension { FailFirst (InvalidArgumentError ItemType) (join_checks (no_lists no_ints) (no_lists (builders.flat (extended types.int32) []))) }
     ensures another_first { (xs ys : List Slot) → length xs ≡ 2 ^ 64 - 1 → length ys ≡ 1 → FailFirst (InvalidArgumentError ItemType) (join_checks (builders.flat types.null xs) (builders.flat types.boolean ys)) }
     ensures past { (xs ys : List Slot) → length xs ≡ 2 ^ 64 - 1 → length ys ≡ 1 → FailFirst Overflow (join_checks (builders.flat types.null xs) (builders.flat types.null ys)) }
     ensures longest { (xs ys : List Slot) → length xs ≡ 2 ^ 64 - 2 → length ys ≡ 1 → Pass (join_checks (builders.flat types.null xs) (builders.flat types.null ys)) }

@@ -1,15 +1,19 @@
 //! Laws of what refuses a push, a told row, lengths and a join.
 
-ghost use Rattle.std.specs.Prelude.{◌≡◌, ◌↔◌, ◌||◌, ℕ, ◌+◌, true, false, List, ◌∷◌, ◌++◌, length, Option, Some, None};
+ghost use Rattle.std.specs.Prelude.{◌≡◌, ◌↔◌, ◌⊎◌, ◌||◌, ℕ, ◌+◌, true, false, List, ◌∷◌, ◌++◌, [], length, map, Option, Some, None, alloc_error};
 ghost use Rattle.nest_memory.specs.declared.error.Error.{Error};
+ghost use Rattle.nest_memory.specs.declared.error.Error.TheVariants.{Memory};
 ghost use Rattle.nest_model.specs.Checks.{Pass, HaveOneOutcome, first_of};
 ghost use Rattle.nest_model.specs.BuilderTree.{BuilderTree};
 ghost use Rattle.nest_model.specs.BuilderWhole.{IsWhole};
+ghost use Rattle.nest_model.specs.BuilderSpells.{value_item, Gives, Begins};
+ghost use Rattle.nest_model.specs.BuilderItem as items;
 ghost use Rattle.nest_model.specs.BuilderItem.{PlainValue, Item, seal_items, Stands};
 ghost use Rattle.nest_model.specs.BuilderAppend.{appended, all_appended, nulls_appended, Accepted, IsReady};
+ghost use Rattle.nest_model.specs.BuilderExamples.{Texts, IsIterator, StepsOf};
 ghost use Rattle.nest_model.specs.BuilderJoin.{AreAlike, joined};
 ghost use Rattle.nest_model.specs.BuilderRefusals.{nulls_pass, is_known, item_refusal, items_refusal, value_refusal, plain_refusal};
-ghost use Rattle.nest_model.specs.BuilderReading.{Read, ReadOf, read_refusal};
+ghost use Rattle.nest_model.specs.BuilderReading.{Read, ReadOf, ReadsValue, read_refusal, Refused, Took, TookEach, TookAll, RefusedSome, ReadsList, whole};
 ghost use Rattle.nest_model.specs.BuilderRowChecks.{HasWholeChildren, AreReady, FitsLimits, row_checks, lengths_checks, join_checks, over_limits};
 
 /// What nothing refuses is appended rightly, to a builder of any nesting.
@@ -49,6 +53,21 @@ pub fn refused_in_order()
 /// What refuses the beginning of an item that was read refuses the item.
 pub fn refused_while_reading()
     ensures { (r : Read) (x : Item) (t : BuilderTree) (e : Error) → ReadOf r x → read_refusal r t ≡ Some e → item_refusal x t ≡ Some e }
+{}
+
+/// A text that is refused though nothing refuses it found no memory; one that was taken is appended, and nothing refuses it.
+pub fn texts_read()
+    ensures refused { (given : Option (List ℕ)) (t : BuilderTree) (e : Error) → item_refusal (value_item items.text given) t ≡ None → Refused (ReadsValue items.text) given t e → e ≡ Memory alloc_error }
+    ensures cause { (given : Option (List ℕ)) (t : BuilderTree) (e f : Error) → item_refusal (value_item items.text given) t ≡ Some f → Refused (ReadsValue items.text) given t e → (e ≡ f) ⊎ (e ≡ Memory alloc_error) }
+    ensures several { (given : List (Option (List ℕ))) (old new : BuilderTree) → TookEach (ReadsValue items.text) given old new
+        → (new ≡ all_appended (map (value_item items.text) given) old) × (items_refusal (seal_items (map (value_item items.text) given)) old ≡ None) }
+    ensures all { (u : Texts) (old new : BuilderTree) → TookAll IsIterator StepsOf (ReadsValue items.text) u old new
+        → (given : Texts) × Gives IsIterator StepsOf u given × TookEach (ReadsValue items.text) given old new }
+    ensures refused_some { (u : Texts) (old : BuilderTree) (e : Error) → RefusedSome IsIterator StepsOf (ReadsValue items.text) u old e
+        → (e ≡ Memory alloc_error) ⊎ ((front : Texts) × (next : Option (List ℕ)) × Begins IsIterator StepsOf u (front ++ next ∷ [])
+        × (items_refusal (seal_items (map (value_item items.text) (front ++ next ∷ []))) old ≡ Some e)) }
+    ensures no_list { (r : Read) → ReadsList IsIterator StepsOf (ReadsValue items.text) None r → r ≡ whole items.null }
+    ensures taken { (given : Option (List ℕ)) (old new : BuilderTree) → Took (ReadsValue items.text) given old new → (new ≡ appended (value_item items.text given) old) × (item_refusal (value_item items.text given) old ≡ None) }
 {}
 
 /// One thing comes of the checks of a told row, of rows told by their lengths, and of a join: every check passes, or one alone is the first that fails.

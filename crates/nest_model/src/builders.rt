@@ -1,16 +1,19 @@
 //! Laws of builders.
 
-ghost use Rattle.std.specs.Prelude.{◌≡◌, ℕ, ◌+◌, ◌≤◌, ℤ, Bool, true, List, [], ◌∷◌, ◌++◌, length, map, replicate, Option, Some};
+ghost use Rattle.std.specs.Prelude.{◌≡◌, ◌↔◌, ◌⊎◌, ℕ, ◌+◌, ◌≤◌, ℤ, Bool, true, false, List, [], ◌∷◌, ◌++◌, length, map, replicate, Option, Some};
 ghost use Rattle.nest_memory.specs.TypeTree.{TypeTree, size_of};
 ghost use Rattle.nest_memory.specs.declared.datatypes.IntegerType.{IntegerType};
+ghost use Rattle.nest_memory.specs.declared.datatypes.physical_type.PhysicalType.TheVariants as physical;
 ghost use Rattle.nest_memory.specs.declared.datatypes.physical_type.PrimitiveType.{PrimitiveType};
+ghost use Rattle.nest_memory.specs.Physical.{physical_type};
+ghost use Rattle.nest_model.specs.Slot.{Slot};
 ghost use Rattle.nest_model.specs.BuilderRow.{Row, end_from};
 ghost use Rattle.nest_model.specs.BuilderTree as builders;
 ghost use Rattle.nest_model.specs.BuilderTree.{BuilderTree, BuilderTrees, builder_len, builder_type};
 ghost use Rattle.nest_model.specs.BuilderLevels.{own_slots, levels, levels_below, rows_needed, cut_levels};
 ghost use Rattle.nest_model.specs.BuilderWhole.{IsWhole, cut_builder, emptied, ValuesDiffer};
 ghost use Rattle.nest_model.specs.BuilderItem as items;
-ghost use Rattle.nest_model.specs.BuilderItem.{PlainValue, Item, native_number, takes, Stands, Lacks, place_of};
+ghost use Rattle.nest_model.specs.BuilderItem.{PlainValue, Item, takes, Stands, Lacks, place_of};
 ghost use Rattle.nest_model.specs.BuilderAppend.{told, told_lengths, items_told, appended, nulls_appended, all_appended, Accepted, AcceptedAll, IsReady, Told, ToldLengths};
 ghost use Rattle.nest_model.specs.BuilderJoin.{AreAlike, joined, Joined};
 
@@ -107,7 +110,24 @@ pub fn values_below()
 pub fn kinds_taken()
     ensures appended { (x : Item) (t : BuilderTree) (v : PlainValue) → takes (appended x t) v ≡ takes t v }
     ensures cut { (t : BuilderTree) (n : ℕ) (v : PlainValue) → takes (cut_builder t n) v ≡ takes t v }
-    ensures one_kind { (t : BuilderTree) (p q : PrimitiveType) (zs ws : List ℤ) → takes t (items.native p zs) ≡ true → takes t (items.native q ws) ≡ true → native_number p ≡ native_number q }
+    ensures one_kind { (t : BuilderTree) (p q : PrimitiveType) (zs ws : List ℤ) → takes t (items.native p zs) ≡ true → takes t (items.native q ws) ≡ true → p ≡ q }
+{}
+
+/// A flat builder takes the values that its arrays hold, and no others: of each physical type.
+pub fn flat_kinds_taken()
+    ensures truths { (t : TypeTree) (xs : List Slot) (b : Bool) → takes (builders.flat t xs) (items.truth b) ≡ true ↔ physical_type t ≡ physical.Boolean }
+    ensures natives { (t : TypeTree) (xs : List Slot) (p : PrimitiveType) (zs : List ℤ) → takes (builders.flat t xs) (items.native p zs) ≡ true ↔ physical_type t ≡ physical.Primitive p }
+    ensures texts { (t : TypeTree) (xs : List Slot) (bs : List ℕ) → takes (builders.flat t xs) (items.text bs) ≡ true ↔ (physical_type t ≡ physical.Utf8) ⊎ (physical_type t ≡ physical.LargeUtf8) }
+    ensures bytes { (t : TypeTree) (xs : List Slot) (bs : List ℕ) → takes (builders.flat t xs) (items.bytes bs) ≡ true
+        ↔ (physical_type t ≡ physical.Binary) ⊎ (physical_type t ≡ physical.LargeBinary) ⊎ (physical_type t ≡ physical.FixedSizeBinary) }
+{}
+
+/// A dictionary takes what its values take; lists and records take no value.
+pub fn nested_kinds_taken()
+    ensures dictionary { (k : IntegerType) (t : TypeTree) (keys : List (Option ℕ)) (c : BuilderTree) (v : PlainValue) → takes (builders.dictionary k t keys c) v ≡ takes c v }
+    ensures list { (large : Bool) (t : TypeTree) (rows : List Row) (c : BuilderTree) (v : PlainValue) → takes (builders.list large t rows c) v ≡ false }
+    ensures fixed_size_list { (t : TypeTree) (bits : List Bool) (c : BuilderTree) (v : PlainValue) → takes (builders.fixed_size_list t bits c) v ≡ false }
+    ensures record { (t : TypeTree) (bits : List Bool) (cs : BuilderTrees) (v : PlainValue) → takes (builders.struct t bits cs) v ≡ false }
 {}
 
 /// The rows of two whole builders of the same kinds are joined level by level.

@@ -1,6 +1,6 @@
 //! Worked examples: the slots that arrays stand for.
 
-ghost use Rattle.std.specs.Prelude.{◌≡◌, ◌≢◌, ◌-◌, ◌^◌, pos, negsuc, true, false, map, [], ◌∷◌, Some, None};
+ghost use Rattle.std.specs.Prelude.{◌≡◌, ◌≢◌, ◌-◌, ◌^◌, pos, negsuc, true, false, map, replicate, [], ◌∷◌, Some, None};
 ghost use Rattle.nest_memory.specs.declared.datatypes.UnionMode.TheVariants as modes;
 ghost use Rattle.nest_memory.specs.declared.datatypes.physical_type.PrimitiveType.TheVariants as primitives;
 ghost use Rattle.nest_memory.specs.TypeTree as types;
@@ -11,11 +11,11 @@ ghost use Rattle.nest_model.specs.Accessors.{with_validity};
 ghost use Rattle.nest_model.specs.Meaning.{len, slot, slots_of};
 ghost use Rattle.nest_model.specs.Cut.{cut_layout};
 ghost use Rattle.nest_model.specs.Part.{field_named};
-ghost use Rattle.nest_model.specs.Nullness.{is_null_at, null_count};
+ghost use Rattle.nest_model.specs.Nullness.{is_null_at, null_count, has_keys};
 ghost use Rattle.nest_model.specs.SameArray.{IsSameArray};
 ghost use Rattle.nest_model.specs.Chosen.{chosen, mask_places};
 ghost use Rattle.nest_model.specs.Fits.{Fits};
-ghost use Rattle.nest_model.specs.Examples.{ints, texts, dictionaries, number, list_slot, record_slot, numbers, small_lists, deep_lists, small_map, structs, with_ids, eleven_types, in_turn, seven_of, one_row, first_twice, keys_of_keys, one_number, dense_of, one_id, null_text, null_over_items, null_over_nothing, five_by, pairs, two_bytes, greetings, accented, map_over, one_entry, short_keys};
+ghost use Rattle.nest_model.specs.Examples.{ints, truths, texts, dictionaries, number, list_slot, record_slot, numbers, small_lists, deep_lists, small_map, structs, with_ids, eleven_types, in_turn, seven_of, one_row, first_twice, keys_of_keys, one_number, dense_of, one_id, null_text, null_over_items, null_over_nothing, five_by, pairs, two_bytes, greetings, accented, map_over, one_entry, short_keys};
 
 /// A list whose second row is empty, and ranges of its child by offsets that begin later or end earlier.
 pub fn lists_of_numbers()
@@ -135,6 +135,12 @@ pub fn nulls_counted()
     ensures of_null { null_count (layouts.null types.null 3) ≡ 3 }
     ensures of_struct { null_count (structs 19) ≡ 1 }
     ensures of_union { null_count in_turn ≡ 0 }
+{}
+
+/// Dictionaries alone have keys, by which a slot can be null at a place that isn't.
+pub fn arrays_with_keys()
+    ensures dictionary { has_keys (dictionaries (0 ∷ []) None null_text) ≡ true }
+    ensures others { map has_keys (layouts.null types.null 1 ∷ structs 19 ∷ small_lists ∷ small_map ∷ in_turn ∷ two_bytes ∷ null_text ∷ ints [] ∷ truths [] ∷ pairs 2 None ∷ greetings (0 ∷ []) None ∷ []) ≡ replicate 11 false }
 {}
 
 /// Chosen rows, some of them twice; a mask's null chooses nothing.

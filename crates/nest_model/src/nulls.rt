@@ -1,13 +1,19 @@
 //! Laws of null and empty arrays.
 
-ghost use Rattle.std.specs.Prelude.{◌≡◌, ℕ, [], None};
+ghost use Rattle.std.specs.Prelude.{◌≡◌, ℕ, [], Option, Some, None, alloc_error};
 ghost use Rattle.nest_memory.specs.TypeTree.{TypeTree};
+ghost use Rattle.nest_memory.specs.Physical.{physical_type};
+ghost use Rattle.nest_memory.specs.declared.datatypes.physical_type.PhysicalType.{PhysicalType};
+ghost use Rattle.nest_memory.specs.declared.error.Error.{Error};
+ghost use Rattle.nest_memory.specs.declared.error.Error.TheVariants.{OutOfSpec, Memory};
+ghost use Rattle.nest_memory.specs.declared.error.Spec.TheVariants as spec;
 ghost use Rattle.nest_model.specs.Layout.{layout_type};
 ghost use Rattle.nest_model.specs.Meaning.{len, slots_of};
 ghost use Rattle.nest_model.specs.Fits.{Fits};
 ghost use Rattle.nest_model.specs.Array.{IsArray};
 ghost use Rattle.nest_model.specs.Nulls.{null_slots, type_fault, empty_fault};
 ghost use Rattle.nest_model.specs.NullLayout.{null_layout, empty_layout};
+ghost use Rattle.nest_model.specs.MadeNulls.{RefusesType, AcceptsKind, RefusesKind};
 
 /// Where the data type and the length are not refused there is an array of that many null slots.
 pub fn null_arrays()
@@ -16,6 +22,16 @@ pub fn null_arrays()
     ensures slots { (t : TypeTree) (n : ℕ) → type_fault t n ≡ None → slots_of (null_layout t n) ≡ null_slots t n }
     ensures fits { (t : TypeTree) (n : ℕ) → type_fault t n ≡ None → Fits (null_layout t n) }
     ensures array { (t : TypeTree) (n : ℕ) → type_fault t n ≡ None → IsArray (null_layout t n) }
+{}
+
+/// A data type is refused by its fault, and by want of memory only where it has none; of another kind, by that.
+pub fn refused_types()
+    ensures fault { (e f : Error) → RefusesType e (Some f) → e ≡ f }
+    ensures memory { (e : Error) → RefusesType e None → e ≡ Memory alloc_error }
+    ensures accepted_kind { (p : PhysicalType) (t : TypeTree) (f : Error) → ¬ AcceptsKind p t (Some f) }
+    ensures accepted_alone { (p q : PhysicalType) (t : TypeTree) → AcceptsKind p t None → AcceptsKind q t None → p ≡ q }
+    ensures own_kind { (e : Error) (t : TypeTree) (fault : Option Error) → RefusesKind e (physical_type t) t fault → RefusesType e fault }
+    ensures other_kind { (e : Error) (p : PhysicalType) (t : TypeTree) (fault : Option Error) → ¬ (physical_type t ≡ p) → RefusesKind e p t fault → e ≡ OutOfSpec spec.WrongType }
 {}
 
 /// Where the data type is not refused there is an array of no slots.

@@ -41,6 +41,7 @@ pub fn texts_refused()
 /// Sizes: none is 0, and the items are a multiple of it.
 pub fn sizes_refused()
     ensures zero { FirstFault (OutOfSpec spec.ZeroSize) (pairs 0 None) }
+    ensures of_one { Fits (pairs 1 None) }
     ensures no_multiple { FirstFault (OutOfSpec spec.NotMultiple) (pairs 4 None) }
     ensures type_first { FirstFault (OutOfSpec spec.WrongType) (layouts.fixed_size_list types.utf8 six (Some [])) }
     ensures then_size { FirstFault (OutOfSpec spec.ZeroSize) (layouts.fixed_size_list (types.fixed_size_list (a_field types.utf8) 0) six (Some [])) }

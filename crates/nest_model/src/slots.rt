@@ -1,7 +1,8 @@
 //! Laws of slots.
 
-ghost use Rattle.std.specs.Prelude.{◌≡◌, ◌+◌, ◌≤◌, List, ◌++◌, length};
+ghost use Rattle.std.specs.Prelude.{◌≡◌, ℕ, ◌+◌, ◌≤◌, ℤ, Bool, List, ◌++◌, length};
 ghost use Rattle.std.specs.Bool.{Decides};
+ghost use Rattle.nest_memory.specs.TypeTree.{TypeTree};
 ghost use Rattle.nest_model.specs.Slot as slots;
 ghost use Rattle.nest_model.specs.Slot.{Slot, Slots, seal, unseal, node_count, node_counts};
 ghost use Rattle.nest_model.specs.SlotCode.{same_slot, same_slots};
@@ -20,10 +21,17 @@ pub fn slot_tests()
     ensures list { (ss rs : List Slot) → Decides (same_slots ss rs) (ss ≡ rs) }
 {}
 
-/// A list is worth one node more than its items are; joined lists are worth what they are worth together.
+/// A slot without parts is worth one node; a list, a record and a pick are worth one more than what they hold; joined lists are worth what they are
+/// worth together.
 pub fn nodes()
     ensures of_list { (ss : List Slot) → node_count (slots.list (seal ss)) ≡ 1 + node_counts ss }
     ensures of_record { (ss : List Slot) → node_count (slots.record_of (seal ss)) ≡ 1 + node_counts ss }
+    ensures of_null { node_count slots.null ≡ 1 }
+    ensures of_truth { (b : Bool) → node_count (slots.truth b) ≡ 1 }
+    ensures of_number { (zs : List ℤ) → node_count (slots.number zs) ≡ 1 }
+    ensures of_text { (t : List ℕ) → node_count (slots.text t) ≡ 1 }
+    ensures of_bytes { (b : List ℕ) → node_count (slots.bytes b) ≡ 1 }
+    ensures of_pick { (f : ℕ) (t : TypeTree) (s : Slot) → node_count (slots.pick f t s) ≡ 1 + node_count s }
     ensures joined { (ss rs : List Slot) → node_counts (ss ++ rs) ≡ node_counts ss + node_counts rs }
     ensures at_least { (ss : List Slot) → length ss ≤ node_counts ss }
 {}

@@ -1,14 +1,17 @@
 //! Laws of validities: a new one, which places are null, how many.
 
-ghost use Rattle.std.specs.Prelude.{◌≡◌, ℕ, ◌<◌, Bool, true, false, not, List, length, Some, None};
+ghost use Rattle.std.specs.Prelude.{◌≡◌, ℕ, ◌+◌, ◌≤◌, ◌<◌, Bool, true, false, not, List, length, Some, None};
 ghost use Rattle.std.specs.List.{count_by};
+ghost use Rattle.nest_memory.specs.Cut.{cut};
+ghost use Rattle.nest_memory.specs.declared.error.Error.{Error};
+ghost use Rattle.nest_model.specs.CutOf.{IsCut, HasValidity, RefusesValidity};
 ghost use Rattle.nest_model.specs.Part.{Validity, valid_at};
 ghost use Rattle.nest_model.specs.Slot as slots;
 ghost use Rattle.nest_model.specs.Layout.{Layout, layout_type};
 ghost use Rattle.nest_model.specs.Accessors.{validity_of, with_validity};
-ghost use Rattle.nest_model.specs.Meaning.{len, slot};
+ghost use Rattle.nest_model.specs.Meaning.{len, slot, slots_of};
 ghost use Rattle.nest_model.specs.Checks.{Pass};
-ghost use Rattle.nest_model.specs.Fits.{validity_checks};
+ghost use Rattle.nest_model.specs.Fits.{validity_checks, ValidityFault};
 ghost use Rattle.nest_model.specs.Array.{PartsHold, TopFits, IsArray};
 ghost use Rattle.nest_model.specs.Nullness.{is_null_at, null_count, has_keys};
 
@@ -19,6 +22,17 @@ pub fn new_validity()
     ensures validity { (a : Layout) (va : Validity) → PartsHold a → Pass (validity_checks a va) → validity_of (with_validity a va) ≡ va }
     ensures fits { (a : Layout) (va : Validity) → TopFits a → Pass (validity_checks a va) → TopFits (with_validity a va) }
     ensures array { (a : Layout) (va : Validity) → IsArray a → Pass (validity_checks a va) → IsArray (with_validity a va) }
+{}
+
+/// What a call says of a cut and of a new validity: the slots and their number, a bit for each of them, and nothing changed where it is refused.
+pub fn told_of_arrays()
+    ensures cut_length { (a b : Layout) (o n : ℕ) → IsCut a o n b → o + n ≤ len a → len b ≡ n }
+    ensures cut_slots { (a b : Layout) (o n : ℕ) → IsCut a o n b → slots_of b ≡ cut (slots_of a) o n }
+    ensures cut_type { (a b : Layout) (o n : ℕ) → IsCut a o n b → layout_type b ≡ layout_type a }
+    ensures bits { (a b : Layout) (bits : List Bool) → HasValidity a (Some bits) b → length bits ≡ len b }
+    ensures under_it { (a b : Layout) (va : Validity) → HasValidity a va b → b ≡ with_validity a va }
+    ensures unchanged { (e : Error) (a b : Layout) (va : Validity) → RefusesValidity e a va b → b ≡ a }
+    ensures cause { (e : Error) (a b : Layout) (va : Validity) → RefusesValidity e a va b → ValidityFault e a va }
 {}
 
 /// Under it a slot is Null where it says so, and stays where it and the old one say valid.

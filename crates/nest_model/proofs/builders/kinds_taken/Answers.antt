@@ -1,4 +1,5 @@
-use Rattle.nest_model.specs.BuilderTakesLaws.{takes-appended, takes-cut, takes-one_kind}
+use Rattle.nest_model.specs.BuilderTakesLaws.{takes-appended, takes-cut}
+use Rattle.nest_model.specs.BuilderKindLaws.{takes-one}
 use Rattle.nest_model.proofs.builders.kinds_taken.Goals as goal
 
 pub returns-clause-appended : goal.returns-clause-appended
@@ -8,4 +9,4 @@ pub returns-clause-cut : goal.returns-clause-cut
 returns-clause-cut c = takes-cut
 
 pub returns-clause-one_kind : goal.returns-clause-one_kind
-returns-clause-one_kind c = takes-one_kind
+returns-clause-one_kind c = takes-one
