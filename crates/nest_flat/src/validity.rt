@@ -1,5 +1,7 @@
 //! Validities, which may be absent: a bit a slot, 1 where the slot is valid.
-ghost use Rattle.std.specs.Prelude.{◌≡◌, ◌+◌, ◌≤◌, ◌<◌, ◌↔◌, IsTrue, IfOk, IsOkUnless, MatchOption, alloc_error};
+ghost use Rattle.std.specs.Prelude.{◌≡◌, ◌+◌, ◌≤◌, ◌<◌, ◌↔◌, IsTrue, IfOk, IsOkUnless, MatchOption, MatchResult, alloc_error};
+ghost use Rattle.nest_memory.specs.declared.error.Error.TheVariants.{OutOfSpec};
+ghost use Rattle.nest_memory.specs.declared.error.Spec.TheVariants.{ValidityLength};
 ghost use Rattle.nest_flat.specs.Words.{FailFirst, Memory, Pass, ValidityCovers, ValidityFits, cut_validity, flat_checks, none_valid, type_of, unset_count, valid_at};
 
 use nest_memory::bitmap::immutable::Bitmap;
@@ -16,6 +18,19 @@ pub fn fits(validity: &Option<Bitmap>, n: usize) -> bool
         None => true,
         Some(bits) => bits.len() == n,
     }
+}
+
+/// Takes another validity. `ValidityLength` where it has not a bit for each of n slots; the old one stays then.
+pub fn replace(validity: &mut Option<Bitmap>, other: Option<Bitmap>, n: usize) -> Result<(), Error>
+    ensures { MatchResult result
+        (λ _. ValidityFits other n × (validity.new ≡ other))
+        (λ e. (e ≡ OutOfSpec ValidityLength) × (ValidityFits other n → ⊥) × (validity.new ≡ validity.old)) }
+{
+    if !fits(&other, n) {
+        return Err(Error::OutOfSpec(Spec::ValidityLength));
+    }
+    *validity = other;
+    Ok(())
 }
 
 /// Keeps the bits of the n slots from place o.

@@ -243,15 +243,15 @@ dictionary::DictionaryArray::nulls-of-requires t c =
     let a = type_of c.args.data_type.now in
     let u = type_of c.value_type.result.now in
     (top-fits a c.args.length c.args.values _ c.requires.valid c.requires.unrefused
-    ((λ i. layouts.dictionary (c.in-Ok.ensures.ok i) (c.in_ok-keys.ensures.ok i) (c.in_ok-named.ensures.ok i))
+    ((λ i. layouts.dictionary (c.in-Ok-clone.ensures.ok i) (c.in_ok-keys.ensures.ok i) (c.in-Ok.ensures.ok i))
     ∙ sym (dictionary-parts a u c.in-Some.key c.args.length c.args.values (sym c.key_type.ensures ∙ c.in-Some.is) c.value_type.ensures))).1
 
-pub dictionary::DictionaryArray::nulls-returns-in-Ok-clause-ok : goal.dictionary::DictionaryArray::nulls-returns-in-Ok-clause-ok
-dictionary::DictionaryArray::nulls-returns-in-Ok-clause-ok t c =
+pub dictionary::DictionaryArray::nulls-returns-in-Ok-clone-clause-ok : goal.dictionary::DictionaryArray::nulls-returns-in-Ok-clone-clause-ok
+dictionary::DictionaryArray::nulls-returns-in-Ok-clone-clause-ok t c =
     let a = type_of c.args.data_type.now in
     let u = type_of c.value_type.result.now in
     IfOk-weaker c.of.result _ _
     (λ made h.
-    h ∙ (λ i. layouts.dictionary (c.in-Ok.ensures.ok i) (c.in_ok-keys.ensures.ok i) (c.in_ok-named.ensures.ok i))
+    h ∙ (λ i. layouts.dictionary (c.in-Ok-clone.ensures.ok i) (c.in_ok-keys.ensures.ok i) (c.in-Ok.ensures.ok i))
     ∙ sym (dictionary-parts a u c.in-Some.key c.args.length c.args.values (sym c.key_type.ensures ∙ c.in-Some.is) c.value_type.ensures))
     c.of.ensures.ok

@@ -116,7 +116,13 @@ impl DictionaryArray {
             unreachable!()
         };
         let keys = AnyKeys::nulls(alloc, key, length, values)?;
-        let named = null_array(alloc, value_type(data_type), values, values)?;
+        let named = match null_array(alloc, value_type(data_type), values, values) {
+            Ok(named) => named,
+            Err(error) => {
+                drop(keys);
+                return Err(error);
+            }
+        };
         match data_type.clone(alloc) {
             Ok(data_type) => DictionaryArray::of(alloc, data_type, keys, named),
             Err(error) => {

@@ -67,6 +67,9 @@ impl FixedSizeBinaryArray {
             MatchResult result (λ a. Fits parts × (a ≡ parts)) (λ e. FirstFault e parts) }
     {
         if let Some(error) = fault(&data_type, &values, &validity) {
+            drop(validity);
+            drop(values);
+            drop(data_type);
             return Err(error);
         }
         Ok(FixedSizeBinaryArray::new(data_type, values, validity))
@@ -208,11 +211,8 @@ impl FixedSizeBinaryArray {
             (λ _. HasValidity self.old validity self.new)
             (λ e. RefusesValidity e self.old validity self.new) }
     {
-        if !validity::fits(&validity, self.len()) {
-            return Err(Error::OutOfSpec(Spec::ValidityLength));
-        }
-        self.validity = validity;
-        Ok(())
+        let count = self.len();
+        validity::replace(&mut self.validity, validity, count)
     }
 
     /// The array under a new validity, or as it was beside the refusal.

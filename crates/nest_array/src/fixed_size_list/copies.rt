@@ -8,7 +8,7 @@ use crate::fixed_size_list::FixedSizeListArray;
 use nest_flat::validity;
 use nest_memory::bitmap::immutable::Bitmap;
 use nest_memory::datatypes::DataType;
-use nest_memory::error::{Error, Spec};
+use nest_memory::error::Error;
 use std::alloc::Global;
 use std::rc::Rc;
 
@@ -20,11 +20,8 @@ impl FixedSizeListArray {
             (λ _. HasValidity self.old validity self.new)
             (λ e. RefusesValidity e self.old validity self.new) }
     {
-        if !validity::fits(&validity, self.len()) {
-            return Err(Error::OutOfSpec(Spec::ValidityLength));
-        }
-        self.validity = validity;
-        Ok(())
+        let count = self.len();
+        validity::replace(&mut self.validity, validity, count)
     }
 
     /// The array under a new validity, or as it was beside the refusal.

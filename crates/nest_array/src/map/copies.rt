@@ -6,7 +6,7 @@ use crate::any::AnyArray;
 use crate::map::MapArray;
 use nest_flat::validity;
 use nest_memory::bitmap::immutable::Bitmap;
-use nest_memory::error::{Error, Spec};
+use nest_memory::error::Error;
 use std::alloc::Global;
 use std::rc::Rc;
 
@@ -18,11 +18,8 @@ impl MapArray {
             (λ _. HasValidity self.old validity self.new)
             (λ e. RefusesValidity e self.old validity self.new) }
     {
-        if !validity::fits(&validity, self.len()) {
-            return Err(Error::OutOfSpec(Spec::ValidityLength));
-        }
-        self.ranges.validity = validity;
-        Ok(())
+        let count = self.len();
+        validity::replace(&mut self.ranges.validity, validity, count)
     }
 
     /// The array under a new validity, or as it was beside the refusal.

@@ -86,6 +86,10 @@ impl<O: Offset> BinaryArray<O> {
             MatchResult result (λ a. Fits parts × (a ≡ parts)) (λ e. FirstFault e parts) }
     {
         if let Some(e) = fault(&data_type, &offsets, &values, &validity) {
+            drop(validity);
+            drop(values);
+            drop(offsets);
+            drop(data_type);
             return Err(e);
         }
         Ok(BinaryArray {
@@ -226,11 +230,8 @@ impl<O: Offset> BinaryArray<O> {
             (λ _. HasValidity self.old validity self.new)
             (λ e. RefusesValidity e self.old validity self.new) }
     {
-        if !validity::fits(&validity, self.len()) {
-            return Err(Error::OutOfSpec(Spec::ValidityLength));
-        }
-        self.validity = validity;
-        Ok(())
+        let count = self.len();
+        validity::replace(&mut self.validity, validity, count)
     }
 
     /// The array under a new validity, or as it was beside the refusal.

@@ -12,7 +12,7 @@ use crate::validity;
 use nest_memory::bitmap::immutable::Bitmap;
 use nest_memory::datatypes::DataType;
 use nest_memory::datatypes::physical_type::PhysicalType;
-use nest_memory::error::{Error, Spec};
+use nest_memory::error::Error;
 use std::alloc::Global;
 use std::marker::Model;
 
@@ -58,6 +58,9 @@ impl BooleanArray {
             &data_type,
             PhysicalType::Boolean,
         ) {
+            drop(validity);
+            drop(values);
+            drop(data_type);
             return Err(e);
         }
         Ok(BooleanArray {
@@ -189,11 +192,8 @@ impl BooleanArray {
             (λ _. HasValidity self.old validity self.new)
             (λ e. RefusesValidity e self.old validity self.new) }
     {
-        if !validity::fits(&validity, self.len()) {
-            return Err(Error::OutOfSpec(Spec::ValidityLength));
-        }
-        self.validity = validity;
-        Ok(())
+        let count = self.len();
+        validity::replace(&mut self.validity, validity, count)
     }
 
     /// The array under a new validity, or as it was beside the refusal.

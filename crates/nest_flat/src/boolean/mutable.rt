@@ -268,8 +268,8 @@ impl MutableBooleanArray {
     {
         let values = self.values.freeze();
         let validity = validity::freeze(&mut self.validity);
-        let data_type = self.data_type.clone(self.alloc);
-        BooleanArray::try_new(data_type?, values?, validity?)
+        let (values, validity) = (values?, validity?);
+        BooleanArray::try_new(self.data_type.clone(self.alloc)?, values, validity)
     }
 }
 

@@ -13,7 +13,7 @@ use nest_memory::bitmap::immutable::Bitmap;
 use nest_memory::buffer::Buffer;
 use nest_memory::datatypes::DataType;
 use nest_memory::datatypes::physical_type::PhysicalType;
-use nest_memory::error::{Error, Spec};
+use nest_memory::error::Error;
 use nest_memory::types::NativeType;
 use std::alloc::Global;
 use std::marker::Model;
@@ -57,6 +57,9 @@ impl<T: NativeType> PrimitiveArray<T> {
     {
         let physical = PhysicalType::Primitive(T::PRIMITIVE);
         if let Some(e) = validity::fault(&validity, values.len(), &data_type, physical) {
+            drop(validity);
+            drop(values);
+            drop(data_type);
             return Err(e);
         }
         Ok(PrimitiveArray {
@@ -188,11 +191,8 @@ impl<T: NativeType> PrimitiveArray<T> {
             (λ _. HasValidity self.old validity self.new)
             (λ e. RefusesValidity e self.old validity self.new) }
     {
-        if !validity::fits(&validity, self.len()) {
-            return Err(Error::OutOfSpec(Spec::ValidityLength));
-        }
-        self.validity = validity;
-        Ok(())
+        let count = self.len();
+        validity::replace(&mut self.validity, validity, count)
     }
 
     /// The array under a new validity, or as it was beside the refusal.

@@ -238,9 +238,9 @@ impl<T: NativeType> MutablePrimitiveArray<T> {
     {
         let alloc = *self.values.allocator();
         let values = mem::replace(&mut self.values, Vec::new(alloc));
-        let validity = validity::freeze(&mut self.validity);
-        let data_type = self.data_type.clone(alloc);
-        PrimitiveArray::try_new(data_type?, Buffer::from_vec(alloc, values)?, validity?)
+        let validity = validity::freeze(&mut self.validity)?;
+        let values = Buffer::from_vec(alloc, values)?;
+        PrimitiveArray::try_new(self.data_type.clone(alloc)?, values, validity)
     }
 }
 
