@@ -5,5 +5,6 @@ pub mod Extending
 pub mod Grown
 pub mod Refusing
 pub mod RawValues
+pub mod Slices
 pub mod SlotRuns
 pub mod TextParts

@@ -11,4 +11,5 @@ pub mod NullSlots
 pub mod Plain
 pub mod SameFlat
 pub mod SameRuns
+pub mod Slices
 pub mod Words

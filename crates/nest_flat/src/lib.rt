@@ -12,6 +12,7 @@ mod equality;
 pub mod flat_array;
 pub mod growth;
 pub mod iterator;
+mod makers;
 pub mod plain;
 pub mod primitive;
 mod spans;

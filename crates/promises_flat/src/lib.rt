@@ -3,6 +3,8 @@
 //! Cuts, lengths, nulls and new validities are promised of every array at once, in `promises_arrays`.
 #![tactic(auto)]
 
+pub mod made;
+
 ghost use Rattle.std.specs.Prelude.{◌≡◌, ◌<◌, MatchResult, Some, length, slice_get, map};
 ghost use Rattle.std.specs.Iterator.{YieldsFirstBy, YieldsLastBy};
 ghost use Rattle.nest_model.specs.Layout as layouts;
