@@ -3,7 +3,9 @@
 
 pub mod any;
 pub mod array;
+pub mod boxed;
 pub mod dictionary;
+mod downcasts;
 pub mod equal;
 pub mod fixed_size_binary;
 pub mod fixed_size_list;
@@ -21,6 +23,7 @@ pub mod window;
 
 pub use any::{AnyArray, clone};
 pub use array::Array;
+pub use boxed::Boxed;
 pub use dictionary::DictionaryArray;
 pub use dictionary::keys::{AnyKeys, DictionaryKey};
 pub use fixed_size_binary::FixedSizeBinaryArray;

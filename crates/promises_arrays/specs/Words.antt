@@ -1,4 +1,5 @@
 -- The words of this crate's contracts, by one name.
+pub use Rattle.nest_array.specs.Kinds.{IsKeyed, IsPrimitive}
 pub use Rattle.nest_array.specs.Keys.{keyed_by}
 pub use Rattle.nest_array.specs.Refusals.{RefusesOrMemory}
 pub use Rattle.nest_array.specs.ScalarParts.{IsPickOf, scalar_parts}
@@ -7,6 +8,7 @@ pub use Rattle.nest_array.specs.SeenKeys.{keys_layout}
 pub use Rattle.nest_array.specs.SeenScalar.{slot_of_value}
 pub use Rattle.nest_array.specs.Types.{default_dictionary_type}
 pub use Rattle.nest_array.specs.WindowParts.{window_parts, window_slots}
+pub use Rattle.nest_flat.specs.AnyPrimitive.{primitive_layout}
 pub use Rattle.nest_flat.specs.FlatParts.{optional}
 pub use Rattle.nest_memory.specs.Cut.{cut}
 pub use Rattle.nest_memory.specs.Physical.{physical_type}

@@ -6,6 +6,8 @@
 //! alone, its constructor and its values, follows kind by kind.
 #![tactic(auto)]
 
+pub mod downcasts;
+
 ghost use Rattle.std.specs.Prelude.{◌≡◌, ◌+◌, ◌*◌, ◌≤◌, ◌<◌, ◌^◌, ◌↔◌, ◌⊎◌, false, true, Some, IsTrue, IfOk, IfErr, IsErrOf, IsOkUnless, MatchOption, MatchResult, get_or, length, map, not, pos, alloc_error};
 ghost use Rattle.nest_memory.specs.declared.datatypes.physical_type.PhysicalType.TheVariants as physical;
 ghost use Rattle.nest_model.specs.Layout as layouts;
