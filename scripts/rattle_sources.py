@@ -2,8 +2,8 @@
 import os
 import re
 
-LIBRARIES = ["nest_memory", "nest_flat", "nest_array", "nest_scan", "nest_take", "nest_build", "nest_any", "listcut"]
-RUNNERS = ["guide", "listcut"]  # and each crate of tests
+LIBRARIES = ["nest_memory", "nest_flat", "nest_array", "nest_scan", "nest_take", "nest_build", "nest_any", "listcut_rows"]
+RUNNERS = ["guide"]  # and each crate of tests
 # What words of contracts say of refusals without their names.
 SPOKEN = {
     "AllocError": ["Memory"], "RefusesOrMemory": ["Memory"], "IsItemOrMemory": ["Memory"], "RefusedSome": ["Memory"],
@@ -15,6 +15,11 @@ STD = set("all any as_bytes as_str chars chunks clear clone cloned cmp collect c
           "extend filter find first flush fmt from get insert into into_iter is_empty is_err is_none is_ok is_some iter join "
           "last len lines map max min new next next_back ok or parse pop position push push_str read remove reserve rev skip "
           "sort split sum take then to truncate unwrap write zip".split())
+
+
+def source(crate):
+    """Where the sources of a crate are: of a crate of tests in a folder of their own."""
+    return os.path.join("tests" if os.path.isdir(os.path.join("tests", crate)) else "crates", crate, "src")
 
 
 class Function:
@@ -44,7 +49,7 @@ class Function:
 class File:
     def __init__(self, crate, path):
         self.crate, self.text = crate, open(path, encoding="utf-8").read()
-        inside = os.path.relpath(path, os.path.join("crates", crate, "src"))[:-3]
+        inside = os.path.relpath(path, source(crate))[:-3]
         self.module = [p for p in inside.split(os.sep) if p not in ("mod", "lib", "main")]
         plain = re.sub(r"//[^\n]*|^ghost use[^\n]*", "", self.text, flags=re.M)
         self.uses = dict(use for found in re.finditer(r"(?:^|\n)\s*(?:pub )?use ([^;]+);", plain) for use in imports(found[1]))
@@ -120,12 +125,12 @@ def imports(text, before=""):
 class Sources:
     def __init__(self):
         crates = sorted(os.listdir("crates"))
-        self.runners = [c for c in crates if c.startswith("tests_") or c in RUNNERS]
+        self.runners = RUNNERS + sorted(c for c in os.listdir("tests") if os.path.isdir(os.path.join("tests", c)))
         self.functions, self.traits_of, self.supers, self.variants, self.aliases = [], {}, {}, {}, {}
         self.fields, self.public, self.error_names = {}, {}, set()
         self.blanket, files = [], []
         for crate in [c for c in LIBRARIES if c in crates] + [c for c in self.runners if c not in LIBRARIES]:
-            for folder, _, inside in sorted(os.walk(os.path.join("crates", crate, "src"))):
+            for folder, _, inside in sorted(os.walk(source(crate))):
                 files += [File(crate, os.path.join(folder, n)) for n in sorted(inside) if n.endswith(".rt")]
         for file in files:
             self.find_public(file)
@@ -169,7 +174,7 @@ class Sources:
     def is_public(self, file, name):
         known = self.public[file.crate]
         open_path = all(tuple(file.module[: i + 1]) in known for i in range(len(file.module)))
-        return file.crate == "listcut" or open_path or ("name", *file.module, name) in known
+        return open_path or ("name", *file.module, name) in known
 
     def read(self, file):
         text = file.text

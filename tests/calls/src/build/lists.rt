@@ -1,0 +1,505 @@
+//! Pushed rows by their arrays.
+
+use nest_array::{AnyArray, ListArray};
+use nest_build::array::MutableArray;
+use nest_build::list::MutableListArray;
+use nest_build::null::MutableNullArray;
+use nest_build::push::{TryExtend, TryExtendFromSelf, TryPush};
+use nest_flat::any_native::AnyNative;
+use nest_flat::any_primitive::AnyPrimitive;
+use nest_flat::plain::Plain;
+use nest_flat::primitive::mutable::MutablePrimitiveArray;
+use nest_memory::bitmap::mutable::MutableBitmap;
+use nest_memory::datatypes::DataType;
+use nest_memory::error::{Argument, Error, Spec};
+use nest_memory::offsets::Offsets;
+use std::alloc::{AllocError, Global};
+use std::mem;
+use std::rc::Rc;
+
+/// Lists of whole numbers.
+type Lists = MutableListArray<i32, MutablePrimitiveArray<i64>>;
+
+fn no_lists(alloc: Global) -> Result<Lists, Error> {
+    MutableListArray::new(alloc, MutablePrimitiveArray::new(alloc))
+}
+
+const SEVEN: Plain<'static> = Plain::Native(AnyNative::Int64(7));
+
+const ONE_TO_FIVE: [Option<i64>; 5] = [Some(1), Some(2), Some(3), Some(4), Some(5)];
+
+fn show_items(items: &AnyArray, text: &mut String) -> Result<(), Error> {
+    let AnyArray::Primitive(AnyPrimitive::Int64(items)) = items else {
+        return Ok(());
+    };
+    text.push_str("[ ")?;
+    for k in 0..items.len() {
+        match items.get(k) {
+            None => text.push_str("null ")?,
+            Some(value) => write!(text, "{value} ")?,
+        }
+    }
+    text.push_str("] ")?;
+    Ok(())
+}
+
+fn show_rows(alloc: Global, array: &ListArray, text: &mut String) -> Result<(), Error> {
+    for i in 0..array.len() {
+        if array.is_null(i) {
+            text.push_str("null ")?;
+        } else {
+            let items = array.value(alloc, i)?;
+            let done = show_items(&items, text);
+            drop(items);
+            done?;
+        }
+    }
+    Ok(())
+}
+
+/// The slots of an array as text.
+fn text_of(alloc: Global, array: Result<ListArray, Error>) -> Result<String, Error> {
+    match array {
+        Err(error) => Err(error),
+        Ok(array) => {
+            let mut text = String::new(alloc);
+            let done = show_rows(alloc, &array, &mut text);
+            drop(array);
+            done?;
+            Ok(text)
+        }
+    }
+}
+
+fn push_rows(rows: &mut Lists) -> Result<(), Error> {
+    let rows_told = [Some([Some(1), None].as_slice()), None, Some([].as_slice())];
+    for row in rows_told {
+        if rows.is_whole() {
+            rows.try_push(row.map(|items| items.iter().copied()))?;
+        }
+    }
+    Ok(())
+}
+
+/// The array of the rows [1,null], null, [].
+fn pushed(alloc: Global) -> Result<ListArray, Error> {
+    let mut rows = no_lists(alloc)?;
+    if let Err(error) = push_rows(&mut rows) {
+        drop(rows);
+        return Err(error);
+    }
+    let array = rows.freeze();
+    drop(rows);
+    array
+}
+
+fn offsets_are(array: &Result<ListArray, Error>, offsets: &[i32]) -> bool {
+    match array {
+        Err(_) => false,
+        Ok(array) => array.offsets().as_slice() == offsets,
+    }
+}
+
+#[test]
+fn pushed_rows_are_the_slots(rt: HostRuntime) {
+    let text = text_of(rt.alloc(), pushed(rt.alloc())).expect(&rt, "its text");
+    assert!(rt; text.as_str() == "[ 1 null ] null [ ] ");
+    let array = pushed(rt.alloc());
+    assert!(rt; offsets_are(&array, [0i32, 2, 2, 2].as_slice()));
+}
+
+/// What a call refused.
+fn refusal(array: Result<ListArray, Error>) -> Option<Error> {
+    match array {
+        Err(error) => Some(error),
+        Ok(array) => {
+            drop(array);
+            None
+        }
+    }
+}
+
+/// The items of a builder wait until their row is told.
+fn wait_and_tell(rows: &mut Lists) -> Result<bool, Error> {
+    TryPush::try_push(rows.mut_values(), Some(7i64))?;
+    let waits = !rows.is_whole();
+    let unfinished = Some(Error::InvalidArgumentError(Argument::Unfinished));
+    let refused = refusal(rows.freeze()) == unfinished;
+    tell(rows)?;
+    Ok(waits && refused && rows.is_whole() && rows.len() == 1)
+}
+
+#[test]
+fn items_wait_for_their_row(rt: HostRuntime) {
+    let mut rows = no_lists(rt.alloc()).expect(&rt, "no row");
+    assert!(rt; wait_and_tell(&mut rows) == Ok(true));
+    let array = rows.freeze();
+    assert!(rt; rows.is_whole());
+    assert!(rt; text_of(rt.alloc(), array).expect(&rt, "its text").as_str() == "[ 7 ] ");
+}
+
+// Holds where any one request for memory is refused: a refused row changes nothing, and a freeze empties the builder.
+#[test]
+fn refused_rows_change_nothing(rt: HostRuntime) {
+    let Ok(mut rows) = no_lists(rt.alloc()) else {
+        return;
+    };
+    let mut accepted = 0usize;
+    for turn in 0..12u32 {
+        assert!(rt; rows.is_whole());
+        let row = if turn % 3 == 2 {
+            None
+        } else {
+            Some(ONE_TO_FIVE.as_slice())
+        };
+        match rows.try_push(row.map(|items| items.iter().copied())) {
+            Ok(()) => accepted = accepted.saturating_add(1),
+            Err(error) => assert!(rt; error == Error::Memory(AllocError)),
+        }
+        assert!(rt; rows.len() == accepted);
+    }
+    if let Some(error) = refusal(rows.freeze()) {
+        assert!(rt; error == Error::Memory(AllocError));
+    }
+    assert!(rt; rows.len() == 0);
+    assert!(rt; rows.is_whole());
+}
+
+/// Tells a row of the items that wait.
+fn tell(rows: &mut Lists) -> Result<(), Error> {
+    rows.try_push_valid()
+}
+
+/// The numbers from 1 to 3 wait.
+fn three_waiting(alloc: Global) -> Result<Lists, Error> {
+    let mut rows = no_lists(alloc)?;
+    let items = [Some(1i64), Some(2), Some(3)];
+    match TryExtend::try_extend(rows.mut_values(), items.iter().copied()) {
+        Ok(()) => Ok(rows),
+        Err(error) => {
+            drop(rows);
+            Err(error)
+        }
+    }
+}
+
+fn tell_lengths(rows: &mut Lists, lengths: &[Option<usize>]) -> Result<(), Error> {
+    rows.try_extend_from_lengths(lengths)
+}
+
+#[test]
+fn rows_by_their_lengths(rt: HostRuntime) {
+    let mut rows = three_waiting(rt.alloc()).expect(&rt, "three waiting");
+    let too_few = tell_lengths(&mut rows, [Some(2)].as_slice());
+    assert!(rt; too_few == Err(Error::InvalidArgumentError(Argument::LengthsSum)));
+    assert!(rt; rows.len() == 0);
+    assert!(rt; rows.validity().is_none());
+    assert!(rt; tell_lengths(&mut rows, [Some(2), None, Some(1)].as_slice()) == Ok(()));
+    assert!(rt; rows.validity().is_some());
+    let array = rows.freeze();
+    assert!(rt;
+        text_of(rt.alloc(), array).expect(&rt, "its text").as_str() == "[ 1 2 ] null [ 3 ] "
+    );
+}
+
+/// What a maker refused.
+fn not_made(made: Result<Lists, Error>) -> Option<Error> {
+    match made {
+        Err(error) => Some(error),
+        Ok(rows) => {
+            drop(rows);
+            None
+        }
+    }
+}
+
+#[test]
+fn a_child_with_rows_makes_no_lists(rt: HostRuntime) {
+    let alloc = rt.alloc();
+    let mut child = MutablePrimitiveArray::<i64>::new(alloc);
+    TryPush::try_push(&mut child, Some(1i64)).expect(&rt, "a row more");
+    let not_empty = Some(Error::InvalidArgumentError(Argument::ChildNotEmpty));
+    assert!(rt; not_made(MutableListArray::new(alloc, child)) == not_empty);
+}
+
+#[test]
+fn lists_of_a_data_type(rt: HostRuntime) {
+    let alloc = rt.alloc();
+    let child = MutablePrimitiveArray::new(alloc);
+    let wrong = MutableListArray::new_from(alloc, child, DataType::Int64, 2);
+    assert!(rt; not_made(wrong) == Some(Error::OutOfSpec(Spec::WrongType)));
+    let texts = ListArray::default_datatype(alloc, DataType::Utf8).expect(&rt, "a data type");
+    let child = MutablePrimitiveArray::new(alloc);
+    let wrong = MutableListArray::new_from(alloc, child, texts, 2);
+    assert!(rt; not_made(wrong) == Some(Error::OutOfSpec(Spec::ChildType)));
+    let numbers = ListArray::default_datatype(alloc, DataType::Int64).expect(&rt, "a data type");
+    let child = MutablePrimitiveArray::new(alloc);
+    assert!(rt; not_made(MutableListArray::new_from(alloc, child, numbers, 2)) == None);
+    let child = MutablePrimitiveArray::new(alloc);
+    assert!(rt; not_made(MutableListArray::new_with_field(alloc, child, "x", false)) == None);
+    let child = MutablePrimitiveArray::new(alloc);
+    assert!(rt; not_made(MutableListArray::with_capacity(alloc, child, 3)) == None);
+    let child = MutablePrimitiveArray::new(alloc);
+    assert!(rt; not_made(MutableListArray::new_with_capacity(alloc, child, 3)) == None);
+}
+
+fn push_each(rows: &mut Lists, items: &[Option<&[Option<i64>]>]) -> Result<(), Error> {
+    for item in items {
+        if rows.is_whole() {
+            rows.try_push(item.map(|items| items.iter().copied()))?;
+        }
+    }
+    Ok(())
+}
+
+/// Lists of whatever the boxed child takes.
+type BoxedLists = MutableListArray<i64, Box<dyn MutableArray>>;
+
+fn push_below(rows: &mut BoxedLists, value: Option<Plain<'_>>) -> Result<(), Error> {
+    let child = rows.mut_values();
+    if !child.is_whole() {
+        return Err(Error::InvalidArgumentError(Argument::Unfinished));
+    }
+    child.try_push_plain(value)
+}
+
+fn tell_boxed(rows: &mut BoxedLists) -> Result<(), Error> {
+    if !rows.values().is_whole() {
+        return Err(Error::InvalidArgumentError(Argument::Unfinished));
+    }
+    rows.try_push_valid()
+}
+
+/// Whether 7 and a null are taken, a text isn't, and a row of both is told.
+fn take_both(rows: &mut BoxedLists) -> bool {
+    let other_kind = Err(Error::InvalidArgumentError(Argument::ItemType));
+    let taken = push_below(rows, Some(SEVEN)).is_ok();
+    let text = push_below(rows, Some(Plain::Text("x"))) == other_kind;
+    let null = push_below(rows, None).is_ok();
+    let waits = !rows.is_whole();
+    taken && text && null && waits && tell_boxed(rows).is_ok() && rows.is_whole()
+}
+
+/// Whether the list takes no value, and its one row is valid and no value.
+fn takes_no_value(rows: &mut BoxedLists) -> bool {
+    let other_kind = Err(Error::InvalidArgumentError(Argument::ItemType));
+    if !rows.is_whole() || rows.try_push_plain(Some(SEVEN)) != other_kind {
+        return false;
+    }
+    rows.len() == 1 && rows.is_valid(0) && !rows.holds(0, &SEVEN)
+}
+
+/// How long an array is; it is let go.
+fn len_of(array: Result<AnyArray, Error>) -> Option<usize> {
+    match array {
+        Ok(array) => {
+            let found = array.len();
+            drop(array);
+            Some(found)
+        }
+        Err(_) => None,
+    }
+}
+
+#[test]
+fn a_boxed_child_takes_the_items(rt: HostRuntime) {
+    let numbers: MutablePrimitiveArray<i64> = MutablePrimitiveArray::new(rt.alloc());
+    let child: Box<dyn MutableArray> = Box::new(rt.alloc(), numbers).expect(&rt, "memory");
+    assert!(rt; child.is_whole());
+    let mut rows: BoxedLists = MutableListArray::new(rt.alloc(), child).expect(&rt, "memory");
+    let both = take_both(&mut rows);
+    let lists = takes_no_value(&mut rows);
+    let found = len_of(rows.into_box());
+    assert!(rt; both);
+    assert!(rt; lists);
+    assert!(rt; found == Some(1));
+}
+
+/// Whether a null is taken below, and a row of it is told.
+fn take_null(rows: &mut BoxedLists) -> bool {
+    push_below(rows, None).is_ok() && tell_boxed(rows).is_ok() && rows.is_whole()
+}
+
+#[test]
+fn a_boxed_builder_of_lists_takes_rows(rt: HostRuntime) {
+    let numbers: MutablePrimitiveArray<i64> = MutablePrimitiveArray::new(rt.alloc());
+    let lists: MutableListArray<i32, MutablePrimitiveArray<i64>> = MutableListArray::new(
+        rt.alloc(),
+        numbers,
+    ).expect(&rt, "memory");
+    let child: Box<dyn MutableArray> = Box::new(rt.alloc(), lists).expect(&rt, "memory");
+    assert!(rt; child.is_whole());
+    let mut rows: BoxedLists = MutableListArray::new(rt.alloc(), child).expect(&rt, "memory");
+    let taken = take_null(&mut rows) && take_null(&mut rows);
+    let found = len_of(rows.into_box());
+    assert!(rt; taken);
+    assert!(rt; found == Some(2));
+}
+
+/// Lists of lists of whatever the boxed child takes.
+type Nested = MutableListArray<i32, BoxedLists>;
+
+fn tell_outer(rows: &mut Nested) -> Result<(), Error> {
+    let child = rows.mut_values();
+    if !child.is_whole() {
+        return Err(Error::InvalidArgumentError(Argument::Unfinished));
+    }
+    child.push_null()?;
+    if !rows.values().is_whole() {
+        return Err(Error::InvalidArgumentError(Argument::Unfinished));
+    }
+    rows.try_push_valid()
+}
+
+/// How long a shared array is.
+fn shared_len(array: Result<Rc<AnyArray>, Error>) -> Option<usize> {
+    match array {
+        Ok(array) => Some(array.len()),
+        Err(_) => None,
+    }
+}
+
+#[test]
+fn a_list_over_a_list_of_a_boxed_builder_is_filled_again(rt: HostRuntime) {
+    let numbers: MutablePrimitiveArray<i64> = MutablePrimitiveArray::new(rt.alloc());
+    let child: Box<dyn MutableArray> = Box::new(rt.alloc(), numbers).expect(&rt, "memory");
+    assert!(rt; child.is_whole());
+    let inner: BoxedLists = MutableListArray::new(rt.alloc(), child).expect(&rt, "memory");
+    assert!(rt; inner.is_whole());
+    let mut rows: Nested = MutableListArray::new(rt.alloc(), inner).expect(&rt, "memory");
+    let told = tell_outer(&mut rows).is_ok() && tell_outer(&mut rows).is_ok();
+    let first = shared_len(rows.as_arc(rt.alloc()));
+    let empty = rows.is_empty();
+    let again = tell_outer(&mut rows);
+    let second = shared_len(rows.into_arc(rt.alloc()));
+    assert!(rt; told && again == Ok(()));
+    assert!(rt; first == Some(2) && empty);
+    assert!(rt; second == Some(1));
+}
+
+/// Tells a row over another child, then over the one before.
+fn tell_over_both(rows: &mut BoxedLists, other: &mut Box<dyn MutableArray>) -> (bool, bool) {
+    mem::swap(rows.mut_values(), other);
+    let unfinished = Err(Error::InvalidArgumentError(Argument::Unfinished));
+    let refused = !rows.is_whole() && tell_boxed(rows) == unfinished;
+    mem::swap(rows.mut_values(), other);
+    (refused, rows.is_whole() && tell_boxed(rows).is_ok())
+}
+
+#[test]
+fn a_child_of_another_type_makes_no_row(rt: HostRuntime) {
+    let numbers: MutablePrimitiveArray<i64> = MutablePrimitiveArray::new(rt.alloc());
+    let child: Box<dyn MutableArray> = Box::new(rt.alloc(), numbers).expect(&rt, "memory");
+    assert!(rt; child.is_whole());
+    let mut rows: BoxedLists = MutableListArray::new(rt.alloc(), child).expect(&rt, "memory");
+    let nulls = MutableNullArray::new(rt.alloc(), DataType::Null, 0);
+    let mut other: Box<dyn MutableArray> = Box::new(rt.alloc(), nulls).expect(&rt, "memory");
+    let seen = tell_over_both(&mut rows, &mut other);
+    assert!(rt; seen == (true, true));
+}
+
+/// Cuts, room, and a null.
+fn keep_first(rows: &mut Lists) -> Result<(), Error> {
+    rows.reserve(4)?;
+    if rows.is_whole() {
+        rows.push_null()?;
+    }
+    if rows.is_whole() && rows.len() == 3 {
+        rows.truncate(1);
+    }
+    rows.shrink_to_fit()
+}
+
+#[test]
+fn rows_are_cut_with_their_items(rt: HostRuntime) {
+    let mut rows = no_lists(rt.alloc()).expect(&rt, "no row");
+    let two = [
+        Some([Some(1)].as_slice()),
+        Some([Some(2), Some(3)].as_slice()),
+    ];
+    push_each(&mut rows, two.as_slice()).expect(&rt, "each row");
+    keep_first(&mut rows).expect(&rt, "keep first");
+    assert!(rt; rows.is_whole());
+    assert!(rt; rows.values().len() == 1);
+    let array = rows.freeze();
+    assert!(rt; text_of(rt.alloc(), array).expect(&rt, "its text").as_str() == "[ 1 ] ");
+}
+
+/// Lists by these offsets over the numbers from 1 to 3.
+fn by_offsets(alloc: Global, ends: &[usize], bits: usize) -> Result<Lists, Error> {
+    let mut offsets = Offsets::new(alloc)?;
+    offsets.try_extend_from_lengths(ends)?;
+    let mut validity = MutableBitmap::new(alloc);
+    validity.extend_constant(bits, true)?;
+    let mut items = MutablePrimitiveArray::new(alloc);
+    items.try_extend([Some(1i64), Some(2), Some(3)].as_slice().iter().copied())?;
+    MutableListArray::new_from_mutable(alloc, items, offsets, Some(validity))
+}
+
+#[test]
+fn lists_by_offsets(rt: HostRuntime) {
+    let alloc = rt.alloc();
+    let short = by_offsets(alloc, [2].as_slice(), 1);
+    assert!(rt; not_made(short) == Some(Error::InvalidArgumentError(Argument::LengthsSum)));
+    let long = by_offsets(alloc, [2, 1].as_slice(), 3);
+    assert!(rt; not_made(long) == Some(Error::OutOfSpec(Spec::ValidityLength)));
+    let mut rows = by_offsets(alloc, [2, 1].as_slice(), 2).expect(&rt, "by offsets");
+    assert!(rt; rows.is_whole());
+    assert!(rt; rows.offsets().len_proxy() == 2);
+    let array = rows.freeze();
+    assert!(rt; text_of(alloc, array).expect(&rt, "its text").as_str() == "[ 1 2 ] [ 3 ] ");
+}
+/// Adds another builder's rows where both are whole.
+fn join(rows: &mut Lists, other: &Lists) -> Result<(), Error> {
+    if !rows.is_whole() || !other.is_whole() {
+        return Err(Error::InvalidArgumentError(Argument::Unfinished));
+    }
+    rows.try_extend_from_self(other)
+}
+
+/// The rows [1], [2,3], and those of another builder, null and [4].
+fn joined(alloc: Global) -> Result<ListArray, Error> {
+    let mut rows = no_lists(alloc)?;
+    let mut other = match no_lists(alloc) {
+        Ok(other) => other,
+        Err(error) => {
+            drop(rows);
+            return Err(error);
+        }
+    };
+    let first = [
+        Some([Some(1)].as_slice()),
+        Some([Some(2), Some(3)].as_slice()),
+    ];
+    let second = [None, Some([Some(4)].as_slice())];
+    let done = push_each(&mut rows, first.as_slice());
+    let more = push_each(&mut other, second.as_slice());
+    let both = join(&mut rows, &other);
+    drop(other);
+    let array = rows.freeze();
+    drop(rows);
+    if done.is_err() || more.is_err() || both.is_err() {
+        drop(array);
+        return Err(Error::Overflow);
+    }
+    array
+}
+
+#[test]
+fn rows_of_another_builder_are_joined(rt: HostRuntime) {
+    let text = text_of(rt.alloc(), joined(rt.alloc())).expect(&rt, "its text");
+    assert!(rt; text.as_str() == "[ 1 ] [ 2 3 ] null [ 4 ] ");
+}
+
+#[test]
+fn rows_of_another_type_are_not_joined(rt: HostRuntime) {
+    let alloc = rt.alloc();
+    let mut rows = no_lists(alloc).expect(&rt, "no row");
+    let child = MutablePrimitiveArray::new(alloc);
+    let other: Lists = MutableListArray::new_with_field(alloc, child, "x", true).expect(
+        &rt,
+        "new with field",
+    );
+    assert!(rt; join(&mut rows, &other) == Err(Error::InvalidArgumentError(Argument::ItemType)));
+    assert!(rt; rows.len() == 0);
+}

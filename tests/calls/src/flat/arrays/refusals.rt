@@ -1,0 +1,44 @@
+//! The first check that fails is the one that is answered.
+use super::{binaries, numbers, texts, truths};
+use nest_memory::datatypes::DataType;
+use nest_memory::error::{Error, Spec};
+
+#[test]
+fn texts_end_with_characters(rt: HostRuntime) {
+    // a, é in two bytes, b
+    let bytes = [0x61, 0xc3, 0xa9, 0x62].as_slice();
+    for (offsets, fault) in [
+        ([0, 2, 4].as_slice(), Spec::Text),
+        ([0, 5].as_slice(), Spec::OffsetPastChild),
+    ] {
+        let refused = texts(rt.alloc(), bytes, offsets, None).err();
+        assert!(rt; refused == Some(Error::OutOfSpec(fault)));
+    }
+    let one = texts(rt.alloc(), bytes, &[1, 3], None).expect(&rt, "one slot");
+    assert!(rt; one.len() == 1);
+    assert!(rt; one.get(0) == Some("é"));
+}
+
+#[test]
+fn natives_of_their_data_type(rt: HostRuntime) {
+    let long = Some([true, true, true].as_slice());
+    let refused = numbers(rt.alloc(), DataType::Int64, &[7, 8], None).err();
+    assert!(rt; refused == Some(Error::OutOfSpec(Spec::WrongType)));
+    let refused = numbers(rt.alloc(), DataType::Int64, &[7, 8], long).err();
+    assert!(rt; refused == Some(Error::OutOfSpec(Spec::ValidityLength)));
+    let dates = numbers(rt.alloc(), DataType::Date32, &[7, 8], None).expect(&rt, "two days");
+    let date = DataType::Date32;
+    assert!(rt; *dates.data_type() == date);
+    assert!(rt; dates.len() == 2);
+}
+
+#[test]
+fn bytes_and_truths_refused(rt: HostRuntime) {
+    let long = Some([true, true, true].as_slice());
+    let past = binaries(rt.alloc(), &[1, 2], &[0, 3], long).err();
+    assert!(rt; past == Some(Error::OutOfSpec(Spec::OffsetPastChild)));
+    let unlike = binaries(rt.alloc(), &[1, 2], &[0, 2], long).err();
+    assert!(rt; unlike == Some(Error::OutOfSpec(Spec::ValidityLength)));
+    let unlike = truths(rt.alloc(), &[true], long).err();
+    assert!(rt; unlike == Some(Error::OutOfSpec(Spec::ValidityLength)));
+}
