@@ -1,0 +1,60 @@
+//! Every request for memory of builders, constructors, copies, taken rows, scalars and iterators, refused in turn.
+//!
+//! `rt try --test --fail-alloc` refuses one request of each test, counted from its beginning. So a test asks for blocks and
+//! gives them back until the request with its own number is the one that is refused; the scenarios then ask for theirs. A
+//! call that is refused answers `Memory` and changes nothing, the call made again succeeds, and what is made in the end is
+//! right. `scripts/test` writes a test for each request.
+#![tactic(auto)]
+
+mod any_kind;
+mod arrays;
+mod builders;
+mod iterators;
+mod parts;
+mod program;
+#[cfg(test)]
+mod requests;
+mod scenarios;
+mod trial;
+mod twins;
+mod typed;
+
+use drawn_builders::wrong::Wrong;
+use std::alloc::{AllocError, Global};
+use trial::Trial;
+
+/// The request of a test that is refused.
+pub const REFUSED: usize = 4000;
+
+/// How the scenarios ended, none of them wrong.
+#[derive(Clone, Copy, Debug, PartialEq, Eq)]
+pub enum Found {
+    /// They did not begin: a block was refused.
+    NotBegun,
+    /// A call was refused.
+    Refused,
+    /// No call was refused; one may have done without its memory.
+    Granted,
+}
+
+/// Asks for so many blocks, each of them given back.
+fn ask(alloc: Global, blocks: usize) -> Result<(), AllocError> {
+    for block in 0..blocks {
+        drop(Box::new(alloc, block)?);
+    }
+    Ok(())
+}
+
+/// Runs the scenarios where their request of that number, the first being 1, is the one that is refused. Of a wrong one its
+/// name is told.
+pub fn outcome(alloc: Global, request: usize) -> Result<Found, (&'static str, Wrong)> {
+    if ask(alloc, REFUSED.saturating_sub(request)).is_err() {
+        return Ok(Found::NotBegun);
+    }
+    let mut trial = Trial::new();
+    match scenarios::run_all(&mut trial, alloc) {
+        Ok(()) if trial.refused() == 0 => Ok(Found::Granted),
+        Ok(()) => Ok(Found::Refused),
+        Err(wrong) => Err((trial.scenario(), wrong)),
+    }
+}

@@ -1,0 +1,59 @@
+//! Calls that may be refused memory, once in all.
+
+use drawn_builders::wrong::{Wrong, expect};
+use nest_memory::error::Error;
+
+/// How many calls were refused memory so far, and in which scenario the calls are.
+#[derive(Clone, Copy, Debug)]
+pub struct Trial {
+    refused: usize,
+    scenario: &'static str,
+}
+
+impl Trial {
+    pub fn new() -> Trial {
+        Trial {
+            refused: 0,
+            scenario: "",
+        }
+    }
+
+    pub fn refused(&self) -> usize {
+        self.refused
+    }
+
+    pub fn scenario(&self) -> &'static str {
+        self.scenario
+    }
+
+    pub fn begin(&mut self, scenario: &'static str) {
+        self.scenario = scenario;
+    }
+
+    /// Notes that a call was refused memory, the first in the program.
+    pub fn note_refused(&mut self) -> Result<(), Wrong> {
+        self.refused += 1;
+        expect(self.refused == 1, "a second refusal")
+    }
+
+    /// Whether a call was refused memory, the first in the program; any other refusal is wrong.
+    pub fn is_refused<T>(&mut self, answer: &Result<T, Error>) -> Result<bool, Wrong> {
+        match answer {
+            Ok(_) => Ok(false),
+            Err(Error::Memory(_)) => {
+                self.note_refused()?;
+                Ok(true)
+            }
+            Err(error) => Err(Wrong::Refused(*error)),
+        }
+    }
+
+    /// What a call gives that changes nothing. Where it was refused memory it is made again.
+    pub fn again<T: Drop, F: Fn() -> Result<T, Error>>(&mut self, call: F) -> Result<T, Wrong> {
+        let answer = call();
+        if self.is_refused(&answer)? {
+            return Ok(call()?);
+        }
+        Ok(answer?)
+    }
+}
