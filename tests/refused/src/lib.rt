@@ -1,7 +1,7 @@
 //! Every request for memory of builders, constructors, copies, taken rows, scalars and iterators, refused in turn.
 //!
 //! `rt try --test --fail-alloc` refuses one request of each test, counted from its beginning. So a test asks for blocks and
-//! gives them back until the request with its own number is the one that is refused; the scenarios then ask for theirs. A
+//! gives them back until the request with its own number is the one that is refused; its scenario then asks for its own. A
 //! call that is refused answers `Memory` and changes nothing, the call made again succeeds, and what is made in the end is
 //! right. `scripts/test` writes a test for each request.
 #![tactic(auto)]
@@ -20,16 +20,17 @@ mod twins;
 mod typed;
 
 use drawn_builders::wrong::Wrong;
+use scenarios::Scenario;
 use std::alloc::{AllocError, Global};
 use trial::Trial;
 
 /// The request of a test that is refused.
-pub const REFUSED: usize = 4000;
+pub const REFUSED: usize = 1000;
 
-/// How the scenarios ended, none of them wrong.
+/// How a scenario ended that is not wrong.
 #[derive(Clone, Copy, Debug, PartialEq, Eq)]
 pub enum Found {
-    /// They did not begin: a block was refused.
+    /// It did not begin: a block was refused.
     NotBegun,
     /// A call was refused.
     Refused,
@@ -45,16 +46,16 @@ fn ask(alloc: Global, blocks: usize) -> Result<(), AllocError> {
     Ok(())
 }
 
-/// Runs the scenarios where their request of that number, the first being 1, is the one that is refused. Of a wrong one its
-/// name is told.
-pub fn outcome(alloc: Global, request: usize) -> Result<Found, (&'static str, Wrong)> {
+/// Runs a scenario where its request of that number, the first being 1, is the one that is refused.
+pub fn outcome(alloc: Global, scenario: Scenario, request: usize) -> Result<Found, Wrong> {
     if ask(alloc, REFUSED.saturating_sub(request)).is_err() {
         return Ok(Found::NotBegun);
     }
     let mut trial = Trial::new();
-    match scenarios::run_all(&mut trial, alloc) {
-        Ok(()) if trial.refused() == 0 => Ok(Found::Granted),
-        Ok(()) => Ok(Found::Refused),
-        Err(wrong) => Err((trial.scenario(), wrong)),
-    }
+    scenario.run(&mut trial, alloc)?;
+    Ok(if trial.refused() == 0 {
+        Found::Granted
+    } else {
+        Found::Refused
+    })
 }

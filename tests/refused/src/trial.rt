@@ -3,31 +3,19 @@
 use drawn_builders::wrong::{Wrong, expect};
 use nest_memory::error::Error;
 
-/// How many calls were refused memory so far, and in which scenario the calls are.
+/// How many calls were refused memory so far.
 #[derive(Clone, Copy, Debug)]
 pub struct Trial {
     refused: usize,
-    scenario: &'static str,
 }
 
 impl Trial {
     pub fn new() -> Trial {
-        Trial {
-            refused: 0,
-            scenario: "",
-        }
+        Trial { refused: 0 }
     }
 
     pub fn refused(&self) -> usize {
         self.refused
-    }
-
-    pub fn scenario(&self) -> &'static str {
-        self.scenario
-    }
-
-    pub fn begin(&mut self, scenario: &'static str) {
-        self.scenario = scenario;
     }
 
     /// Notes that a call was refused memory, the first in the program.
