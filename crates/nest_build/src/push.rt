@@ -37,7 +37,8 @@ pub trait TryExtend<A>: MutableArray {
     /// Adds a row for each item, all of them or none.
     ///
     /// # Errors
-    /// Those of the first item that is refused, as `try_push` answers them.
+    /// The first check that fails of the first item that is refused, here or at a level below, as `try_push` answers it:
+    /// `ItemType`, `ItemSize`, `Overflow`. `Memory`.
     fn try_extend<I: IntoIterator<Item = A>>(&mut self, items: I) -> Result<(), Error>
         requires whole { IsWhole (Self.model self.old) }
         requires can { CanRead I.into_iter_gives I.IntoIter.can_next I.IntoIter.remaining I.IntoIter.next_gives can_extend items }

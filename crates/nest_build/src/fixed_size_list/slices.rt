@@ -14,7 +14,8 @@ impl<M: FlatBuilder> MutableFixedSizeListArray<M> {
     /// Adds a row: null, or the list of the values of a slice. It is `try_push` of the slice's iterator.
     ///
     /// # Errors
-    /// As `try_push`.
+    /// The refusal of the first value that the child refuses; else `ItemSize` where there are not as many values as the size;
+    /// `Overflow` where no length can stand for the rows; `Memory`.
     pub fn try_push_slice<A: AsPlain + Copy + Drop>(
         &mut self,
         row: Option<&[Option<A>]>,

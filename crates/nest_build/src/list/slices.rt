@@ -15,7 +15,8 @@ impl<O: ListWidth, M: FlatBuilder> MutableListArray<O, M> {
     /// Adds a row: null, or the list of the values of a slice. It is `try_push` of the slice's iterator.
     ///
     /// # Errors
-    /// As `try_push`.
+    /// The refusal of the first value that the child refuses; else `Overflow` where no offset can stand for the end of the row;
+    /// `Memory`.
     pub fn try_push_slice<A: AsPlain + Copy + Drop>(
         &mut self,
         row: Option<&[Option<A>]>,
