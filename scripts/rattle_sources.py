@@ -2,7 +2,7 @@
 import os
 import re
 
-LIBRARIES = ["nest_memory", "nest_flat", "nest_array", "nest_scan", "nest_take", "nest_build", "nest_any", "listcut_rows"]
+LIBRARIES = ["nest_memory", "nest_flat", "nest_array", "nest_scan", "nest_take", "nest_build", "nest_any", "nest_show", "listcut_rows"]
 RUNNERS = ["guide"]  # and each crate of tests
 # What words of contracts say of refusals without their names.
 SPOKEN = {

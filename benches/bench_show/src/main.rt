@@ -1,0 +1,73 @@
+//! What arrays cost as text of JSON, in nanoseconds a slot: `bench_show run`. First stands a plain loop over raw numbers. Each is
+//! written once before it is measured, so that none pays for memory that the system gives for the first time.
+//! Without that word the same is written of a few slots, and only how many bytes they take is printed.
+#![tactic(auto)]
+
+mod arrays;
+
+use anyhow::Result;
+use bench_tools::{begin, is_measured, tell};
+use nest_array::AnyArray;
+use nest_memory::error::Error;
+use nest_show::writing::json_text;
+use std::alloc::{AllocError, Global};
+use std::rt::Clock;
+
+const FEW: usize = 1000;
+
+const SLOTS: usize = 1_000_000;
+
+/// Numbers with a comma after each, by a plain loop.
+fn plain_text(alloc: Global, values: &[i64]) -> Result<String, AllocError> {
+    let mut text = String::new(alloc);
+    for value in values {
+        write!(text, "{value},")?;
+    }
+    Ok(text)
+}
+
+fn run_plain<R: Clock + Print + AllocGlobal>(rt: &R, n: usize, measured: bool) -> Result<()> {
+    let values = arrays::raw_numbers(rt.alloc(), n)?;
+    drop(plain_text(rt.alloc(), &values)?);
+    let begun = begin(rt, measured)?;
+    let text = plain_text(rt.alloc(), &values)?;
+    tell(rt, "raw numbers, by a plain loop", text.len(), begun, n)?;
+    Ok(())
+}
+
+/// Writes an array, if it was made.
+fn run_array<R: Clock + Print + AllocGlobal>(
+    rt: &R,
+    kind: &str,
+    array: Result<AnyArray, Error>,
+    measured: bool,
+) -> Result<()> {
+    let array = array?;
+    drop(json_text(rt.alloc(), &array)?);
+    let begun = begin(rt, measured)?;
+    let text = json_text(rt.alloc(), &array)?;
+    tell(rt, kind, text.len(), begun, array.len())?;
+    Ok(())
+}
+
+fn run_all<R: Clock + Print + AllocGlobal>(rt: &R, n: usize, measured: bool) -> Result<()> {
+    run_plain(rt, n, measured)?;
+    run_array(rt, "numbers", arrays::numbers(rt.alloc(), n), measured)?;
+    let plain = arrays::texts(rt.alloc(), n, *b"nineteen");
+    run_array(rt, "texts of 8 bytes", plain, measured)?;
+    let escaped = arrays::texts(rt.alloc(), n, *b"nine\nten");
+    run_array(rt, "texts of 8 bytes, one escaped", escaped, measured)?;
+    run_array(
+        rt,
+        "lists of 8 numbers",
+        arrays::lists(rt.alloc(), n),
+        measured,
+    )?;
+    let records = arrays::records(rt.alloc(), n);
+    run_array(rt, "records of a number and a text", records, measured)
+}
+
+fn main(rt: HostRuntime) -> Result<()> {
+    let measured = is_measured(&rt)?;
+    run_all(&rt, if measured { SLOTS } else { FEW }, measured)
+}

@@ -1,0 +1,4 @@
+mod Nesting
+mod Quoting
+mod SingleSlots
+mod Spelled

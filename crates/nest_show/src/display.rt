@@ -1,0 +1,30 @@
+//! JSON by `Display`. Nothing takes memory.
+ghost use Rattle.std.specs.Prelude.{◌≡◌};
+
+use crate::written::WriteJson;
+use std::fmt;
+
+/// An array, a window or a scalar as JSON.
+#[derive(Drop)]
+pub struct Json<'a, T> {
+    value: &'a T,
+}
+
+impl<'a, T: WriteJson> Json<'a, T> {
+    /// All slots of an array or of a window, or the slot of a scalar.
+    pub fn of(value: &'a T) -> Json<'a, T>
+        ensures { result.value.now ≡ value.now }
+    {
+        Json { value }
+    }
+}
+
+impl<T: WriteJson> fmt::Display for Json<'_, T> {
+    ghost use Rattle.std.specs.Prelude.{Some};
+
+    ghost output = { λ j. Some (T.json j.value.now) };
+
+    fn fmt<W: fmt::Write>(&self, f: &mut fmt::Formatter<W>) -> fmt::Result {
+        self.value.write_json(f)
+    }
+}
