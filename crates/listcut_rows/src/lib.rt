@@ -1,4 +1,7 @@
 //! The rows of the program `listcut`: lists of whole numbers of 64 bits as lines of text, read, cut, taken and written.
+//!
+//! A statement whose value is never read (`let _len = ..`, `x.known()`) shows the prover a fact that the next step needs, and does
+//! nothing when it runs.
 #![tactic(auto)]
 
 mod choosing;

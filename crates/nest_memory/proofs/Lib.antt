@@ -4,3 +4,4 @@ pub mod BitLists
 pub mod Copied
 pub mod OffsetReads
 pub mod Rises
+mod TypeTexts

@@ -8,4 +8,5 @@ pub mod Rising
 pub mod TypeCode
 pub mod TypeEq
 pub mod TypeOf
+pub mod TypeText
 pub mod TypeTree

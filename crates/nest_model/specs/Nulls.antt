@@ -1,4 +1,4 @@
--- Null and empty arrays of a data type: their slots, and which types and lengths are refused (of this project).
+-- Null and empty arrays of a data type: their slots, and the first refusal of a type and a length (of this project).
 use Rattle.std.specs.Prelude.{ℕ, zero, suc, ◌+◌, ◌*◌, ◌^◌, ℤ, pos, negsuc, Bool, true, false, not, ◌&&◌, nat_eq, nat_lt, List, [], ◌∷◌, length, replicate, Option, Some, None}
 use Rattle.nest_memory.specs.TypeTree as types
 use Rattle.nest_memory.specs.TypeTree.{TypeTree, FieldTree, field, FieldTrees, no_fields, more_fields, field_type, count_fields, is_dense_mode, is_pair}

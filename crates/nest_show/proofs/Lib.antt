@@ -1,4 +1,3 @@
 mod Nesting
 mod Quoting
 mod SingleSlots
-mod Spelled

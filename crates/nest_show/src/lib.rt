@@ -1,4 +1,7 @@
-//! Arrays of any nesting as JSON, and data types as text.
+//! Arrays of any nesting as JSON.
+//!
+//! A statement whose value is never read (`let _len = ..`, `x.known()`) shows the prover a fact that the next step needs, and does
+//! nothing when it runs.
 #![tactic(auto)]
 
 pub mod display;
@@ -7,10 +10,8 @@ mod leaves;
 mod letters;
 mod nested;
 mod scalar;
-pub mod type_text;
 pub mod writing;
 pub mod written;
 
 pub use display::Json;
-pub use type_text::{FieldText, TypeText};
 pub use written::WriteJson;

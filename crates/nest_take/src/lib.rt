@@ -1,4 +1,7 @@
 //! Slots of arrays of any nesting: those at given places, and those where a mask is true.
+//!
+//! A statement whose value is never read (`let _len = ..`, `x.known()`) shows the prover a fact that the next step needs, and does
+//! nothing when it runs.
 #![tactic(auto)]
 
 mod any;

@@ -3,17 +3,16 @@ use crate::making::{nested, tagged};
 use nest_array::AnyArray;
 use nest_memory::datatypes::{DataType, Field, IntegerType, IntervalUnit, TimeUnit, UnionMode};
 use nest_memory::error::Error;
-use nest_show::{FieldText, TypeText};
 use std::alloc::Global;
 
 /// The text of a data type.
 fn text(alloc: Global, data_type: DataType) -> Result<String, Error> {
-    Ok(format!(in alloc; "{}", TypeText::of(&data_type))?)
+    Ok(format!(in alloc; "{}", data_type)?)
 }
 
 /// The text of an array's data type.
 fn text_of_array(alloc: Global, array: AnyArray) -> Result<String, Error> {
-    Ok(format!(in alloc; "{}", TypeText::of(array.data_type()))?)
+    Ok(format!(in alloc; "{}", array.data_type())?)
 }
 
 /// A data type in a box.
@@ -159,7 +158,9 @@ fn extensions_and_fields(rt: HostRuntime) -> Result<(), Error> {
         "extension<uuid, fixed_size_binary[16]>"
     );
     let field = Field::new(alloc, "id", DataType::Int64, false)?;
-    let text = format!(in alloc; "{}", FieldText::of(&field))?;
+    let text = format!(in alloc; "{}", field)?;
     assert_eq!(rt; text.as_str(), "id: int64 not null");
+    assert_eq!(rt; format!(in alloc; "{field:?}")?.as_str(), "id: int64 not null");
+    assert_eq!(rt; format!(in alloc; "{:?}", field.data_type)?.as_str(), "int64");
     Ok(())
 }

@@ -1,6 +1,7 @@
 //! Data types, after `datatypes` of arrow2: logical types, physical types and fields.
 mod cloning;
 mod conversion;
+mod display;
 mod equality;
 pub mod field;
 mod parts;

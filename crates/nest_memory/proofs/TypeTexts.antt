@@ -5,7 +5,7 @@ use Rattle.std.proofs.Common.{◌≡◌, ℕ, zero, suc, ◌+◌, ◌<◌, ◌�
 use Rattle.std.proofs.lemmas.List.{drop_all}
 use Rattle.nest_memory.specs.TypeOf.{field_of, field_list_of}
 use Rattle.nest_memory.specs.declared.datatypes.field.Field.{Field}
-use Rattle.nest_show.specs.TypeText.{id_at, separator_text, text_of_field, text_of_fields, text_of_part, text_of_parts, text_of_picks}
+use Rattle.nest_memory.specs.TypeText.{id_at, separator_text, text_of_field, text_of_fields, text_of_part, text_of_parts, text_of_picks}
 
 drop-at : (fs : Seq Field) (k : ℕ) (d : Field) → k < length fs → drop k fs ≡ get_or fs k d ∷ drop (k + 1) fs
 drop-at [] k d h = absurd (omega arith)

@@ -1,62 +1,52 @@
-//! Data types as text, by `Display`, in the forms of pyarrow. Nothing takes memory.
+//! Data types and fields as text, by `Display` and `Debug` alike, in the forms of pyarrow. Nothing takes memory.
 ghost use Rattle.std.specs.Prelude.{◌≡◌, ◌++◌, codes, decimal, false, get_or, option_map, pos};
 ghost use Rattle.std.specs.Fmt.{WritesOnOk, signed_decimal};
 ghost use Rattle.nest_memory.specs.TypeOf.{field_list_of, field_of, text_of, type_of};
 ghost use Rattle.nest_memory.specs.TypeTree as types;
 ghost use Rattle.nest_memory.specs.TypeTree.{is_pair};
-ghost use Rattle.nest_show.specs.TypeText.{entries_end, id_at, integer_text, mode_text, nullable_text, order_text, separator_text, sorted_text, text_of_entries, text_of_field, text_of_fields, text_of_pair, text_of_part, text_of_parts, text_of_picks, text_of_type, unit_text, unusual};
+ghost use Rattle.nest_memory.specs.TypeText.{entries_end, id_at, integer_text, mode_text, nullable_text, order_text, separator_text, sorted_text, text_of_entries, text_of_field, text_of_fields, text_of_pair, text_of_part, text_of_parts, text_of_picks, text_of_type, unit_text, unusual};
 
-use nest_memory::datatypes::{DataType, Field, IntegerType, IntervalUnit, TimeUnit, UnionMode};
+use crate::datatypes::{DataType, Field, IntegerType, IntervalUnit, TimeUnit, UnionMode};
 use std::fmt;
 use std::fmt::Formatter;
 
-/// The text of a data type.
-#[derive(Drop)]
-pub struct TypeText<'a> {
-    data_type: &'a DataType,
-}
-
-impl<'a> TypeText<'a> {
-    /// The text of a data type.
-    pub fn of(data_type: &'a DataType) -> TypeText<'a>
-        ensures { type_of result.data_type.now ≡ type_of data_type.now }
-    {
-        TypeText { data_type }
-    }
-}
-
-/// The text of a field.
-#[derive(Drop)]
-pub struct FieldText<'a> {
-    field: &'a Field,
-}
-
-impl<'a> FieldText<'a> {
-    /// The text of a field.
-    pub fn of(field: &'a Field) -> FieldText<'a>
-        ensures { field_of result.field.now ≡ field_of field.now }
-    {
-        FieldText { field }
-    }
-}
-
-impl fmt::Display for FieldText<'_> {
+impl fmt::Display for DataType {
     ghost use Rattle.std.specs.Prelude.{Some};
 
-    ghost output = { λ t. Some (text_of_field (field_of t.field.now)) };
+    ghost output = { λ t. Some (text_of_type (type_of t)) };
 
     fn fmt<W: fmt::Write>(&self, f: &mut fmt::Formatter<W>) -> fmt::Result {
-        write_field(f, self.field)
+        write_type(f, self)
     }
 }
 
-impl fmt::Display for TypeText<'_> {
+impl fmt::Debug for DataType {
     ghost use Rattle.std.specs.Prelude.{Some};
 
-    ghost output = { λ t. Some (text_of_type (type_of t.data_type.now)) };
+    ghost debug_output = { λ t. Some (text_of_type (type_of t)) };
 
     fn fmt<W: fmt::Write>(&self, f: &mut fmt::Formatter<W>) -> fmt::Result {
-        write_type(f, self.data_type)
+        write_type(f, self)
+    }
+}
+
+impl fmt::Display for Field {
+    ghost use Rattle.std.specs.Prelude.{Some};
+
+    ghost output = { λ t. Some (text_of_field (field_of t)) };
+
+    fn fmt<W: fmt::Write>(&self, f: &mut fmt::Formatter<W>) -> fmt::Result {
+        write_field(f, self)
+    }
+}
+
+impl fmt::Debug for Field {
+    ghost use Rattle.std.specs.Prelude.{Some};
+
+    ghost debug_output = { λ t. Some (text_of_field (field_of t)) };
+
+    fn fmt<W: fmt::Write>(&self, f: &mut fmt::Formatter<W>) -> fmt::Result {
+        write_field(f, self)
     }
 }
 
@@ -131,7 +121,7 @@ fn interval(unit: IntervalUnit) -> &'static str
     }
 }
 
-#[cycle(type_text)]
+#[cycle(texts)]
 fn write_type<W: fmt::Write>(f: &mut Formatter<W>, t: &DataType) -> fmt::Result
     ensures { WritesOnOk W.write_str_gives f.old result (text_of_type (type_of t.now)) f.new }
 {
@@ -223,7 +213,7 @@ fn integer(key: IntegerType) -> &'static str
     }
 }
 
-#[cycle(type_text)]
+#[cycle(texts)]
 fn write_items<W: fmt::Write>(f: &mut Formatter<W>, head: &str, field: &Field) -> fmt::Result
     ensures { WritesOnOk W.write_str_gives f.old result (head.now ++ (text_of_field (field_of field.now) ++ codes ">")) f.new }
 {
@@ -233,7 +223,7 @@ fn write_items<W: fmt::Write>(f: &mut Formatter<W>, head: &str, field: &Field) -
 }
 
 /// A map's key and value, or its entries' type where that is no struct of two fields.
-#[cycle(type_text)]
+#[cycle(texts)]
 fn write_map<W: fmt::Write>(f: &mut Formatter<W>, entries: &Field, sorted: bool) -> fmt::Result
     ensures { WritesOnOk W.write_str_gives f.old result (codes "map<" ++ text_of_entries sorted (field_of entries.now)) f.new }
 {
@@ -256,7 +246,7 @@ fn is_pair(t: &DataType) -> bool
 }
 
 /// The two fields of a struct; of anything else nothing.
-#[cycle(type_text)]
+#[cycle(texts)]
 fn write_pair<W: fmt::Write>(f: &mut Formatter<W>, t: &DataType) -> fmt::Result
     ensures { WritesOnOk W.write_str_gives f.old result (text_of_pair (type_of t.now)) f.new }
 {
@@ -266,7 +256,7 @@ fn write_pair<W: fmt::Write>(f: &mut Formatter<W>, t: &DataType) -> fmt::Result
     }
 }
 
-#[cycle(type_text)]
+#[cycle(texts)]
 fn write_parts<W: fmt::Write>(f: &mut Formatter<W>, fields: &[Field]) -> fmt::Result
     ensures { WritesOnOk W.write_str_gives f.old result (text_of_parts (field_list_of fields.now)) f.new }
 {
@@ -279,7 +269,7 @@ fn write_parts<W: fmt::Write>(f: &mut Formatter<W>, fields: &[Field]) -> fmt::Re
 }
 
 /// The type of a map's key or value, and its name where that is not the usual one.
-#[cycle(type_text)]
+#[cycle(texts)]
 fn write_part<W: fmt::Write>(f: &mut Formatter<W>, usual: &str, field: &Field) -> fmt::Result
     ensures { WritesOnOk W.write_str_gives f.old result (text_of_part usual.now (field_of field.now)) f.new }
 {
@@ -313,7 +303,7 @@ fn write_unusual<W: fmt::Write>(f: &mut Formatter<W>, usual: &str, name: &str) -
 }
 
 /// A field: its name, its type, and whether its values may not be null.
-#[cycle(type_text)]
+#[cycle(texts)]
 fn write_field<W: fmt::Write>(f: &mut Formatter<W>, field: &Field) -> fmt::Result
     ensures { WritesOnOk W.write_str_gives f.old result (text_of_field (field_of field.now)) f.new }
 {
@@ -335,7 +325,7 @@ fn separator(after: bool) -> &'static str
     if after { ", " } else { "" }
 }
 
-#[cycle(type_text)]
+#[cycle(texts)]
 fn write_fields<W: fmt::Write>(f: &mut Formatter<W>, head: &str, fields: &[Field]) -> fmt::Result
     ensures { WritesOnOk W.write_str_gives f.old result (head.now ++ (text_of_fields false (field_list_of fields.now) ++ codes ">")) f.new }
 {
@@ -350,7 +340,7 @@ fn write_fields<W: fmt::Write>(f: &mut Formatter<W>, head: &str, fields: &[Field
 }
 
 /// The fields of a union, each with its type id.
-#[cycle(type_text)]
+#[cycle(texts)]
 fn write_union<W: fmt::Write>(
     f: &mut Formatter<W>,
     head: &str,

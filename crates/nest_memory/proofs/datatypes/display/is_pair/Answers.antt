@@ -2,7 +2,7 @@ use Rattle.std.proofs.Common.{rules, ◌≡◌, ap, sym, ◌∙◌, nat_eq, leng
 use Rattle.nest_memory.specs.TypeOf.{type_of, field_list_of, are_two-field_list_of}
 use Rattle.nest_memory.specs.TypeTree.{struct, is_pair}
 use Rattle.nest_memory.specs.declared.datatypes.DataType.{the_lemmas}
-use Rattle.nest_show.proofs.type_text.is_pair.Goals as goal
+use Rattle.nest_memory.proofs.datatypes.display.is_pair.Goals as goal
 
 pub returns-in-Struct : goal.returns-in-Struct
 returns-in-Struct c =

@@ -3,9 +3,9 @@ use Rattle.std.specs.Fmt.{signed_decimal}
 use Rattle.std.proofs.Common.{[], ◌++◌, codes, refl, rules, arith}
 use Rattle.std.proofs.Output.{has_written_append, has_written_of_eq, writes_in_calls_nil}
 use Rattle.nest_memory.specs.TypeOf.{field_of}
-use Rattle.nest_show.specs.TypeText.{text_of_field, id_at}
-use Rattle.nest_show.proofs.Spelled.{fields-step, fields-end, parts-two, parts-other, picks-step, picks-end}
-use Rattle.nest_show.proofs.type_text.+type_text.Goals as goal
+use Rattle.nest_memory.specs.TypeText.{text_of_field, id_at}
+use Rattle.nest_memory.proofs.TypeTexts.{fields-step, fields-end, parts-two, parts-other, picks-step, picks-end}
+use Rattle.nest_memory.proofs.datatypes.display.+texts.Goals as goal
 
 pub write_fields-loop-field-init : goal.write_fields-loop-field-init
 write_fields-loop-field-init g t c plain = ([], record { wrote = writes_in_calls_nil _ _; plain = plain }, refl)

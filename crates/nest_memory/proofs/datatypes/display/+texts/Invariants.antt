@@ -2,8 +2,8 @@ use Rattle.std.proofs.Common.{◌≡◌, ℕ, List, ◌++◌, false, drop}
 use Rattle.std.specs.Prelude.{option_map}
 use Rattle.std.specs.Fmt.{HasWritten, IsPlainFormatter}
 use Rattle.nest_memory.specs.TypeOf.{field_list_of}
-use Rattle.nest_show.specs.TypeText.{text_of_fields, text_of_picks}
-use Rattle.nest_show.proofs.type_text.+type_text.Given as goal
+use Rattle.nest_memory.specs.TypeText.{text_of_fields, text_of_picks}
+use Rattle.nest_memory.proofs.datatypes.display.+texts.Given as goal
 
 abbrev pub invariant-write_fields-loop-field : goal.invariant-write_fields-loop-field
 invariant-write_fields-loop-field g l =
