@@ -17,7 +17,7 @@ pub use Rattle.nest_memory.specs.TypeOf.{field_list_of, type_of}
 pub use Rattle.nest_memory.specs.TypeTree.{fields_of, ids_of}
 pub use Rattle.nest_memory.specs.declared.error.Error.TheVariants.{Memory, Overflow}
 pub use Rattle.nest_model.specs.Accessors.{child_at, child_of, children_of, key_at, key_type_of, keys_of, offsets_of, start_of, types_of, union_offsets_of, validity_of, with_validity}
-pub use Rattle.nest_model.specs.Array.{TopFits}
+pub use Rattle.nest_model.specs.Array.{AreArrays, IsArray, TopFits}
 pub use Rattle.nest_model.specs.Checks.{Pass}
 pub use Rattle.nest_model.specs.Cut.{cut_layout}
 pub use Rattle.nest_model.specs.Fits.{FirstFault, Fits, Names, ValidityFault, validity_checks}

@@ -7,6 +7,7 @@
 #![tactic(auto)]
 
 pub mod downcasts;
+pub mod levels;
 
 ghost use Rattle.std.specs.Prelude.{◌≡◌, ◌+◌, ◌*◌, ◌≤◌, ◌<◌, ◌^◌, ◌↔◌, ◌⊎◌, false, true, Some, IsTrue, IfOk, IfErr, IsErrOf, IsOkUnless, MatchOption, MatchResult, get_or, length, map, not, pos, alloc_error};
 ghost use Rattle.nest_memory.specs.declared.datatypes.physical_type.PhysicalType.TheVariants as physical;
