@@ -4,6 +4,7 @@
 #![tactic(auto)]
 
 mod arrays;
+mod rows;
 
 use anyhow::Result;
 use bench_tools::{begin, is_measured, tell};
@@ -36,7 +37,7 @@ fn run_plain<R: Clock + Print + AllocGlobal>(rt: &R, n: usize, measured: bool) -
 }
 
 /// Writes an array, if it was made.
-fn run_array<R: Clock + Print + AllocGlobal>(
+pub(crate) fn run_array<R: Clock + Print + AllocGlobal>(
     rt: &R,
     kind: &str,
     array: Result<AnyArray, Error>,
@@ -64,7 +65,8 @@ fn run_all<R: Clock + Print + AllocGlobal>(rt: &R, n: usize, measured: bool) -> 
         measured,
     )?;
     let records = arrays::records(rt.alloc(), n);
-    run_array(rt, "records of a number and a text", records, measured)
+    run_array(rt, "records of a number and a text", records, measured)?;
+    rows::run(rt, n, measured)
 }
 
 fn main(rt: HostRuntime) -> Result<()> {
