@@ -2,7 +2,8 @@
 """Lists every public call of the libraries and of the program, its refusals, and the tests that make it: docs/CALLS.md.
 
     python3 scripts/list_calls.py --check    fails where the page isn't what the sources say, or where no test makes a
-                                             call that can answer Memory (what is run without a word, too)
+                                             call that can answer Memory, or where docs/DIFFERENCES.md names no
+                                             test (what is run without a word, too)
     python3 scripts/list_calls.py --write    writes the page
 
 It reads the .rt files alone, so it runs in seconds on a fresh checkout. How a call is found in a test is said at the
@@ -255,6 +256,13 @@ def row(call):
     return f"| `{call.shown()}` | `{where}` | {', '.join(sorted(call.errors, key=lambda e: (e == 'Memory', e)))} | {tests} |"
 
 
+def unknown_tests(tests):
+    """What docs/DIFFERENCES.md names in the last cell of a row and is no test."""
+    with open(os.path.join("docs", "DIFFERENCES.md"), encoding="utf-8") as differences:
+        named = re.findall(r"\| `((?:\w+::)+\w+)` \|$", differences.read(), re.M)
+    return sorted(set(named) - {it.path() for it in tests})
+
+
 def main():
     sources, bodies = Sources(), {}
     for test in sources.tests():
@@ -265,6 +273,9 @@ def main():
     if "--write" in sys.argv[1:]:
         with open(PAGE, "w", encoding="utf-8") as out:
             out.write(text)
+    unknown = unknown_tests(sources.tests())
+    for name in unknown:
+        print(f"docs/DIFFERENCES.md names {name}, which is no test")
     for call in missing:
         print(f"no test makes {call.path()}")
     stale = not os.path.exists(PAGE) or open(PAGE, encoding="utf-8").read() != text
@@ -272,7 +283,7 @@ def main():
         print(f"{PAGE} is not what the sources say: python3 scripts/list_calls.py --write")
     made = sum(1 for c in sources.calls if c.tests)
     print(f"{len(sources.calls)} calls, {made} made by a test; {len(missing)} that can answer Memory are made by none")
-    sys.exit(1 if missing or stale else 0)
+    sys.exit(1 if missing or stale or unknown else 0)
 
 
 main()

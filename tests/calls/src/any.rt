@@ -21,8 +21,10 @@
 //! | Dictionaries over a child of another type, over one with a row, and of values with children | `nested_dictionaries::dictionaries_over_another_child_are_refused` |
 //! | "A", "B", null, "A" are frozen to the keys 0, 1, null, 0 over two texts; the emptied builder takes "C" by key 0 | `nested_dictionaries::each_text_has_one_key` |
 //! | A number that was pushed twice is one value with a key, another has none | `nested_dictionaries::a_number_is_looked_up` |
+//! | Records 1, null and 2 slot by slot, and the raw numbers below them; a fourth that is not told keeps them from being frozen | `slots::told_records_are_the_slots` |
 
 mod dictionaries;
 mod known_parts;
 mod nested_dictionaries;
 mod records;
+mod slots;

@@ -35,6 +35,8 @@
 //! | A builder of dictionaries by items of its type: keys, values, what its rows hold; cut, frozen, shared, turned into its array | `dictionaries::items_of_bytes_stand_once_among_the_values`, `dictionaries::the_first_rows_are_kept`, `dictionaries::rows_are_frozen_and_shared`, `dictionaries::a_builder_becomes_its_array` |
 //! | Rows by themselves are told, joined and frozen, also over their items, of lists by either width and of one size | `told_rows` |
 //! | What another builder would be made of: flat builders by their parts, pushing by `extend_by_push` and `extend_nulls`, data types, keys | `by_parts` |
+//! | Rows that were accepted, of lists of pairs, of lists of one size and by keys, slot by slot; extensions are kept | `frozen` |
+//! | Items that an iterator gives whose size hint is loose | `hints` |
 
 mod by_parts;
 mod bytes;
@@ -42,6 +44,8 @@ mod dictionaries;
 mod fixed_size_binaries;
 mod fixed_size_lists;
 mod flat;
+mod frozen;
+mod hints;
 mod key_tables;
 mod lists;
 mod makers;

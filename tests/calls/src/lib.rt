@@ -19,4 +19,6 @@ mod memory;
 #[cfg(test)]
 mod scan;
 #[cfg(test)]
+mod show;
+#[cfg(test)]
 mod take;

@@ -16,6 +16,7 @@ use nest_flat::utf8::Utf8Array;
 use nest_memory::bitmap::immutable::Bitmap;
 use nest_memory::datatypes::{DataType, UnionMode};
 use nest_memory::error::Error;
+use nest_show::writing::json_text;
 use nest_take::{filter, take};
 use std::alloc::Global;
 
@@ -242,6 +243,22 @@ pub fn parts(trial: &mut Trial, alloc: Global) -> Result<(), Wrong> {
     expect(equal_windows(&Window::of(&items), &window), "value")?;
     let shared = trial.again(|| lists.clone(alloc)?.arced(alloc))?;
     expect(*shared == lists.boxed(), "arced")
+}
+
+/// The text of an array, of a part of it, of a scalar and of a data type.
+pub fn shown(trial: &mut Trial, alloc: Global) -> Result<(), Wrong> {
+    let lists = trial.again(|| lists_of_lists(alloc))?.boxed();
+    let want = "[[],[[1],[]],[[null,3]]]";
+    let text = trial.again(|| Ok(json_text(alloc, &lists)?))?;
+    expect(text.as_str() == want, "the text of an array")?;
+    let text = trial.again(|| Ok(json_text(alloc, &Window::new(&lists, 2, 1))?))?;
+    expect(text.as_str() == "[[[null,3]]]", "the text of a part")?;
+    let scalar = trial.again(|| new_scalar(alloc, &lists, 1))?;
+    let text = trial.again(|| Ok(json_text(alloc, &scalar)?))?;
+    expect(text.as_str() == "[[1],[]]", "the text of a scalar")?;
+    let data_type = trial.again(|| list(alloc, DataType::Int32))?;
+    let text = trial.again(|| Ok(format!(in alloc; "{data_type}")?))?;
+    expect(text.as_str() == "list<a: int32>", "the text of a data type")
 }
 
 /// Null and empty arrays.

@@ -1,11 +1,11 @@
 //! Builders of any kind, and the arrays that they freeze to.
 
 use crate::arrays::calls;
-use crate::parts::{flat_record, keyed, large_list, list, pairs, record};
+use crate::parts::{field, flat_record, keyed, large_list, list, pairs, record};
 use crate::trial::Trial;
 use crate::twins::freeze;
 use drawn_builders::makers::no_rows;
-use drawn_builders::wrong::Wrong;
+use drawn_builders::wrong::{Wrong, expect};
 use nest_array::AnyArray;
 use nest_memory::datatypes::{DataType, IntegerType};
 use nest_memory::error::Error;
@@ -47,4 +47,34 @@ pub fn records_of_dictionaries(trial: &mut Trial, alloc: Global) -> Result<(), W
         record(alloc, texts, bytes)
     })?;
     calls(trial, alloc, &array)
+}
+
+/// Lists of records of a text by a key, with the values that their keys name.
+pub fn lists_of_keyed_records(trial: &mut Trial, alloc: Global) -> Result<(), Wrong> {
+    let array = frozen(trial, alloc, || {
+        let texts = keyed(alloc, IntegerType::Int8, DataType::Utf8)?;
+        list(
+            alloc,
+            DataType::Struct(vec![in alloc; field(alloc, texts)?]?),
+        )
+    })?;
+    calls(trial, alloc, &array)?;
+    expect(
+        values_named(&array) == Some(2),
+        "the values of a dictionary",
+    )
+}
+
+/// How many values the keys of the records below lists name.
+fn values_named(lists: &AnyArray) -> Option<usize> {
+    let AnyArray::List(lists) = lists else {
+        return None;
+    };
+    let AnyArray::Struct(records) = lists.values() else {
+        return None;
+    };
+    match records.values() {
+        [AnyArray::Dictionary(keyed)] => Some(keyed.values().len()),
+        _ => None,
+    }
 }

@@ -1,9 +1,9 @@
-//! Every request for memory of builders, constructors, copies, taken rows, scalars and iterators, refused in turn.
+//! Every request for memory of builders, constructors, copies, taken rows, scalars, iterators and texts, refused in turn.
 //!
 //! `rt try --test --fail-alloc` refuses one request of each test, counted from its beginning. So a test asks for blocks and
 //! gives them back until the request with its own number is the one that is refused; its scenario then asks for its own. A
 //! call that is refused answers `Memory` and changes nothing, the call made again succeeds, and what is made in the end is
-//! right. `scripts/test` writes a test for each request.
+//! right. `scripts/test` writes a test for each request, and one of how many a scenario makes.
 #![tactic(auto)]
 
 mod any_kind;
@@ -44,6 +44,18 @@ fn ask(alloc: Global, blocks: usize) -> Result<(), AllocError> {
         drop(Box::new(alloc, block)?);
     }
     Ok(())
+}
+
+/// How many requests a scenario makes where none is refused: the request of the number REFUSED is met behind them.
+pub fn requests_of(alloc: Global, scenario: Scenario) -> Result<Option<usize>, Wrong> {
+    let mut trial = Trial::new();
+    scenario.run(&mut trial, alloc)?;
+    for block in 1..REFUSED {
+        if Box::new(alloc, block).is_err() {
+            return Ok(REFUSED.checked_sub(block));
+        }
+    }
+    Ok(None)
 }
 
 /// Runs a scenario where its request of that number, the first being 1, is the one that is refused.

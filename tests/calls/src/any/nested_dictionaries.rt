@@ -158,6 +158,11 @@ fn dictionaries_over_another_child_are_refused(rt: HostRuntime) {
     let not_empty = Some(Error::InvalidArgumentError(Argument::ChildNotEmpty));
     let wrong_type = Some(Error::OutOfSpec(Spec::WrongType));
     let lists = lists_of(alloc, DataType::Int64).expect(&rt, "a data type");
+    let keys = keyed_type(alloc, DataType::Utf8).expect(&rt, "a data type");
+    for values in [DataType::Null, keys] {
+        let data_type = keyed_type(alloc, values).expect(&rt, "a data type");
+        assert!(rt; refused(alloc, false, data_type) == wrong_type);
+    }
     assert!(rt;
         refused(
             alloc,

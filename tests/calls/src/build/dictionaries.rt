@@ -105,10 +105,12 @@ fn a_full_key_type_takes_known_values(rt: HostRuntime) {
     }
     let new = push_pair(&mut pairs, 128);
     let other_kind = push_plain(&mut pairs, Plain::Boolean(true));
+    let longer = push_plain(&mut pairs, Plain::Bytes(b"abc"));
     let known = push_pair(&mut pairs, 5);
     let values = pairs.values().len();
     let rows = pairs.len();
     assert!(rt; new == Err(Error::Overflow));
+    assert!(rt; longer == Err(Error::Overflow));
     assert!(rt; other_kind == Err(Error::InvalidArgumentError(Argument::ItemType)));
     assert!(rt; known == Ok(()));
     assert!(rt; values == 128);

@@ -1,8 +1,8 @@
 //! Arrays over other arrays, from parts. What holds a child is made last, and what has a data type is let go by name where
 //! a later part is refused.
 
-use crate::making::flat::{any_numbers, texts};
-use crate::making::parts::{buffer, offsets, validity};
+use crate::show::making::flat::{any_numbers, texts};
+use crate::show::making::parts::{buffer, offsets, validity};
 use nest_array::{
     AnyArray, AnyKeys, DictionaryArray, FixedSizeListArray, ListArray, MapArray, StructArray,
     UnionArray,

@@ -1,6 +1,6 @@
 //! Arrays without children, from parts.
 
-use crate::making::parts::{buffer, offsets, validity};
+use crate::show::making::parts::{buffer, offsets, validity};
 use nest_array::{AnyArray, FixedSizeBinaryArray, NullArray};
 use nest_flat::any_primitive::AnyPrimitive;
 use nest_flat::binary::BinaryArray;

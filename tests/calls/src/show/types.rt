@@ -1,5 +1,5 @@
 //! The text of data types, in the forms that pyarrow prints.
-use crate::making::{nested, tagged};
+use crate::show::making::{nested, tagged};
 use nest_array::AnyArray;
 use nest_memory::datatypes::{DataType, Field, IntegerType, IntervalUnit, TimeUnit, UnionMode};
 use nest_memory::error::Error;
@@ -160,7 +160,13 @@ fn extensions_and_fields(rt: HostRuntime) -> Result<(), Error> {
     let field = Field::new(alloc, "id", DataType::Int64, false)?;
     let text = format!(in alloc; "{}", field)?;
     assert_eq!(rt; text.as_str(), "id: int64 not null");
-    assert_eq!(rt; format!(in alloc; "{field:?}")?.as_str(), "id: int64 not null");
-    assert_eq!(rt; format!(in alloc; "{:?}", field.data_type)?.as_str(), "int64");
+    assert_eq!(rt;
+        format!(in alloc; "{field:?}")?.as_str(),
+        "id: int64 not null"
+    );
+    assert_eq!(rt;
+        format!(in alloc; "{:?}", field.data_type)?.as_str(),
+        "int64"
+    );
     Ok(())
 }

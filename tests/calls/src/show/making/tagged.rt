@@ -1,8 +1,8 @@
 //! Lists of records with a dictionary inside, from parts.
 
-use crate::making::flat::any_numbers;
-use crate::making::nested::keyed;
-use crate::making::parts::offsets;
+use crate::show::making::flat::any_numbers;
+use crate::show::making::nested::keyed;
+use crate::show::making::parts::offsets;
 use nest_array::{AnyArray, ListArray, StructArray};
 use nest_memory::datatypes::field::Field;
 use nest_memory::datatypes::{DataType, IntegerType};

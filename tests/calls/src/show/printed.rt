@@ -1,6 +1,6 @@
 //! The text of arrays of each kind.
-use crate::making::parts::{buffer, offsets};
-use crate::making::{flat, nested, tagged};
+use crate::show::making::parts::{buffer, offsets};
+use crate::show::making::{flat, nested, tagged};
 use nest_array::{AnyArray, NullArray, Window, new_scalar};
 use nest_flat::any_primitive::AnyPrimitive;
 use nest_flat::primitive::PrimitiveArray;

@@ -1,0 +1,5 @@
+//! What worked arrays and data types print.
+
+mod making;
+mod printed;
+mod types;
