@@ -3,9 +3,9 @@
 //! freeze hands over what was grown.
 #![tactic(auto)]
 
-ghost use Rattle.std.specs.Prelude.{◌≡◌, ℕ, ◌+◌, ◌*◌, ◌<◌, ◌≤◌, ◌^◌, ◌↔◌, ◌⊎◌, List, [], ◌∷◌, ◌++◌, false, IfOk, IfErr, OnOk, OnErr, IsErrOf, IsOkUnless, IsTrue, length, slice_get, Some, count_by, not, vec_len, take, map, sum, alloc_error};
+ghost use Rattle.std.specs.Prelude.{◌≡◌, ℕ, ◌+◌, ◌*◌, ◌<◌, ◌≤◌, ◌^◌, ◌↔◌, ◌⊎◌, List, [], ◌∷◌, ◌++◌, false, IfOk, IfErr, OnOk, OnErr, IsErrOf, IsOkUnless, IsTrue, length, slice_get, Some, count_by, not, vec_len, take, map, string_bytes, sum, alloc_error};
 ghost use Rattle.nest_memory.specs.declared.error.Spec.TheVariants.{Offsets as WrongOffsets};
-ghost use Rattle.promises_memory.specs.Words.{Memory, OutOfSpec, Overflow, ValidityLength, are_offsets, bits_from, cut, ends_from, field_of, last_of, numbers, type_of};
+ghost use Rattle.promises_memory.specs.Words.{Memory, OutOfSpec, Overflow, ValidityLength, are_offsets, bits_from, cut, ends_from, field_of, last_of, numbers, text_of_type, type_of};
 
 use nest_memory::bitmap::immutable::Bitmap;
 use nest_memory::bitmap::mutable::MutableBitmap;
@@ -14,7 +14,7 @@ use nest_memory::datatypes::{DataType, Field};
 use nest_memory::error::Error;
 use nest_memory::offset::Offset;
 use nest_memory::offsets::{Offsets, OffsetsBuffer};
-use std::alloc::Global;
+use std::alloc::{AllocError, Global};
 
 /// A buffer is the vector that it was made of.
 pub fn buffer_of<T: Copy>(alloc: Global, items: Vec<T>) -> Result<Buffer<T>, Error>
@@ -177,4 +177,12 @@ pub fn copy_of_type(data_type: &DataType, alloc: Global) -> Result<DataType, Err
     ensures err { IsOkUnless result (Memory alloc_error) }
 {
     data_type.clone(alloc)
+}
+
+/// A data type is printed as its text: of a map the types of its key and its value, whether its keys are sorted, and each name that
+/// isn't the usual one.
+pub fn printed_type(alloc: Global, data_type: &DataType) -> Result<String, AllocError>
+    ensures { IfOk result (λ text. string_bytes text ≡ text_of_type (type_of data_type.now)) }
+{
+    format!(in alloc; "{data_type}")
 }
