@@ -1,3 +1,6 @@
 mod Nesting
+mod OneText
+mod Pieces
 mod Quoting
 mod SingleSlots
+mod Typed
