@@ -31,8 +31,9 @@
 //!
 //! *A builder freezes to what was pushed, and a refused push changes no slot at any depth*: `push_null`, `push_value`, `push_item`,
 //! `push_items`, `join_rows`, `push_each`, `cut_rows`, `freeze_rows`, and a push and a freeze together in `push_and_freeze`, in [`rows`], each once
-//! for every builder, at any nesting; there too what builders of lists do besides (`tell_row`, `tell_rows`, `push_values`), and those of dictionaries (`different_values`, `key_of_value`); what the enum of builders and builders of records do, in [`any`]. Of a flat
-//! builder by itself [`builders`] says more: `push_native`, `push_truth`, `push_bytes`, `push_text` and their freezes.
+//! for every builder, at any nesting; there too what builders of lists do besides (`tell_row`, `tell_rows`, `push_values`), and those of dictionaries (`dictionaries_over`, `different_values`, `key_of_value`),
+//! of nulls and of byte strings of one size (`push_byte_string`, `take_last`); what the enum of builders and builders of records do, in [`any`]. Of a flat
+//! builder by itself [`builders`] says more: `push_native`, `push_truth`, `push_bytes`, `push_text`, their freezes, and what they show.
 //!
 //! Of every data type without a fault there are null and empty arrays: [`empties`].
 //!

@@ -2,18 +2,25 @@
 //! are theirs alone.
 #![tactic(auto)]
 
-ghost use Rattle.std.specs.Prelude.{◌≡◌, ◌↔◌, ◌⊎◌, OnOk, OnErr, IfErr, IfOk, IsErrOf, IsTrue, MatchResult, Some, alloc_error};
+ghost use Rattle.std.specs.Borrow.{LendsIf, sem};
+ghost use Rattle.std.specs.Prelude.{◌≡◌, ◌↔◌, ◌⊎◌, ℕ, OnOk, OnErr, IfErr, IfOk, IsErrOf, IsTrue, MatchResult, Some, option_map, alloc_error};
+ghost use Rattle.nest_any.specs.contracts.any.AnyMutableArray.{the_row as any_row};
+ghost use Rattle.nest_any.specs.contracts.lists.ListBuilder.{the_row as list_row};
+ghost use Rattle.nest_any.specs.contracts.struct_.MutableStructArray.{the_row as struct_row};
+ghost use Rattle.nest_any.specs.declared.any.AnyMutableArray.TheVariants.{List, Struct};
 ghost use Rattle.nest_model.specs.BuilderItem.{null as null_item};
 ghost use Rattle.nest_model.specs.BuilderTree as builders;
-ghost use Rattle.promises_any.specs.Words.{Accepted, AreEachWhole, FailFirst, HasWholeChildren, InvalidArgumentError, IsWhole, Memory, Pass, Told, Unfinished, bits_told, builder_type, emptied, first_rows, item_refusal, layout_type, nested_checks, nested_over, own_slots, row_checks, slots_of, struct_checks, tree_of, trees_of, type_of};
+ghost use Rattle.promises_any.specs.Words.{Accepted, AreEachWhole, FailFirst, HasWholeChildren, InvalidArgumentError, IsWhole, Memory, Pass, Stands, Told, Unfinished, as_list, as_struct, bits_told, builder_type, child_at, dictionary_child, dictionary_tree, emptied, first_rows, item_refusal, layout_of, layout_type, nested_checks, nested_over, own_slots, row_checks, slots_of, struct_checks, tree_of, trees_of, type_of};
 
-use nest_any::{AnyMutableArray, MutableStructArray};
-use nest_array::StructArray;
+use nest_any::{AnyMutableArray, AnyMutableDictionary, ListBuilder, MutableStructArray};
+use nest_array::{AnyArray, StructArray};
 use nest_build::array::MutableArray;
+use nest_flat::plain::AsPlain;
 use nest_memory::bitmap::mutable::MutableBitmap;
 use nest_memory::datatypes::DataType;
 use nest_memory::error::Error;
 use std::alloc::Global;
+use std::rc::Rc;
 
 /// Lists of any kind over an empty child, or the first check that fails.
 pub fn new_nested(
@@ -52,6 +59,37 @@ pub fn push_null_of_any(builder: &mut AnyMutableArray) -> Result<(), Error>
     ensures refused { IfErr result (λ e. (e ≡ Memory alloc_error) ⊎ (item_refusal null_item (tree_of builder.old) ≡ Some e)) }
 {
     builder.push_null()
+}
+
+/// The child of lists for 0, child i of records; none of another kind.
+pub fn child_of_any(builder: &mut AnyMutableArray, i: usize) -> Option<&mut AnyMutableArray>
+    ensures { option_map (λ c. tree_of c.now) result ≡ child_at i (tree_of builder.old) }
+{
+    builder.child(i)
+}
+
+/// The builder of lists that it is: once that was written over, it is what was written there; a builder of another kind is lent
+/// to nobody, and stays.
+pub fn lists_of_any(builder: &mut AnyMutableArray) -> Option<&mut ListBuilder>
+    ensures* writes_back { sem 𝓛 (LendsIf any_row list_row builder.entry result List builder.old) }
+    ensures value { option_map (λ lists. lists.now) result ≡ as_list builder.old }
+{
+    builder.as_list_mut()
+}
+
+/// The same of records.
+pub fn records_of_any(builder: &mut AnyMutableArray) -> Option<&mut MutableStructArray>
+    ensures* writes_back { sem 𝓛 (LendsIf any_row struct_row builder.entry result Struct builder.old) }
+    ensures value { option_map (λ records. records.now) result ≡ as_struct builder.old }
+{
+    builder.as_struct_mut()
+}
+
+/// A value has a place in a builder of dictionaries exactly where the child takes it and it stands among the values.
+pub fn place_of_value<T: AsPlain>(builder: &AnyMutableDictionary, value: &T) -> Option<usize>
+    ensures { (k : ℕ) → (result ≡ Some k) ↔ Stands (dictionary_child (dictionary_tree builder.now)) (T.value value.now) k }
+{
+    builder.key_of(value)
 }
 
 /// A row of what waits in whole children, or the first check that fails; then no level changes.
@@ -94,4 +132,17 @@ pub fn freeze_records(records: &mut MutableStructArray) -> Result<StructArray, E
     ensures errors { IfErr result (λ e. (e ≡ InvalidArgumentError Unfinished) ⊎ (e ≡ Memory alloc_error)) }
 {
     records.freeze()
+}
+
+/// The same array, owned by what shares it, of a builder that is given away.
+pub fn shared_array_of_records(
+    records: MutableStructArray,
+    alloc: Global,
+) -> Result<Rc<AnyArray>, Error>
+    ensures slots { IfOk result (λ r. slots_of (layout_of r.value) ≡ own_slots records) }
+    ensures same_type { IfOk result (λ r. layout_type (layout_of r.value) ≡ builder_type records) }
+    ensures unfinished { IsErrOf result (InvalidArgumentError Unfinished) ↔ ¬ IsWhole records }
+    ensures errors { IfErr result (λ e. (e ≡ InvalidArgumentError Unfinished) ⊎ (e ≡ Memory alloc_error)) }
+{
+    records.into_arc(alloc)
 }

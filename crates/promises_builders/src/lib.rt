@@ -3,6 +3,8 @@
 //! "unchanged" is one equation of every part.
 #![tactic(auto)]
 
+pub mod shown;
+
 ghost use Rattle.std.specs.Prelude.{◌≡◌, ◌≢◌, ◌+◌, ◌≤◌, ◌<◌, ◌⊎◌, ◌↔◌, ◌++◌, ◌∷◌, [], ℕ, List, Option, None, OnOk, OnErr, IfOk, IfErr, IsErrOf, IsOkUnless, length, option_map, alloc_error};
 ghost use Rattle.std.specs.Borrow.{Bor};
 ghost use Rattle.std.specs.Option.{option_copied};

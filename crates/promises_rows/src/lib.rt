@@ -4,13 +4,17 @@
 //! a boxed one too, and then of what builders of lists do besides.
 #![tactic(auto)]
 
+pub mod dictionaries;
+pub mod leaves;
+pub mod owned;
+
 ghost use Rattle.std.specs.Prelude.{◌≡◌, ◌≢◌, ◌≤◌, ◌<◌, ◌+◌, ◌⊎◌, ◌↔◌, ◌++◌, ◌∷◌, [], true, false, ℕ, map, length, option_map, pos, slice_get, take, IsTrue, OnOk, OnErr, IfOk, IfErr, IfSome, IfNone, IsErrOf, IsOkUnless, None, Some, alloc_error};
 ghost use Rattle.std.specs.List.{All, items_where_true};
 ghost use Rattle.std.specs.Option.{option_copied};
 ghost use Rattle.nest_model.specs.BuilderItem.{null as null_item};
 ghost use Rattle.nest_model.specs.BuilderTree as builders;
 ghost use Rattle.nest_model.specs.Slot as slots;
-ghost use Rattle.promises_rows.specs.Words.{Accepted, AreDifferent, CanRead, FailFirst, HasWholeChildren, Holds, InvalidArgumentError, IsOfOtherKind, IsWhole, ItemType, Joined, Memory, Overflow, Pass, Refused, RefusedSome, Stands, Told, ToldLengths, Took, TookAll, TookEach, Unfinished, asked_item, asked_refusal, builder_len, builder_type, cut_builder, dictionary_child, emptied, item_refusal, join_checks, largest_offset, layout_of, layout_type, lengths_checks, list_child, new_fixed_checks, new_list_checks, own_slot, own_slots, plain_value, plain_values, reserve_passes, row_checks, row_item, row_len, rows_told, slot_of_item, slots_of, told_rows_checks, type_of, whole};
+ghost use Rattle.promises_rows.specs.Words.{Accepted, AreDifferent, CanRead, FailFirst, HasWholeChildren, Holds, InvalidArgumentError, IsOfOtherKind, IsWhole, ItemType, Joined, Memory, Overflow, Pass, Refused, RefusedSome, Stands, TellsNulls, Told, ToldLengths, Took, TookAll, TookEach, Unfinished, asked_item, asked_refusal, builder_len, builder_type, cut_builder, dictionary_child, emptied, item_refusal, join_checks, largest_offset, layout_of, layout_type, lengths_checks, list_child, new_fixed_checks, new_list_checks, own_slot, own_slots, plain_value, plain_values, reserve_passes, row_checks, row_item, row_len, rows_told, slot_of_item, slots_of, told_rows_checks, type_of, whole};
 
 use nest_array::AnyArray;
 use nest_build::array::MutableArray;
@@ -28,7 +32,14 @@ use nest_memory::error::Error;
 use std::alloc::Global;
 use std::rc::Rc;
 
-/// A builder tells its rows, and what stands in each.
+/// A builder tells its data type.
+pub fn type_of_rows<B: MutableArray>(builder: &B) -> &DataType
+    ensures { type_of result.now ≡ builder_type (B.model builder.now) }
+{
+    builder.data_type()
+}
+
+/// It tells its rows, and what stands in each.
 pub fn rows_so_far<B: MutableArray>(builder: &B) -> usize
     ensures { result ≡ builder_len (B.model builder.now) }
 {
@@ -40,6 +51,13 @@ pub fn is_row<B: MutableArray>(builder: &B, i: usize) -> bool
     ensures { IsTrue result ↔ own_slot (B.model builder.now) i ≢ slots.null }
 {
     builder.is_valid(i)
+}
+
+/// The same of all rows at once, a bit each; without bits no row is null, but in a builder of nulls.
+pub fn bits_of_rows<B: MutableArray>(builder: &B) -> Option<&MutableBitmap>
+    ensures { TellsNulls (option_map (λ b. b.now) result) (B.model builder.now) }
+{
+    builder.validity()
 }
 
 pub fn holds_value<B: MutableArray>(builder: &B, i: usize, value: &Plain<'_>) -> bool
@@ -154,7 +172,9 @@ pub fn freeze_shared<B: MutableArray>(builder: &mut B, alloc: Global) -> Result<
     ensures slots { IfOk result (λ r. slots_of (layout_of r.value) ≡ own_slots (B.model builder.old)) }
     ensures same_type { IfOk result (λ r. layout_type (layout_of r.value) ≡ builder_type (B.model builder.old)) }
     ensures unfinished { IsErrOf result (InvalidArgumentError Unfinished) ↔ ¬ IsWhole (B.model builder.old) }
+    ensures unchanged { ¬ IsWhole (B.model builder.old) → B.model builder.new ≡ B.model builder.old }
     ensures emptied { IsWhole (B.model builder.old) → B.model builder.new ≡ emptied (B.model builder.old) }
+    ensures errors { IfErr result (λ e. (e ≡ InvalidArgumentError Unfinished) ⊎ (e ≡ Memory alloc_error)) }
 {
     builder.as_arc(alloc)
 }
@@ -170,6 +190,7 @@ pub fn push_each<A: Drop, B: TryPush<A>>(
     ensures count { IfOk result (λ marks. length marks.items ≡ length items.items) }
     ensures taken { IfOk result (λ marks. TookEach B.reads (items_where_true marks.items items.items) (B.model builder.old) (B.model builder.new)) }
     ensures err { OnErr result (B.model builder.new ≡ B.model builder.old) }
+    ensures memory { IsOkUnless result (Memory alloc_error) }
 {
     push_all(alloc, builder, items)
 }
