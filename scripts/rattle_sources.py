@@ -1,4 +1,5 @@
 """Reads the functions, types and traits of .rt files, as far as `list_calls.py` asks: where they stand and what they declare."""
+import functools
 import os
 import re
 
@@ -52,7 +53,7 @@ class File:
         inside = os.path.relpath(path, source(crate))[:-3]
         self.module = [p for p in inside.split(os.sep) if p not in ("mod", "lib", "main")]
         plain = re.sub(r"//[^\n]*|^ghost use[^\n]*", "", self.text, flags=re.M)
-        self.uses = dict(use for found in re.finditer(r"(?:^|\n)\s*(?:pub )?use ([^;]+);", plain) for use in imports(found[1]))
+        self.uses = {name: through_door(use) for found in re.finditer(r"(?:^|\n)\s*(?:pub )?use ([^;]+);", plain) for name, use in imports(found[1])}
         aliases = re.findall(r"^(?:pub )?type (\w+)(<[^=]*>)? = ([^;]+);", plain, re.M)
         self.aliases = {name: (names(generics or ""), parse_type(kind)) for name, generics, kind in aliases}
 
@@ -120,6 +121,18 @@ def imports(text, before=""):
         path, _, name = (before + text).partition(" as ")
         path = path.removesuffix("::self")
         yield name or path.split("::")[-1], path
+
+
+def through_door(path):
+    """Where what the door hands on stands."""
+    return door().get(path, path)
+
+
+@functools.cache
+def door():
+    with open(os.path.join("crates", "tiekvorn", "src", "lib.rt"), encoding="utf-8") as file:
+        lines = re.findall(r"^pub use ([^;]+);", file.read(), re.M)
+    return {f"tiekvorn::{name}": path for line in lines for name, path in imports(line)}
 
 
 class Sources:
@@ -254,6 +267,8 @@ class Sources:
         docs = docs.partition("# Errors")[2] or " ".join(re.findall(r"`[^`]*`", docs))
         words = set(re.findall(r"\w+", docs + " " + function.head.split("->", 1)[1]))
         meant = {error for word in words for error in SPOKEN.get(word, [])}
+        if "the child refuses" in docs:
+            meant |= {"ItemSize", "ItemType", "Overflow"}
         return (words | meant) & self.error_names - {"OutOfSpec", "InvalidArgumentError"}
 
     def method(self, file, owner, name):

@@ -2,8 +2,7 @@
 ghost use Rattle.std.specs.Prelude.{◌≡◌, ◌-◌, ◌≤◌, ◌↔◌, IsTrue};
 ghost use Rattle.guide.specs.Words.{IsSameArray, cut, layout_of, layout_type, len, slots_of};
 
-use nest_array::equal::{equal, equal_windows};
-use nest_array::{AnyArray, Window};
+use tiekvorn::{AnyArray, Window, equal, equal_windows};
 
 /// Whether two columns have the same data type and the same slots, whatever parts they are made of.
 pub fn are_equal(a: &AnyArray, b: &AnyArray) -> bool

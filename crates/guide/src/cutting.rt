@@ -2,10 +2,8 @@
 ghost use Rattle.std.specs.Prelude.{◌≡◌, ◌+◌, ◌≤◌, IfOk, IfErr, IsOkUnless, alloc_error};
 ghost use Rattle.guide.specs.Words.{Memory, ValidityFault, cut, layout_of, layout_type, len, slots_of, with_validity};
 
-use nest_array::{AnyArray, Array, ListArray};
-use nest_memory::bitmap::immutable::Bitmap;
-use nest_memory::error::Error;
 use std::alloc::Global;
+use tiekvorn::{AnyArray, Array, Bitmap, Error, ListArray};
 
 /// The rows from a place on, of a column that is handed in and back.
 pub fn rows_of(column: AnyArray, start: usize, count: usize) -> AnyArray

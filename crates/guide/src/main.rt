@@ -7,7 +7,6 @@ mod cutting;
 mod making;
 mod reading;
 mod sharing;
-mod showing;
 mod taking;
 mod telling;
 

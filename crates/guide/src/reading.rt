@@ -5,12 +5,10 @@ ghost use Rattle.nest_memory.specs.declared.datatypes.physical_type.PrimitiveTyp
 ghost use Rattle.nest_model.specs.Slot as slots;
 ghost use Rattle.guide.specs.Words.{Memory, layout_of, layout_type, len, optional, physical_type, longest, scalar_parts, seal, slot, slots_of, total, validity_of, where_valid, window_slots};
 
-use nest_array::{AnyArray, AnyScalar, ListArray, Window, new_scalar};
-use nest_flat::primitive::PrimitiveArray;
-use nest_flat::utf8::Utf8Array;
-use nest_memory::error::Error;
-use nest_scan::Scan;
 use std::alloc::Global;
+use tiekvorn::{
+    AnyArray, AnyScalar, Error, ListArray, PrimitiveArray, Scan, Utf8Array, Window, new_scalar,
+};
 
 /// The text of a row, `None` where it is null.
 pub fn text_at(texts: &Utf8Array<i32>, i: usize) -> Option<&str>

@@ -3,11 +3,9 @@ ghost use Rattle.std.specs.Prelude.{◌≡◌, IfOk};
 ghost use Rattle.nest_build.specs.Words.{own_slots};
 ghost use Rattle.guide.specs.Words.{layout_of, slots_of};
 
-use nest_array::{AnyArray, Array, ListArray};
-use nest_build::array::MutableArray;
-use nest_memory::error::Error;
 use std::alloc::Global;
 use std::rc::Rc;
+use tiekvorn::{AnyArray, Array, Error, ListArray, MutableArray};
 
 /// The array behind a count of its owners.
 pub fn shared(alloc: Global, lists: ListArray) -> Result<Rc<AnyArray>, Error>

@@ -3,10 +3,8 @@ ghost use Rattle.std.specs.Prelude.{◌≡◌, ◌↔◌, IsTrue, IfOk};
 ghost use Rattle.nest_take.specs.Places.{AreBelow};
 ghost use Rattle.guide.specs.Words.{chosen, layout_of, layout_type, len, mask_places, slots_of};
 
-use nest_array::AnyArray;
-use nest_flat::boolean::BooleanArray;
-use nest_memory::error::Error;
 use std::alloc::Global;
+use tiekvorn::{AnyArray, BooleanArray, Error, filter, take};
 
 /// Whether each place is one of so many rows.
 pub fn are_places(places: &[usize], rows: usize) -> bool
@@ -21,7 +19,7 @@ pub fn rows_at(alloc: Global, column: &AnyArray, places: &[usize]) -> Result<Any
     ensures slots { IfOk result (λ a. slots_of (layout_of a) ≡ chosen (slots_of (layout_of column.now)) places.now) }
     ensures same_type { IfOk result (λ a. layout_type (layout_of a) ≡ layout_type (layout_of column.now)) }
 {
-    nest_take::take(alloc, column, places)
+    take(alloc, column, places)
 }
 
 /// The rows where the mask is true; a null of the mask chooses none.
@@ -29,5 +27,5 @@ pub fn rows_where(alloc: Global, column: &AnyArray, mask: &BooleanArray) -> Resu
     requires { len mask.now ≡ len (layout_of column.now) }
     ensures { IfOk result (λ a. slots_of (layout_of a) ≡ chosen (slots_of (layout_of column.now)) (mask_places (slots_of mask.now))) }
 {
-    nest_take::filter(alloc, column, mask)
+    filter(alloc, column, mask)
 }

@@ -4,56 +4,50 @@ ghost use Rattle.guide.specs.People.{ArePeople};
 use crate::building::{self, any, dictionaries, people, rows};
 use crate::making::parts::validity;
 use crate::making::{flat, nested, refused, tagged};
-use crate::showing::made;
 use crate::{comparing, cutting, reading, sharing, taking};
 use anyhow::Result;
-use nest_any::MutableStructArray;
-use nest_array::{AnyArray, Array, ListArray};
-use nest_build::array::MutableArray;
-use nest_flat::any_native::AnyNative;
-use nest_flat::plain::Plain;
-use nest_flat::primitive::mutable::MutablePrimitiveArray;
-use nest_memory::error::Error;
 use std::rc::Rc;
+use tiekvorn::{
+    AnyArray, AnyNative, Error, Json, ListArray, MutableArray, MutablePrimitiveArray,
+    MutableStructArray, Plain, WriteJson,
+};
 
-/// Prints a name and the rows of an array, or why there is none.
-fn tell<R: Print + AllocGlobal, A: Array + Drop>(
-    rt: &R,
-    name: &str,
-    array: Result<A, Error>,
-) -> Result<()> {
-    let boxed = match array {
+/// Prints a task and the array that it makes, or why there is none.
+fn tell<R: Print, A: WriteJson + Drop>(rt: &R, task: &str, array: Result<A, Error>) -> Result<()> {
+    match array {
         Ok(array) => {
-            let boxed = sharing::boxed(rt.alloc(), &array);
+            let told = println!(rt; "{task}: {}", Json::of(&array));
             drop(array);
-            boxed
+            told?;
         }
-        Err(error) => Err(error),
-    };
-    let text = made(rt.alloc(), boxed)?;
-    println!(rt; "{name}:{}", text.as_str())?;
+        Err(error) => println!(rt; "{task}: {error:?}")?,
+    }
     Ok(())
 }
 
 /// Arrays from parts.
 pub fn making<R: Print + AllocGlobal>(rt: &R) -> Result<()> {
     let alloc = rt.alloc();
-    tell(rt, "numbers", flat::numbers(alloc))?;
-    tell(rt, "truths", flat::truths(alloc))?;
-    tell(rt, "texts", flat::texts(alloc))?;
-    tell(rt, "bytes", flat::bytes(alloc))?;
-    tell(rt, "codes", flat::codes(alloc))?;
-    tell(rt, "nulls", flat::nulls())?;
-    tell(rt, "lists", nested::lists(alloc))?;
-    tell(rt, "pairs", nested::pairs(alloc))?;
-    tell(rt, "records", nested::records(alloc))?;
-    tell(rt, "lists of records", nested::record_lists(alloc))?;
-    tell(rt, "maps", nested::maps(alloc))?;
-    tell(rt, "picks", nested::picks(alloc))?;
-    tell(rt, "keyed", nested::keyed(alloc))?;
-    tell(rt, "tagged", tagged::tagged_lists(alloc))?;
-    tell(rt, "null numbers", refused::null_numbers(alloc))?;
-    tell(rt, "a list past its items", refused::list_past_items(alloc))
+    tell(rt, "make numbers", flat::numbers(alloc))?;
+    tell(rt, "make truths", flat::truths(alloc))?;
+    tell(rt, "make texts", flat::texts(alloc))?;
+    tell(rt, "make bytes", flat::bytes(alloc))?;
+    tell(rt, "make codes", flat::codes(alloc))?;
+    tell(rt, "make nulls", flat::nulls())?;
+    tell(rt, "make lists", nested::lists(alloc))?;
+    tell(rt, "make pairs", nested::pairs(alloc))?;
+    tell(rt, "make records", nested::records(alloc))?;
+    tell(rt, "make lists of records", nested::record_lists(alloc))?;
+    tell(rt, "make maps", nested::maps(alloc))?;
+    tell(rt, "make picks", nested::picks(alloc))?;
+    tell(rt, "make keyed", nested::keyed(alloc))?;
+    tell(rt, "make tagged", tagged::tagged_lists(alloc))?;
+    tell(rt, "make null numbers", refused::null_numbers(alloc))?;
+    tell(
+        rt,
+        "make a list past its items",
+        refused::list_past_items(alloc),
+    )
 }
 
 /// Rows of lists read by each call.
@@ -63,18 +57,18 @@ fn read_lists<R: Print + AllocGlobal>(rt: &R, lists: &ListArray) -> Result<()> {
     }
     tell(
         rt,
-        "items of row 2",
+        "read the items of row 2",
         reading::items_at(rt.alloc(), lists, 2),
     )?;
     println!(rt;
-        "items lent of row 2: {}",
+        "read how many items row 2 lends: {}",
         reading::items_lent(lists, 2).len()
     )?;
     let longest = reading::longest(rt.alloc(), lists);
-    println!(rt; "the longest row's items: {}", longest?)?;
+    println!(rt; "read how many items the longest row has: {}", longest?)?;
     tell(
         rt,
-        "rows 1 and 2 beside",
+        "cut rows 1 and 2 beside the column",
         cutting::rows_beside(rt.alloc(), lists, 1, 2),
     )
 }
@@ -83,7 +77,7 @@ fn read_lists<R: Print + AllocGlobal>(rt: &R, lists: &ListArray) -> Result<()> {
 fn read_slot<R: Print + AllocGlobal>(rt: &R, column: &AnyArray) -> Result<()> {
     if column.len() > 1 {
         let scalar = reading::slot_alone(rt.alloc(), column, 1)?;
-        println!(rt; "row 1 is valid: {}", scalar.is_valid())?;
+        println!(rt; "read whether row 1 is valid: {}", scalar.is_valid())?;
         drop(scalar);
     }
     Ok(())
@@ -93,7 +87,7 @@ fn read_slot<R: Print + AllocGlobal>(rt: &R, column: &AnyArray) -> Result<()> {
 pub fn reading<R: Print + AllocGlobal>(rt: &R) -> Result<()> {
     let texts = flat::texts(rt.alloc())?;
     if texts.len() == 4 {
-        println!(rt; "text of row 0: {:?}", reading::text_at(&texts, 0))?;
+        println!(rt; "read the text of row 0: {:?}", reading::text_at(&texts, 0))?;
     }
     drop(texts);
     let column = flat::any_numbers(rt.alloc())?;
@@ -101,7 +95,7 @@ pub fn reading<R: Print + AllocGlobal>(rt: &R) -> Result<()> {
     let told = read_slot(rt, &column);
     drop(column);
     told?;
-    println!(rt; "sum: {sum:?}")?;
+    println!(rt; "read the sum: {sum:?}")?;
     let lists = nested::lists(rt.alloc())?;
     let told = read_lists(rt, &lists);
     drop(lists);
@@ -118,17 +112,20 @@ pub fn cutting<R: Print + AllocGlobal>(rt: &R) -> Result<()> {
     cutting::keep_rows(&mut column, 1, 3);
     let hidden = cutting::hide_rows(&mut column, validity(rt.alloc(), &[true, true, false])?);
     let refused = cutting::hide_rows(&mut column, validity(rt.alloc(), &[true])?);
-    println!(rt; "taken: {hidden:?}, refused: {refused:?}")?;
-    tell(rt, "rows 1 to 3, the last hidden", Ok(column))
+    println!(rt; "cut, a validity that is taken: {hidden:?}, one that is refused: {refused:?}")?;
+    tell(rt, "cut rows 1 to 3, the last hidden", Ok(column))
 }
 
 /// Columns compared.
 fn compare<R: Print>(rt: &R, column: AnyArray, tail: &AnyArray) -> Result<()> {
-    println!(rt; "the same: {}", comparing::are_equal(&column, tail))?;
+    println!(rt;
+        "compare the whole: {}",
+        comparing::are_equal(&column, tail)
+    )?;
     if column.len() == 4 && tail.len() == 2 {
-        println!(rt; "ends with it: {}", comparing::ends_with(&column, tail))?;
+        println!(rt; "compare the end: {}", comparing::ends_with(&column, tail))?;
         let end = cutting::rows_of(column, 2, 2);
-        println!(rt; "so is a cut: {}", comparing::are_equal(&end, tail))?;
+        println!(rt; "compare a cut: {}", comparing::are_equal(&end, tail))?;
         drop(end);
     }
     Ok(())
@@ -149,8 +146,8 @@ fn comparing_tagged<R: Print + AllocGlobal>(rt: &R) -> Result<()> {
 fn compare_last<R: Print + AllocGlobal>(rt: &R, lists: &AnyArray, last: AnyArray) -> Result<()> {
     let same = comparing::are_equal(lists, &last);
     let ends = last.len() <= lists.len() && comparing::ends_with(lists, &last);
-    println!(rt; "all lists are the last: {same}, they end with it: {ends}")?;
-    tell(rt, "the last", Ok(last))
+    println!(rt; "compare lists with their last one, the whole: {same}, the end: {ends}")?;
+    tell(rt, "compare, the last of them", Ok(last))
 }
 
 /// Four rows and their last two.
@@ -169,7 +166,7 @@ fn take<R: Print + AllocGlobal>(rt: &R, column: &AnyArray) -> Result<()> {
     if taking::are_places(&[3, 0, 0], column.len()) {
         tell(
             rt,
-            "rows 3, 0, 0",
+            "take rows 3, 0, 0",
             taking::rows_at(rt.alloc(), column, &[3, 0, 0]),
         )?;
     }
@@ -177,7 +174,7 @@ fn take<R: Print + AllocGlobal>(rt: &R, column: &AnyArray) -> Result<()> {
     if mask.len() == column.len() {
         tell(
             rt,
-            "rows where true",
+            "take the rows where a mask is true",
             taking::rows_where(rt.alloc(), column, &mask),
         )?;
     }
@@ -195,20 +192,23 @@ pub fn taking<R: Print + AllocGlobal>(rt: &R) -> Result<()> {
 /// Arrays by builders.
 pub fn building<R: Print + AllocGlobal>(rt: &R) -> Result<()> {
     let alloc = rt.alloc();
-    tell(rt, "numbers", building::flat::numbers(alloc))?;
-    tell(rt, "truths", building::flat::truths(alloc))?;
-    tell(rt, "texts", building::flat::texts(alloc))?;
-    tell(rt, "bytes", building::flat::bytes(alloc))?;
-    tell(rt, "codes", building::flat::codes(alloc))?;
-    tell(rt, "nulls", building::flat::nulls(alloc))?;
-    tell(rt, "lists", rows::four_rows(alloc))?;
-    tell(rt, "pairs", rows::pairs(alloc))?;
+    tell(rt, "build numbers", building::flat::numbers(alloc))?;
+    tell(rt, "build truths", building::flat::truths(alloc))?;
+    tell(rt, "build texts", building::flat::texts(alloc))?;
+    tell(rt, "build bytes", building::flat::bytes(alloc))?;
+    tell(rt, "build codes", building::flat::codes(alloc))?;
+    tell(rt, "build nulls", building::flat::nulls(alloc))?;
+    tell(rt, "build lists", rows::four_rows(alloc))?;
+    tell(rt, "build pairs", rows::pairs(alloc))?;
     refusing_a_row(rt)?;
     let mut builder = MutablePrimitiveArray::<i64>::new(alloc);
     if builder.is_whole() {
-        println!(rt; "a refused text: {:?}", any::push_text(&mut builder, "x"))?;
+        println!(rt;
+            "build, a refused text: {:?}",
+            any::push_text(&mut builder, "x")
+        )?;
     }
-    tell(rt, "what it left", any::finish(&mut builder))
+    tell(rt, "build, what it left", any::finish(&mut builder))
 }
 
 /// What a row of three answers where pairs are built, and what it leaves there.
@@ -217,7 +217,7 @@ fn refusing_a_row<R: Print + AllocGlobal>(rt: &R) -> Result<()> {
     let pushed = rows::refused_row(&mut builder);
     let (rows, items) = (builder.len(), builder.values().len());
     drop(builder);
-    println!(rt; "a refused row: {pushed:?}, which leaves {rows} rows and {items} items")?;
+    println!(rt; "build, a refused row: {pushed:?}, which leaves {rows} rows and {items} items")?;
     Ok(())
 }
 
@@ -242,7 +242,7 @@ fn building_people<R: Print + AllocGlobal>(rt: &R) -> Result<()> {
     let loaded = load_people(&mut builder);
     let frozen = builder.freeze();
     drop(builder);
-    let told = tell(rt, "people", frozen);
+    let told = tell(rt, "build people", frozen);
     loaded?;
     told
 }
@@ -250,8 +250,8 @@ fn building_people<R: Print + AllocGlobal>(rt: &R) -> Result<()> {
 /// A dictionary built.
 fn building_keys<R: Print + AllocGlobal>(rt: &R) -> Result<()> {
     let (array, key) = dictionaries::keyed(rt.alloc())?;
-    tell(rt, "keyed", Ok(array))?;
-    println!(rt; "the key of \"c\": {key:?}")?;
+    tell(rt, "build keyed", Ok(array))?;
+    println!(rt; "build, the key of \"c\": {key:?}")?;
     Ok(())
 }
 
@@ -261,11 +261,19 @@ pub fn building_nested<R: Print + AllocGlobal>(rt: &R) -> Result<()> {
     building_keys(rt)
 }
 
+/// Lists as an array of any kind.
+fn boxing<R: Print + AllocGlobal>(rt: &R) -> Result<()> {
+    let lists = nested::lists(rt.alloc())?;
+    let boxed = sharing::boxed(rt.alloc(), &lists);
+    drop(lists);
+    tell(rt, "share the memory of lists", boxed)
+}
+
 /// An array with two owners.
 pub fn sharing<R: Print + AllocGlobal>(rt: &R) -> Result<()> {
     let shared = sharing::shared(rt.alloc(), nested::lists(rt.alloc())?)?;
     let second = Rc::clone(&shared)?;
     drop(shared);
-    println!(rt; "the second owner's rows: {}", second.len())?;
-    Ok(())
+    println!(rt; "share, the second owner's rows: {}", second.len())?;
+    boxing(rt)
 }

@@ -129,6 +129,10 @@ pub use nest_scan::TextOffset;
 pub use nest_scan::Tried;
 pub use nest_scan::TryPlaces;
 pub use nest_scan::UnionIter;
+pub use nest_show::Json;
+pub use nest_show::WriteJson;
+pub use nest_show::writing::json_text;
+pub use nest_show::writing::write_json;
 pub use nest_take::filter;
 pub use nest_take::take;
 

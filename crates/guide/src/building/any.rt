@@ -6,11 +6,7 @@ ghost use Rattle.nest_model.specs.BuilderItem as items;
 ghost use Rattle.nest_model.specs.BuilderItem.{plain};
 ghost use Rattle.guide.specs.Words.{layout_of, slots_of};
 
-use nest_any::AnyMutableArray;
-use nest_array::AnyArray;
-use nest_build::array::MutableArray;
-use nest_flat::plain::Plain;
-use nest_memory::error::{Argument, Error};
+use tiekvorn::{AnyArray, AnyMutableArray, Argument, Error, MutableArray, Plain};
 
 /// A text more. `InvalidArgumentError(ItemType)` of a builder that takes no texts; then, as after any refusal, each of its
 /// levels is as it was.

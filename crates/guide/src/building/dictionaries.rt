@@ -7,14 +7,11 @@ ghost use Rattle.nest_model.specs.BuilderItem as items;
 ghost use Rattle.nest_model.specs.BuilderItem.{Stands};
 ghost use Rattle.guide.specs.Words.{pushed_keyed, slots_of};
 
-use nest_any::AnyMutableFlat;
-use nest_array::DictionaryArray;
-use nest_build::array::MutableArray;
-use nest_build::dictionary::MutableDictionaryArray;
-use nest_flat::plain::Plain;
-use nest_flat::utf8::mutable::MutableUtf8Array;
-use nest_memory::error::Error;
 use std::alloc::Global;
+use tiekvorn::{
+    AnyMutableFlat, DictionaryArray, Error, MutableArray, MutableDictionaryArray, MutableUtf8Array,
+    Plain,
+};
 
 /// A builder of texts by keys of 8 bits.
 pub type KeyedBuilder = MutableDictionaryArray<u8, AnyMutableFlat>;

@@ -2,22 +2,12 @@
 ghost use Rattle.std.specs.Prelude.{◌≡◌, IfOk};
 ghost use Rattle.guide.specs.Words.{layout_of, pushed_bytes, pushed_codes, pushed_texts, pushed_truths, slots_of, three_nulls, three_numbers};
 
-use nest_array::AnyArray;
-use nest_build::array::MutableArray;
-use nest_build::fixed_size_binary::MutableFixedSizeBinaryArray;
-use nest_build::null::MutableNullArray;
-use nest_flat::binary::BinaryArray;
-use nest_flat::binary::mutable::MutableBinaryArray;
-use nest_flat::boolean::BooleanArray;
-use nest_flat::boolean::mutable::MutableBooleanArray;
-use nest_flat::plain::Plain;
-use nest_flat::primitive::PrimitiveArray;
-use nest_flat::primitive::mutable::MutablePrimitiveArray;
-use nest_flat::utf8::Utf8Array;
-use nest_flat::utf8::mutable::MutableUtf8Array;
-use nest_memory::datatypes::DataType;
-use nest_memory::error::Error;
 use std::alloc::Global;
+use tiekvorn::{
+    AnyArray, BinaryArray, BooleanArray, DataType, Error, MutableArray, MutableBinaryArray,
+    MutableBooleanArray, MutableFixedSizeBinaryArray, MutableNullArray, MutablePrimitiveArray,
+    MutableUtf8Array, Plain, PrimitiveArray, Utf8Array,
+};
 
 /// The numbers 1, null, 3.
 pub fn numbers(alloc: Global) -> Result<PrimitiveArray<i64>, Error>

@@ -5,16 +5,11 @@ ghost use Rattle.nest_build.specs.Words.{InvalidArgumentError, ItemType};
 ghost use Rattle.guide.specs.People.{ArePeople, columns, is_person, no_people, person_type, with_people, with_person};
 ghost use Rattle.guide.specs.Words.{type_of};
 
-use nest_any::{AnyMutableArray, AnyMutableFlat, MutableStructArray};
-use nest_build::array::MutableArray;
-use nest_flat::any_primitive::mutable::AnyMutablePrimitive;
-use nest_flat::plain::Plain;
-use nest_flat::primitive::mutable::MutablePrimitiveArray;
-use nest_flat::utf8::mutable::MutableUtf8Array;
-use nest_memory::datatypes::DataType;
-use nest_memory::datatypes::field::Field;
-use nest_memory::error::{Argument, Error};
 use std::alloc::Global;
+use tiekvorn::{
+    AnyMutableArray, AnyMutableFlat, AnyMutablePrimitive, Argument, DataType, Error, Field,
+    MutableArray, MutablePrimitiveArray, MutableStructArray, MutableUtf8Array, Plain,
+};
 
 /// A name and an age, each of them a value of any kind, or missing.
 pub type Cells<'a> = (Option<Plain<'a>>, Option<Plain<'a>>);

@@ -3,13 +3,11 @@ ghost use Rattle.std.specs.Prelude.{◌≡◌, ◌⊎◌, IfErr, IfOk, alloc_err
 ghost use Rattle.nest_build.specs.Words.{InvalidArgumentError, ItemSize};
 ghost use Rattle.guide.specs.Words.{Memory, four_rows, last_two, no_pairs, slots_of, three_pairs};
 
-use nest_array::{FixedSizeListArray, ListArray};
-use nest_build::array::MutableArray;
-use nest_build::fixed_size_list::MutableFixedSizeListArray;
-use nest_build::list::MutableListArray;
-use nest_flat::primitive::mutable::MutablePrimitiveArray;
-use nest_memory::error::Error;
 use std::alloc::Global;
+use tiekvorn::{
+    Error, FixedSizeListArray, ListArray, MutableArray, MutableFixedSizeListArray,
+    MutableListArray, MutablePrimitiveArray,
+};
 
 /// A builder of lists of numbers of 64 bits, by offsets of 32 bits.
 type ListBuilder = MutableListArray<i32, MutablePrimitiveArray<i64>>;

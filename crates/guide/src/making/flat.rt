@@ -3,16 +3,11 @@ ghost use Rattle.std.specs.Prelude.{◌≡◌, IfOk};
 ghost use Rattle.guide.specs.Words.{four_numbers, four_texts, four_truths, layout_of, numbers_parts, slots_of, texts_parts, three_nulls, two_bytes, two_codes};
 
 use crate::making::parts::{buffer, offsets, validity};
-use nest_array::{AnyArray, FixedSizeBinaryArray, NullArray};
-use nest_flat::any_primitive::AnyPrimitive;
-use nest_flat::binary::BinaryArray;
-use nest_flat::boolean::BooleanArray;
-use nest_flat::primitive::PrimitiveArray;
-use nest_flat::utf8::Utf8Array;
-use nest_memory::bitmap::immutable::Bitmap;
-use nest_memory::datatypes::DataType;
-use nest_memory::error::Error;
 use std::alloc::Global;
+use tiekvorn::{
+    AnyArray, AnyPrimitive, BinaryArray, Bitmap, BooleanArray, DataType, Error,
+    FixedSizeBinaryArray, NullArray, PrimitiveArray, Utf8Array,
+};
 
 /// The numbers 1, null, 3, 4. What lies under the null, here 2, is in no slot.
 pub fn numbers(alloc: Global) -> Result<PrimitiveArray<i64>, Error>

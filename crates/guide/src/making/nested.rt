@@ -6,15 +6,11 @@ ghost use Rattle.guide.specs.Words.{field_list_of, four_keyed, four_picks, four_
 
 use crate::making::flat::{any_numbers, texts};
 use crate::making::parts::{buffer, offsets, validity};
-use nest_array::{
-    AnyArray, AnyKeys, DictionaryArray, FixedSizeListArray, ListArray, MapArray, StructArray,
-    UnionArray,
-};
-use nest_flat::primitive::PrimitiveArray;
-use nest_memory::datatypes::field::Field;
-use nest_memory::datatypes::{DataType, UnionMode};
-use nest_memory::error::Error;
 use std::alloc::Global;
+use tiekvorn::{
+    AnyArray, AnyKeys, DataType, DictionaryArray, Error, Field, FixedSizeListArray, ListArray,
+    MapArray, PrimitiveArray, StructArray, UnionArray, UnionMode,
+};
 
 /// The lists [1, null], null, [3, 4].
 pub fn lists(alloc: Global) -> Result<ListArray, Error>

@@ -2,11 +2,8 @@
 ghost use Rattle.std.specs.Prelude.{◌≡◌, Some, IfOk, map};
 ghost use Rattle.guide.specs.Words.{to_nat};
 
-use nest_memory::bitmap::immutable::Bitmap;
-use nest_memory::buffer::Buffer;
-use nest_memory::error::Error;
-use nest_memory::offsets::OffsetsBuffer;
 use std::alloc::Global;
+use tiekvorn::{Bitmap, Buffer, Error, OffsetsBuffer};
 
 /// A buffer of these values.
 pub fn buffer<T: Copy + Drop>(alloc: Global, values: &[T]) -> Result<Buffer<T>, Error>

@@ -4,10 +4,8 @@ ghost use Rattle.guide.specs.Words.{layout_of, slots_of, three_nulls};
 
 use crate::making::flat::any_numbers;
 use crate::making::parts::offsets;
-use nest_array::{AnyArray, ListArray, new_null_array};
-use nest_memory::datatypes::DataType;
-use nest_memory::error::Error;
 use std::alloc::Global;
+use tiekvorn::{AnyArray, DataType, Error, ListArray, new_null_array};
 
 /// Three null numbers.
 pub fn null_numbers(alloc: Global) -> Result<AnyArray, Error>

@@ -6,11 +6,8 @@ ghost use Rattle.guide.specs.Words.{field_list_of, layout_of, layouts_of, slots_
 use crate::making::flat::any_numbers;
 use crate::making::nested::keyed;
 use crate::making::parts::offsets;
-use nest_array::{AnyArray, ListArray, StructArray};
-use nest_memory::datatypes::field::Field;
-use nest_memory::datatypes::{DataType, IntegerType};
-use nest_memory::error::Error;
 use std::alloc::Global;
+use tiekvorn::{AnyArray, DataType, Error, Field, IntegerType, ListArray, StructArray};
 
 /// The type of texts by keys of 32 bits.
 fn tag_type(alloc: Global) -> Result<DataType, Error>
