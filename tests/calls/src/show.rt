@@ -1,5 +1,6 @@
 //! What worked arrays and data types print.
 
 mod making;
+mod parsed;
 mod printed;
 mod types;

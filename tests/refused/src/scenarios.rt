@@ -1,7 +1,7 @@
 //! What is tried.
 
 use crate::trial::Trial;
-use crate::{arrays, builders, program, typed};
+use crate::{arrays, builders, parsed, program, typed};
 use drawn_builders::wrong::Wrong;
 use std::alloc::Global;
 
@@ -22,6 +22,7 @@ pub enum Scenario {
     Texts,
     FortyValues,
     Listcut,
+    ParsedTypes,
 }
 
 impl Scenario {
@@ -42,6 +43,7 @@ impl Scenario {
             Scenario::Texts => typed::texts(trial, alloc),
             Scenario::FortyValues => typed::forty_values(trial, alloc),
             Scenario::Listcut => program::both_forms(trial, alloc),
+            Scenario::ParsedTypes => parsed::types(trial, alloc),
         }
     }
 }
