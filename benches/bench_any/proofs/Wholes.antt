@@ -1,8 +1,7 @@
 -- Builders whose children are whole stay so where children are written over, and where a row is told.
 use Rattle.std.specs.Prelude.{Err, Ok, OnErr, OnOk, Result, true}
 use Rattle.std.proofs.Common.{◌≡◌, ℕ, sym, subst}
-use Rattle.nest_model.specs.BuilderAppend.{Told}
-use Rattle.nest_model.specs.BuilderRowChecks.{AreEachWhole, HasWholeChildren}
+use Rattle.nest_model.specs.BuilderTold.{Told, AreEachWhole, HasWholeChildren}
 use Rattle.nest_model.specs.BuilderTree.{BuilderTree, BuilderTrees, flat, list, fixed_size_list, dictionary, struct, no_builders, more_builders}
 use Rattle.nest_model.specs.BuilderWhole.{AreWhole, IsWhole}
 use Rattle.nest_any.specs.Lent.{with_children, written_over}

@@ -1,7 +1,7 @@
 //! Builders of records of a number and a text, and of lists of them.
 ghost use Rattle.std.specs.Prelude.{IfOk};
 ghost use Rattle.nest_any.specs.Trees.{tree_of, trees_of};
-ghost use Rattle.nest_model.specs.BuilderRowChecks.{AreEachWhole, HasWholeChildren};
+ghost use Rattle.nest_model.specs.BuilderTold.{AreEachWhole, HasWholeChildren};
 ghost use Rattle.nest_model.specs.BuilderWhole.{IsWhole};
 
 use nest_any::{AnyMutableArray, AnyMutableFlat, MutableStructArray};

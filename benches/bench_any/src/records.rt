@@ -1,6 +1,6 @@
 //! Records of a number and a text, and lists of two of them, told row by row.
 ghost use Rattle.nest_any.specs.Trees.{tree_of, trees_of};
-ghost use Rattle.nest_model.specs.BuilderRowChecks.{AreEachWhole, HasWholeChildren};
+ghost use Rattle.nest_model.specs.BuilderTold.{AreEachWhole, HasWholeChildren};
 ghost use Rattle.nest_model.specs.BuilderWhole.{IsWhole};
 
 use crate::makers;

@@ -7,7 +7,8 @@ use Rattle.nest_memory.specs.TypeTree as types
 use Rattle.nest_memory.specs.TypeTree.{TypeTree}
 use Rattle.nest_flat.specs.Plain.{plain_values}
 use Rattle.nest_flat.specs.declared.plain.Plain.{Plain}
-use Rattle.nest_model.specs.BuilderAppend.{appended, told}
+use Rattle.nest_model.specs.BuilderAppend.{appended}
+use Rattle.nest_model.specs.BuilderTold.{told}
 use Rattle.nest_model.specs.BuilderRefusals.{asked_item}
 use Rattle.nest_model.specs.BuilderTree.{BuilderTree, BuilderTrees, flat, struct, more_builders, no_builders, builder_len}
 use Rattle.nest_model.specs.BuilderWhole.{IsWhole, cut_builder}

@@ -1,17 +1,16 @@
 -- The longest of the lists at the places of an array, one place after another.
-use Rattle.std.specs.Prelude.{if◌then◌else◌, not}
+use Rattle.std.specs.Prelude.{if◌then◌else◌, not, Option, Some, None, Result, Ok}
 use Rattle.std.proofs.Common.{◌≡◌, ℕ, zero, suc, ◌+◌, ◌-◌, ◌<◌, max, Bool, true, false, List, [], ◌∷◌, length, refl, sym, ap, subst, ◌∙◌, arith}
-use Rattle.std.specs.Prelude.{Option, Some, None, Result, Ok}
 use Rattle.nest_array.specs.Seen.{layout_of}
 use Rattle.nest_array.specs.declared.any.AnyArray.{AnyArray}
 use Rattle.nest_memory.specs.declared.error.Error.{Error}
 use Rattle.nest_model.specs.Accessors.{validity_of}
 use Rattle.nest_model.specs.Layout.{Layout, null, boolean, primitive, binary, text, fixed_size_binary, fixed_size_list, list, map, struct, union, dictionary}
-use Rattle.nest_model.specs.Meaning.{len, run, slot, slots_of}
+use Rattle.nest_model.specs.Meaning.{len, run, slot, slots_of, where_valid}
 use Rattle.nest_model.specs.Nullness.{is_null_at}
 use Rattle.nest_model.specs.NullnessLaws.{null_at-slot}
 use Rattle.nest_model.specs.Part.{valid_at}
-use Rattle.nest_model.specs.Reads.{slots-length, where_valid}
+use Rattle.nest_model.specs.Reads.{slots-length}
 use Rattle.nest_model.specs.Slot as slots
 use Rattle.nest_model.specs.Slot.{Slot, Slots, seal}
 use Rattle.nest_scan.specs.Items.{IsList}

@@ -11,10 +11,9 @@ pub use Rattle.nest_memory.specs.TypeOf.{field_list_of, type_of}
 pub use Rattle.nest_memory.specs.declared.error.Error.TheVariants.{Memory}
 pub use Rattle.nest_model.specs.Accessors.{validity_of, with_validity}
 pub use Rattle.nest_model.specs.Chosen.{chosen, mask_places}
-pub use Rattle.nest_model.specs.CutOf.{HasValidity, IsCut, RefusesValidity}
-pub use Rattle.nest_model.specs.Fits.{ValidityFault}
+pub use Rattle.nest_model.specs.Fits.{HasValidity, RefusesValidity, ValidityFault}
+pub use Rattle.nest_model.specs.Cut.{IsCut}
 pub use Rattle.nest_model.specs.Layout.{layout_type}
-pub use Rattle.nest_model.specs.Meaning.{len, slot, slots_of}
-pub use Rattle.nest_model.specs.Reads.{where_valid}
+pub use Rattle.nest_model.specs.Meaning.{len, slot, slots_of, where_valid}
 pub use Rattle.nest_model.specs.SameArray.{IsSameArray}
 pub use Rattle.nest_model.specs.Slot.{node_counts, seal}

@@ -9,8 +9,8 @@ use Rattle.nest_model.specs.Slot as slots
 use Rattle.nest_model.specs.Slot.{Slot, seal}
 use Rattle.nest_model.specs.Part.{Validity, valid_at}
 use Rattle.nest_model.specs.Layout.{Layout}
-use Rattle.nest_model.specs.Meaning.{len, slot, slots_of}
-use Rattle.nest_model.specs.Reads.{where_valid, slots-length, slot-place}
+use Rattle.nest_model.specs.Meaning.{len, slot, slots_of, where_valid}
+use Rattle.nest_model.specs.Reads.{slots-length, slot-place}
 use Rattle.nest_flat.specs.FlatParts.{optional}
 use Rattle.listcut_rows.specs.SeenRow.{item_slot}
 use Rattle.listcut_rows.proofs.Sealed.{unseal-seal}

@@ -11,7 +11,7 @@ use Rattle.nest_model.specs.BuilderCutLaws.{cut-whole}
 use Rattle.nest_model.specs.BuilderAppend.{nulls_appended, nulls_appended_each}
 use Rattle.nest_model.specs.BuilderAcceptLaws.{accepted-nulls, len-nulls, whole-nulls}
 use Rattle.nest_model.specs.BuilderRefusals.{nulls_pass, nulls_pass_each}
-use Rattle.nest_model.specs.BuilderRowChecks.{AreEachWhole}
+use Rattle.nest_model.specs.BuilderTold.{AreEachWhole}
 use Rattle.nest_any.specs.BuilderCode.{weight, weight_all}
 use Rattle.nest_any.specs.Each.{each}
 use Rattle.nest_any.specs.Refusals.{AreEachLong}

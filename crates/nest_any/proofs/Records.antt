@@ -5,8 +5,7 @@ use Rattle.nest_memory.specs.TypeTree.{TypeTree}
 use Rattle.nest_memory.specs.declared.error.Error.{Error}
 use Rattle.nest_memory.specs.declared.error.Error.TheVariants.{Memory, Overflow}
 use Rattle.nest_model.specs.Checks.{Pass, largest_length}
-use Rattle.nest_model.specs.BuilderAppend.{Told}
-use Rattle.nest_model.specs.BuilderRowChecks.{HasWholeChildren, row_checks}
+use Rattle.nest_model.specs.BuilderTold.{Told, HasWholeChildren, row_checks}
 use Rattle.nest_model.specs.BuilderRowCheckLaws.{pass-ready}
 use Rattle.nest_model.specs.BuilderToldLaws.{struct_told}
 use Rattle.nest_model.specs.Part.{Validity}

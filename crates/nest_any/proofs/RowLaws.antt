@@ -19,10 +19,10 @@ use Rattle.nest_model.specs.BuilderRow.{Row, RisesFrom, told_row, end_from}
 use Rattle.nest_model.specs.BuilderTree.{BuilderTree, BuilderTrees, flat, list, fixed_size_list, dictionary, struct, no_builders, more_builders, builder_len, builder_type}
 use Rattle.nest_model.specs.BuilderLevels.{own_slots}
 use Rattle.nest_model.specs.BuilderFreeze.{SpellsBits, row_bits}
-use Rattle.nest_model.specs.BuilderAppend.{nulls_appended, told}
+use Rattle.nest_model.specs.BuilderAppend.{nulls_appended}
+use Rattle.nest_model.specs.BuilderTold.{told, CoversRows, row_checks}
 use Rattle.nest_model.specs.BuilderAppendLaws.{nulls-zero}
 use Rattle.nest_model.specs.BuilderRefusals.{bytes_pass}
-use Rattle.nest_model.specs.BuilderRowChecks.{CoversRows, row_checks}
 use Rattle.nest_any.specs.declared.rows.TypedRows.{TypedRows}
 use Rattle.nest_any.specs.declared.rows.TypedRows.TheVariants.{List, LargeList, FixedSizeList}
 use Rattle.nest_any.specs.TypedRows.{Fitting, FitsOffsets, lists_over}

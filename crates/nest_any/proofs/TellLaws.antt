@@ -5,9 +5,8 @@ use Rattle.nest_model.specs.Checks.{Pass}
 use Rattle.nest_model.specs.BuilderTree.{BuilderTree, builder_len}
 use Rattle.nest_model.specs.BuilderItem.{PlainValue, takes}
 use Rattle.nest_model.specs.BuilderWhole.{IsWhole}
-use Rattle.nest_model.specs.BuilderAppend.{Told, told}
+use Rattle.nest_model.specs.BuilderTold.{Told, told, HasWholeChildren, row_checks}
 use Rattle.nest_model.specs.BuilderToldLaws.{told-ready}
-use Rattle.nest_model.specs.BuilderRowChecks.{HasWholeChildren, row_checks}
 use Rattle.nest_model.specs.BuilderRowCheckLaws.{pass-ready}
 use Rattle.nest_any.specs.declared.rows.TypedRows.{TypedRows}
 use Rattle.nest_any.specs.declared.rows.TypedRows.TheVariants.{List, LargeList, FixedSizeList}

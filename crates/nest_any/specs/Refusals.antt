@@ -17,7 +17,7 @@ use Rattle.nest_model.specs.BuilderFreeze.{SpellsBits}
 use Rattle.nest_model.specs.BuilderLevels.{own_slots}
 use Rattle.nest_model.specs.BuilderTree.{BuilderTree, BuilderTrees, list, fixed_size_list, dictionary, struct, no_builders, more_builders, builder_len, builder_type, builder_types, field_types}
 use Rattle.nest_model.specs.BuilderWhole.{IsWhole}
-use Rattle.nest_model.specs.BuilderRowChecks.{HaveRows}
+use Rattle.nest_model.specs.BuilderTold.{HaveRows}
 
 -- a physical type of lists
 abbrev pub IsOfLists : PhysicalType → Type 0

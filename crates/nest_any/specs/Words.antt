@@ -10,11 +10,11 @@ pub use Rattle.nest_memory.specs.TypeOf.{type_of}
 pub use Rattle.nest_memory.specs.TypeTree.{item_type, key_type, value_type}
 pub use Rattle.nest_memory.specs.declared.error.Argument.TheVariants.{Unfinished}
 pub use Rattle.nest_memory.specs.declared.error.Error.TheVariants.{InvalidArgumentError, Memory, Overflow}
-pub use Rattle.nest_model.specs.BuilderAppend.{Told, told, nulls_appended, nulls_appended_each}
+pub use Rattle.nest_model.specs.BuilderTold.{Told, told, AreEachWhole, HasWholeChildren, HaveRows, row_checks}
+pub use Rattle.nest_model.specs.BuilderAppend.{nulls_appended, nulls_appended_each}
 pub use Rattle.nest_model.specs.BuilderFreeze.{SpellsBits}
 pub use Rattle.nest_model.specs.BuilderLevels.{own_slots}
 pub use Rattle.nest_model.specs.BuilderRefusals.{nulls_pass, nulls_pass_each}
-pub use Rattle.nest_model.specs.BuilderRowChecks.{AreEachWhole, HasWholeChildren, HaveRows, row_checks}
 pub use Rattle.nest_model.specs.BuilderTree.{BuilderTree, builder_len, builder_type, builder_types, field_types}
 pub use Rattle.nest_model.specs.BuilderWhole.{AreWhole, IsWhole, cut_builder, cut_builders, emptied, emptied_each}
 pub use Rattle.nest_model.specs.Checks.{FailFirst, Pass, largest_length}

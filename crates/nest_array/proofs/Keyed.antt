@@ -10,10 +10,9 @@ use Rattle.nest_model.specs.Accessors.{validity_of, child_of, keys_of, key_at, k
 use Rattle.nest_model.specs.Array.{AreKeys, TopFits}
 use Rattle.nest_model.specs.Fits.{Fits, FirstFault, KeysInRange, Names, is_dictionary, IsLogically}
 use Rattle.nest_model.specs.Layout.{Layout, primitive, dictionary, layout_type}
-use Rattle.nest_model.specs.Meaning.{run, len, slot}
+use Rattle.nest_model.specs.Meaning.{run, len, slot, where_valid}
 use Rattle.nest_model.specs.Nullness.{is_null_at}
 use Rattle.nest_model.specs.Part.{place, valid_at}
-use Rattle.nest_model.specs.Reads.{where_valid}
 use Rattle.nest_model.specs.Slot as slots
 use Rattle.nest_model.specs.Slot.{Slot, node_count, node_counts}
 use Rattle.nest_flat.specs.SameRuns.{same-at}

@@ -5,10 +5,9 @@ use Rattle.nest_memory.specs.declared.error.Error.{Error}
 use Rattle.nest_model.specs.Accessors.{validity_of, child_of, keys_of, key_at}
 use Rattle.nest_model.specs.Array.{TopFits}
 use Rattle.nest_model.specs.Layout.{Layout, layout_type}
-use Rattle.nest_model.specs.Meaning.{slot}
+use Rattle.nest_model.specs.Meaning.{slot, where_valid}
 use Rattle.nest_model.specs.Nullness.{is_null_at}
 use Rattle.nest_model.specs.Part.{place}
-use Rattle.nest_model.specs.Reads.{where_valid}
 use Rattle.nest_array.specs.ScalarParts.{ScalarParts, scalar_parts}
 use Rattle.nest_array.specs.SeenScalar.{IsValue, shown_type}
 use Rattle.nest_array.specs.declared.scalar.ScalarValue.{ScalarValue}

@@ -15,7 +15,7 @@ use Rattle.nest_memory.specs.declared.error.Spec.TheVariants as spec
 use Rattle.nest_model.specs.Checks.{refuse_if, is_past}
 use Rattle.nest_model.specs.Decide.{refuse-none, first-none}
 use Rattle.nest_model.specs.Fits.{is_dictionary}
-use Rattle.nest_model.specs.MadeNulls.{not-past}
+use Rattle.nest_model.specs.MadeNullLaws.{not-past}
 use Rattle.nest_model.specs.NullKinds.{type_weight, field_weight, fields_weight, field-weight, list-fault, sized-fault, map-fault, struct-fault, dictionary-fault}
 use Rattle.nest_model.specs.NullLaws.{not-above}
 use Rattle.nest_model.specs.NullLayout.{null_array, null_item, null_children}

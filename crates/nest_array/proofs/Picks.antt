@@ -6,8 +6,7 @@ use Rattle.nest_model.specs.Accessors.{child_at, children_of, start_of, types_of
 use Rattle.nest_model.specs.Array.{TopFits}
 use Rattle.nest_model.specs.Facts.{IsUnion, union-facts}
 use Rattle.nest_model.specs.Fits.{EachType}
-use Rattle.nest_model.specs.Layout.{Layout, Layouts, no_layouts, more_layouts, union, layout_type, count_layouts}
-use Rattle.nest_model.specs.LayoutCode.{weight, weight_all}
+use Rattle.nest_model.specs.Layout.{Layout, Layouts, no_layouts, more_layouts, union, layout_type, count_layouts, weight, weight_all}
 use Rattle.nest_model.specs.Meaning.{len, run, slot, union_place}
 use Rattle.nest_model.specs.Nullness.{has_keys, is_null_at}
 use Rattle.nest_model.specs.NullnessLaws.{slot-null_at}

@@ -6,8 +6,7 @@ use Rattle.nest_model.specs.Accessors.{children_of, validity_of}
 use Rattle.nest_model.specs.Array.{TopFits}
 use Rattle.nest_model.specs.Facts.{IsStruct, struct-facts}
 use Rattle.nest_model.specs.Fits.{EachType, EachCovers}
-use Rattle.nest_model.specs.Layout.{Layout, Layouts, struct, no_layouts, more_layouts, layout_type}
-use Rattle.nest_model.specs.LayoutCode.{weight_all}
+use Rattle.nest_model.specs.Layout.{Layout, Layouts, struct, no_layouts, more_layouts, layout_type, weight_all}
 use Rattle.nest_model.specs.Meaning.{run, len, first_len, slot, each, slots_of}
 use Rattle.nest_model.specs.Nullness.{is_null_at}
 use Rattle.nest_model.specs.Part.{Validity, valid_at}

@@ -5,7 +5,7 @@ use denote.Param.Weighed.{most}
 use Rattle.nest_array.specs.declared.any.AnyArray.{AnyArray}
 use Rattle.nest_array.specs.declared.any.AnyArray.TheVariants.{Null, Boolean, Primitive, Binary, LargeBinary, Utf8, LargeUtf8, FixedSizeBinary, FixedSizeList, List, LargeList, Struct, Map, Dictionary, Union}
 use Rattle.nest_array.specs.declared.dictionary.DictionaryArray.TheDeep.{deep-AnyArray}
-use Rattle.nest_model.specs.LayoutCode.{weight, weight_all}
+use Rattle.nest_model.specs.Layout.{weight, weight_all}
 use Rattle.nest_array.specs.Seen.{layout_of, layouts_of}
 
 pub deep-size : (a : AnyArray) → deep-AnyArray a ≤ weight (layout_of a) + 1

@@ -18,9 +18,8 @@ use Rattle.nest_model.specs.Array.{TopFits}
 use Rattle.nest_model.specs.Checks.{largest_length, is_past, Pass, FailFirst}
 use Rattle.nest_model.specs.Facts.{binary-facts, text-facts}
 use Rattle.nest_model.specs.Layout.{Layout, binary, text, layout_type}
-use Rattle.nest_model.specs.Meaning.{len, slot, slots_of}
+use Rattle.nest_model.specs.Meaning.{len, slot, slots_of, where_valid}
 use Rattle.nest_model.specs.Part.{valid_at}
-use Rattle.nest_model.specs.Reads.{where_valid}
 use Rattle.nest_model.specs.Slot as slots
 use Rattle.nest_model.specs.Slot.{Slot}
 use Rattle.nest_model.specs.BuilderAppend.{Accepted}
@@ -29,7 +28,7 @@ use Rattle.nest_model.specs.BuilderItem as items
 use Rattle.nest_model.specs.BuilderItem.{PlainValue, Holds, byte_count, bytes_held, holds_kind, slot_of_value}
 use Rattle.nest_model.specs.BuilderRefusalLaws.{below, within}
 use Rattle.nest_model.specs.BuilderRefusals.{asked_item, asked_refusal, bytes_pass, has_other_size}
-use Rattle.nest_model.specs.BuilderRowChecks.{join_checks, join_passes}
+use Rattle.nest_model.specs.BuilderJoin.{join_checks, join_passes}
 use Rattle.nest_build.specs.FlatTree.{flat_tree}
 use Rattle.nest_build.proofs.FlatTrees.{value-holds}
 

@@ -1,30 +1,28 @@
 -- What the calls of a builder of lists of one size come to.
 use Rattle.std.specs.Prelude.{◌⊎◌, ◌≢◌, ◌||◌, Option, Some, None, alloc_error}
-use Rattle.std.proofs.Common.{◌≡◌, ℕ, zero, suc, ◌+◌, ◌-◌, ◌*◌, ◌<◌, ◌≤◌, Bool, true, false, List, [], ◌∷◌, ◌++◌, length, replicate, refl, sym, ap, subst, ◌∙◌, inl, inr, arith}
+use Rattle.std.proofs.Common.{◌≡◌, ℕ, zero, suc, ◌+◌, ◌-◌, ◌*◌, ◌<◌, ◌≤◌, Bool, true, false, List, [], ◌∷◌, ◌++◌, length, replicate, refl, sym, ap, subst, ◌∙◌, inl, inr, arith, ◌/◌, ◌%◌}
 use Rattle.std.proofs.lemmas.List.{length-replicate}
-use Rattle.std.proofs.Math.Nat.{add-mul, mul-suc}
+use Rattle.std.proofs.Math.Nat.{add-mul, mul-suc, mul-div_cancel, mul-mod_left}
 use Rattle.nest_memory.specs.TypeTree.{TypeTree, item_type, size_of}
 use Rattle.nest_memory.specs.declared.error.Error.{Error}
 use Rattle.nest_memory.specs.declared.error.Error.TheVariants.{Memory, Overflow, InvalidArgumentError}
 use Rattle.nest_memory.specs.declared.error.Argument.TheVariants.{ItemSize, ItemType}
-use Rattle.nest_model.specs.BuilderTree.{BuilderTree, fixed_size_list, builder_len, builder_type}
+use Rattle.nest_model.specs.BuilderTree.{BuilderTree, fixed_size_list, builder_len, builder_type, flat}
 use Rattle.nest_model.specs.BuilderWhole.{IsWhole}
 use Rattle.nest_model.specs.BuilderItem as items
 use Rattle.nest_model.specs.BuilderItem.{Item, seal_items}
-use Rattle.nest_model.specs.BuilderAppend.{Accepted, AcceptedAll, Told}
+use Rattle.nest_model.specs.BuilderAppend.{Accepted, AcceptedAll}
+use Rattle.nest_model.specs.BuilderTold.{Told}
 use Rattle.nest_model.specs.BuilderAppendLaws.{len-accepted_all, fixed_size_list_took, fixed_size_list_took_null}
-use Rattle.nest_model.specs.BuilderJoin.{Joined}
+use Rattle.nest_model.specs.BuilderJoin.{Joined, join_checks, join_passes}
 use Rattle.nest_model.specs.BuilderJoinLaws.{fixed_size_list_joined}
 use Rattle.nest_model.specs.BuilderToldLaws.{fixed_size_list_told}
-use Rattle.nest_model.specs.BuilderRowChecks.{join_checks, join_passes}
 use Rattle.nest_model.specs.BuilderRefusals.{item_refusal, nulls_pass}
 use Rattle.nest_model.specs.BuilderRefusalLaws.{within, fixed_none, fixed_size, null_past}
 use Rattle.nest_model.specs.BuilderReading.{Read, begun, ReadsList, Took, Refused, TookAll, RefusedSome}
 use Rattle.nest_model.specs.Checks.{Pass, FailFirst, is_past, largest_length}
 use Rattle.nest_model.specs.BuilderLevels.{own_slots, rows_of_size}
 use Rattle.nest_model.specs.BuilderLevelLaws.{own-length, len-grown}
-use Rattle.std.proofs.Common.{◌/◌, ◌%◌}
-use Rattle.std.proofs.Math.Nat.{mul-div_cancel, mul-mod_left}
 use Rattle.nest_memory.specs.Physical.{physical_type}
 use Rattle.nest_memory.specs.declared.datatypes.physical_type.PhysicalType.TheVariants as physical
 use Rattle.nest_model.specs.Part.{Validity}
@@ -33,7 +31,6 @@ use Rattle.nest_model.specs.Layout as layouts
 use Rattle.nest_model.specs.Layout.{Layout, layout_type}
 use Rattle.nest_model.specs.Meaning.{len, slots_of}
 use Rattle.nest_model.specs.Reads.{slots-length}
-use Rattle.nest_model.specs.BuilderTree.{flat}
 use Rattle.nest_model.specs.BuilderFreeze.{SpellsBits}
 use Rattle.nest_model.specs.BuilderFreezeLaws.{fixed_size_list-frozen}
 use Rattle.nest_build.proofs.Lists.{row_refused, fails-below, joined_type}

@@ -19,8 +19,8 @@ use Rattle.nest_model.specs.Slot as slots
 use Rattle.nest_model.specs.Slot.{Slot}
 use Rattle.nest_model.specs.Layout.{Layout, fixed_size_binary, layout_type}
 use Rattle.nest_model.specs.Accessors.{validity_of, bytes_of}
-use Rattle.nest_model.specs.Meaning.{len, slot, slots_of}
-use Rattle.nest_model.specs.Reads.{slots-length, where_valid}
+use Rattle.nest_model.specs.Meaning.{len, slot, slots_of, where_valid}
+use Rattle.nest_model.specs.Reads.{slots-length}
 use Rattle.nest_model.specs.Array.{TopFits}
 use Rattle.nest_model.specs.Checks.{largest_length, Pass}
 use Rattle.nest_model.specs.BuilderItem as items
@@ -29,7 +29,7 @@ use Rattle.nest_model.specs.BuilderAppend.{Accepted}
 use Rattle.nest_model.specs.BuilderAppendLaws.{flat_took, flat_took_null}
 use Rattle.nest_model.specs.BuilderRefusals.{asked_item, asked_refusal}
 use Rattle.nest_model.specs.BuilderRefusalLaws.{within, same_number, other_number}
-use Rattle.nest_model.specs.BuilderRowChecks.{join_checks}
+use Rattle.nest_model.specs.BuilderJoin.{join_checks}
 use Rattle.nest_array.specs.FixedBytes.{IsOtherSize, has_null}
 use Rattle.nest_build.specs.FlatTree.{flat_tree}
 use Rattle.nest_build.proofs.FlatTrees.{flat-bits, value-holds}

@@ -34,7 +34,7 @@ use Rattle.nest_model.specs.BuilderAppend.{Accepted}
 use Rattle.nest_model.specs.BuilderAppendLaws.{flat_took, flat_took_null}
 use Rattle.nest_model.specs.BuilderRefusals.{asked_item, asked_refusal, item_refusal, plain_refusal, value_refusal}
 use Rattle.nest_model.specs.BuilderRefusalLaws.{within, same_number}
-use Rattle.nest_model.specs.BuilderRowChecks.{join_checks, join_passes}
+use Rattle.nest_model.specs.BuilderJoin.{join_checks, join_passes}
 use Rattle.nest_model.specs.BuilderReading.{whole, ReadsValue, Took, Refused}
 use Rattle.nest_build.specs.FlatTree.{flat_tree}
 use Rattle.nest_build.specs.Told.{own_slot, TellsNulls}

@@ -21,12 +21,12 @@ use Rattle.nest_model.specs.BuilderWhole.{IsWhole}
 use Rattle.nest_model.specs.BuilderCutLaws.{type-cut}
 use Rattle.nest_model.specs.BuilderItem as items
 use Rattle.nest_model.specs.BuilderItem.{seal_items}
-use Rattle.nest_model.specs.BuilderAppend.{Accepted, Told, ToldLengths, items_told, rows_of_lengths}
+use Rattle.nest_model.specs.BuilderAppend.{Accepted}
+use Rattle.nest_model.specs.BuilderTold.{Told, ToldLengths, items_told, rows_of_lengths, CoversRows, HasWholeChildren, lengths_checks}
 use Rattle.nest_model.specs.BuilderAppendLaws.{list_took}
-use Rattle.nest_model.specs.BuilderJoin.{Joined, moved}
+use Rattle.nest_model.specs.BuilderJoin.{Joined, moved, join_checks, join_passes}
 use Rattle.nest_model.specs.BuilderJoinLaws.{list_joined}
 use Rattle.nest_model.specs.BuilderToldLaws.{list_told, list_told_lengths}
-use Rattle.nest_model.specs.BuilderRowChecks.{CoversRows, HasWholeChildren, lengths_checks, join_checks, join_passes}
 use Rattle.nest_model.specs.BuilderRefusals.{item_refusal}
 use Rattle.nest_model.specs.BuilderRefusalLaws.{within, below, list_none, list_past}
 use Rattle.nest_model.specs.BuilderReading.{Read, whole, begun, ReadsList, Took, Refused, TookAll, RefusedSome}

@@ -12,7 +12,7 @@ use Rattle.nest_memory.specs.declared.error.Error.{Error}
 use Rattle.nest_memory.specs.declared.error.Error.TheVariants.{Memory, Overflow}
 use Rattle.nest_model.specs.BuilderRowLaws.{end_from-append}
 use Rattle.nest_model.specs.BuilderToldLaws.{end_from-lengths}
-use Rattle.nest_model.specs.BuilderAppend.{rows_of_lengths, items_told}
+use Rattle.nest_model.specs.BuilderTold.{rows_of_lengths, items_told}
 use Rattle.nest_model.specs.BuilderFreeze.{SpellsBits, offsets_from, row_bits}
 use Rattle.nest_model.specs.BuilderJoin.{moved}
 use Rattle.nest_flat.specs.FlatParts.{ValidityCovers}

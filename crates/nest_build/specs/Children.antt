@@ -1,7 +1,7 @@
 -- The child of a builder of lists, and whether a row of its items can be told.
 use Rattle.std.specs.Prelude.{◌≡◌, ℕ, List as Seq}
 use Rattle.nest_model.specs.BuilderFreeze.{offsets_from}
-use Rattle.nest_model.specs.BuilderRowChecks.{CoversRows}
+use Rattle.nest_model.specs.BuilderTold.{CoversRows}
 use Rattle.nest_model.specs.BuilderTree.{BuilderTree, list, fixed_size_list}
 
 -- the child; a builder of another kind stands for itself

@@ -22,15 +22,15 @@ pub use Rattle.nest_memory.specs.declared.error.Error.TheVariants.{InvalidArgume
 pub use Rattle.nest_memory.specs.declared.error.Spec.TheVariants.{ZeroSize}
 pub use Rattle.nest_model.specs.Accessors.{bytes_of, validity_of, with_validity}
 pub use Rattle.nest_model.specs.Array.{TopFits}
-pub use Rattle.nest_model.specs.BuilderAppend.{Accepted, AcceptedAll, IsReady, Told, ToldLengths, items_told, pending_slot, rows_of_lengths, told}
+pub use Rattle.nest_model.specs.BuilderAppend.{Accepted, AcceptedAll}
+pub use Rattle.nest_model.specs.BuilderTold.{IsReady, Told, ToldLengths, items_told, pending_slot, rows_of_lengths, told, HasWholeChildren, lengths_checks, row_checks}
 pub use Rattle.nest_model.specs.BuilderFreeze.{SpellsBits, offsets_from, row_bits}
 pub use Rattle.nest_model.specs.BuilderItem.{Holds}
-pub use Rattle.nest_model.specs.BuilderJoin.{Joined, moved}
+pub use Rattle.nest_model.specs.BuilderJoin.{Joined, moved, join_checks}
 pub use Rattle.nest_model.specs.BuilderLevels.{own_slots, rows_of_items, rows_of_size}
 pub use Rattle.nest_model.specs.BuilderReading.{Read, ReadsList, ReadsValue, Refused, RefusedSome, Took, TookAll, TookEach}
 pub use Rattle.nest_model.specs.BuilderRefusals.{asked_item, asked_refusal, item_refusal, nulls_pass, plain_refusal}
 pub use Rattle.nest_model.specs.BuilderRow.{RisesFrom, end_from, told_row}
-pub use Rattle.nest_model.specs.BuilderRowChecks.{HasWholeChildren, join_checks, lengths_checks, row_checks}
 pub use Rattle.nest_model.specs.BuilderSpells.{CanRead, CanReadList, Gives, value_item}
 pub use Rattle.nest_model.specs.BuilderTree.{BuilderTree, IsPast, builder_len, builder_type}
 pub use Rattle.nest_model.specs.BuilderWhole.{IsWhole, cut_builder, emptied}
@@ -38,6 +38,5 @@ pub use Rattle.nest_model.specs.Checks.{FailFirst, Pass, largest_length}
 pub use Rattle.nest_model.specs.Cut.{cut_layout}
 pub use Rattle.nest_model.specs.Fits.{FirstFault, Fits, ValidityFits}
 pub use Rattle.nest_model.specs.Layout.{Layout, layout_type}
-pub use Rattle.nest_model.specs.Meaning.{len, slot, slots_of}
+pub use Rattle.nest_model.specs.Meaning.{len, slot, slots_of, where_valid}
 pub use Rattle.nest_model.specs.Part.{valid_at}
-pub use Rattle.nest_model.specs.Reads.{where_valid}

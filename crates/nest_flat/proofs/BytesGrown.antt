@@ -18,7 +18,7 @@ use Rattle.nest_model.specs.Cut.{cut_layout}
 use Rattle.nest_model.specs.Meaning.{run, len, slot, slots_of}
 use Rattle.nest_model.specs.Runs.{cut-cut}
 use Rattle.nest_model.specs.Reads.{extent-fits}
-use Rattle.nest_model.specs.SameArray.{slots-from_places}
+use Rattle.nest_model.specs.SameArrayLaws.{slots-from_places}
 use Rattle.nest_model.specs.Fits.{ValidityFits, EachText}
 use Rattle.nest_memory.specs.Physical.{physical_type, text_of_width}
 use Rattle.nest_model.specs.Array.{AreOffsets, TopFits}

@@ -4,7 +4,8 @@ use Rattle.std.proofs.Common.{◌≡◌, ℕ, sym, ◌∙◌}
 use Rattle.nest_memory.specs.TypeTree.{TypeTree}
 use Rattle.nest_model.specs.Layout.{Layout, layout_type}
 use Rattle.nest_model.specs.Meaning.{len, slots_of}
-use Rattle.nest_model.specs.SameArray.{IsSameArray, same-len}
+use Rattle.nest_model.specs.SameArray.{IsSameArray}
+use Rattle.nest_model.specs.SameArrayLaws.{same-len}
 
 pub types-differ : (a b : Layout) (t u : TypeTree) (r : Bool) → t ≡ layout_type a → u ≡ layout_type b → (IsTrue r ↔ (t ≡ u)) → r ≡ false → IsTrue false ↔ IsSameArray a b
 types-differ a b t u r p q e f = (λ h. cc, λ h. sym f ∙ e.1 (p ∙ h.0 ∙ sym q))

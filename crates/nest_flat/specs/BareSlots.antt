@@ -11,7 +11,7 @@ use Rattle.nest_model.specs.Slot.{Slot}
 use Rattle.nest_model.specs.Meaning.{len, slot, slots_of}
 use Rattle.nest_model.specs.Nullness.{is_null_at, null_count}
 use Rattle.nest_model.specs.ValidityLaws.{len-with_validity}
-use Rattle.nest_model.specs.SameArray.{slots-from_places}
+use Rattle.nest_model.specs.SameArrayLaws.{slots-from_places}
 
 -- the array without its validity
 abbrev pub bare : Layout → Layout

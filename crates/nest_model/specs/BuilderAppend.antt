@@ -1,50 +1,15 @@
 -- What an accepted item adds to each level of a builder, and what a told row adds.
-use Rattle.std.specs.Prelude.{◌≡◌, ℕ, ◌+◌, ◌*◌, ◌≤◌, Bool, true, false, List, [], ◌∷◌, ◌++◌, drop, length, map, replicate, Option, Some, None}
-use Rattle.nest_memory.specs.TypeTree.{TypeTree, item_type, fields_of, size_of}
+use Rattle.std.specs.Prelude.{◌≡◌, ℕ, ◌*◌, true, false, List, [], ◌∷◌, ◌++◌, map, replicate, Option, Some, None}
+use Rattle.nest_memory.specs.TypeTree.{TypeTree, size_of}
 use Rattle.nest_memory.specs.declared.datatypes.IntegerType.{IntegerType}
 use Rattle.nest_model.specs.Slot as slots
-use Rattle.nest_model.specs.Slot.{Slot, seal}
-use Rattle.nest_model.specs.BuilderRow.{Row, told_row, end_from, RisesFrom}
-use Rattle.nest_model.specs.BuilderTree.{BuilderTree, BuilderTrees, flat, list, fixed_size_list, dictionary, struct, no_builders, more_builders, builder_type, builder_types, field_types, builder_len}
-use Rattle.nest_model.specs.BuilderLevels.{own_slots, own_slots_each, levels_below, valid_or_null, record_at, rows_of_items}
-use Rattle.nest_model.specs.BuilderWhole.{IsWhole, AreWhole, cut_builder, ValuesDiffer}
+use Rattle.nest_model.specs.BuilderRow.{told_row, end_from}
+use Rattle.nest_model.specs.BuilderTree.{BuilderTree, BuilderTrees, flat, list, fixed_size_list, dictionary, struct, no_builders, more_builders, builder_len}
+use Rattle.nest_model.specs.BuilderLevels.{own_slots}
+use Rattle.nest_model.specs.BuilderWhole.{IsWhole, cut_builder, ValuesDiffer}
 use Rattle.nest_model.specs.BuilderItem as items
 use Rattle.nest_model.specs.BuilderItem.{PlainValue, Item, Items, no_items, more_items, slot_of_value, slot_of_item, place_of}
-
--- one row more, over the items that wait in the children; those stay as they are
-abbrev pub told : Bool → BuilderTree → BuilderTree
-told valid (flat t xs) = flat t xs
-told valid (list large t rows c) = list large t (rows ++ told_row valid (builder_len c) ∷ []) c
-told valid (fixed_size_list t bits c) = fixed_size_list t (bits ++ valid ∷ []) c
-told valid (dictionary k t keys c) = dictionary k t keys c
-told valid (struct t bits cs) = struct t (bits ++ valid ∷ []) cs
-
--- the slot that the waiting items are: a list of those from the last row on, a record of the children's next row
-abbrev pub pending_slot : Bool → BuilderTree → Slot
-pending_slot valid (flat t xs) = slots.null
-pending_slot valid (list large t rows c) = valid_or_null valid (slots.list (seal (drop (end_from 0 rows) (own_slots c))))
-pending_slot valid (fixed_size_list t bits c) = valid_or_null valid (slots.list (seal (drop (length bits * size_of t) (own_slots c))))
-pending_slot valid (dictionary k t keys c) = slots.null
-pending_slot valid (struct t bits cs) = valid_or_null valid (slots.record_of (record_at (length bits) (own_slots_each cs)))
-
--- rows of a list by their lengths, from offset s on; one of no length given is null and empty
-abbrev pub rows_of_lengths : ℕ → List (Option ℕ) → List Row
-rows_of_lengths s [] = []
-rows_of_lengths s (None ∷ ns) = told_row false s ∷ rows_of_lengths s ns
-rows_of_lengths s (Some n ∷ ns) = told_row true (s + n) ∷ rows_of_lengths (s + n) ns
-
-abbrev pub told_lengths : List (Option ℕ) → BuilderTree → BuilderTree
-told_lengths ns (flat t xs) = flat t xs
-told_lengths ns (list large t rows c) = list large t (rows ++ rows_of_lengths (end_from 0 rows) ns) c
-told_lengths ns (fixed_size_list t bits c) = fixed_size_list t bits c
-told_lengths ns (dictionary k t keys c) = dictionary k t keys c
-told_lengths ns (struct t bits cs) = struct t bits cs
-
--- how many items lengths tell; a null row has none
-abbrev pub items_told : List (Option ℕ) → ℕ
-items_told [] = 0
-items_told (None ∷ ns) = items_told ns
-items_told (Some n ∷ ns) = n + items_told ns
+use Rattle.nest_model.specs.BuilderTold.{told}
 
 -- n nulls more: a null list adds no item, one of size s adds s nulls to its items, a null record a null to each child, a null key no value
 abbrev mutual
@@ -115,35 +80,3 @@ EachAccepted x no_builders no_builders = Unit {0}
 EachAccepted x no_builders (more_builders d ds) = ⊥
 EachAccepted x (more_builders c cs) no_builders = ⊥
 EachAccepted x (more_builders c cs) (more_builders d ds) = Accepted x c d × EachAccepted x cs ds
-
--- the items that wait in the children make a row
-abbrev pub IsReady : BuilderTree → Type 0
-IsReady (flat t xs) = ⊥
-IsReady (list large t rows c) = IsWhole c × (item_type t ≡ Some (builder_type c)) × (end_from 0 rows ≤ builder_len c) × RisesFrom 0 rows
-IsReady (fixed_size_list t bits c) = IsWhole c × (item_type t ≡ Some (builder_type c)) × (builder_len c ≡ (length bits + 1) * size_of t)
-IsReady (dictionary k t keys c) = ⊥
-IsReady (struct t bits cs) = AreWhole cs (length bits + 1) × (builder_types cs ≡ field_types (fields_of t))
-
--- A row was told over the items that waited: they are its slot, none waits any more, and the levels below are as they were.
-pub record Told (valid : Bool) (old new : BuilderTree) : Type 0 where
-  pub exact : new ≡ told valid old
-  pub last : own_slots new ≡ own_slots old ++ pending_slot valid old ∷ []
-  pub below : levels_below new ≡ levels_below old
-  pub whole : IsWhole new
-  pub differ : ValuesDiffer old → ValuesDiffer new
-
--- the slots of rows that are told by their lengths
-abbrev pub pending_slots : List (Option ℕ) → BuilderTree → List Slot
-pending_slots ns (flat t xs) = []
-pending_slots ns (list large t rows c) = rows_of_items (end_from 0 rows) (rows_of_lengths (end_from 0 rows) ns) (own_slots c)
-pending_slots ns (fixed_size_list t bits c) = []
-pending_slots ns (dictionary k t keys c) = []
-pending_slots ns (struct t bits cs) = []
-
--- the same of rows by their lengths
-pub record ToldLengths (ns : List (Option ℕ)) (old new : BuilderTree) : Type 0 where
-  pub exact : new ≡ told_lengths ns old
-  pub last : own_slots new ≡ own_slots old ++ pending_slots ns old
-  pub below : levels_below new ≡ levels_below old
-  pub whole : IsWhole new
-  pub differ : ValuesDiffer old → ValuesDiffer new

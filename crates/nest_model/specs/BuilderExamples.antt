@@ -13,7 +13,8 @@ use Rattle.nest_model.specs.BuilderTree as builders
 use Rattle.nest_model.specs.BuilderTree.{BuilderTree, no_builders, more_builders}
 use Rattle.nest_model.specs.BuilderItem as items
 use Rattle.nest_model.specs.BuilderItem.{Item, seal_items}
-use Rattle.nest_model.specs.BuilderAppend.{told, appended, all_appended}
+use Rattle.nest_model.specs.BuilderTold.{told}
+use Rattle.nest_model.specs.BuilderAppend.{appended, all_appended}
 
 -- items
 abbrev pub an_int : ℕ → Item

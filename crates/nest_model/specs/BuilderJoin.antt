@@ -1,10 +1,17 @@
 -- One builder's rows after another's of the same kind.
-use Rattle.std.specs.Prelude.{◌≡◌, ℕ, ◌+◌, List, [], ◌∷◌, ◌++◌, map}
+use Rattle.std.specs.Prelude.{◌≡◌, ℕ, ◌+◌, List, [], ◌∷◌, ◌++◌, map, ◌*◌, ◌||◌, Bool, false, ltb, length}
 use Rattle.nest_model.specs.Slot.{Slot}
 use Rattle.nest_model.specs.BuilderRow.{Row, told_row, end_from}
-use Rattle.nest_model.specs.BuilderTree.{BuilderTree, flat, list, fixed_size_list, builder_len}
+use Rattle.nest_model.specs.BuilderTree.{BuilderTree, flat, list, fixed_size_list, builder_len, builder_type}
 use Rattle.nest_model.specs.BuilderLevels.{own_slots, levels}
 use Rattle.nest_model.specs.BuilderWhole.{IsWhole, cut_builder, ValuesDiffer}
+use Rattle.nest_memory.specs.TypeTree.{size_of}
+use Rattle.nest_memory.specs.declared.error.Error.TheVariants.{InvalidArgumentError, Overflow}
+use Rattle.nest_memory.specs.declared.error.Argument.TheVariants.{ItemType}
+use Rattle.nest_memory.specs.Rising.{largest_offset}
+use Rattle.nest_model.specs.Checks.{Checks, done, check, is_past}
+use Rattle.nest_model.specs.BuilderItem.{bytes_held}
+use Rattle.nest_model.specs.BuilderRefusals.{flat_passes}
 
 -- Variable-size List Layout: rows whose items lie s places further
 abbrev pub moved : ℕ → List Row → List Row
@@ -36,3 +43,16 @@ pub record Joined (other old new : BuilderTree) : Type 0 where
   pub whole : IsWhole new
   pub undo : cut_builder new (builder_len old) ≡ old
   pub differ : ValuesDiffer old → ValuesDiffer new
+
+-- the rows of both pass a limit, here or at a level below
+abbrev pub join_passes : BuilderTree → BuilderTree → Bool
+join_passes (flat t xs) (flat u ys) = flat_passes t (length xs + length ys) (bytes_held xs + bytes_held ys)
+join_passes (list large t rows c) (list wide u more d) = (is_past (length rows + length more) || ltb (largest_offset large) (end_from 0 rows + end_from 0 more)) || join_passes c d
+join_passes (fixed_size_list t bits c) (fixed_size_list u more d) = (is_past (length bits + length more) || is_past ((length bits + length more) * size_of t)) || join_passes c d
+join_passes _ _ = false
+
+-- Why another builder's rows are refused: its data type is another, or both pass a limit.
+abbrev pub join_checks : BuilderTree → BuilderTree → Checks
+join_checks old other =
+    check (InvalidArgumentError ItemType) (builder_type old ≡ builder_type other)
+    (check Overflow (join_passes old other ≡ false) done)

@@ -22,8 +22,7 @@ use Rattle.nest_model.specs.BuilderLevels.{own_slots}
 use Rattle.nest_model.specs.BuilderItem as items
 use Rattle.nest_model.specs.BuilderItem.{PlainValue, Item, Items, no_items, more_items, count_items, slot_of_value, takes, place_of, byte_count, bytes_held}
 use Rattle.nest_model.specs.BuilderAppend.{nulls_appended, nulls_appended_each, keyed, value_appended, appended, items_appended}
-use Rattle.nest_model.specs.BuilderRefusals.{bytes_pass, flat_passes, has_other_size, nulls_pass, nulls_pass_each, is_known, value_refusal, item_refusal, items_refusal}
-use Rattle.nest_model.specs.BuilderRowChecks.{over_limits, over_limits_each}
+use Rattle.nest_model.specs.BuilderRefusals.{bytes_pass, flat_passes, has_other_size, nulls_pass, nulls_pass_each, is_known, value_refusal, item_refusal, items_refusal, over_limits, over_limits_each}
 use Rattle.nest_model.specs.BuilderRowLaws.{end_from-push}
 use Rattle.nest_model.specs.BuilderRefusalLaws.{below}
 use Rattle.nest_model.specs.BuilderRowCheckLaws.{bytes_held-append}

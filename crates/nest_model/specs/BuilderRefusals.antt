@@ -14,6 +14,7 @@ use Rattle.nest_model.specs.BuilderLevels.{own_slots}
 use Rattle.nest_model.specs.BuilderItem as items
 use Rattle.nest_model.specs.BuilderItem.{PlainValue, Item, Items, no_items, more_items, count_items, slot_of_value, takes, place_of, byte_count, bytes_held}
 use Rattle.nest_model.specs.BuilderAppend.{appended, items_appended}
+use Rattle.nest_model.specs.BuilderRow.{end_from}
 
 -- Variable-Size Binary Layout: so many bytes are past the largest offset; of slots of one size, past a length
 abbrev pub bytes_pass : PhysicalType → ℕ → ℕ → Bool
@@ -97,3 +98,16 @@ asked_item (Some v) = items.plain v
 abbrev pub asked_refusal : Option PlainValue → BuilderTree → Option Error
 asked_refusal None t = item_refusal items.null t
 asked_refusal (Some v) t = plain_refusal v t
+
+-- a level is past a limit
+abbrev mutual
+  pub over_limits : BuilderTree → Bool
+  over_limits (flat t xs) = flat_passes t (length xs) (bytes_held xs)
+  over_limits (list large t rows c) = (is_past (length rows) || ltb (largest_offset large) (end_from 0 rows)) || over_limits c
+  over_limits (fixed_size_list t bits c) = (is_past (length bits) || is_past (length bits * size_of t)) || over_limits c
+  over_limits (dictionary k t keys c) = (is_past (length keys) || ltb (key_count k) (builder_len c)) || over_limits c
+  over_limits (struct t bits cs) = is_past (length bits) || over_limits_each cs
+
+  pub over_limits_each : BuilderTrees → Bool
+  over_limits_each no_builders = false
+  over_limits_each (more_builders c cs) = over_limits c || over_limits_each cs

@@ -14,9 +14,9 @@ use Rattle.nest_model.specs.BuilderRow.{Row, told_row, end_from}
 use Rattle.nest_model.specs.BuilderTree.{BuilderTree, BuilderTrees, flat, list, fixed_size_list, dictionary, struct, no_builders, more_builders, builder_type, builder_types, builder_len, field_types}
 use Rattle.nest_model.specs.BuilderWhole.{AreWhole}
 use Rattle.nest_model.specs.BuilderItem.{bytes_held}
-use Rattle.nest_model.specs.BuilderAppend.{IsReady}
-use Rattle.nest_model.specs.BuilderJoin.{moved, AreAlike, joined}
-use Rattle.nest_model.specs.BuilderRowChecks.{AreEachWhole, HasWholeChildren, HaveRows, row_checks, lengths_checks, join_checks, join_passes, over_limits, FitsLimits, AreReady}
+use Rattle.nest_model.specs.BuilderTold.{IsReady, AreEachWhole, HasWholeChildren, HaveRows, row_checks, lengths_checks, FitsLimits, AreReady}
+use Rattle.nest_model.specs.BuilderJoin.{moved, AreAlike, joined, join_checks, join_passes}
+use Rattle.nest_model.specs.BuilderRefusals.{over_limits}
 use Rattle.nest_model.specs.BuilderRowLaws.{end_from-append}
 use Rattle.nest_model.specs.BuilderJoinLaws.{end_from-moved}
 

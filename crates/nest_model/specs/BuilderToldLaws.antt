@@ -7,7 +7,7 @@ use Rattle.nest_memory.specs.TypeTree.{TypeTree, size_of}
 use Rattle.nest_model.specs.BuilderRow.{Row, told_row, end_from, RisesFrom}
 use Rattle.nest_model.specs.BuilderTree.{BuilderTree, BuilderTrees, flat, list, fixed_size_list, dictionary, struct, builder_len}
 use Rattle.nest_model.specs.BuilderLevels.{own_slots, own_slots_each}
-use Rattle.nest_model.specs.BuilderAppend.{told, rows_of_lengths, items_told, IsReady, Told, ToldLengths}
+use Rattle.nest_model.specs.BuilderTold.{told, rows_of_lengths, items_told, IsReady, Told, ToldLengths}
 use Rattle.nest_model.specs.BuilderRowLaws.{end_from-push, end_from-append, RisesFrom-push, RisesFrom-append}
 use Rattle.nest_model.specs.BuilderLevelLaws.{own-length, cut-all_after, items-push, items-append, size-push, records-push}
 

@@ -1,7 +1,8 @@
 -- Items of a list at places, and the places that a mask chooses (of this project).
-use Rattle.std.specs.Prelude.{ℕ, suc, true, List, [], ◌∷◌, map, get_or}
+use Rattle.std.specs.Prelude.{ℕ, suc, true, List, [], ◌∷◌, map, get_or, length}
 use Rattle.nest_model.specs.Slot as slots
 use Rattle.nest_model.specs.Slot.{Slot}
+use Rattle.std.proofs.Common.{◌≡◌, ◌<◌}
 
 -- the slots at these places, in that order; a place past the end counts as Null
 abbrev pub chosen : List Slot → List ℕ → List Slot
@@ -16,3 +17,7 @@ places_from k (s ∷ ss) = places_from (suc k) ss
 -- the places that a mask chooses, rising: those whose slot is true; a null chooses nothing
 abbrev pub mask_places : List Slot → List ℕ
 mask_places ss = places_from 0 ss
+
+-- a mask chooses the places below its length whose slot is true
+abbrev pub IsTrueAt : List Slot → ℕ → Type 0
+IsTrueAt ss p = (p < length ss) × (get_or ss p slots.null ≡ slots.truth true)

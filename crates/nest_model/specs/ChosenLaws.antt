@@ -9,7 +9,7 @@ use Rattle.std.proofs.lemmas.List.Kept.{AllPairs-cons}
 use Rattle.nest_memory.specs.Cut.{cut}
 use Rattle.nest_model.specs.Slot as slots
 use Rattle.nest_model.specs.Slot.{Slot}
-use Rattle.nest_model.specs.Chosen.{chosen, places_from, mask_places}
+use Rattle.nest_model.specs.Chosen.{chosen, places_from, mask_places, IsTrueAt}
 
 pub length-chosen : (ss : List Slot) (is : List ℕ) → length (chosen ss is) ≡ length is
 length-chosen ss is = length-map is (λ i. get_or ss i slots.null)
@@ -34,10 +34,6 @@ chosen-all ss = chosen-range ss 0 (length ss) (omega arith) ∙ whole ss
     whole : (ss : List Slot) → cut ss 0 (length ss) ≡ ss
     whole [] = refl
     whole (s ∷ ss) = ap (◌∷◌ s) (whole ss)
-
--- a mask chooses the places below its length whose slot is true
-abbrev pub IsTrueAt : List Slot → ℕ → Type 0
-IsTrueAt ss p = (p < length ss) × (get_or ss p slots.null ≡ slots.truth true)
 
 abbrev StandsAt : ℕ → List Slot → ℕ → Type 0
 StandsAt k ss p = (j : ℕ) × (p ≡ k + j) × IsTrueAt ss j

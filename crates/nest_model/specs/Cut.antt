@@ -1,9 +1,10 @@
 -- A cut of an array: the parts of its n slots from place o (of this project). No value is copied; a validity that is there stays.
-use Rattle.std.specs.Prelude.{ℕ, ◌+◌, ◌*◌, ℤ, List, Option, Some, None}
+use Rattle.std.specs.Prelude.{ℕ, ◌+◌, ◌*◌, ℤ, List, Option, Some, None, ◌≡◌}
 use Rattle.nest_memory.specs.TypeTree.{size_of}
 use Rattle.nest_memory.specs.Cut.{cut}
 use Rattle.nest_model.specs.Part.{cut_validity}
-use Rattle.nest_model.specs.Layout.{Layout, Layouts, null, boolean, primitive, binary, text, fixed_size_binary, fixed_size_list, list, map, struct, union, dictionary, no_layouts, more_layouts}
+use Rattle.nest_model.specs.Layout.{Layout, Layouts, null, boolean, primitive, binary, text, fixed_size_binary, fixed_size_list, list, map, struct, union, dictionary, no_layouts, more_layouts, layout_type}
+use Rattle.nest_model.specs.Meaning.{slots_of}
 
 abbrev pub cut_offsets : Option (List ℤ) → ℕ → ℕ → Option (List ℤ)
 cut_offsets None o n = None
@@ -29,3 +30,9 @@ abbrev mutual
   pub cut_layouts : Layouts → ℕ → ℕ → Layouts
   cut_layouts no_layouts o n = no_layouts
   cut_layouts (more_layouts c cs) o n = more_layouts (cut_layout c o n) (cut_layouts cs o n)
+
+-- b is the n slots of a from place o, of a's data type, on the same parts
+pub record IsCut (a : Layout) (o n : ℕ) (b : Layout) : Type 0 where
+  pub parts : b ≡ cut_layout a o n
+  pub slots : slots_of b ≡ cut (slots_of a) o n
+  pub same_type : layout_type b ≡ layout_type a

@@ -8,7 +8,7 @@ use Rattle.nest_model.specs.Part.{valid_at, begin, extent, place, field_named}
 use Rattle.nest_model.specs.Layout.{Layout, Layouts, null, boolean, primitive, binary, text, fixed_size_binary, fixed_size_list, list, map, struct, union, dictionary, no_layouts, more_layouts, layout_type}
 use Rattle.nest_model.specs.Meaning.{run, len, first_len, union_place, slot, of_field, picked, each, slots_of}
 use Rattle.nest_model.specs.Accessors.{validity_of, whole, key_at}
-use Rattle.nest_model.specs.Cut.{cut_layout, cut_layouts, cut_offsets}
+use Rattle.nest_model.specs.Cut.{cut_layout, cut_layouts, cut_offsets, IsCut}
 use Rattle.nest_model.specs.Runs.{cut-cut, length-cut, get_or-cut, rows-cut, valid-cut, validity-cut-cut, product-sum, product-fits, product-within, product-end, product-below, product-over, run-ext, cut-run}
 
 pub begin-cut : (os : List ℕ) (o n i : ℕ) → i < n → begin (take (n + 1) (drop o os)) i ≡ begin os (o + i)
@@ -215,3 +215,6 @@ mutual
       let a = layout-cut-cut c o n p m h in
       let b = layouts-cut-cut cs o n p m h in
       cc
+
+pub is-cut : (a : Layout) (o n : ℕ) (b : Layout) → o + n ≤ len a → b ≡ cut_layout a o n → IsCut a o n b
+is-cut a o n b h e = record { parts = e; slots = ap slots_of e ∙ slots-cut a o n h; same_type = ap layout_type e ∙ type-cut a o n }

@@ -1,7 +1,7 @@
 -- Which parts make an array: the checks of each constructor, in order. What is checked is what the Arrow columnar format asks of a
 -- layout; the order and the errors are of this project. A check asks of a child its length and its data type alone.
 use Rattle.std.specs.Prelude.{◌≡◌, ℕ, zero, suc, ◌+◌, ◌≤◌, ◌<◌, ◌%◌, ℤ, pos, negsuc, Bool, true, false, IsTrue, List, length, get_or, Option, Some, None}
-use Rattle.std.specs.Str.{IsUtf8}
+use Rattle.std.specs.Str.{IsUtf8, IsCharBoundary}
 use Rattle.std.specs.List.{All}
 use Rattle.nest_memory.specs.TypeTree as types
 use Rattle.nest_memory.specs.TypeTree.{TypeTree, FieldTrees, no_fields, more_fields, field_type, logical_type, count_fields, item_type, size_of, fields_of, ids_of, is_dense, has_pairs}
@@ -11,13 +11,14 @@ use Rattle.nest_memory.specs.Cut.{cut}
 use Rattle.nest_memory.specs.Rising.{last_of}
 use Rattle.nest_model.specs.Part.{Validity, valid_at, begin, extent, rows, field_named}
 use Rattle.nest_model.specs.Layout.{Layout, Layouts, null, boolean, primitive, binary, text, fixed_size_binary, fixed_size_list, list, map, struct, union, dictionary, no_layouts, more_layouts, layout_type, count_layouts}
-use Rattle.nest_model.specs.Accessors.{validity_of, raw_keys, key_at, key_type_of}
+use Rattle.nest_model.specs.Accessors.{validity_of, raw_keys, key_at, key_type_of, with_validity}
 use Rattle.nest_model.specs.Meaning.{len, first_len}
 use Rattle.nest_memory.specs.declared.error.Spec.TheVariants as spec
 use Rattle.nest_memory.specs.declared.error.Argument.TheVariants as argument
 use Rattle.nest_memory.specs.declared.error.Error.{Error}
 use Rattle.nest_memory.specs.declared.error.Error.TheVariants.{OutOfSpec, InvalidArgumentError}
 use Rattle.nest_model.specs.Checks.{Checks, done, check, Pass, FailFirst}
+use Rattle.std.proofs.Common.{◌-◌}
 
 -- Validity bitmaps: a bit for each of n slots
 abbrev pub ValidityFits : Validity → ℕ → Type 0
@@ -121,6 +122,14 @@ EachValidNames va ks n = (i : ℕ) → i < len ks → valid_at va i ≡ true →
 abbrev pub EachText : List ℕ → List ℕ → Type 0
 EachText os bs = (i : ℕ) → i < rows os → IsUtf8 (cut bs (begin os i) (extent os i))
 
+-- the bytes that the offsets cover
+abbrev pub covered : List ℕ → List ℕ → List ℕ
+covered os bs = cut bs (begin os 0) (last_of os - begin os 0)
+
+-- they are UTF-8, and each offset is a place between two characters
+abbrev pub WholeText : List ℕ → List ℕ → Type 0
+WholeText os bs = IsUtf8 (covered os bs) × ((i : ℕ) → i < length os → IsCharBoundary (covered os bs) (get_or os i 0 - begin os 0))
+
 -- the checks of each constructor, in order
 abbrev pub checks : Layout → Checks
 checks (null t n) =
@@ -205,3 +214,11 @@ validity_checks a va = check (OutOfSpec spec.ValidityLength) (ValidityFits va (l
 
 abbrev pub ValidityFault : Error → Layout → Validity → Type 0
 ValidityFault e a va = FailFirst e (validity_checks a va)
+
+-- the validity has a bit for each slot of a, and b is a under it
+abbrev pub HasValidity : Layout → Validity → Layout → Type 0
+HasValidity a va b = ValidityFits va (len a) × (b ≡ with_validity a va)
+
+-- e is why a takes no such validity, and b is a as it was
+abbrev pub RefusesValidity : Error → Layout → Validity → Layout → Type 0
+RefusesValidity e a va b = ValidityFault e a va × (b ≡ a)

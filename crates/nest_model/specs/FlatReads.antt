@@ -8,14 +8,7 @@ use Rattle.nest_model.specs.Part.{Validity, valid_at}
 use Rattle.nest_model.specs.Slot as slots
 use Rattle.nest_model.specs.Slot.{Slot}
 use Rattle.nest_model.specs.Layout.{boolean, primitive}
-use Rattle.nest_model.specs.Meaning.{run, slots_of}
-
--- some slots, but Null where the validity says so (Validity bitmaps)
-abbrev pub masked : Validity → List Slot → List Slot
-masked None ss = ss
-masked (Some []) ss = ss
-masked (Some (b ∷ bits)) [] = []
-masked (Some (b ∷ bits)) (s ∷ ss) = (if b then s else slots.null) ∷ masked (Some bits) ss
+use Rattle.nest_model.specs.Meaning.{run, slots_of, masked}
 
 -- a function's run is a list that has its values at its places
 run-list : (f : ℕ → Slot) (ss : List Slot) (o : ℕ) → ((i : ℕ) → i < length ss → f (o + i) ≡ get_or ss i slots.null) → run f o (length ss) ≡ ss

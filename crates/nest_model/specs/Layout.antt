@@ -1,6 +1,6 @@
 -- An array as a plain tree: its kind and its parts, as its accessors show them after its cuts. A kind is a layout of the Arrow columnar
 -- format; each begins with the data type.
-use Rattle.std.specs.Prelude.{ℕ, suc, ℤ, Bool, List, Option}
+use Rattle.std.specs.Prelude.{ℕ, suc, ℤ, Bool, List, Option, ◌+◌}
 use Rattle.nest_memory.specs.TypeTree.{TypeTree}
 use Rattle.nest_memory.specs.declared.datatypes.physical_type.PrimitiveType.{PrimitiveType}
 use Rattle.nest_model.specs.Part.{Validity}
@@ -55,3 +55,18 @@ layout_type (dictionary t ks c) = t
 abbrev pub count_layouts : Layouts → ℕ
 count_layouts no_layouts = 0
 count_layouts (more_layouts c cs) = suc (count_layouts cs)
+
+-- how many arrays below it its slots are made of; keys are flat and not counted
+abbrev mutual
+  pub weight : Layout → ℕ
+  weight (fixed_size_list t c va) = weight c + 1
+  weight (list l t os c va) = weight c + 1
+  weight (map t os c va) = weight c + 1
+  weight (struct t cs va) = weight_all cs + 1
+  weight (union t ks cs os start) = weight_all cs + 1
+  weight (dictionary t ks c) = weight c + 1
+  weight a = 0
+
+  pub weight_all : Layouts → ℕ
+  weight_all no_layouts = 0
+  weight_all (more_layouts c cs) = weight c + weight_all cs + 1

@@ -1,5 +1,5 @@
 -- A code of layouts, by which a ghost value that is one is told apart from another; and how deep an array is.
-use Rattle.std.specs.Prelude.{◌≡◌, ℕ, ◌+◌, ℤ, Bool, List, Option}
+use Rattle.std.specs.Prelude.{◌≡◌, ℕ, ℤ, Bool, List, Option}
 use Rattle.std.specs.Coded.{Coded, coded_ℕ, coded_ℤ, coded_bool, coded_list, coded×, coded_option}
 use Rattle.std.proofs.Common.{refl, ap}
 use base.Stored.{Gv, gnil, gnum, gcons}
@@ -113,18 +113,3 @@ mutual
 
 abbrev pub coded_layout : Coded Layout
 coded_layout = record { code = code_layout; inj = layout_one }
-
--- how many arrays below it its slots are made of; keys are flat and not counted
-abbrev mutual
-  pub weight : Layout → ℕ
-  weight (fixed_size_list t c va) = weight c + 1
-  weight (list l t os c va) = weight c + 1
-  weight (map t os c va) = weight c + 1
-  weight (struct t cs va) = weight_all cs + 1
-  weight (union t ks cs os start) = weight_all cs + 1
-  weight (dictionary t ks c) = weight c + 1
-  weight a = 0
-
-  pub weight_all : Layouts → ℕ
-  weight_all no_layouts = 0
-  weight_all (more_layouts c cs) = weight c + weight_all cs + 1

@@ -1,28 +1,15 @@
 -- What a call owes that makes an array of null slots, or of none (of this project).
-use Rattle.std.specs.Prelude.{◌≡◌, ◌⊎◌, ℕ, zero, suc, ◌+◌, ◌-◌, ◌<◌, ◌≤◌, ◌^◌, ℤ, pos, Bool, true, false, List, [], ◌∷◌, map, replicate, Option, Some, None, alloc_error}
-use Rattle.std.proofs.Common.{refl, ap, sym, ◌∙◌, subst, arith}
+use Rattle.std.specs.Prelude.{◌≡◌, ◌⊎◌, ℕ, [], Option, Some, None, alloc_error}
 use Rattle.nest_memory.specs.TypeTree.{TypeTree}
 use Rattle.nest_memory.specs.Physical.{physical_type}
 use Rattle.nest_memory.specs.declared.datatypes.physical_type.PhysicalType.{PhysicalType}
-use Rattle.nest_memory.specs.declared.datatypes.physical_type.PhysicalType.TheVariants as physical
-use Rattle.nest_memory.specs.declared.datatypes.physical_type.PrimitiveType.{PrimitiveType}
-use Rattle.nest_memory.specs.declared.datatypes.physical_type.PrimitiveType.TheVariants as primitives
-use Rattle.nest_memory.specs.Native.{parts_of}
 use Rattle.nest_memory.specs.declared.error.Error.{Error}
-use Rattle.nest_memory.specs.declared.error.Error.TheVariants.{OutOfSpec, Overflow, Memory}
+use Rattle.nest_memory.specs.declared.error.Error.TheVariants.{OutOfSpec, Memory}
 use Rattle.nest_memory.specs.declared.error.Spec.TheVariants as spec
-use Rattle.nest_model.specs.Slot.{Slot}
 use Rattle.nest_model.specs.Layout.{Layout, layout_type}
 use Rattle.nest_model.specs.Meaning.{slots_of}
-use Rattle.nest_model.specs.Nulls.{null_slots, fault_of, type_fault, empty_fault}
-use Rattle.nest_model.specs.Array.{TopFits}
-use Rattle.nest_model.specs.Checks.{refuse_if, is_past}
-use Rattle.nest_model.specs.Decide.{refuse-none}
-use Rattle.nest_model.specs.Fits.{Fits}
-use Rattle.nest_model.specs.Layout as layouts
-use Rattle.nest_model.specs.NullLayout.{zero_value, none_valid, null_array, null_layout, empty_layout}
-use Rattle.nest_model.specs.NullLaws.{IsNullArray, is-array, not-above, native-null, null-array, null-layout, empty-layout, null-slots}
-use Rattle.nest_model.specs.NullKinds.{is_plain, float_fault, native-parts, native-slot, plain-fault}
+use Rattle.nest_model.specs.Nulls.{null_slots}
+use Rattle.nest_model.specs.NullLayout.{null_layout, empty_layout}
 
 -- an array of data type t with n null slots, part for part
 pub record HasNulls (t : TypeTree) (n : ℕ) (a : Layout) : Type 0 where
@@ -47,66 +34,3 @@ AcceptsKind p t fault = (physical_type t ≡ p) × (fault ≡ None)
 -- e says that the data type is of another kind, else it is its fault, else memory was wanting
 abbrev pub RefusesKind : Error → PhysicalType → TypeTree → Option Error → Type 0
 RefusesKind e p t fault = ((e ≡ OutOfSpec spec.WrongType) × ¬ (physical_type t ≡ p)) ⊎ ((physical_type t ≡ p) × RefusesType e fault)
-
-pub as-nulls : (t : TypeTree) (n : ℕ) (a : Layout) → IsNullArray t n (null_layout t n) → a ≡ null_layout t n → HasNulls t n a
-as-nulls t n a r e = record { same_type = ap layout_type e ∙ r.typed; slots = ap slots_of e ∙ null-slots t n (null_layout t n) r; parts = e }
-
-pub has-nulls : (t : TypeTree) (n : ℕ) (a : Layout) → type_fault t n ≡ None → a ≡ null_layout t n → HasNulls t n a
-has-nulls t n a h e = as-nulls t n a (null-layout t n h) e
-
-pub as-none : (t : TypeTree) (a : Layout) → IsNullArray t 0 (empty_layout t) → a ≡ empty_layout t → HasNone t a
-as-none t a r e = record { same_type = ap layout_type e ∙ r.typed; slots = ap slots_of e ∙ null-slots t 0 (empty_layout t) r; parts = e }
-
-pub has-none : (t : TypeTree) (a : Layout) → empty_fault t ≡ None → a ≡ empty_layout t → HasNone t a
-has-none t a h e = as-none t a (empty-layout t h) e
-
--- native values, which have no fault but that of floats
-native-array : (k : PrimitiveType) (t : TypeTree) (n d : ℕ) → (0 < n → 0 < d) → physical_type t ≡ physical.Primitive k → IsNullArray t n (null_array t n d)
-native-array k t n d p h = subst (IsNullArray t n) (sym (native-parts k t n d h)) (native-null k t n d p h (native-slot k t h))
-
-pub native-nulls : (k : PrimitiveType) (t : TypeTree) (n : ℕ) (a : Layout) → physical_type t ≡ physical.Primitive k → a ≡ null_layout t n → HasNulls t n a
-native-nulls k t n a h e = as-nulls t n a (native-array k t n 1 (λ z. omega arith) h) e
-
-pub native-none : (k : PrimitiveType) (t : TypeTree) (a : Layout) → physical_type t ≡ physical.Primitive k → a ≡ empty_layout t → HasNone t a
-native-none k t a h e = as-none t a (native-array k t 0 0 (λ z. z) h) e
-
-zero-numbers : (k : PrimitiveType) → replicate (parts_of k) (pos 0) ≡ zero_value k
-zero-numbers primitives.Int256 = refl
-zero-numbers primitives.DaysMs = refl
-zero-numbers primitives.MonthDayNano = refl
-zero-numbers k = refl
-
-pub native-zeros : {A : Type 0} (v : A → List ℤ) (k : PrimitiveType) (t : TypeTree) (n d : ℕ) (z : A) → physical_type t ≡ physical.Primitive k → v z ≡ replicate (parts_of k) (pos 0)
-    → layouts.primitive k t (map v (replicate n z)) (none_valid d n) ≡ null_array t n d
-native-zeros v k t n d z h e = ap (λ vs. layouts.primitive k t vs (none_valid d n)) (repeated n ∙ ap (replicate n) (e ∙ zero-numbers k)) ∙ sym (native-parts k t n d h)
-  where
-    repeated : (n : ℕ) → map v (replicate n z) ≡ replicate n (v z)
-    repeated zero = refl
-    repeated (suc n) = ap (λ vs. v z ∷ vs) (repeated n)
-
-pub no-float : (t : TypeTree) (k : PrimitiveType) (n d : ℕ) → physical_type t ≡ physical.Primitive k → fault_of t n d ≡ None → float_fault (physical.Primitive k) ≡ None
-no-float t k n d h e = ap float_fault (sym h) ∙ sym (plain-fault t n d (ap is_plain h)) ∙ e
-
--- booleans have no fault
-pub boolean-fault : (t : TypeTree) (n d : ℕ) → physical_type t ≡ physical.Boolean → fault_of t n d ≡ None
-boolean-fault t n d h = plain-fault t n d (ap is_plain h) ∙ ap float_fault h
-
--- n slots over no byte or item: there is one offset more
-past : (n : ℕ) → 2 ^ 64 ≤ n → is_past n ≡ true
-past n h = grind (arith)
-
-pub not-past : (n : ℕ) (rest : Option Error) → refuse_if (is_past n) Overflow rest ≡ None → n < 2 ^ 64
-not-past n rest h = let l = not-above (2 ^ 64 - 1) n (refuse-none (is_past n) Overflow rest h).0 in omega arith
-
-pub refused-past : (n : ℕ) (rest : Option Error) → 2 ^ 64 ≤ n → refuse_if (is_past n) Overflow rest ≡ Some Overflow
-refused-past n rest h = ap (λ b. refuse_if b Overflow rest) (past n h)
-
-pub accepted-not-past : (n : ℕ) (rest : Option Error) → n < 2 ^ 64 → refuse_if (is_past n) Overflow rest ≡ rest
-accepted-not-past n rest h = ap (λ b. refuse_if b Overflow rest) (let e : is_past n ≡ false = grind (arith) in e)
-
--- an array that is one of nulls fits at its top level
-pub top-fits : (t : TypeTree) (n d : ℕ) (a : Layout) → (0 < n → 0 < d) → fault_of t n d ≡ None → a ≡ null_array t n d → TopFits a
-top-fits t n d a p h e = subst TopFits (sym e) (is-array t n (null_array t n d) (null-array t n d p h)).0
-
-pub fits : (t : TypeTree) (n d : ℕ) (a : Layout) → (0 < n → 0 < d) → fault_of t n d ≡ None → a ≡ null_array t n d → Fits a
-fits t n d a p h e = let r = null-array t n d p h in subst Fits (sym e) r.fits

@@ -1,12 +1,13 @@
 -- Which slots an array stands for: the meaning of each layout of the Arrow columnar format.
 use Rattle.std.specs.Prelude.{ℕ, zero, suc, ◌+◌, ◌*◌, ◌/◌, ℤ, pos, false, List, [], ◌∷◌, Option, Some, None, length, get_or, if◌then◌else◌}
-use Rattle.nest_memory.specs.TypeTree.{size_of, ids_of}
+use Rattle.nest_memory.specs.TypeTree.{size_of, ids_of, TypeTree}
 use Rattle.nest_memory.specs.Cut.{cut}
-use Rattle.nest_model.specs.Part.{valid_at, begin, extent, rows, place, field_named}
-use Rattle.nest_model.specs.Layout.{Layout, Layouts, null, boolean, primitive, binary, text, fixed_size_binary, fixed_size_list, list, map, struct, union, dictionary, no_layouts, more_layouts, layout_type}
-use Rattle.nest_model.specs.Accessors.{validity_of, key_at}
+use Rattle.nest_model.specs.Part.{valid_at, begin, extent, rows, place, field_named, Validity}
+use Rattle.nest_model.specs.Layout.{Layout, Layouts, null, boolean, primitive, binary, text, fixed_size_binary, fixed_size_list, list, map, struct, union, dictionary, no_layouts, more_layouts, layout_type, count_layouts}
+use Rattle.nest_model.specs.Accessors.{validity_of, key_at, child_at}
 use Rattle.nest_model.specs.Slot as slots
 use Rattle.nest_model.specs.Slot.{Slot, Slots, seal}
+use Rattle.std.proofs.Common.{◌≡◌, ◌<◌}
 
 -- the slots that f has at the n places from o
 abbrev pub run : (ℕ → Slot) → ℕ → ℕ → List Slot
@@ -81,3 +82,26 @@ abbrev mutual
 -- the list of slots that an array stands for
 abbrev pub slots_of : Layout → List Slot
 slots_of a = run (slot a) 0 (len a)
+
+-- some slots, but Null where the validity says so (Validity bitmaps)
+abbrev pub masked : Validity → List Slot → List Slot
+masked None ss = ss
+masked (Some []) ss = ss
+masked (Some (b ∷ bits)) [] = []
+masked (Some (b ∷ bits)) (s ∷ ss) = (if b then s else slots.null) ∷ masked (Some bits) ss
+
+-- null unless valid
+abbrev pub where_valid : Validity → ℕ → Slot → Slot
+where_valid va i s = if valid_at va i then s else slots.null
+
+-- the record of the children's slots at place i
+abbrev pub fields_at : Layouts → ℕ → Slots
+fields_at no_layouts i = slots.no_slots
+fields_at (more_layouts c cs) i = slots.more_slots (get_or (slots_of c) i slots.null) (fields_at cs i)
+
+-- what slot i of a union is: the pick of field f, which its type means, and of that field's slot
+pub record IsPick (t : TypeTree) (ks : List ℤ) (cs : Layouts) (os : Option (List ℤ)) (start i f : ℕ) : Type 0 where
+  pub means : field_named (ids_of t) (get_or ks i (pos 0)) ≡ Some f
+  pub field_there : f < count_layouts cs
+  pub slot_there : union_place os start i < len (child_at cs f)
+  pub picks : slot (union t ks cs os start) i ≡ slots.pick f (layout_type (child_at cs f)) (get_or (slots_of (child_at cs f)) (union_place os start i) slots.null)

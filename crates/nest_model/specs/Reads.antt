@@ -9,21 +9,12 @@ use Rattle.nest_memory.specs.Rising.{last_of}
 use Rattle.nest_model.specs.Part.{Validity, valid_at, rows, begin, extent, place, field_named}
 use Rattle.nest_model.specs.Layout.{Layout, Layouts, fixed_size_list, list, map, struct, union, dictionary, no_layouts, more_layouts, layout_type, count_layouts}
 use Rattle.nest_model.specs.Slot as slots
-use Rattle.nest_model.specs.Slot.{Slot, Slots, seal}
+use Rattle.nest_model.specs.Slot.{Slot, seal}
 use Rattle.nest_model.specs.Accessors.{validity_of, child_at, key_at}
-use Rattle.nest_model.specs.Meaning.{run, len, first_len, union_place, slot, each, of_field, picked, slots_of}
+use Rattle.nest_model.specs.Meaning.{run, len, first_len, union_place, slot, each, of_field, picked, slots_of, fields_at, where_valid, IsPick}
 use Rattle.nest_model.specs.Runs.{product-fits, cut-run, length-run, get_or-run}
 use Rattle.nest_model.specs.Fits.{EachLen, EachCovers, Names, MeansField, SlotsThere, child_len}
 use Rattle.nest_model.specs.Array.{AreOffsets, TopFits}
-
--- null unless valid
-abbrev pub where_valid : Validity → ℕ → Slot → Slot
-where_valid va i s = if valid_at va i then s else slots.null
-
--- the record of the children's slots at place i
-abbrev pub row : Layouts → ℕ → Slots
-row no_layouts i = slots.no_slots
-row (more_layouts c cs) i = slots.more_slots (get_or (slots_of c) i slots.null) (row cs i)
 
 pub slots-length : (a : Layout) → length (slots_of a) ≡ len a
 slots-length a = length-run (slot a) 0 (len a)
@@ -56,7 +47,7 @@ fixed_size_list-slot t c va i k =
     let e : 1 * size_of t ≡ size_of t = omega arith in
     ap (λ ss. where_valid va i (slots.list (seal ss))) (items-cut c (i * size_of t) (size_of t) (omega arith))
 
-each-row : (cs : Layouts) (n i : ℕ) → EachLen cs n → i < n → each cs i ≡ row cs i
+each-row : (cs : Layouts) (n i : ℕ) → EachLen cs n → i < n → each cs i ≡ fields_at cs i
 each-row no_layouts n i h k = refl
 each-row (more_layouts c cs) n i h k =
     let a = slot-place c i slots.null (omega arith) in
@@ -64,7 +55,7 @@ each-row (more_layouts c cs) n i h k =
     cc
 
 pub struct-slot : (t : TypeTree) (cs : Layouts) (va : Validity) (i : ℕ) → TopFits (struct t cs va) → i < first_len cs
-    → slot (struct t cs va) i ≡ where_valid va i (slots.record_of (row cs i))
+    → slot (struct t cs va) i ≡ where_valid va i (slots.record_of (fields_at cs i))
 struct-slot t cs va i h k = ap (λ ss. where_valid va i (slots.record_of ss)) (each-row cs (first_len cs) i h.1.1.1.1.1.0 k)
 
 names-place : (z : ℤ) (n : ℕ) → Names z n → place z < n
@@ -87,13 +78,6 @@ child_len-child : (cs : Layouts) (f : ℕ) → f < count_layouts cs → child_le
 child_len-child no_layouts f k = absurd (omega arith)
 child_len-child (more_layouts c cs) zero k = refl
 child_len-child (more_layouts c cs) (suc f) k = child_len-child cs f (omega arith)
-
--- what slot i of a union is: the pick of field f, which its type means, and of that field's slot
-pub record IsPick (t : TypeTree) (ks : List ℤ) (cs : Layouts) (os : Option (List ℤ)) (start i f : ℕ) : Type 0 where
-  pub means : field_named (ids_of t) (get_or ks i (pos 0)) ≡ Some f
-  pub field_there : f < count_layouts cs
-  pub slot_there : union_place os start i < len (child_at cs f)
-  pub picks : slot (union t ks cs os start) i ≡ slots.pick f (layout_type (child_at cs f)) (get_or (slots_of (child_at cs f)) (union_place os start i) slots.null)
 
 there-place : (ids : Option (List ℤ)) (ks : List ℤ) (cs : Layouts) (os : Option (List ℤ)) (start i f : ℕ) → SlotsThere ids ks cs os start → i < length ks
     → field_named ids (get_or ks i (pos 0)) ≡ Some f → f < count_layouts cs → union_place os start i < len (child_at cs f)

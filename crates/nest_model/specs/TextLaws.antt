@@ -1,7 +1,7 @@
 -- The texts of a text array by its bytes as a whole: each slot's bytes are UTF-8 exactly where the bytes from the first offset
 -- to the last are UTF-8 and no offset lies inside a character.
 use Rattle.std.specs.Prelude.{◌↔◌, List, ◌++◌, length, get_or, take, drop}
-use Rattle.std.specs.Str.{IsUtf8, IsCharBoundary}
+use Rattle.std.specs.Str.{IsUtf8}
 use Rattle.std.proofs.Common.{◌≡◌, ℕ, zero, suc, ◌+◌, ◌-◌, ◌<◌, ◌≤◌, ap, sym, ◌∙◌, subst, arith}
 use Rattle.std.proofs.lemmas.Str.{IsUtf8-nil, IsUtf8-append, IsUtf8-between, IsCharBoundary-from_drop}
 use Rattle.std.proofs.Math.Seq.{take-add}
@@ -9,17 +9,9 @@ use Rattle.std.proofs.lemmas.List.{drop-take, drop-drop}
 use Rattle.nest_memory.specs.Cut.{cut}
 use Rattle.nest_memory.specs.Rising.{last_of}
 use Rattle.nest_model.specs.Part.{begin, extent, rows}
-use Rattle.nest_model.specs.Fits.{EachText}
+use Rattle.nest_model.specs.Fits.{EachText, WholeText, covered}
 use Rattle.nest_model.specs.Array.{AreOffsets}
 use Rattle.nest_model.specs.Runs.{cut-cut, length-cut}
-
--- the bytes that the offsets cover
-abbrev pub covered : List ℕ → List ℕ → List ℕ
-covered os bs = cut bs (begin os 0) (last_of os - begin os 0)
-
--- they are UTF-8, and each offset is a place between two characters
-abbrev pub WholeText : List ℕ → List ℕ → Type 0
-WholeText os bs = IsUtf8 (covered os bs) × ((i : ℕ) → i < length os → IsCharBoundary (covered os bs) (get_or os i 0 - begin os 0))
 
 -- a slot's bytes lie in the covered ones
 slot-covered : (os bs : List ℕ) (i : ℕ) → AreOffsets os → i < rows os

@@ -10,7 +10,8 @@ ghost use Rattle.nest_model.specs.BuilderTree.{builder_len};
 ghost use Rattle.nest_model.specs.BuilderLevels.{own_slots, levels, rows_needed};
 ghost use Rattle.nest_model.specs.BuilderWhole.{IsWhole, cut_builder, emptied};
 ghost use Rattle.nest_model.specs.BuilderItem as items;
-ghost use Rattle.nest_model.specs.BuilderAppend.{told, told_lengths, appended, all_appended};
+ghost use Rattle.nest_model.specs.BuilderTold.{told, told_lengths};
+ghost use Rattle.nest_model.specs.BuilderAppend.{appended, all_appended};
 ghost use Rattle.nest_model.specs.BuilderExamples.{an_int, some_ints, items_of, a_text, text_slot, no_ints, no_pairs, no_records, short_keys, with_record, lists_of_records, three_pending, records_with_a_null, letters, full_dictionary};
 
 /// Lists of records of a dictionary: each level, with one value for two equal texts.

@@ -9,12 +9,12 @@ ghost use Rattle.nest_model.specs.BuilderWhole.{IsWhole};
 ghost use Rattle.nest_model.specs.BuilderSpells.{value_item, Gives, Begins};
 ghost use Rattle.nest_model.specs.BuilderItem as items;
 ghost use Rattle.nest_model.specs.BuilderItem.{PlainValue, Item, seal_items, Stands};
-ghost use Rattle.nest_model.specs.BuilderAppend.{appended, all_appended, nulls_appended, Accepted, IsReady};
+ghost use Rattle.nest_model.specs.BuilderAppend.{appended, all_appended, nulls_appended, Accepted};
+ghost use Rattle.nest_model.specs.BuilderTold.{IsReady, HasWholeChildren, AreReady, FitsLimits, row_checks, lengths_checks};
 ghost use Rattle.nest_model.specs.BuilderExamples.{Texts, IsIterator, StepsOf};
-ghost use Rattle.nest_model.specs.BuilderJoin.{AreAlike, joined};
-ghost use Rattle.nest_model.specs.BuilderRefusals.{nulls_pass, is_known, item_refusal, items_refusal, value_refusal, plain_refusal};
+ghost use Rattle.nest_model.specs.BuilderJoin.{AreAlike, joined, join_checks};
+ghost use Rattle.nest_model.specs.BuilderRefusals.{nulls_pass, is_known, item_refusal, items_refusal, value_refusal, plain_refusal, over_limits};
 ghost use Rattle.nest_model.specs.BuilderReading.{Read, ReadOf, ReadsValue, read_refusal, Refused, Took, TookEach, TookAll, RefusedSome, ReadsList, whole};
-ghost use Rattle.nest_model.specs.BuilderRowChecks.{HasWholeChildren, AreReady, FitsLimits, row_checks, lengths_checks, join_checks, over_limits};
 
 /// What nothing refuses is appended rightly, to a builder of any nesting.
 pub fn accepted_unless_refused()

@@ -14,7 +14,8 @@ ghost use Rattle.nest_model.specs.BuilderLevels.{own_slots, levels, levels_below
 ghost use Rattle.nest_model.specs.BuilderWhole.{IsWhole, cut_builder, emptied, ValuesDiffer};
 ghost use Rattle.nest_model.specs.BuilderItem as items;
 ghost use Rattle.nest_model.specs.BuilderItem.{PlainValue, Item, takes, Stands, Lacks, place_of};
-ghost use Rattle.nest_model.specs.BuilderAppend.{told, told_lengths, items_told, appended, nulls_appended, all_appended, Accepted, AcceptedAll, IsReady, Told, ToldLengths};
+ghost use Rattle.nest_model.specs.BuilderTold.{told, told_lengths, items_told, IsReady, Told, ToldLengths};
+ghost use Rattle.nest_model.specs.BuilderAppend.{appended, nulls_appended, all_appended, Accepted, AcceptedAll};
 ghost use Rattle.nest_model.specs.BuilderJoin.{AreAlike, joined, Joined};
 
 /// A builder has as many slots of its own as rows.

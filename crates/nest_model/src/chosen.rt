@@ -5,8 +5,7 @@ ghost use Rattle.std.specs.List.{AllPairs, Contains, range_with_len};
 ghost use Rattle.nest_memory.specs.Cut.{cut};
 ghost use Rattle.nest_model.specs.Slot as slots;
 ghost use Rattle.nest_model.specs.Slot.{Slot};
-ghost use Rattle.nest_model.specs.Chosen.{chosen, mask_places};
-ghost use Rattle.nest_model.specs.ChosenLaws.{IsTrueAt};
+ghost use Rattle.nest_model.specs.Chosen.{chosen, mask_places, IsTrueAt};
 
 /// As many slots are chosen as there are places; all places choose the list, neighbouring ones a cut.
 pub fn choices()

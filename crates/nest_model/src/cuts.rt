@@ -3,8 +3,7 @@
 ghost use Rattle.std.specs.Prelude.{◌≡◌, ℕ, ◌+◌, ◌≤◌, length};
 ghost use Rattle.nest_model.specs.Layout.{Layout, layout_type};
 ghost use Rattle.nest_model.specs.Meaning.{len, slots_of};
-ghost use Rattle.nest_model.specs.Cut.{cut_layout};
-ghost use Rattle.nest_model.specs.CutOf.{IsCut};
+ghost use Rattle.nest_model.specs.Cut.{cut_layout, IsCut};
 ghost use Rattle.nest_memory.specs.Cut.{cut};
 ghost use Rattle.nest_model.specs.Array.{PartsHold, TopFits, IsArray};
 ghost use Rattle.nest_model.specs.Fits.{Fits};

@@ -10,10 +10,8 @@ ghost use Rattle.nest_model.specs.Layout.{Layout, Layouts};
 ghost use Rattle.nest_model.specs.Accessors.{validity_of, key_at};
 ghost use Rattle.nest_model.specs.Slot as slots;
 ghost use Rattle.nest_model.specs.Slot.{Slot, seal};
-ghost use Rattle.nest_model.specs.Meaning.{len, first_len, slot, slots_of};
+ghost use Rattle.nest_model.specs.Meaning.{len, first_len, slot, slots_of, masked, where_valid, fields_at, IsPick};
 ghost use Rattle.nest_model.specs.Array.{TopFits};
-ghost use Rattle.nest_model.specs.FlatReads.{masked};
-ghost use Rattle.nest_model.specs.Reads.{where_valid, row, IsPick};
 
 /// The list of slots has at each place the slot there.
 pub fn slot_at_place()
@@ -57,7 +55,7 @@ pub fn fixed_size_list_slots()
 /// A struct's slot is null or the record of its children's slots there.
 pub fn struct_slots()
     ensures { (t : TypeTree) (cs : Layouts) (va : Validity) (i : ℕ) → TopFits (layouts.struct t cs va) → i < first_len cs
-        → slot (layouts.struct t cs va) i ≡ where_valid va i (slots.record_of (row cs i)) }
+        → slot (layouts.struct t cs va) i ≡ where_valid va i (slots.record_of (fields_at cs i)) }
 {}
 
 /// A union's slot is the pick of a field, which its type means, and of that field's slot.

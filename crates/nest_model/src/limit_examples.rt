@@ -18,8 +18,9 @@ ghost use Rattle.nest_model.specs.BuilderTree as builders;
 ghost use Rattle.nest_model.specs.BuilderTree.{BuilderTree};
 ghost use Rattle.nest_model.specs.BuilderItem as items;
 ghost use Rattle.nest_model.specs.BuilderItem.{bytes_held};
-ghost use Rattle.nest_model.specs.BuilderRefusals.{item_refusal};
-ghost use Rattle.nest_model.specs.BuilderRowChecks.{row_checks, lengths_checks, join_checks, over_limits};
+ghost use Rattle.nest_model.specs.BuilderRefusals.{item_refusal, over_limits};
+ghost use Rattle.nest_model.specs.BuilderTold.{row_checks, lengths_checks};
+ghost use Rattle.nest_model.specs.BuilderJoin.{join_checks};
 ghost use Rattle.nest_model.specs.BuilderExamples.{pair_type, an_int, some_bytes, items_of, a_text, no_ints, no_records, numbers_by, over_nulls, rows_over_nothing};
 
 /// Null arrays: of offsets there is one more than slots, products and lengths have 64 bits, dense unions have offsets of 31.

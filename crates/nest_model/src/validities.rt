@@ -4,14 +4,14 @@ ghost use Rattle.std.specs.Prelude.{◌≡◌, ℕ, ◌+◌, ◌≤◌, ◌<◌,
 ghost use Rattle.std.specs.List.{count_by};
 ghost use Rattle.nest_memory.specs.Cut.{cut};
 ghost use Rattle.nest_memory.specs.declared.error.Error.{Error};
-ghost use Rattle.nest_model.specs.CutOf.{IsCut, HasValidity, RefusesValidity};
+ghost use Rattle.nest_model.specs.Cut.{IsCut};
+ghost use Rattle.nest_model.specs.Fits.{HasValidity, RefusesValidity, validity_checks, ValidityFault};
 ghost use Rattle.nest_model.specs.Part.{Validity, valid_at};
 ghost use Rattle.nest_model.specs.Slot as slots;
 ghost use Rattle.nest_model.specs.Layout.{Layout, layout_type};
 ghost use Rattle.nest_model.specs.Accessors.{validity_of, with_validity};
 ghost use Rattle.nest_model.specs.Meaning.{len, slot, slots_of};
 ghost use Rattle.nest_model.specs.Checks.{Pass};
-ghost use Rattle.nest_model.specs.Fits.{validity_checks, ValidityFault};
 ghost use Rattle.nest_model.specs.Array.{PartsHold, TopFits, IsArray};
 ghost use Rattle.nest_model.specs.Nullness.{is_null_at, null_count, has_keys};
 

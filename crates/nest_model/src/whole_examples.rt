@@ -13,8 +13,8 @@ ghost use Rattle.nest_model.specs.BuilderTree as builders;
 ghost use Rattle.nest_model.specs.BuilderTree.{BuilderTree, BuilderTrees};
 ghost use Rattle.nest_model.specs.BuilderWhole.{IsWhole, ValuesDiffer};
 ghost use Rattle.nest_model.specs.BuilderJoin.{AreAlike};
-ghost use Rattle.nest_model.specs.BuilderAppend.{appended, all_appended, IsReady};
-ghost use Rattle.nest_model.specs.BuilderRowChecks.{HasWholeChildren};
+ghost use Rattle.nest_model.specs.BuilderAppend.{appended, all_appended};
+ghost use Rattle.nest_model.specs.BuilderTold.{IsReady, HasWholeChildren};
 ghost use Rattle.nest_model.specs.BuilderExamples.{an_int, some_ints, items_of, no_ints, no_lists, no_pairs, no_records, list_of, pairs_of, records_of, in_child, three_pending, two_pending, letters, keyed_ints};
 
 /// A builder is whole where each level has just what the rows above need, of the fields' types.

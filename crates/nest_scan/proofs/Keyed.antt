@@ -8,10 +8,9 @@ use Rattle.nest_model.specs.Accessors.{bytes_of, child_of, key_at, keys_of, offs
 use Rattle.nest_model.specs.Array.{TopFits}
 use Rattle.nest_model.specs.Fits.{Names}
 use Rattle.nest_model.specs.Layout.{Layout, text, dictionary, layout_type}
-use Rattle.nest_model.specs.Meaning.{len, slot}
+use Rattle.nest_model.specs.Meaning.{len, slot, where_valid}
 use Rattle.nest_model.specs.Nullness.{is_null_at}
 use Rattle.nest_model.specs.Part.{Validity, valid_at}
-use Rattle.nest_model.specs.Reads.{where_valid}
 use Rattle.nest_model.specs.Slot as slots
 use Rattle.nest_model.specs.Slot.{Slot}
 use Rattle.nest_scan.specs.Items.{HasNoNull}

@@ -7,10 +7,9 @@ use Rattle.nest_model.specs.Accessors.{bytes_of, child_of, children_of, key_at, 
 use Rattle.nest_model.specs.Cut.{cut_layout}
 use Rattle.nest_model.specs.Fits.{EachNames}
 use Rattle.nest_model.specs.Layout.{Layout, layout_type}
-use Rattle.nest_model.specs.Meaning.{each, len, slot, slots_of}
+use Rattle.nest_model.specs.Meaning.{each, len, slot, slots_of, where_valid}
 use Rattle.nest_model.specs.Nullness.{null_count}
 use Rattle.nest_model.specs.Part.{begin, extent, place}
-use Rattle.nest_model.specs.Reads.{where_valid}
 use Rattle.nest_model.specs.Slot as slots
 use Rattle.nest_model.specs.Slot.{seal}
 use Rattle.nest_array.specs.declared.any.AnyArray.{AnyArray}

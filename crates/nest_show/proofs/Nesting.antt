@@ -20,12 +20,11 @@ use Rattle.nest_model.specs.Array.{TopFits}
 use Rattle.nest_model.specs.Facts.{list-facts, map-facts, fixed_size_list-facts, union-facts, dictionary-facts}
 use Rattle.nest_model.specs.Fits.{EachCovers, EachType, IsLogically}
 use Rattle.nest_model.specs.Layout as layouts
-use Rattle.nest_model.specs.Layout.{Layout, layout_type, count_layouts}
-use Rattle.nest_model.specs.LayoutCode.{weight, weight_all}
-use Rattle.nest_model.specs.Meaning.{run, slot, each, len}
+use Rattle.nest_model.specs.Layout.{Layout, layout_type, count_layouts, weight, weight_all}
+use Rattle.nest_model.specs.Meaning.{run, slot, each, len, where_valid}
 use Rattle.nest_model.specs.Nullness.{is_null_at}
 use Rattle.nest_model.specs.Part.{valid_at, place}
-use Rattle.nest_model.specs.Reads.{where_valid, items-cut}
+use Rattle.nest_model.specs.Reads.{items-cut}
 use Rattle.nest_model.specs.Slot as slots
 use Rattle.nest_model.specs.Slot.{Slot, Slots, seal}
 use Rattle.nest_show.specs.Json.{items_type, members_of, field_name, name_at, comma, json_of_slot, json_items, json_members, json_list, json_of_window, shown}

@@ -6,8 +6,7 @@ use Rattle.nest_memory.specs.declared.error.Error.TheVariants.{Memory, Overflow}
 use Rattle.nest_array.specs.declared.any.AnyArray.{AnyArray}
 use Rattle.nest_array.specs.Seen.{layout_of, layouts_of}
 use Rattle.nest_model.specs.Accessors.{child_at}
-use Rattle.nest_model.specs.Layout.{Layouts, count_layouts}
-use Rattle.nest_model.specs.LayoutCode.{weight, weight_all}
+use Rattle.nest_model.specs.Layout.{Layouts, count_layouts, weight, weight_all}
 use Rattle.nest_model.specs.Meaning.{len}
 use Rattle.nest_take.specs.Limits.{PassesLimits, PicksPass, SomePasses}
 use Rattle.nest_take.specs.Places.{AreBelow}

@@ -7,9 +7,8 @@ use Rattle.nest_memory.specs.declared.error.Error.{Error}
 use Rattle.nest_model.specs.Decide.{pass-no_fault}
 use Rattle.nest_model.specs.Fits.{Fits, FirstFault, checks}
 use Rattle.nest_model.specs.Layout.{Layout, boolean, primitive, layout_type}
-use Rattle.nest_model.specs.Meaning.{len, slot}
+use Rattle.nest_model.specs.Meaning.{len, slot, where_valid}
 use Rattle.nest_model.specs.Part.{Validity, valid_at}
-use Rattle.nest_model.specs.Reads.{where_valid}
 use Rattle.nest_model.specs.Slot as slots
 use Rattle.nest_model.specs.Slot.{Slot}
 use Rattle.nest_take.specs.Places.{AreAt, AreBelow, taken_validity}

@@ -8,8 +8,7 @@ use Rattle.nest_model.specs.Accessors.{child_of, children_of, offsets_of, start_
 use Rattle.nest_model.specs.Array.{TopFits}
 use Rattle.nest_model.specs.Facts.{list-facts, map-facts, struct-facts, union-facts}
 use Rattle.nest_model.specs.Layout as layouts
-use Rattle.nest_model.specs.Layout.{Layout, Layouts, layout_type}
-use Rattle.nest_model.specs.LayoutCode.{weight, weight_all}
+use Rattle.nest_model.specs.Layout.{Layout, Layouts, layout_type, weight, weight_all}
 use Rattle.nest_model.specs.Meaning.{len, union_place}
 use Rattle.nest_model.specs.Part.{Validity}
 use Rattle.nest_take.specs.Limits.{PassesLength, PassesLimits, PassesOffsets, SomePasses}

@@ -9,11 +9,11 @@ pub use Rattle.nest_build.specs.Rows.{bits_told}
 pub use Rattle.nest_memory.specs.TypeOf.{type_of}
 pub use Rattle.nest_memory.specs.declared.error.Argument.TheVariants.{Unfinished}
 pub use Rattle.nest_memory.specs.declared.error.Error.TheVariants.{InvalidArgumentError, Memory}
-pub use Rattle.nest_model.specs.BuilderAppend.{Accepted, Told}
+pub use Rattle.nest_model.specs.BuilderAppend.{Accepted}
+pub use Rattle.nest_model.specs.BuilderTold.{Told, AreEachWhole, HasWholeChildren, row_checks}
 pub use Rattle.nest_model.specs.BuilderItem.{Stands}
 pub use Rattle.nest_model.specs.BuilderLevels.{own_slots}
 pub use Rattle.nest_model.specs.BuilderRefusals.{item_refusal}
-pub use Rattle.nest_model.specs.BuilderRowChecks.{AreEachWhole, HasWholeChildren, row_checks}
 pub use Rattle.nest_model.specs.BuilderTree.{builder_type}
 pub use Rattle.nest_model.specs.BuilderWhole.{IsWhole, emptied}
 pub use Rattle.nest_model.specs.Checks.{FailFirst, Pass}

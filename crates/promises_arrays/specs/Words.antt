@@ -22,8 +22,7 @@ pub use Rattle.nest_model.specs.Checks.{Pass}
 pub use Rattle.nest_model.specs.Cut.{cut_layout}
 pub use Rattle.nest_model.specs.Fits.{FirstFault, Fits, Names, ValidityFault, validity_checks}
 pub use Rattle.nest_model.specs.Layout.{layout_type}
-pub use Rattle.nest_model.specs.Meaning.{len, slot, slots_of, union_place}
+pub use Rattle.nest_model.specs.Meaning.{len, slot, slots_of, union_place, where_valid}
 pub use Rattle.nest_model.specs.Nullness.{has_keys, is_null_at, null_count}
 pub use Rattle.nest_model.specs.Part.{begin, extent, place, field_named}
-pub use Rattle.nest_model.specs.Reads.{where_valid}
 pub use Rattle.nest_model.specs.Slot.{seal}

@@ -11,5 +11,4 @@ pub use Rattle.nest_model.specs.Accessors.{natives_of, validity_of}
 pub use Rattle.nest_model.specs.BuilderItem.{bytes_held}
 pub use Rattle.nest_model.specs.Fits.{FirstFault, Fits}
 pub use Rattle.nest_model.specs.Layout.{layout_type}
-pub use Rattle.nest_model.specs.Meaning.{len, slot, slots_of}
-pub use Rattle.nest_model.specs.Reads.{where_valid}
+pub use Rattle.nest_model.specs.Meaning.{len, slot, slots_of, where_valid}

@@ -17,13 +17,13 @@ pub use Rattle.nest_memory.specs.TypeTree.{key_type, size_of}
 pub use Rattle.nest_memory.specs.declared.error.Argument.TheVariants.{ChildNotEmpty, ItemSize, ItemType, Unfinished}
 pub use Rattle.nest_memory.specs.declared.error.Error.TheVariants.{InvalidArgumentError, Memory, Overflow}
 pub use Rattle.nest_model.specs.Accessors.{bytes_of, whole}
-pub use Rattle.nest_model.specs.BuilderAppend.{Accepted, Told, ToldLengths}
+pub use Rattle.nest_model.specs.BuilderAppend.{Accepted}
+pub use Rattle.nest_model.specs.BuilderTold.{Told, ToldLengths, HasWholeChildren, lengths_checks, row_checks}
 pub use Rattle.nest_model.specs.BuilderItem.{Holds, Stands, slot_of_item}
-pub use Rattle.nest_model.specs.BuilderJoin.{Joined}
+pub use Rattle.nest_model.specs.BuilderJoin.{Joined, join_checks}
 pub use Rattle.nest_model.specs.BuilderLevels.{own_slots}
 pub use Rattle.nest_model.specs.BuilderReading.{Refused, RefusedSome, Took, TookAll, TookEach}
 pub use Rattle.nest_model.specs.BuilderRefusals.{asked_item, asked_refusal, item_refusal}
-pub use Rattle.nest_model.specs.BuilderRowChecks.{HasWholeChildren, join_checks, lengths_checks, row_checks}
 pub use Rattle.nest_model.specs.BuilderSpells.{CanRead}
 pub use Rattle.nest_model.specs.BuilderTree.{builder_len, builder_type}
 pub use Rattle.nest_model.specs.BuilderWhole.{AreDifferent, IsWhole, cut_builder, emptied}

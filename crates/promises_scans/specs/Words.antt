@@ -10,9 +10,8 @@ pub use Rattle.nest_model.specs.Accessors.{bytes_of, child_of, children_of, key_
 pub use Rattle.nest_model.specs.Cut.{cut_layout}
 pub use Rattle.nest_model.specs.Fits.{EachNames}
 pub use Rattle.nest_model.specs.Layout.{layout_type}
-pub use Rattle.nest_model.specs.Meaning.{each, len, slot, slots_of}
+pub use Rattle.nest_model.specs.Meaning.{each, len, slot, slots_of, where_valid}
 pub use Rattle.nest_model.specs.Nullness.{is_null_at, null_count}
 pub use Rattle.nest_model.specs.Part.{begin, extent, place}
-pub use Rattle.nest_model.specs.Reads.{where_valid}
 pub use Rattle.nest_model.specs.Slot.{seal}
 pub use Rattle.nest_scan.specs.Places.{GivesFirst, GivesLast, all_places, places}

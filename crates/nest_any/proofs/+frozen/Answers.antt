@@ -7,7 +7,7 @@ use Rattle.nest_model.specs.Meaning.{slots_of}
 use Rattle.nest_model.specs.BuilderLevels.{own_slots}
 use Rattle.nest_model.specs.BuilderTree.{builder_type}
 use Rattle.nest_model.specs.BuilderWhole.{IsWhole, emptied}
-use Rattle.nest_model.specs.BuilderRowChecks.{AreEachWhole}
+use Rattle.nest_model.specs.BuilderTold.{AreEachWhole}
 use Rattle.nest_any.specs.BuilderCode.{weight, weight_all}
 use Rattle.nest_any.specs.Trees.{tree_of, trees_of}
 use Rattle.nest_any.proofs.Each.{weight-at, each_whole-at, whole-each, emptied-all, done-next, left-next}

@@ -1,5 +1,5 @@
 use Rattle.std.proofs.Common.{◌≡◌, length, ap, arith}
-use Rattle.nest_model.specs.LayoutCode.{weight, weight_all}
+use Rattle.nest_model.specs.Layout.{weight, weight_all}
 use Rattle.nest_array.specs.Seen.{layout_of}
 use Rattle.nest_array.proofs.Children.{weight-at, same-all}
 use Rattle.nest_array.proofs.+clone.Goals as goal

@@ -2,7 +2,7 @@ use Rattle.std.proofs.Common.{◌≡◌, ◌<◌, ◌*◌, ◌^◌, ◌∙◌, a
 use Rattle.std.proofs.lemmas.Result.{IfOk-weaker}
 use Rattle.nest_memory.specs.TypeOf.{type_of, field_of}
 use Rattle.nest_model.specs.Layout as layouts
-use Rattle.nest_model.specs.MadeNulls.{top-fits, fits}
+use Rattle.nest_model.specs.MadeNullLaws.{top-fits, fits}
 use Rattle.nest_model.specs.NullKinds.{field_weight, fields_weight, item-lighter, fields-lighter, value-lighter, dictionary-parts, list-parts, map-parts, sized-parts, struct-parts, union-parts}
 use Rattle.nest_model.specs.NullLayout.{none_valid, null_array, null_children}
 use Rattle.nest_model.specs.Nulls.{fault_of, field_fault, fields_fault}

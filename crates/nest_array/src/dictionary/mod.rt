@@ -47,8 +47,8 @@ struct TypedValues {
 }
 
 impl Model for DictionaryArray {
-    ghost use Rattle.nest_model.specs.Layout.{Layout};
-    ghost use Rattle.nest_model.specs.LayoutCode.{coded_layout, weight};
+    ghost use Rattle.nest_model.specs.Layout.{Layout, weight};
+    ghost use Rattle.nest_model.specs.LayoutCode.{coded_layout};
 
     ghost Value = { Layout };
 

@@ -32,8 +32,8 @@ pub struct FixedSizeListArray {
 }
 
 impl Model for FixedSizeListArray {
-    ghost use Rattle.nest_model.specs.Layout.{Layout};
-    ghost use Rattle.nest_model.specs.LayoutCode.{coded_layout, weight};
+    ghost use Rattle.nest_model.specs.Layout.{Layout, weight};
+    ghost use Rattle.nest_model.specs.LayoutCode.{coded_layout};
 
     ghost Value = { Layout };
 

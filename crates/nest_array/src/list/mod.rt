@@ -33,8 +33,8 @@ pub struct ListArray {
 }
 
 impl Model for ListArray {
-    ghost use Rattle.nest_model.specs.Layout.{Layout};
-    ghost use Rattle.nest_model.specs.LayoutCode.{coded_layout, weight};
+    ghost use Rattle.nest_model.specs.Layout.{Layout, weight};
+    ghost use Rattle.nest_model.specs.LayoutCode.{coded_layout};
 
     ghost Value = { Layout };
 

@@ -35,8 +35,8 @@ pub struct StructArray {
 }
 
 impl Model for StructArray {
-    ghost use Rattle.nest_model.specs.Layout.{Layout};
-    ghost use Rattle.nest_model.specs.LayoutCode.{coded_layout, weight};
+    ghost use Rattle.nest_model.specs.Layout.{Layout, weight};
+    ghost use Rattle.nest_model.specs.LayoutCode.{coded_layout};
 
     ghost Value = { Layout };
 

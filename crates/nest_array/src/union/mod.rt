@@ -11,8 +11,7 @@ ghost use Rattle.nest_memory.specs.declared.datatypes.physical_type.PhysicalType
 ghost use Rattle.nest_model.specs.Accessors.{child_at, children_of, start_of, types_of, union_offsets_of};
 ghost use Rattle.nest_model.specs.Cut.{cut_offsets as cut_of};
 ghost use Rattle.nest_model.specs.Layout as layouts;
-ghost use Rattle.nest_model.specs.Layout.{count_layouts};
-ghost use Rattle.nest_model.specs.LayoutCode.{weight};
+ghost use Rattle.nest_model.specs.Layout.{count_layouts, weight};
 ghost use Rattle.nest_model.specs.Meaning.{union_place};
 ghost use Rattle.nest_model.specs.Part.{field_named};
 ghost use Rattle.nest_model.specs.Slot as slots;
@@ -47,8 +46,8 @@ pub struct UnionArray {
 }
 
 impl Model for UnionArray {
-    ghost use Rattle.nest_model.specs.Layout.{Layout};
-    ghost use Rattle.nest_model.specs.LayoutCode.{coded_layout, weight};
+    ghost use Rattle.nest_model.specs.Layout.{Layout, weight};
+    ghost use Rattle.nest_model.specs.LayoutCode.{coded_layout};
 
     ghost Value = { Layout };
 

@@ -2,7 +2,7 @@
 ghost use Rattle.std.specs.Prelude.{◌≡◌, ◌<◌, ◌⊎◌, None, Some, OnOk, OnErr, IfErr, option_map, alloc_error};
 ghost use Rattle.std.specs.Option.{option_copied};
 ghost use Rattle.nest_model.specs.BuilderItem as items;
-ghost use Rattle.nest_model.specs.Reads.{where_valid};
+ghost use Rattle.nest_model.specs.Meaning.{where_valid};
 ghost use Rattle.nest_model.specs.Slot as slots;
 ghost use Rattle.nest_build.specs.Words.{Accepted, Memory, Overflow, asked_item, asked_refusal, flat_tree, len, slot, validity_of};
 

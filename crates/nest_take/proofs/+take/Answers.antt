@@ -1,8 +1,7 @@
 use Rattle.std.proofs.Common.{◌≡◌, ◌+◌, ◌*◌, ℕ, ◌∷◌, [], length, length-append, get_or, true, false, refl, ap, sym, ◌∙◌, subst, arith, inr}
 use Rattle.std.proofs.lemmas.Result.{err_from_is_err_and}
 use Rattle.nest_memory.specs.TypeTree.{size_of}
-use Rattle.nest_model.specs.Layout.{layout_type}
-use Rattle.nest_model.specs.LayoutCode.{weight}
+use Rattle.nest_model.specs.Layout.{layout_type, weight}
 use Rattle.nest_model.specs.Meaning.{len}
 use Rattle.nest_array.specs.Seen.{layout_of, layouts_of}
 use Rattle.nest_take.specs.Places.{AreAt, AreBelow}

@@ -1,4 +1,4 @@
-use Rattle.nest_model.specs.BuilderRowChecks.{HasWholeChildren}
+use Rattle.nest_model.specs.BuilderTold.{HasWholeChildren}
 use Rattle.bench_any.proofs.records.push_all_typed.Given as goal
 
 abbrev pub invariant-rows : goal.invariant-rows

@@ -1,8 +1,7 @@
 use Rattle.std.proofs.Common.{◌+◌, refl, sym, ap, ◌∙◌, subst, arith}
 use Rattle.nest_memory.specs.TypeTree.{logical_type}
 use Rattle.nest_model.specs.Accessors.{child_of, child_at, children_of}
-use Rattle.nest_model.specs.Layout.{layout_type}
-use Rattle.nest_model.specs.LayoutCode.{weight, weight_all}
+use Rattle.nest_model.specs.Layout.{layout_type, weight, weight_all}
 use Rattle.nest_model.specs.Meaning.{run, slot, len}
 use Rattle.nest_model.specs.Slot.{node_count, node_counts}
 use Rattle.nest_flat.specs.BareSlots.{same-along}

@@ -1,6 +1,6 @@
 use Rattle.std.proofs.Common.{◌≡◌, ◌+◌, ◌*◌}
 use Rattle.nest_model.specs.Accessors.{child_of}
-use Rattle.nest_model.specs.LayoutCode.{weight, weight_all}
+use Rattle.nest_model.specs.Layout.{weight, weight_all}
 use Rattle.nest_model.specs.Meaning.{run, slot}
 use Rattle.nest_model.specs.Slot.{node_counts}
 use Rattle.nest_array.specs.RowSlots.{children_nodes}

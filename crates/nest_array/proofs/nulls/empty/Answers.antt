@@ -1,6 +1,6 @@
 use Rattle.std.proofs.lemmas.Result.{MatchResult-weaker}
 use Rattle.nest_memory.specs.TypeOf.{type_of}
-use Rattle.nest_model.specs.MadeNulls.{has-none}
+use Rattle.nest_model.specs.MadeNullLaws.{has-none}
 use Rattle.nest_array.proofs.nulls.empty.Goals as goal
 
 pub returns : goal.returns

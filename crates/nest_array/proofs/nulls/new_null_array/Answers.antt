@@ -1,6 +1,6 @@
 use Rattle.std.proofs.lemmas.Result.{MatchResult-weaker}
 use Rattle.nest_memory.specs.TypeOf.{type_of}
-use Rattle.nest_model.specs.MadeNulls.{has-nulls}
+use Rattle.nest_model.specs.MadeNullLaws.{has-nulls}
 use Rattle.nest_array.specs.Seen.{layout_of}
 use Rattle.nest_array.proofs.nulls.new_null_array.Goals as goal
 

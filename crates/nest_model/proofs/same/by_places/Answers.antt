@@ -1,4 +1,4 @@
-use Rattle.nest_model.specs.SameArray.{same-len, same-slot, same-from_places}
+use Rattle.nest_model.specs.SameArrayLaws.{same-len, same-slot, same-from_places}
 use Rattle.nest_model.proofs.same.by_places.Goals as goal
 
 pub returns-clause-length : goal.returns-clause-length

@@ -1,4 +1,4 @@
-use Rattle.nest_model.specs.SameArray.{same-refl, same-sym, same-trans, same_array-decides}
+use Rattle.nest_model.specs.SameArrayLaws.{same-refl, same-sym, same-trans, same_array-decides}
 use Rattle.nest_model.proofs.same.equivalence.Goals as goal
 
 pub returns-clause-reflexive : goal.returns-clause-reflexive

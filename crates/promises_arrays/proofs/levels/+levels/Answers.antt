@@ -1,7 +1,7 @@
 use Rattle.std.proofs.Common.{◌≡◌, ◌+◌, suc, length, subst, ap, arith}
 use Rattle.nest_array.proofs.Children.{weight-at}
 use Rattle.nest_array.specs.Seen.{layout_of}
-use Rattle.nest_model.specs.LayoutCode.{weight}
+use Rattle.nest_model.specs.Layout.{weight}
 use Rattle.promises_arrays.proofs.Children.{FitBefore, one-more, all-fit}
 use Rattle.promises_arrays.proofs.levels.+levels.Goals as goal
 

@@ -1,6 +1,6 @@
 use Rattle.std.proofs.Common.{◌+◌, ◌*◌}
 use Rattle.nest_array.specs.Seen.{layout_of, layouts_of}
-use Rattle.nest_model.specs.LayoutCode.{weight, weight_all}
+use Rattle.nest_model.specs.Layout.{weight, weight_all}
 use Rattle.promises_arrays.proofs.Children.{FitBefore}
 use Rattle.promises_arrays.proofs.levels.+levels.Given as goal
 

@@ -1,5 +1,5 @@
 use Rattle.std.proofs.Common.{ap, subst, sym}
-use Rattle.nest_model.specs.BuilderRowChecks.{HasWholeChildren}
+use Rattle.nest_model.specs.BuilderTold.{HasWholeChildren}
 use Rattle.nest_model.specs.BuilderWhole.{IsWhole}
 use Rattle.nest_any.specs.Trees.{tree_of}
 use Rattle.nest_any.proofs.TellLaws.{child_is_whole}

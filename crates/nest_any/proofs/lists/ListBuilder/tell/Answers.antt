@@ -4,7 +4,7 @@ use Rattle.std.proofs.lemmas.Result.{on_ok_weaker, on_err_weaker, IfErr-weaker}
 use Rattle.nest_memory.specs.declared.error.Error.TheVariants.{Memory}
 use Rattle.nest_model.specs.Checks.{FailFirst, Pass}
 use Rattle.nest_model.specs.BuilderTree.{builder_len, builder_type}
-use Rattle.nest_model.specs.BuilderRowChecks.{row_checks}
+use Rattle.nest_model.specs.BuilderTold.{row_checks}
 use Rattle.nest_any.specs.Trees.{tree_of}
 use Rattle.nest_any.proofs.TellLaws.{row_told, on_ok_both}
 use Rattle.nest_any.proofs.lists.ListBuilder.tell.Goals as goal

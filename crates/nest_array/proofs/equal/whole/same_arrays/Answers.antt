@@ -1,5 +1,5 @@
 use Rattle.std.proofs.lemmas.Bool.Decides.{same_from_decides}
-use Rattle.nest_model.specs.SameArray.{same_array-decides}
+use Rattle.nest_model.specs.SameArrayLaws.{same_array-decides}
 use Rattle.nest_array.proofs.equal.whole.same_arrays.Goals as goal
 
 pub returns-clause-computes : goal.returns-clause-computes

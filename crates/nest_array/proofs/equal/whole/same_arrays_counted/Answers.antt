@@ -1,5 +1,5 @@
 use Rattle.std.proofs.Common.{sym, ◌∙◌}
-use Rattle.nest_model.specs.SameArray.{same-len}
+use Rattle.nest_model.specs.SameArrayLaws.{same-len}
 use Rattle.nest_array.proofs.equal.whole.same_arrays_counted.Goals as goal
 
 pub returns-then-not-same_shape-clause-same : goal.returns-then-not-same_shape-clause-same

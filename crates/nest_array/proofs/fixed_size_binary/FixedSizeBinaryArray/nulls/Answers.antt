@@ -1,7 +1,7 @@
 use Rattle.std.proofs.Common.{◌<◌, ◌*◌, ◌^◌, ◌∙◌, replicate, ap, sym, subst, arith}
 use Rattle.nest_memory.specs.TypeOf.{type_of}
 use Rattle.nest_model.specs.Layout as layouts
-use Rattle.nest_model.specs.MadeNulls.{fits}
+use Rattle.nest_model.specs.MadeNullLaws.{fits}
 use Rattle.nest_model.specs.NullKinds.{bytes-parts}
 use Rattle.nest_array.proofs.NullMakes.{bytes-long}
 use Rattle.nest_array.proofs.fixed_size_binary.FixedSizeBinaryArray.nulls.Goals as goal

@@ -1,6 +1,6 @@
 use Rattle.std.proofs.Common.{ap}
 use Rattle.nest_model.specs.Cut.{cut_layout}
-use Rattle.nest_model.specs.CutOf.{is-cut}
+use Rattle.nest_model.specs.CutLaws.{is-cut}
 use Rattle.nest_array.proofs.null.NullArray.slice.Goals as goal
 
 pub returns : goal.returns

@@ -1,5 +1,5 @@
 use Rattle.std.proofs.Common.{◌≡◌, ◌+◌, ◌<◌, length, ap, sym, ◌∙◌, arith}
-use Rattle.nest_model.specs.LayoutCode.{weight, weight_all}
+use Rattle.nest_model.specs.Layout.{weight, weight_all}
 use Rattle.nest_model.specs.Meaning.{len}
 use Rattle.nest_model.specs.Slot as slots
 use Rattle.nest_array.specs.Seen.{layout_of, layouts_of}

@@ -1,5 +1,5 @@
 use Rattle.std.proofs.Common.{◌≡◌, ◌+◌, take}
-use Rattle.nest_model.specs.BuilderAppend.{items_told}
+use Rattle.nest_model.specs.BuilderTold.{items_told}
 use Rattle.nest_build.proofs.list.mutable.end_there.Given as goal
 
 abbrev pub invariant-loop-items : goal.invariant-loop-items

@@ -6,7 +6,7 @@ use Rattle.nest_memory.specs.declared.datatypes.physical_type.PrimitiveType.{Pri
 use Rattle.nest_memory.specs.declared.datatypes.physical_type.PrimitiveType.TheVariants as primitives
 use Rattle.nest_memory.specs.declared.error.Error.TheVariants.{NotYetImplemented}
 use Rattle.nest_model.specs.NullKinds.{float_fault}
-use Rattle.nest_model.specs.MadeNulls.{no-float}
+use Rattle.nest_model.specs.MadeNullLaws.{no-float}
 use Rattle.nest_flat.proofs.any_primitive.AnyPrimitive.of_nulls.Goals as goal
 
 at-kind : (k f : PrimitiveType) → k ≡ f → float_fault (physical.Primitive k) ≡ None → float_fault (physical.Primitive f) ≡ None

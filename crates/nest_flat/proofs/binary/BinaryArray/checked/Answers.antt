@@ -5,7 +5,7 @@ use Rattle.nest_memory.specs.Physical.{physical_type, binary_of_width}
 use Rattle.nest_memory.specs.TypeOf.{type_of}
 use Rattle.nest_model.specs.Nulls.{fault_of}
 use Rattle.nest_model.specs.NullKinds.{binary-fault}
-use Rattle.nest_model.specs.MadeNulls.{refused-past, accepted-not-past}
+use Rattle.nest_model.specs.MadeNullLaws.{refused-past, accepted-not-past}
 use Rattle.nest_flat.proofs.binary.BinaryArray.checked.Goals as goal
 
 pub returns-then-length-eq18446744073709551615 : goal.returns-then-length-eq18446744073709551615

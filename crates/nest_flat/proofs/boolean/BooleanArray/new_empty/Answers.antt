@@ -1,7 +1,7 @@
 use Rattle.std.proofs.Common.{refl}
 use Rattle.std.proofs.lemmas.Result.{MatchResult-weaker}
 use Rattle.nest_memory.specs.TypeOf.{type_of}
-use Rattle.nest_model.specs.MadeNulls.{boolean-fault, has-none}
+use Rattle.nest_model.specs.MadeNullLaws.{boolean-fault, has-none}
 use Rattle.nest_flat.proofs.boolean.BooleanArray.new_empty.Goals as goal
 
 pub returns : goal.returns

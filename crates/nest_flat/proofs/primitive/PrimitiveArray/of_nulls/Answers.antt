@@ -2,7 +2,7 @@ use Rattle.std.proofs.Common.{◌≡◌, ◌∙◌, map, replicate, ap, sym}
 use Rattle.nest_memory.specs.TypeOf.{type_of}
 use Rattle.nest_model.specs.Layout as layouts
 use Rattle.nest_model.specs.NullLayout.{none_valid}
-use Rattle.nest_model.specs.MadeNulls.{native-zeros}
+use Rattle.nest_model.specs.MadeNullLaws.{native-zeros}
 use Rattle.nest_flat.proofs.primitive.PrimitiveArray.of_nulls.Goals as goal
 
 pub returns-clause-ok : goal.returns-clause-ok

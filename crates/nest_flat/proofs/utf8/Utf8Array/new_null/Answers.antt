@@ -1,6 +1,6 @@
 use Rattle.std.proofs.lemmas.Result.{MatchResult-weaker}
 use Rattle.nest_memory.specs.TypeOf.{type_of}
-use Rattle.nest_model.specs.MadeNulls.{has-nulls}
+use Rattle.nest_model.specs.MadeNullLaws.{has-nulls}
 use Rattle.nest_flat.proofs.utf8.Utf8Array.new_null.Goals as goal
 
 pub returns : goal.returns

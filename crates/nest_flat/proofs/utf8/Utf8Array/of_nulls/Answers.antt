@@ -4,7 +4,7 @@ use Rattle.nest_memory.specs.TypeOf.{type_of}
 use Rattle.nest_model.specs.Layout as layouts
 use Rattle.nest_model.specs.NullLayout.{null_array}
 use Rattle.nest_model.specs.NullKinds.{text-parts, text-fault}
-use Rattle.nest_model.specs.MadeNulls.{not-past, top-fits}
+use Rattle.nest_model.specs.MadeNullLaws.{not-past, top-fits}
 use Rattle.nest_flat.proofs.utf8.Utf8Array.of_nulls.Goals as goal
 
 pub no_bytes-requires : goal.no_bytes-requires

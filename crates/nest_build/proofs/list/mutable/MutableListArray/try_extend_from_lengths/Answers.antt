@@ -1,6 +1,6 @@
 use Rattle.std.proofs.Common.{◌+◌, sym, ap, ◌∙◌}
 use Rattle.std.proofs.lemmas.Result.{on_ok_weaker}
-use Rattle.nest_model.specs.BuilderAppend.{items_told}
+use Rattle.nest_model.specs.BuilderTold.{items_told}
 use Rattle.nest_build.proofs.Lists.{lengths_told}
 use Rattle.nest_build.proofs.list.mutable.MutableListArray.try_extend_from_lengths.Goals as goal
 

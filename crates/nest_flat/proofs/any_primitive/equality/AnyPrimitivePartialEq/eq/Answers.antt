@@ -1,5 +1,5 @@
 use Rattle.std.proofs.lemmas.Bool.Decides.{same_from_decides}
-use Rattle.nest_model.specs.SameArray.{same_array-decides}
+use Rattle.nest_model.specs.SameArrayLaws.{same_array-decides}
 use Rattle.nest_flat.specs.AnyPrimitive.{primitive_layout}
 use Rattle.nest_flat.proofs.any_primitive.equality.AnyPrimitivePartialEq.eq.Goals as goal
 
