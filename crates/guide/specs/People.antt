@@ -8,7 +8,7 @@ use Rattle.nest_memory.specs.TypeTree.{TypeTree, field, more_fields, no_fields}
 use Rattle.nest_memory.specs.declared.datatypes.physical_type.PhysicalType.{PhysicalType}
 use Rattle.nest_memory.specs.declared.datatypes.physical_type.PhysicalType.TheVariants as physical
 use Rattle.nest_memory.specs.declared.datatypes.physical_type.PrimitiveType.TheVariants as primitives
-use Rattle.nest_model.specs.BuilderItem.{holds_kind, slot_of_value}
+use Rattle.nest_model.specs.BuilderItem.{holds_kind, slot_of_plain}
 use Rattle.nest_model.specs.BuilderTree as builders
 use Rattle.nest_model.specs.BuilderTree.{BuilderTree, BuilderTrees, more_builders, no_builders}
 use Rattle.nest_model.specs.BuilderWhole.{IsWhole}
@@ -49,7 +49,7 @@ Cells = Option Plain × Option Plain
 -- the slot of a cell
 abbrev pub cell_slot : Option Plain → Slot
 cell_slot None = slots.null
-cell_slot (Some p) = slot_of_value (plain_value p)
+cell_slot (Some p) = slot_of_plain (plain_value p)
 
 -- a person more
 abbrev pub with_person : Cells → BuilderTree → BuilderTree

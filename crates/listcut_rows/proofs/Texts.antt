@@ -33,38 +33,38 @@ pub got-item : (item : Option ℤ) → optional (λ x. slots.number (x ∷ [])) 
 got-item None = refl
 got-item (Some number) = refl
 
-abbrev pub joined : List Slot → List ℕ
-joined items = join_with_byte 44 (map item_text items)
+abbrev pub joined_items : List Slot → List ℕ
+joined_items items = join_with_byte 44 (map item_text items)
 
 join-more : (x : List ℕ) (xs : List (List ℕ)) (t : List ℕ) → join_with_byte 44 ((x ∷ xs) ++ t ∷ []) ≡ join_with_byte 44 (x ∷ xs) ++ 44 ∷ t
 join-more x [] t = refl
 join-more x (y ∷ more) t = ap (λ l. x ++ 44 ∷ l) (join-more y more t) ∙ sym (append_assoc x (44 ∷ join_with_byte 44 (y ∷ more)) (44 ∷ t))
 
-joined-more : (items : List Slot) (item : Slot) → 0 < length items → joined (items ++ item ∷ []) ≡ joined items ++ 44 ∷ item_text item
+joined-more : (items : List Slot) (item : Slot) → 0 < length items → joined_items (items ++ item ∷ []) ≡ joined_items items ++ 44 ∷ item_text item
 joined-more [] item long = absurd (omega arith)
 joined-more (x ∷ xs) item long = ap (join_with_byte 44) (map-append item_text (x ∷ xs) (item ∷ [])) ∙ join-more (item_text x) (map item_text xs) (item_text item)
 
 module _ (xs : List Slot) (i : ℕ) (within : i < length xs) (old before between after : List ℕ) (item : Slot)
-    (so_far : before ≡ old ++ joined (take i xs))
+    (so_far : before ≡ old ++ joined_items (take i xs))
     (item_is : get_or xs i slots.null ≡ item) (pushed : after ≡ between ++ item_text item) where
   more : take (i + 1) xs ≡ take i xs ++ item ∷ []
   more = take_more xs i slots.null within ∙ ap (λ s. take i xs ++ s ∷ []) item_is
 
   -- the text of items, after another one
-  pub items-next : 0 < i → between ≡ before ++ 44 ∷ [] → after ≡ old ++ joined (take (i + 1) xs)
+  pub items-next : 0 < i → between ≡ before ++ 44 ∷ [] → after ≡ old ++ joined_items (take (i + 1) xs)
   items-next later separated =
       let first = take i xs in
       let long : 0 < length first = omega (arith, length-take i xs) in
-      let whole : joined (take (i + 1) xs) ≡ joined first ++ 44 ∷ item_text item = ap joined more ∙ joined-more first item long in
+      let whole : joined_items (take (i + 1) xs) ≡ joined_items first ++ 44 ∷ item_text item = ap joined_items more ∙ joined-more first item long in
       pushed ∙ ap (λ l. l ++ item_text item) (separated ∙ ap (λ l. l ++ 44 ∷ []) so_far)
-      ∙ append_assoc (old ++ joined first) (44 ∷ []) (item_text item) ∙ append_assoc old (joined first) (44 ∷ item_text item) ∙ ap (λ l. old ++ l) (sym whole)
+      ∙ append_assoc (old ++ joined_items first) (44 ∷ []) (item_text item) ∙ append_assoc old (joined_items first) (44 ∷ item_text item) ∙ ap (λ l. old ++ l) (sym whole)
 
   -- and before any
-  pub items-first : i ≡ 0 → between ≡ before → after ≡ old ++ joined (take (i + 1) xs)
+  pub items-first : i ≡ 0 → between ≡ before → after ≡ old ++ joined_items (take (i + 1) xs)
   items-first begins same =
       let none : take i xs ≡ [] = ap (λ n. take n xs) begins in
-      let one : joined (take (i + 1) xs) ≡ item_text item = ap joined (more ∙ ap (λ l. l ++ item ∷ []) none) in
-      pushed ∙ ap (λ l. l ++ item_text item) (same ∙ so_far ∙ ap (λ l. old ++ joined l) none ∙ append-nil old) ∙ ap (λ l. old ++ l) (sym one)
+      let one : joined_items (take (i + 1) xs) ≡ item_text item = ap joined_items (more ∙ ap (λ l. l ++ item ∷ []) none) in
+      pushed ∙ ap (λ l. l ++ item_text item) (same ∙ so_far ∙ ap (λ l. old ++ joined_items l) none ∙ append-nil old) ∙ ap (λ l. old ++ l) (sym one)
 
 -- a slot of a cut
 pub cut-slot : (a : Layout) (o n i : ℕ) → o + n ≤ len a → i < n → get_or (cut (slots_of a) o n) i slots.null ≡ slot a (o + i)
@@ -81,10 +81,10 @@ where-valid true s r e h = e
 where-valid false s r e h = absurd (h e)
 
 pub row-pushed : (old one two three : List ℕ) (va : Validity) (i : ℕ) (row : Slot) (items : List Slot) → row ≡ where_valid va i (slots.list (seal items)) → (row ≡ slots.null → ⊥)
-    → one ≡ old ++ 91 ∷ [] → two ≡ one ++ joined items → three ≡ two ++ 93 ∷ [] → three ≡ old ++ row_text row
+    → one ≡ old ++ 91 ∷ [] → two ≡ one ++ joined_items items → three ≡ two ++ 93 ∷ [] → three ≡ old ++ row_text row
 row-pushed old one two three va i row items at some opened filled closed =
-    let inside = joined items in
-    let text : row_text row ≡ 91 ∷ inside ++ 93 ∷ [] = ap row_text (where-valid (valid_at va i) (slots.list (seal items)) row at some) ∙ ap (λ ss. 91 ∷ joined ss ++ 93 ∷ []) (unseal-seal items) in
+    let inside = joined_items items in
+    let text : row_text row ≡ 91 ∷ inside ++ 93 ∷ [] = ap row_text (where-valid (valid_at va i) (slots.list (seal items)) row at some) ∙ ap (λ ss. 91 ∷ joined_items ss ++ 93 ∷ []) (unseal-seal items) in
     closed ∙ ap (λ l. l ++ 93 ∷ []) (filled ∙ ap (λ l. l ++ inside) opened ∙ append_assoc old (91 ∷ []) inside) ∙ append_assoc old (91 ∷ inside) (93 ∷ []) ∙ ap (λ l. old ++ l) (sym text)
 
 text-more : (rows : List Slot) (row : Slot) → text_of (rows ++ row ∷ []) ≡ text_of rows ++ (row_text row ++ 10 ∷ [])

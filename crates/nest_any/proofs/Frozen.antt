@@ -11,11 +11,11 @@ use Rattle.nest_memory.specs.declared.datatypes.physical_type.PhysicalType.TheVa
 use Rattle.nest_memory.specs.declared.error.Error.{Error}
 use Rattle.nest_model.specs.Part.{Validity}
 use Rattle.nest_model.specs.Layout as layouts
-use Rattle.nest_model.specs.Layout.{Layout, Layouts, no_layouts, more_layouts, layout_type, count_layouts}
+use Rattle.nest_model.specs.Layout.{Layout, Layouts, no_layouts, more_layouts, layout_type, count_layouts, field_types}
 use Rattle.nest_model.specs.Fits.{Fits, ValidityFits, EachType, EachLen}
 use Rattle.nest_model.specs.Meaning.{len, first_len, slots_of}
 use Rattle.nest_model.specs.Reads.{slots-length}
-use Rattle.nest_model.specs.BuilderTree.{BuilderTree, BuilderTrees, struct, no_builders, more_builders, builder_len, builder_type, builder_types, field_types}
+use Rattle.nest_model.specs.BuilderTree.{BuilderTree, BuilderTrees, struct, no_builders, more_builders, builder_len, builder_type, builder_types}
 use Rattle.nest_model.specs.BuilderFreeze.{EachFrozen, SpellsBits}
 use Rattle.nest_model.specs.BuilderFreezeLaws.{struct-frozen}
 use Rattle.nest_model.specs.BuilderLevels.{own_slots}

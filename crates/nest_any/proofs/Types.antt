@@ -4,7 +4,8 @@ use Rattle.std.proofs.Common.{◌≡◌, suc, ◌<◌, length, refl, ap, arith}
 use Rattle.nest_memory.specs.TypeTree.{FieldTrees, no_fields, more_fields, count_fields}
 use Rattle.nest_memory.specs.TypeOf.{field_list_of}
 use Rattle.nest_memory.specs.declared.datatypes.field.Field.{Field}
-use Rattle.nest_model.specs.BuilderTree.{BuilderTree, BuilderTrees, no_builders, more_builders, builder_types, field_types}
+use Rattle.nest_model.specs.BuilderTree.{BuilderTree, BuilderTrees, no_builders, more_builders, builder_types}
+use Rattle.nest_model.specs.Layout.{field_types}
 use Rattle.nest_any.specs.Each.{each}
 use Rattle.nest_any.specs.Refusals.{count_builders}
 

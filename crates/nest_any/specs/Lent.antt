@@ -36,12 +36,12 @@ builder_at no_builders i = None
 builder_at (more_builders c cs) zero = Some c
 builder_at (more_builders c cs) (suc i) = builder_at cs i
 
-abbrev pub child_at : ℕ → BuilderTree → Option BuilderTree
-child_at i (flat t xs) = None
-child_at i (list large t rows c) = builder_at (more_builders c no_builders) i
-child_at i (fixed_size_list t bits c) = builder_at (more_builders c no_builders) i
-child_at i (dictionary k t keys c) = None
-child_at i (struct t bits cs) = builder_at cs i
+abbrev pub child_builder : ℕ → BuilderTree → Option BuilderTree
+child_builder i (flat t xs) = None
+child_builder i (list large t rows c) = builder_at (more_builders c no_builders) i
+child_builder i (fixed_size_list t bits c) = builder_at (more_builders c no_builders) i
+child_builder i (dictionary k t keys c) = None
+child_builder i (struct t bits cs) = builder_at cs i
 
 -- a builder of any kind as the tree of the builder of lists that it is, or of records
 abbrev pub as_list : AnyMutableArray → Option BuilderTree

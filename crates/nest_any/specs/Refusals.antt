@@ -11,11 +11,11 @@ use Rattle.nest_memory.specs.declared.error.Spec.TheVariants.{ChildLength, Child
 use Rattle.nest_model.specs.Checks.{Checks, done, check}
 use Rattle.nest_model.specs.Part.{Validity}
 use Rattle.nest_model.specs.Fits.{IsLogically, ValidityFits}
-use Rattle.nest_model.specs.Layout.{Layouts, no_layouts, more_layouts, layout_type}
+use Rattle.nest_model.specs.Layout.{Layouts, no_layouts, more_layouts, layout_type, field_types}
 use Rattle.nest_model.specs.Meaning.{slots_of}
 use Rattle.nest_model.specs.BuilderFreeze.{SpellsBits}
 use Rattle.nest_model.specs.BuilderLevels.{own_slots}
-use Rattle.nest_model.specs.BuilderTree.{BuilderTree, BuilderTrees, list, fixed_size_list, dictionary, struct, no_builders, more_builders, builder_len, builder_type, builder_types, field_types}
+use Rattle.nest_model.specs.BuilderTree.{BuilderTree, BuilderTrees, list, fixed_size_list, dictionary, struct, no_builders, more_builders, builder_len, builder_type, builder_types}
 use Rattle.nest_model.specs.BuilderWhole.{IsWhole}
 use Rattle.nest_model.specs.BuilderTold.{HaveRows}
 

@@ -15,9 +15,9 @@ pub use Rattle.nest_model.specs.BuilderAppend.{nulls_appended, nulls_appended_ea
 pub use Rattle.nest_model.specs.BuilderFreeze.{SpellsBits}
 pub use Rattle.nest_model.specs.BuilderLevels.{own_slots}
 pub use Rattle.nest_model.specs.BuilderRefusals.{nulls_pass, nulls_pass_each}
-pub use Rattle.nest_model.specs.BuilderTree.{BuilderTree, builder_len, builder_type, builder_types, field_types}
+pub use Rattle.nest_model.specs.BuilderTree.{BuilderTree, builder_len, builder_type, builder_types}
+pub use Rattle.nest_model.specs.Layout.{field_types, layout_type}
 pub use Rattle.nest_model.specs.BuilderWhole.{AreWhole, IsWhole, cut_builder, cut_builders, emptied, emptied_each}
 pub use Rattle.nest_model.specs.Checks.{FailFirst, Pass, largest_length}
 pub use Rattle.nest_model.specs.Fits.{ValidityFits}
-pub use Rattle.nest_model.specs.Layout.{layout_type}
 pub use Rattle.nest_model.specs.Meaning.{slots_of}

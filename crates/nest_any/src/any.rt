@@ -51,7 +51,7 @@ impl AnyMutableArray {
     ghost use Rattle.nest_any.specs.contracts.lists.ListBuilder.{the_row as list_row};
     ghost use Rattle.nest_any.specs.contracts.struct_.MutableStructArray.{the_row as struct_row};
     ghost use Rattle.nest_any.specs.declared.any.AnyMutableArray.TheVariants.{List, Struct};
-    ghost use Rattle.nest_any.specs.Lent.{as_list, as_struct, child_at};
+    ghost use Rattle.nest_any.specs.Lent.{as_list, as_struct, child_builder};
 
     /// No row of lists or of dictionaries of that type, over an empty child. The values of dictionaries have no children.
     ///
@@ -168,7 +168,7 @@ impl AnyMutableArray {
     /// before the row is told. What the builder is once the child was written over is said of `as_list_mut` and
     /// `as_struct_mut`.
     pub fn child(&mut self, i: usize) -> Option<&mut AnyMutableArray>
-        ensures { option_map (λ c. tree_of c.now) result ≡ child_at i (tree_of self.old) }
+        ensures { option_map (λ c. tree_of c.now) result ≡ child_builder i (tree_of self.old) }
     {
         match self {
             AnyMutableArray::List(lists) => lists.child_at(i),

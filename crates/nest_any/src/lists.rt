@@ -50,7 +50,7 @@ impl ListBuilder {
     ghost use Rattle.std.specs.Borrow.{Lends, LendsIf, sem};
     ghost use Rattle.nest_any.specs.contracts.lists.ListBuilder.{the_row};
     ghost use Rattle.nest_any.specs.contracts.any.AnyMutableArray.{the_row as any_row};
-    ghost use Rattle.nest_any.specs.Lent.{child_at, with_items};
+    ghost use Rattle.nest_any.specs.Lent.{child_builder, with_items};
 
     /// Rows over a child.
     pub(crate) fn over(alloc: Global, rows: TypedRows, values: Box<AnyMutableArray>) -> ListBuilder
@@ -228,7 +228,7 @@ impl ListBuilder {
     /// The child for 0, else none.
     pub(crate) fn child_at(&mut self, i: usize) -> Option<&mut AnyMutableArray>
         ensures* writes_back { sem 𝓛 (LendsIf the_row any_row self.entry result (λ c. with_items self.entry.now (tree_of c)) self.old) }
-        ensures value { option_map (λ c. tree_of c.now) result ≡ child_at i self.old }
+        ensures value { option_map (λ c. tree_of c.now) result ≡ child_builder i self.old }
     {
         if i == 0 { Some(&mut self.values) } else { None }
     }

@@ -63,7 +63,7 @@ impl MutableStructArray {
     ghost use Rattle.std.specs.Borrow.{Array, Lends, LendsIf, sem};
     ghost use Rattle.nest_any.specs.contracts.struct_.MutableStructArray.{the_row};
     ghost use Rattle.nest_any.specs.contracts.any.AnyMutableArray.{the_row as any_row};
-    ghost use Rattle.nest_any.specs.Lent.{builder_at, child_at, with_children, with_field};
+    ghost use Rattle.nest_any.specs.Lent.{builder_at, child_builder, with_children, with_field};
 
     /// The records of such parts: as many rows as the children have, valid where the validity says so.
     ///
@@ -207,7 +207,7 @@ impl MutableStructArray {
     // Child i, if there is one.
     pub(crate) fn child_at(&mut self, i: usize) -> Option<&mut AnyMutableArray>
         ensures* writes_back { sem 𝓛 (LendsIf the_row any_row self.entry result (λ c. with_field self.entry.now i (tree_of c)) self.old) }
-        ensures value { option_map (λ c. tree_of c.now) result ≡ child_at i self.old }
+        ensures value { option_map (λ c. tree_of c.now) result ≡ child_builder i self.old }
     {
         if i < self.values.len() {
             Some(self.value(i))

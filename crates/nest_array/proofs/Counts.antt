@@ -5,13 +5,12 @@ use Rattle.nest_model.specs.Accessors.{validity_of}
 use Rattle.nest_model.specs.Layout.{Layout}
 use Rattle.nest_model.specs.Meaning.{run, slot}
 use Rattle.nest_model.specs.Slot as slots
-use Rattle.nest_model.specs.Slot.{Slot, Slots, node_count, node_counts}
+use Rattle.nest_model.specs.Slot.{Slot, Slots, node_count, node_counts, Tells}
 use Rattle.nest_model.specs.SlotLaws.{node_count-positive}
 use Rattle.nest_model.specs.Runs.{run-ext}
 use Rattle.nest_flat.specs.BareSlots.{bare, slot-bare}
 use Rattle.nest_flat.specs.SameRuns.{same-at}
 use Rattle.nest_array.specs.RowSlots.{EachValid}
-use Rattle.nest_array.specs.Tells.{Tells}
 
 pub tells-none : (a : ℕ) → Tells true a a 0
 tells-none a = record { most = omega arith; all = λ t. omega arith }

@@ -10,7 +10,8 @@ use Rattle.nest_memory.specs.declared.datatypes.physical_type.PhysicalType.{Phys
 use Rattle.nest_memory.specs.declared.error.Error.{Error}
 use Rattle.nest_model.specs.Checks.{refuse_if, first_of}
 use Rattle.nest_model.specs.MadeNulls.{AcceptsKind, RefusesKind}
-use Rattle.nest_model.specs.NullKinds.{union_fault, union-own}
+use Rattle.nest_model.specs.Nulls.{union_fault}
+use Rattle.nest_model.specs.NullKinds.{union-own}
 
 pub passed : (b : Bool) (e : Error) (rest r : Option Error) → b ≡ false → r ≡ rest → r ≡ refuse_if b e rest
 passed b e rest r h q = q ∙ sym (ap (λ x. refuse_if x e rest) h)

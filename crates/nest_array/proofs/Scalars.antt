@@ -8,13 +8,13 @@ use Rattle.nest_memory.specs.declared.datatypes.physical_type.PhysicalType.TheVa
 use Rattle.nest_memory.specs.declared.datatypes.physical_type.PrimitiveType.{PrimitiveType}
 use Rattle.nest_model.specs.Accessors.{validity_of}
 use Rattle.nest_model.specs.Facts.{IsStruct}
-use Rattle.nest_model.specs.Layout.{Layout, Layouts, layout_type}
+use Rattle.nest_model.specs.Layout.{Layout, Layouts, layout_type, field_types}
 use Rattle.nest_model.specs.Meaning.{run, len, slot, each, slots_of}
 use Rattle.nest_model.specs.Reads.{items-cut}
 use Rattle.nest_model.specs.Slot as slots
 use Rattle.nest_model.specs.Slot.{Slot, seal}
 use Rattle.nest_array.specs.declared.any.AnyArray.{AnyArray}
-use Rattle.nest_array.specs.ScalarParts.{IsPickOf, ScalarParts, scalar_parts, slots_in, types_in, child_types, field_types}
+use Rattle.nest_array.specs.ScalarParts.{IsPickOf, ScalarParts, scalar_parts, slots_in, types_in, child_types}
 use Rattle.nest_array.specs.Seen.{layout_of, layouts_of}
 use Rattle.nest_array.specs.SeenScalar.{shown_type}
 use Rattle.nest_array.proofs.ShownTypes.{shown-native, shown-items, shown-fields, each-typed}

@@ -9,8 +9,8 @@ use Rattle.nest_memory.specs.declared.datatypes.physical_type.PrimitiveType.{Pri
 use Rattle.nest_model.specs.Accessors.{child_of, keys_of}
 use Rattle.nest_model.specs.Array.{TopFits}
 use Rattle.nest_model.specs.Fits.{EachType, IsLogically}
-use Rattle.nest_model.specs.Layout.{Layout, Layouts, no_layouts, more_layouts, dictionary, layout_type}
-use Rattle.nest_array.specs.ScalarParts.{child_types, field_types}
+use Rattle.nest_model.specs.Layout.{Layout, Layouts, no_layouts, more_layouts, dictionary, layout_type, field_types}
+use Rattle.nest_array.specs.ScalarParts.{child_types}
 use Rattle.nest_array.specs.SeenScalar.{shown_type, ValueFits}
 use Rattle.nest_array.specs.declared.scalar.ScalarValue.{ScalarValue}
 use Rattle.nest_array.specs.declared.scalar.ScalarValue.TheVariants.{Native, List, Struct}

@@ -20,7 +20,6 @@ pub mod SeenMap
 pub mod SeenScalar
 pub mod SeenStruct
 pub mod SeenUnion
-pub mod Tells
 pub mod Total
 pub mod Types
 pub mod WindowParts

@@ -5,7 +5,7 @@ use Rattle.std.specs.Cmp.{IsEquivalence, and_equiv, on_equiv, first_so, second_s
 use Rattle.std.specs.Coded.{Coded, code_by, coded×}
 use Rattle.nest_memory.specs.TypeCode.{coded_type}
 use Rattle.nest_memory.specs.TypeEq.{same_type, same_type-decides, same_type-equiv}
-use Rattle.nest_memory.specs.TypeTree.{TypeTree, FieldTrees, no_fields, more_fields, field_type}
+use Rattle.nest_memory.specs.TypeTree.{TypeTree}
 use Rattle.nest_model.specs.Layout.{Layouts, no_layouts, more_layouts, layout_type}
 use Rattle.nest_model.specs.Slot.{Slot, Slots, pick, no_slots, more_slots}
 use Rattle.nest_model.specs.SlotCode.{coded_slot, same_slot, same_slot-decides, same_slot-equiv}
@@ -58,12 +58,7 @@ abbrev pub types_in : Seq ScalarParts → Seq TypeTree
 types_in [] = []
 types_in (p ∷ ps) = p.data_type ∷ types_in ps
 
--- the data types of several fields
-abbrev pub field_types : FieldTrees → Seq TypeTree
-field_types no_fields = []
-field_types (more_fields f fs) = field_type f ∷ field_types fs
-
--- and of several arrays
+-- the data types of several arrays
 abbrev pub child_types : Layouts → Seq TypeTree
 child_types no_layouts = []
 child_types (more_layouts c cs) = layout_type c ∷ child_types cs

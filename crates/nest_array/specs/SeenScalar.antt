@@ -4,12 +4,12 @@ use Rattle.nest_memory.specs.Physical.{physical_type}
 use Rattle.nest_memory.specs.TypeTree as types
 use Rattle.nest_memory.specs.TypeTree.{TypeTree, item_type, fields_of}
 use Rattle.nest_memory.specs.declared.datatypes.physical_type.PhysicalType.TheVariants as physical
-use Rattle.nest_model.specs.Layout.{Layout, layout_type}
+use Rattle.nest_model.specs.Layout.{Layout, layout_type, field_types}
 use Rattle.nest_model.specs.Meaning.{slot, slots_of}
 use Rattle.nest_model.specs.Slot as slots
 use Rattle.nest_model.specs.Slot.{Slot, seal}
 use Rattle.nest_flat.specs.AnyNative.{native_kind, native_numbers}
-use Rattle.nest_array.specs.ScalarParts.{slots_in, types_in, field_types}
+use Rattle.nest_array.specs.ScalarParts.{slots_in, types_in}
 use Rattle.nest_array.specs.Seen.{layout_of}
 use Rattle.nest_array.specs.declared.scalar.ScalarValue.{ScalarValue}
 use Rattle.nest_array.specs.declared.scalar.ScalarValue.TheVariants.{Null, Boolean, Native, Text, Bytes, List, Struct, Pick}

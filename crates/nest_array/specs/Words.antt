@@ -2,7 +2,7 @@
 pub use Rattle.nest_array.specs.Refusals.{RefusesOrMemory}
 pub use Rattle.nest_array.specs.RowSlots.{Alike, EachValid}
 pub use Rattle.nest_array.specs.Seen.{layout_of, layouts_of}
-pub use Rattle.nest_array.specs.Tells.{Tells}
+pub use Rattle.nest_model.specs.Slot.{Tells, node_count, node_counts, seal}
 pub use Rattle.nest_array.specs.WindowParts.{window_parts, window_slots}
 pub use Rattle.nest_memory.specs.Cut.{cut}
 pub use Rattle.nest_memory.specs.Physical.{physical_type}
@@ -19,4 +19,3 @@ pub use Rattle.nest_model.specs.Meaning.{len, run, slot, slots_of, where_valid}
 pub use Rattle.nest_model.specs.Nullness.{has_keys, is_null_at, null_count}
 pub use Rattle.nest_model.specs.Part.{begin, extent}
 pub use Rattle.nest_model.specs.SameArray.{IsSameArray, same_array}
-pub use Rattle.nest_model.specs.Slot.{node_count, node_counts, seal}

@@ -25,7 +25,7 @@ use Rattle.nest_model.specs.Slot.{Slot}
 use Rattle.nest_model.specs.BuilderAppend.{Accepted}
 use Rattle.nest_model.specs.BuilderAppendLaws.{flat_took, flat_took_null}
 use Rattle.nest_model.specs.BuilderItem as items
-use Rattle.nest_model.specs.BuilderItem.{PlainValue, Holds, byte_count, bytes_held, holds_kind, slot_of_value}
+use Rattle.nest_model.specs.BuilderItem.{PlainValue, Holds, byte_count, bytes_held, holds_kind, slot_of_plain}
 use Rattle.nest_model.specs.BuilderRefusalLaws.{below, within}
 use Rattle.nest_model.specs.BuilderRefusals.{asked_item, asked_refusal, bytes_pass, has_other_size}
 use Rattle.nest_model.specs.BuilderJoin.{join_checks, join_passes}
@@ -37,7 +37,7 @@ pub record IsBounded (large : Bool) (p : PhysicalType) (wrap : List ℕ → Plai
   pub passes : (fixed n : ℕ) → bytes_pass p fixed n ≡ ltb (largest_offset large) n
   pub unsized : (size n : ℕ) → has_other_size p size n ≡ false
   pub taken : (xs : List ℕ) → holds_kind p (wrap xs) ≡ true
-  pub weighed : (xs : List ℕ) → byte_count (slot_of_value (wrap xs)) ≡ length xs
+  pub weighed : (xs : List ℕ) → byte_count (slot_of_plain (wrap xs)) ≡ length xs
 
 pub binary-bounded : (large : Bool) → IsBounded large (binary_of_width large) items.bytes
 binary-bounded true = record { passes = λ f n. refl; unsized = λ s n. refl; taken = λ xs. refl; weighed = λ xs. refl }
@@ -71,7 +71,7 @@ or-true : (b : Bool) → (b || true) ≡ true
 or-true true = refl
 or-true false = refl
 
-pub wrapped-accepted : (wrap : List ℕ → PlainValue) (a b : Layout) (x : Option (List ℕ)) → layout_type b ≡ layout_type a → slots_of b ≡ slots_of a ++ optional (λ y. slot_of_value (wrap y)) x ∷ []
+pub wrapped-accepted : (wrap : List ℕ → PlainValue) (a b : Layout) (x : Option (List ℕ)) → layout_type b ≡ layout_type a → slots_of b ≡ slots_of a ++ optional (λ y. slot_of_plain (wrap y)) x ∷ []
     → Accepted (asked_item (option_map wrap x)) (flat_tree a) (flat_tree b)
 wrapped-accepted wrap a b None t s = rw t (flat_took_null (layout_type a) (slots_of a) (slots_of b) s)
 wrapped-accepted wrap a b (Some y) t s = rw t (flat_took (layout_type a) (slots_of a) (slots_of b) (wrap y) s)
@@ -86,14 +86,14 @@ module _ (large : Bool) (largest : ℕ) (wrap : List ℕ → PlainValue) (a : La
   bounded-fits (Some y) l m =
       let n = last_of (offsets_of a) + length y in
       let p = k.passes ((length (slots_of a) + 1) * size_of (layout_type a)) n in
-      rw (k.taken y, k.unsized (size_of (layout_type a)) (byte_count (slot_of_value (wrap y))), within (length (slots_of a) + 1) l, held, k.weighed y, p, below (suc (largest_offset large)) n (omega (arith, m, e))) refl
+      rw (k.taken y, k.unsized (size_of (layout_type a)) (byte_count (slot_of_plain (wrap y))), within (length (slots_of a) + 1) l, held, k.weighed y, p, below (suc (largest_offset large)) n (omega (arith, m, e))) refl
 
   bounded-past : (x : Option (List ℕ)) → largest < last_of (offsets_of a) + length (item_bytes x) → asked_refusal (option_map wrap x) (flat_tree a) ≡ Some Overflow
   bounded-past None h = absurd (omega (arith, h, room))
   bounded-past (Some y) h =
       let n = last_of (offsets_of a) + length y in
       let p = k.passes ((length (slots_of a) + 1) * size_of (layout_type a)) n in
-      rw (k.taken y, k.unsized (size_of (layout_type a)) (byte_count (slot_of_value (wrap y))), held, k.weighed y, p, le-leb (suc (largest_offset large)) n (omega (arith, h, e)), or-true (is_past (length (slots_of a) + 1))) refl
+      rw (k.taken y, k.unsized (size_of (layout_type a)) (byte_count (slot_of_plain (wrap y))), held, k.weighed y, p, le-leb (suc (largest_offset large)) n (omega (arith, h, e)), or-true (is_past (length (slots_of a) + 1))) refl
 
   pub bounded-refused : (x : Option (List ℕ)) (error : Error) → (error ≡ Overflow) ⊎ (error ≡ Memory alloc_error) → (error ≡ Overflow → largest < last_of (offsets_of a) + length (item_bytes x))
       → (error ≡ Memory alloc_error) ⊎ ((error ≡ Overflow) × (asked_refusal (option_map wrap x) (flat_tree a) ≡ Some error))

@@ -26,7 +26,7 @@ use Rattle.nest_model.specs.BuilderCutLaws.{len-cut, own-emptied}
 use Rattle.nest_model.specs.BuilderFreeze.{SpellsBits, SpellsKeys}
 use Rattle.nest_model.specs.BuilderFreezeLaws.{dictionary-frozen}
 use Rattle.nest_model.specs.BuilderItem as items
-use Rattle.nest_model.specs.BuilderItem.{PlainValue, slot_of_value, takes, place_of, Holds, Stands, Lacks}
+use Rattle.nest_model.specs.BuilderItem.{PlainValue, slot_of_plain, takes, place_of, Holds, Stands, Lacks}
 use Rattle.nest_model.specs.BuilderKeyLaws.{known-stands, stands-known, place-lacks, place-stands, dictionary_knew, dictionary_took, keys_within, keys_within-null}
 use Rattle.nest_model.specs.BuilderLevelLaws.{own-length}
 use Rattle.nest_model.specs.BuilderLevels.{value_at, own_slots}

@@ -29,7 +29,7 @@ use Rattle.nest_model.specs.Checks.{refuse_if, largest_length, is_past, Pass, Fa
 use Rattle.nest_model.specs.DecideType.{decide_type}
 use Rattle.nest_model.specs.BuilderTree.{flat, builder_len}
 use Rattle.nest_model.specs.BuilderItem as items
-use Rattle.nest_model.specs.BuilderItem.{PlainValue, Holds, native_number, slot_of_value, takes}
+use Rattle.nest_model.specs.BuilderItem.{PlainValue, Holds, native_number, slot_of_plain, takes}
 use Rattle.nest_model.specs.BuilderAppend.{Accepted}
 use Rattle.nest_model.specs.BuilderAppendLaws.{flat_took, flat_took_null}
 use Rattle.nest_model.specs.BuilderRefusals.{asked_item, asked_refusal, item_refusal, plain_refusal, value_refusal}
@@ -185,7 +185,7 @@ truth-refused a x e f k (inr m) p = inl m
 never : IsTrue false → ⊥
 never t = cc
 
-no-value : (v : PlainValue) → slot_of_value v ≡ slots.null → ⊥
+no-value : (v : PlainValue) → slot_of_plain v ≡ slots.null → ⊥
 no-value (items.truth b) e = cc
 no-value (items.native q zs) e = cc
 no-value (items.text t) e = cc
@@ -196,7 +196,7 @@ null-holds a i v r l e f =
     let k : valid_at (validity_of a) i ≡ false = sym e ∙ f in
     (λ t. absurd (never (sym f ∙ t)), λ h. absurd (no-value v (sym h.1 ∙ slot-place a i slots.null l ∙ slot-invalid a i k)))
 
-pub value-holds : (a : Layout) (i : ℕ) (v : PlainValue) (s : Slot) (r : Bool) → i < len a → takes (flat_tree a) v ≡ true → slot a i ≡ s → (IsTrue r ↔ (s ≡ slot_of_value v)) → IsTrue r ↔ Holds (flat_tree a) i v
+pub value-holds : (a : Layout) (i : ℕ) (v : PlainValue) (s : Slot) (r : Bool) → i < len a → takes (flat_tree a) v ≡ true → slot a i ≡ s → (IsTrue r ↔ (s ≡ slot_of_plain v)) → IsTrue r ↔ Holds (flat_tree a) i v
 value-holds a i v s r l t e k =
     (λ h. (t, slot-place a i slots.null l ∙ e ∙ k.0 h), λ h. k.1 (sym e ∙ sym (slot-place a i slots.null l) ∙ h.1))
 

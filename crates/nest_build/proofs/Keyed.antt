@@ -12,7 +12,7 @@ use Rattle.nest_model.specs.BuilderAppend.{Accepted, appended}
 use Rattle.nest_model.specs.BuilderAppendLaws.{len-accepted}
 use Rattle.nest_model.specs.BuilderCutLaws.{len-cut, own-cut, own-emptied, AreDifferent-take}
 use Rattle.nest_model.specs.BuilderItem as items
-use Rattle.nest_model.specs.BuilderItem.{PlainValue, truth, native, text, bytes, native_number, slot_of_value, takes, Holds, Stands, Lacks}
+use Rattle.nest_model.specs.BuilderItem.{PlainValue, truth, native, text, bytes, native_number, slot_of_plain, takes, Holds, Stands, Lacks}
 use Rattle.nest_model.specs.BuilderKeyLaws.{AreDifferent-took, place-lacks}
 use Rattle.nest_model.specs.BuilderLevelLaws.{own-length, length-front}
 use Rattle.nest_model.specs.BuilderLevels.{own_slots}
@@ -58,7 +58,7 @@ same_native : (p q : PrimitiveType) (zs ws : List ℤ) → p ≡ q → slots.num
 same_native p q zs ws e f = let g : zs ≡ ws = cc in cc
 
 -- of the values that one builder takes, no two are one slot
-pub same_value : (c : BuilderTree) (v w : PlainValue) → takes c v ≡ true → takes c w ≡ true → slot_of_value v ≡ slot_of_value w → v ≡ w
+pub same_value : (c : BuilderTree) (v w : PlainValue) → takes c v ≡ true → takes c w ≡ true → slot_of_plain v ≡ slot_of_plain w → v ≡ w
 same_value c (truth a) (truth b) s t e = let f : slots.truth a ≡ slots.truth b = e in let g : a ≡ b = cc in ap truth g
 same_value c (truth a) (native p zs) s t e = absurd (let f : slots.truth a ≡ slots.number zs = e in cc)
 same_value c (truth a) (text b) s t e = absurd (let f : slots.truth a ≡ slots.text b = e in cc)
@@ -76,7 +76,7 @@ same_value c (bytes a) (native q ws) s t e = absurd (let f : slots.bytes a ≡ s
 same_value c (bytes a) (text b) s t e = absurd (let f : slots.bytes a ≡ slots.text b = e in cc)
 same_value c (bytes a) (bytes b) s t e = let f : slots.bytes a ≡ slots.bytes b = e in let g : a ≡ b = cc in ap bytes g
 
-pub value_full : (v : PlainValue) → slot_of_value v ≢ slots.null
+pub value_full : (v : PlainValue) → slot_of_plain v ≢ slots.null
 value_full (truth a) e = absurd (let f : slots.truth a ≡ slots.null = e in cc)
 value_full (native p zs) e = absurd (let f : slots.number zs ≡ slots.null = e in cc)
 value_full (text a) e = absurd (let f : slots.text a ≡ slots.null = e in cc)
@@ -94,13 +94,13 @@ keyed_none c e =
 -- a value more, which stood nowhere
 module _ (hashes : List ℕ) (c d : BuilderTree) (v : PlainValue) (h : AreKeyed hashes c) (t : takes c v ≡ true) (a : Accepted (items.plain v) c d) where
   before : (k : ℕ) → k < builder_len c → own_slot d k ≡ own_slot c k
-  before k l = let n = own-length c in ap (λ xs. get_or xs k slots.null) a.last ∙ get_or_append_left (own_slots c) (slot_of_value v ∷ []) slots.null k (omega (arith, n, l))
+  before k l = let n = own-length c in ap (λ xs. get_or xs k slots.null) a.last ∙ get_or_append_left (own_slots c) (slot_of_plain v ∷ []) slots.null k (omega (arith, n, l))
 
   last : (k : ℕ) → builder_len c ≤ k → k < builder_len d → k ≡ builder_len c
   last k m l = let n = len-accepted (items.plain v) c d a in omega (arith, n, m, l)
 
-  at_last : (k : ℕ) → k ≡ builder_len c → own_slot d k ≡ slot_of_value v
-  at_last k e = ap (λ xs. get_or xs k slots.null) a.last ∙ get_or_push (own_slots c) (slot_of_value v) slots.null k (own-length c ∙ sym e)
+  at_last : (k : ℕ) → k ≡ builder_len c → own_slot d k ≡ slot_of_plain v
+  at_last k e = ap (λ xs. get_or xs k slots.null) a.last ∙ get_or_push (own_slots c) (slot_of_plain v) slots.null k (own-length c ∙ sym e)
 
   took : (w : PlainValue) → takes d w ≡ true → takes c w ≡ true
   took w e = sym (takes-appended (items.plain v) c w) ∙ (sym (ap (λ x. takes x w) a.exact) ∙ e)

@@ -18,7 +18,7 @@ use Rattle.nest_model.specs.BuilderTree.{BuilderTree, BuilderTrees, flat, list, 
 use Rattle.nest_model.specs.BuilderLevels.{own_slots}
 use Rattle.nest_model.specs.BuilderWhole.{IsWhole, AreWhole}
 use Rattle.nest_model.specs.BuilderItem as items
-use Rattle.nest_model.specs.BuilderItem.{PlainValue, Item, Items, no_items, more_items, seal_items, unseal_items, count_items, slot_of_value, takes, place_of}
+use Rattle.nest_model.specs.BuilderItem.{PlainValue, Item, Items, no_items, more_items, seal_items, unseal_items, count_items, slot_of_plain, takes, place_of}
 use Rattle.nest_model.specs.BuilderAppend.{nulls_appended, nulls_appended_each, keyed, value_appended, appended, items_appended, Accepted, AcceptedAll, EachAccepted}
 use Rattle.nest_model.specs.BuilderRefusals.{is_known, value_refusal, plain_refusal, item_refusal, items_refusal}
 use Rattle.nest_model.specs.BuilderRowLaws.{end_from-append, end_from-same, RisesFrom-append, RisesFrom-same, values_needed-nulls}

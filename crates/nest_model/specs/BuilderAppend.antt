@@ -1,4 +1,4 @@
--- What an accepted item adds to each level of a builder, and what a told row adds.
+-- What an accepted item adds to each level of a builder.
 use Rattle.std.specs.Prelude.{◌≡◌, ℕ, ◌*◌, true, false, List, [], ◌∷◌, ◌++◌, map, replicate, Option, Some, None}
 use Rattle.nest_memory.specs.TypeTree.{TypeTree, size_of}
 use Rattle.nest_memory.specs.declared.datatypes.IntegerType.{IntegerType}
@@ -8,7 +8,7 @@ use Rattle.nest_model.specs.BuilderTree.{BuilderTree, BuilderTrees, flat, list, 
 use Rattle.nest_model.specs.BuilderLevels.{own_slots}
 use Rattle.nest_model.specs.BuilderWhole.{IsWhole, cut_builder, ValuesDiffer}
 use Rattle.nest_model.specs.BuilderItem as items
-use Rattle.nest_model.specs.BuilderItem.{PlainValue, Item, Items, no_items, more_items, slot_of_value, slot_of_item, place_of}
+use Rattle.nest_model.specs.BuilderItem.{PlainValue, Item, Items, no_items, more_items, slot_of_plain, slot_of_item, place_of}
 use Rattle.nest_model.specs.BuilderTold.{told}
 
 -- n nulls more: a null list adds no item, one of size s adds s nulls to its items, a null record a null to each child, a null key no value
@@ -31,7 +31,7 @@ keyed k t keys c with_value None = dictionary k t (keys ++ Some (builder_len c) 
 
 -- one value more: a dictionary adds it to its values only where none of them is that value
 abbrev pub value_appended : PlainValue → BuilderTree → BuilderTree
-value_appended v (flat t xs) = flat t (xs ++ slot_of_value v ∷ [])
+value_appended v (flat t xs) = flat t (xs ++ slot_of_plain v ∷ [])
 value_appended v (list large t rows c) = list large t rows c
 value_appended v (fixed_size_list t bits c) = fixed_size_list t bits c
 value_appended v (dictionary k t keys c) = keyed k t keys c (value_appended v c) (place_of v (own_slots c))

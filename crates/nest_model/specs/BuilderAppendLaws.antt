@@ -13,7 +13,7 @@ use Rattle.nest_model.specs.BuilderTree.{BuilderTree, BuilderTrees, flat, list, 
 use Rattle.nest_model.specs.BuilderLevels.{value_at, record_at, rows_of_records, own_slots, own_slots_each}
 use Rattle.nest_model.specs.BuilderWhole.{IsWhole, AreWhole, cut_builder, cut_builders, ValuesDifferEach}
 use Rattle.nest_model.specs.BuilderItem as items
-use Rattle.nest_model.specs.BuilderItem.{PlainValue, Item, Items, no_items, more_items, seal_items, count_items, slot_of_value, slot_of_item, slots_of_items, place_of}
+use Rattle.nest_model.specs.BuilderItem.{PlainValue, Item, Items, no_items, more_items, seal_items, count_items, slot_of_plain, slot_of_item, slots_of_items, place_of}
 use Rattle.nest_model.specs.BuilderAppend.{nulls_appended, nulls_appended_each, keyed, value_appended, appended, items_appended, all_appended, Accepted, AcceptedAll, EachAccepted}
 use Rattle.nest_model.specs.BuilderRowLaws.{end_from-push, RisesFrom-push, end_from-append, end_from-same, values_needed-nulls}
 use Rattle.nest_model.specs.BuilderLevelLaws.{own-length, len-grown, cut-rest, cut-last, items-push, items-longer, size-push, size-longer, records-push}
@@ -116,8 +116,8 @@ accepted_both xs ys a b c h k = record {
     all_appended-append (u ∷ us) vs t = all_appended-append us vs (appended u t)
 
 -- A flat builder took one slot.
-pub flat_took : (k : TypeTree) (xs new : List Slot) (v : PlainValue) → new ≡ xs ++ slot_of_value v ∷ [] → Accepted (items.plain v) (flat k xs) (flat k new)
-flat_took k xs new v e = rw e (record { exact = refl; last = refl; whole = tt; undo = ap (flat k) (take-append_seam xs (slot_of_value v ∷ [])); differ = λ d. tt })
+pub flat_took : (k : TypeTree) (xs new : List Slot) (v : PlainValue) → new ≡ xs ++ slot_of_plain v ∷ [] → Accepted (items.plain v) (flat k xs) (flat k new)
+flat_took k xs new v e = rw e (record { exact = refl; last = refl; whole = tt; undo = ap (flat k) (take-append_seam xs (slot_of_plain v ∷ [])); differ = λ d. tt })
 
 pub flat_took_null : (k : TypeTree) (xs new : List Slot) → new ≡ xs ++ slots.null ∷ [] → Accepted items.null (flat k xs) (flat k new)
 flat_took_null k xs new e = rw e (record { exact = refl; last = refl; whole = tt; undo = ap (flat k) (take-append_seam xs (slots.null ∷ [])); differ = λ d. tt })

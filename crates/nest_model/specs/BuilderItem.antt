@@ -45,17 +45,17 @@ count_items no_items = 0
 count_items (more_items x xs) = suc (count_items xs)
 
 -- the slot that a value is
-abbrev pub slot_of_value : PlainValue → Slot
-slot_of_value (truth b) = slots.truth b
-slot_of_value (native p zs) = slots.number zs
-slot_of_value (text t) = slots.text t
-slot_of_value (bytes b) = slots.bytes b
+abbrev pub slot_of_plain : PlainValue → Slot
+slot_of_plain (truth b) = slots.truth b
+slot_of_plain (native p zs) = slots.number zs
+slot_of_plain (text t) = slots.text t
+slot_of_plain (bytes b) = slots.bytes b
 
 -- the slot that an item spells: a list of items is the list of their slots
 abbrev mutual
   pub slot_of_item : Item → Slot
   slot_of_item null = slots.null
-  slot_of_item (plain v) = slot_of_value v
+  slot_of_item (plain v) = slot_of_plain v
   slot_of_item (list_of xs) = slots.list (slots_of_items xs)
 
   pub slots_of_items : Items → Slots
@@ -108,7 +108,7 @@ is_value _ _ = false
 
 -- the builder takes that kind, and its slot i is the value
 abbrev pub Holds : BuilderTree → ℕ → PlainValue → Type 0
-Holds t i v = (takes t v ≡ true) × (get_or (own_slots t) i slots.null ≡ slot_of_value v)
+Holds t i v = (takes t v ≡ true) × (get_or (own_slots t) i slots.null ≡ slot_of_plain v)
 
 -- so at one of its places, and at none
 abbrev pub Stands : BuilderTree → PlainValue → ℕ → Type 0

@@ -1,4 +1,4 @@
--- One builder's rows after another's of the same kind.
+-- One builder's rows after another's of the same kind, and why they are refused.
 use Rattle.std.specs.Prelude.{◌≡◌, ℕ, ◌+◌, List, [], ◌∷◌, ◌++◌, map, ◌*◌, ◌||◌, Bool, false, ltb, length}
 use Rattle.nest_model.specs.Slot.{Slot}
 use Rattle.nest_model.specs.BuilderRow.{Row, told_row, end_from}
@@ -18,17 +18,17 @@ abbrev pub moved : ℕ → List Row → List Row
 moved s rows = map (λ (r : Row). told_row r.valid (s + r.end)) rows
 
 -- the same kinds and data types at every level; dictionaries and structs aren't joined
-abbrev pub AreAlike : BuilderTree → BuilderTree → Type 0
-AreAlike (flat t xs) (flat u ys) = t ≡ u
-AreAlike (list large t rows c) (list wide u more d) = (large ≡ wide) × (t ≡ u) × AreAlike c d
-AreAlike (fixed_size_list t bits c) (fixed_size_list u more d) = (t ≡ u) × AreAlike c d
-AreAlike _ _ = ⊥
+abbrev pub CanJoin : BuilderTree → BuilderTree → Type 0
+CanJoin (flat t xs) (flat u ys) = t ≡ u
+CanJoin (list large t rows c) (list wide u more d) = (large ≡ wide) × (t ≡ u) × CanJoin c d
+CanJoin (fixed_size_list t bits c) (fixed_size_list u more d) = (t ≡ u) × CanJoin c d
+CanJoin _ _ = ⊥
 
-abbrev pub joined : BuilderTree → BuilderTree → BuilderTree
-joined (flat t xs) (flat u ys) = flat t (xs ++ ys)
-joined (list large t rows c) (list wide u more d) = list large t (rows ++ moved (end_from 0 rows) more) (joined c d)
-joined (fixed_size_list t bits c) (fixed_size_list u more d) = fixed_size_list t (bits ++ more) (joined c d)
-joined t _ = t
+abbrev pub joined_builder : BuilderTree → BuilderTree → BuilderTree
+joined_builder (flat t xs) (flat u ys) = flat t (xs ++ ys)
+joined_builder (list large t rows c) (list wide u more d) = list large t (rows ++ moved (end_from 0 rows) more) (joined_builder c d)
+joined_builder (fixed_size_list t bits c) (fixed_size_list u more d) = fixed_size_list t (bits ++ more) (joined_builder c d)
+joined_builder t _ = t
 
 -- each level with the other's level behind it
 abbrev pub joined_levels : List (List Slot) → List (List Slot) → List (List Slot)
@@ -37,7 +37,7 @@ joined_levels _ _ = []
 
 -- The rows of other were joined to old: each level gained other's level, no item waits, and a cut to the former length takes them back.
 pub record Joined (other old new : BuilderTree) : Type 0 where
-  pub exact : new ≡ joined old other
+  pub exact : new ≡ joined_builder old other
   pub every : levels new ≡ joined_levels (levels old) (levels other)
   pub last : own_slots new ≡ own_slots old ++ own_slots other
   pub whole : IsWhole new

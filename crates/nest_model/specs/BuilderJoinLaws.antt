@@ -11,7 +11,7 @@ use Rattle.nest_model.specs.BuilderRow.{Row, end_from, RisesFrom}
 use Rattle.nest_model.specs.BuilderTree.{BuilderTree, flat, list, fixed_size_list, dictionary, struct, builder_type, builder_len}
 use Rattle.nest_model.specs.BuilderLevels.{valid_or_null, rows_of_items, rows_of_size, own_slots, levels}
 use Rattle.nest_model.specs.BuilderWhole.{IsWhole}
-use Rattle.nest_model.specs.BuilderJoin.{moved, AreAlike, joined, Joined}
+use Rattle.nest_model.specs.BuilderJoin.{moved, CanJoin, joined_builder, Joined}
 use Rattle.nest_model.specs.BuilderRowLaws.{end_from-append, RisesFrom-append}
 use Rattle.nest_model.specs.BuilderLevelLaws.{own-length, items-append, items-longer, size-longer}
 
@@ -47,7 +47,7 @@ size-append s n (b ∷ bs) more xs =
     let q : length bs * n + (s + n) ≡ suc (length bs) * n + s = omega (arith, add-mul (length bs) 1 n) in
     ap (λ ys. valid_or_null b (slots.list (seal (cut xs s n))) ∷ ys) (size-append (s + n) n bs more xs ∙ ap (λ o. rows_of_size (s + n) n bs xs ++ rows_of_size o n more xs) q)
 
-pub type-joined : (t u : BuilderTree) → AreAlike t u → builder_type (joined t u) ≡ builder_type t
+pub type-joined : (t u : BuilderTree) → CanJoin t u → builder_type (joined_builder t u) ≡ builder_type t
 type-joined (flat k xs) (flat m ys) h = refl
 type-joined (list large k rows c) (list wide m more d) h = refl
 type-joined (fixed_size_list k bits c) (fixed_size_list m more d) h = refl
@@ -120,14 +120,14 @@ pub flat_joined : (k : TypeTree) (xs ys new : List Slot) → new ≡ xs ++ ys �
 flat_joined k xs ys new e = rw e (record { exact = refl; every = refl; last = refl; whole = tt; undo = ap (flat k) (take-append_seam xs ys); differ = λ d. tt })
 
 -- whole builders of the same kinds are joined rightly
-pub joined-alike : (t u : BuilderTree) → AreAlike t u → IsWhole t → IsWhole u → Joined u t (joined t u)
+pub joined-alike : (t u : BuilderTree) → CanJoin t u → IsWhole t → IsWhole u → Joined u t (joined_builder t u)
 joined-alike (flat k xs) (flat m ys) h w v = rw (sym h) (flat_joined k xs ys (xs ++ ys) refl)
 joined-alike (list large k rows c) (list wide m more d) h w v =
     let v' : IsWhole (list large k more d) = rw h.1 v in
-    rw (sym h.0, sym h.1) (list_joined large k rows more (rows ++ moved (end_from 0 rows) more) c d (joined c d) refl w v' (type-joined c d h.2) (joined-alike c d h.2 w.0 v.0))
+    rw (sym h.0, sym h.1) (list_joined large k rows more (rows ++ moved (end_from 0 rows) more) c d (joined_builder c d) refl w v' (type-joined c d h.2) (joined-alike c d h.2 w.0 v.0))
 joined-alike (fixed_size_list k bits c) (fixed_size_list m more d) h w v =
     let v' : IsWhole (fixed_size_list k more d) = rw h.0 v in
-    rw (sym h.0) (fixed_size_list_joined k bits more (bits ++ more) c d (joined c d) refl w v' (type-joined c d h.1) (joined-alike c d h.1 w.0 v.0))
+    rw (sym h.0) (fixed_size_list_joined k bits more (bits ++ more) c d (joined_builder c d) refl w v' (type-joined c d h.1) (joined-alike c d h.1 w.0 v.0))
 joined-alike (flat k xs) (list wide m more d) h w v = absurd h
 joined-alike (flat k xs) (fixed_size_list m more d) h w v = absurd h
 joined-alike (flat k xs) (dictionary i m more d) h w v = absurd h

@@ -18,7 +18,7 @@ use Rattle.nest_model.specs.BuilderTree.{BuilderTree, dictionary, builder_len}
 use Rattle.nest_model.specs.BuilderLevels.{value_at, own_slots}
 use Rattle.nest_model.specs.BuilderWhole.{IsWhole, AreDifferent}
 use Rattle.nest_model.specs.BuilderItem as items
-use Rattle.nest_model.specs.BuilderItem.{PlainValue, truth, native, text, bytes, slot_of_value, takes, is_value, Holds, Stands, Lacks, place_of}
+use Rattle.nest_model.specs.BuilderItem.{PlainValue, truth, native, text, bytes, slot_of_plain, takes, is_value, Holds, Stands, Lacks, place_of}
 use Rattle.nest_model.specs.BuilderAppend.{Accepted}
 use Rattle.nest_model.specs.BuilderRefusals.{is_known}
 use Rattle.nest_model.specs.BuilderRowLaws.{values_needed-push, values_needed-nulls}
@@ -48,7 +48,7 @@ numbers_decide : (a b : List ℤ) → Decides (pointwise int_eq a b) (a ≡ b)
 numbers_decide a b = pointwise_decides Decides-int_eq a b
 
 -- the test of a slot decides whether it is the value
-pub is_value-decides : (v : PlainValue) (x : Slot) → Decides (is_value v x) (slot_of_value v ≡ x)
+pub is_value-decides : (v : PlainValue) (x : Slot) → Decides (is_value v x) (slot_of_plain v ≡ x)
 is_value-decides (truth a) slots.null = (λ e. absurd cc, λ e. absurd cc)
 is_value-decides (truth a) (slots.truth b) = (λ e. ap slots.truth ((beq-decides a b).0 e), λ e. (beq-decides a b).1 (same_truth a b e))
 is_value-decides (truth a) (slots.number b) = (λ e. absurd cc, λ e. absurd cc)
@@ -82,22 +82,22 @@ is_value-decides (bytes a) (slots.list b) = (λ e. absurd cc, λ e. absurd cc)
 is_value-decides (bytes a) (slots.record_of b) = (λ e. absurd cc, λ e. absurd cc)
 is_value-decides (bytes a) (slots.pick f t b) = (λ e. absurd cc, λ e. absurd cc)
 
-tested_true : (v : PlainValue) (x : Slot) → x ≡ slot_of_value v → is_value v x ≡ true
+tested_true : (v : PlainValue) (x : Slot) → x ≡ slot_of_plain v → is_value v x ≡ true
 tested_true v x e = (is_value-decides v x).1 (sym e)
 
-tested_false : (v : PlainValue) (x : Slot) (b : Bool) → is_value v x ≡ b → x ≢ slot_of_value v → b ≡ false
+tested_false : (v : PlainValue) (x : Slot) (b : Bool) → is_value v x ≡ b → x ≢ slot_of_plain v → b ≡ false
 tested_false v x false t e = refl
 tested_false v x true t e = absurd (e (sym ((is_value-decides v x).0 t)))
 
 -- the first place where the value stands
-pub place-first : (v : PlainValue) (xs : List Slot) (k : ℕ) → k < length xs → get_or xs k slots.null ≡ slot_of_value v → ((j : ℕ) → j < k → get_or xs j slots.null ≢ slot_of_value v) → place_of v xs ≡ Some k
+pub place-first : (v : PlainValue) (xs : List Slot) (k : ℕ) → k < length xs → get_or xs k slots.null ≡ slot_of_plain v → ((j : ℕ) → j < k → get_or xs j slots.null ≢ slot_of_plain v) → place_of v xs ≡ Some k
 place-first v [] k l e f = absurd (omega arith)
 place-first v (x ∷ xs) zero l e f = rw (tested_true v x e) refl
 place-first v (x ∷ xs) (suc k) l e f =
     let rest : place_of v xs ≡ Some k = place-first v xs k (omega arith) e (λ j m. f (suc j) (omega arith)) in
     rw (tested_false v x (is_value v x) refl (f zero (omega arith)), rest) refl
 
-pub place-none : (v : PlainValue) (xs : List Slot) → ((j : ℕ) → j < length xs → get_or xs j slots.null ≢ slot_of_value v) → place_of v xs ≡ None
+pub place-none : (v : PlainValue) (xs : List Slot) → ((j : ℕ) → j < length xs → get_or xs j slots.null ≢ slot_of_plain v) → place_of v xs ≡ None
 place-none v [] f = refl
 place-none v (x ∷ xs) f =
     let rest : place_of v xs ≡ None = place-none v xs (λ j m. f (suc j) (omega arith)) in
@@ -109,8 +109,8 @@ some_same i j r = cc
 same_suc : (i j : ℕ) → ◌≡◌ {A = Option ℕ} (Some (suc i)) (Some (suc j)) → i ≡ j
 same_suc i j r = cc
 
-at_place : (v : PlainValue) (x : Slot) (xs : List Slot) (b : Bool) (o : Option ℕ) (j : ℕ) → is_value v x ≡ b → ((i : ℕ) → o ≡ Some i → (i < length xs) × (get_or xs i slots.null ≡ slot_of_value v))
-    → cond b (Some zero) (option_map suc o) ≡ Some j → (j < length (x ∷ xs)) × (get_or (x ∷ xs) j slots.null ≡ slot_of_value v)
+at_place : (v : PlainValue) (x : Slot) (xs : List Slot) (b : Bool) (o : Option ℕ) (j : ℕ) → is_value v x ≡ b → ((i : ℕ) → o ≡ Some i → (i < length xs) × (get_or xs i slots.null ≡ slot_of_plain v))
+    → cond b (Some zero) (option_map suc o) ≡ Some j → (j < length (x ∷ xs)) × (get_or (x ∷ xs) j slots.null ≡ slot_of_plain v)
 at_place v x xs true o zero t q r = (omega arith, sym ((is_value-decides v x).0 t))
 at_place v x xs true o (suc j) t q r = absurd cc
 at_place v x xs false None j t q r = absurd cc
@@ -118,18 +118,18 @@ at_place v x xs false (Some i) zero t q r = absurd cc
 at_place v x xs false (Some i) (suc j) t q r = let found = q j (ap (λ n. Some n) (same_suc i j r)) in (omega (arith, found.0), found.1)
 
 -- what stands at that place
-pub place-holds : (v : PlainValue) (xs : List Slot) (k : ℕ) → place_of v xs ≡ Some k → (k < length xs) × (get_or xs k slots.null ≡ slot_of_value v)
+pub place-holds : (v : PlainValue) (xs : List Slot) (k : ℕ) → place_of v xs ≡ Some k → (k < length xs) × (get_or xs k slots.null ≡ slot_of_plain v)
 place-holds v [] k e = absurd cc
 place-holds v (x ∷ xs) k e = at_place v x xs (is_value v x) (place_of v xs) k refl (λ i q. place-holds v xs i q) e
 
-absent : (v : PlainValue) (x : Slot) (xs : List Slot) (b : Bool) (o : Option ℕ) (j : ℕ) → is_value v x ≡ b → (o ≡ None → (i : ℕ) → i < length xs → get_or xs i slots.null ≢ slot_of_value v)
-    → cond b (Some zero) (option_map suc o) ≡ None → j < length (x ∷ xs) → get_or (x ∷ xs) j slots.null ≢ slot_of_value v
+absent : (v : PlainValue) (x : Slot) (xs : List Slot) (b : Bool) (o : Option ℕ) (j : ℕ) → is_value v x ≡ b → (o ≡ None → (i : ℕ) → i < length xs → get_or xs i slots.null ≢ slot_of_plain v)
+    → cond b (Some zero) (option_map suc o) ≡ None → j < length (x ∷ xs) → get_or (x ∷ xs) j slots.null ≢ slot_of_plain v
 absent v x xs true o j t q r l = absurd cc
 absent v x xs false (Some i) j t q r l = absurd cc
 absent v x xs false None zero t q r l = λ e. absurd (let a : true ≡ false = sym (tested_true v x e) ∙ t in cc)
 absent v x xs false None (suc j) t q r l = q refl j (omega arith)
 
-pub place-absent : (v : PlainValue) (xs : List Slot) (j : ℕ) → place_of v xs ≡ None → j < length xs → get_or xs j slots.null ≢ slot_of_value v
+pub place-absent : (v : PlainValue) (xs : List Slot) (j : ℕ) → place_of v xs ≡ None → j < length xs → get_or xs j slots.null ≢ slot_of_plain v
 place-absent v [] j e l = absurd (omega arith)
 place-absent v (x ∷ xs) j e l = absent v x xs (is_value v x) (place_of v xs) j refl (λ q i m. place-absent v xs i q m) e l
 
@@ -172,8 +172,8 @@ AreDifferent-push xs v d f i j li lj e = different (ltb i (length xs)) (ltb j (l
     different false true p q = absurd (f j (ltb-true j (length xs) q) (sym (get_or_append_left xs (v ∷ []) slots.null j (ltb-true j (length xs) q)) ∙ (sym e ∙ at_end i li (ltb-false i (length xs) p))))
     different false false p q = omega (arith, li, lj, length_push xs v, ltb-false i (length xs) p, ltb-false j (length xs) q)
 
-pub AreDifferent-took : (c d : BuilderTree) (v : PlainValue) → place_of v (own_slots c) ≡ None → own_slots d ≡ own_slots c ++ slot_of_value v ∷ [] → AreDifferent (own_slots c) → AreDifferent (own_slots d)
-AreDifferent-took c d v p e h = rw e (AreDifferent-push (own_slots c) (slot_of_value v) h (λ j m. place-absent v (own_slots c) j p m))
+pub AreDifferent-took : (c d : BuilderTree) (v : PlainValue) → place_of v (own_slots c) ≡ None → own_slots d ≡ own_slots c ++ slot_of_plain v ∷ [] → AreDifferent (own_slots c) → AreDifferent (own_slots d)
+AreDifferent-took c d v p e h = rw e (AreDifferent-push (own_slots c) (slot_of_plain v) h (λ j m. place-absent v (own_slots c) j p m))
 
 -- A dictionary knew the value: only a key is added.
 pub dictionary_knew : (i : IntegerType) (t : TypeTree) (keys new : List (Option ℕ)) (c : BuilderTree) (v : PlainValue) (k : ℕ) → place_of v (own_slots c) ≡ Some k → new ≡ keys ++ Some k ∷ []
@@ -196,8 +196,8 @@ dictionary_took i t keys new c d v f g w a =
     let at_end : values_needed keys ≤ length (own_slots c) = omega (arith, w.2, own-length c) in
     rw g (record {
       exact = rw (f, a.exact) refl;
-      last = rw (map_push (value_at (own_slots d)) keys (Some (builder_len c)), a.last, values-longer keys (own_slots c) (slot_of_value v ∷ []) at_end, get_or_push (own_slots c) (slot_of_value v) slots.null (builder_len c) (own-length c)) refl;
-      whole = (a.whole, rw (type-accepted (items.plain v) c d a) w.1, rw (values_needed-push keys (builder_len c)) (omega (arith, len-grown (slot_of_value v ∷ []) c d a.last, w.2)));
+      last = rw (map_push (value_at (own_slots d)) keys (Some (builder_len c)), a.last, values-longer keys (own_slots c) (slot_of_plain v ∷ []) at_end, get_or_push (own_slots c) (slot_of_plain v) slots.null (builder_len c) (own-length c)) refl;
+      whole = (a.whole, rw (type-accepted (items.plain v) c d a) w.1, rw (values_needed-push keys (builder_len c)) (omega (arith, len-grown (slot_of_plain v ∷ []) c d a.last, w.2)));
       undo = rw (take-append_seam keys (Some (builder_len c) ∷ []), ← w.2, a.undo) refl;
       differ = λ h. (AreDifferent-took c d v f a.last h.0, a.differ h.1);
     })

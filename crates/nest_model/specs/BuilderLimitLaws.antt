@@ -20,7 +20,7 @@ use Rattle.nest_model.specs.BuilderRow.{told_row, end_from}
 use Rattle.nest_model.specs.BuilderTree.{BuilderTree, BuilderTrees, flat, list, fixed_size_list, dictionary, struct, no_builders, more_builders, builder_len, key_count}
 use Rattle.nest_model.specs.BuilderLevels.{own_slots}
 use Rattle.nest_model.specs.BuilderItem as items
-use Rattle.nest_model.specs.BuilderItem.{PlainValue, Item, Items, no_items, more_items, count_items, slot_of_value, takes, place_of, byte_count, bytes_held}
+use Rattle.nest_model.specs.BuilderItem.{PlainValue, Item, Items, no_items, more_items, count_items, slot_of_plain, takes, place_of, byte_count, bytes_held}
 use Rattle.nest_model.specs.BuilderAppend.{nulls_appended, nulls_appended_each, keyed, value_appended, appended, items_appended}
 use Rattle.nest_model.specs.BuilderRefusals.{bytes_pass, flat_passes, has_other_size, nulls_pass, nulls_pass_each, is_known, value_refusal, item_refusal, items_refusal, over_limits, over_limits_each}
 use Rattle.nest_model.specs.BuilderRowLaws.{end_from-push}
@@ -97,7 +97,7 @@ mutual
 
 -- values
 value-len : (v : PlainValue) (t : BuilderTree) → value_refusal v t ≡ None → builder_len (value_appended v t) ≡ builder_len t + 1
-value-len v (flat k xs) h = length_push xs (slot_of_value v)
+value-len v (flat k xs) h = length_push xs (slot_of_plain v)
 value-len v (list large k rows c) h = absurd (some_none (InvalidArgumentError ItemType) h)
 value-len v (fixed_size_list k bits c) h = absurd (some_none (InvalidArgumentError ItemType) h)
 value-len v (dictionary i k keys c) h = keyed-len i k keys c (value_appended v c) (place_of v (own_slots c))
@@ -125,7 +125,7 @@ key-within i k keys c d None a b w f = let g = f refl in rw (length_push keys (S
 
 value-within : (v : PlainValue) (t : BuilderTree) → over_limits t ≡ false → value_refusal v t ≡ None → over_limits (value_appended v t) ≡ false
 value-within v (flat k xs) o h =
-    let s = slot_of_value v in
+    let s = slot_of_plain v in
     let own = refuse_if (flat_passes k (length xs + 1) (bytes_held xs + byte_count s)) Overflow None in
     let sized = refuse_if (has_other_size (physical_type k) (size_of k) (byte_count s)) (InvalidArgumentError ItemSize) own in
     let r = (refuse-none (not (takes (flat k xs) v)) (InvalidArgumentError ItemType) sized h).1 in

@@ -1,4 +1,4 @@
--- What refuses a pushed item: the first of its checks that fails, here or at a level below.
+-- What refuses a pushed item: the first of its checks that fails, here or at a level below; and when a level is past a limit.
 use Rattle.std.specs.Prelude.{ℕ, ◌+◌, ◌*◌, Bool, true, false, not, ◌&&◌, ◌||◌, nat_eq, leb, ltb, is_some, if◌then◌else◌, length, Option, Some, None}
 use Rattle.nest_memory.specs.TypeTree.{TypeTree, size_of}
 use Rattle.nest_memory.specs.Physical.{physical_type}
@@ -12,7 +12,7 @@ use Rattle.nest_model.specs.Checks.{refuse_if, first_of, is_past}
 use Rattle.nest_model.specs.BuilderTree.{BuilderTree, BuilderTrees, flat, list, fixed_size_list, dictionary, struct, no_builders, more_builders, builder_len, key_count}
 use Rattle.nest_model.specs.BuilderLevels.{own_slots}
 use Rattle.nest_model.specs.BuilderItem as items
-use Rattle.nest_model.specs.BuilderItem.{PlainValue, Item, Items, no_items, more_items, count_items, slot_of_value, takes, place_of, byte_count, bytes_held}
+use Rattle.nest_model.specs.BuilderItem.{PlainValue, Item, Items, no_items, more_items, count_items, slot_of_plain, takes, place_of, byte_count, bytes_held}
 use Rattle.nest_model.specs.BuilderAppend.{appended, items_appended}
 use Rattle.nest_model.specs.BuilderRow.{end_from}
 
@@ -56,8 +56,8 @@ is_known c v = takes c v && is_some (place_of v (own_slots c))
 abbrev pub value_refusal : PlainValue → BuilderTree → Option Error
 value_refusal v (flat t xs) =
     refuse_if (not (takes (flat t xs) v)) (InvalidArgumentError ItemType)
-    (refuse_if (has_other_size (physical_type t) (size_of t) (byte_count (slot_of_value v))) (InvalidArgumentError ItemSize)
-    (refuse_if (flat_passes t (length xs + 1) (bytes_held xs + byte_count (slot_of_value v))) Overflow None))
+    (refuse_if (has_other_size (physical_type t) (size_of t) (byte_count (slot_of_plain v))) (InvalidArgumentError ItemSize)
+    (refuse_if (flat_passes t (length xs + 1) (bytes_held xs + byte_count (slot_of_plain v))) Overflow None))
 value_refusal v (list large t rows c) = Some (InvalidArgumentError ItemType)
 value_refusal v (fixed_size_list t bits c) = Some (InvalidArgumentError ItemType)
 value_refusal v (dictionary k t keys c) =

@@ -11,11 +11,12 @@ use Rattle.nest_model.specs.Checks.{Pass, HaveOneOutcome}
 use Rattle.nest_model.specs.Decide.{Decided, decide_both, decide_number, one-outcome}
 use Rattle.nest_model.specs.DecideType.{decide_type, decide_by}
 use Rattle.nest_model.specs.BuilderRow.{Row, told_row, end_from}
-use Rattle.nest_model.specs.BuilderTree.{BuilderTree, BuilderTrees, flat, list, fixed_size_list, dictionary, struct, no_builders, more_builders, builder_type, builder_types, builder_len, field_types}
+use Rattle.nest_model.specs.BuilderTree.{BuilderTree, BuilderTrees, flat, list, fixed_size_list, dictionary, struct, no_builders, more_builders, builder_type, builder_types, builder_len}
+use Rattle.nest_model.specs.Layout.{field_types}
 use Rattle.nest_model.specs.BuilderWhole.{AreWhole}
 use Rattle.nest_model.specs.BuilderItem.{bytes_held}
 use Rattle.nest_model.specs.BuilderTold.{IsReady, AreEachWhole, HasWholeChildren, HaveRows, row_checks, lengths_checks, FitsLimits, AreReady}
-use Rattle.nest_model.specs.BuilderJoin.{moved, AreAlike, joined, join_checks, join_passes}
+use Rattle.nest_model.specs.BuilderJoin.{moved, CanJoin, joined_builder, join_checks, join_passes}
 use Rattle.nest_model.specs.BuilderRefusals.{over_limits}
 use Rattle.nest_model.specs.BuilderRowLaws.{end_from-append}
 use Rattle.nest_model.specs.BuilderJoinLaws.{end_from-moved}
@@ -76,7 +77,7 @@ end_from-joined rows more =
 rows-joined : (rows more : List Row) → length (rows ++ moved (end_from 0 rows) more) ≡ length rows + length more
 rows-joined rows more = length-append rows (moved (end_from 0 rows) more) ∙ ap (λ n. length rows + n) (length-map more (λ (r : Row). told_row r.valid (end_from 0 rows + r.end)))
 
-pub joins_pass : (t u : BuilderTree) → AreAlike t u → join_passes t u ≡ over_limits (joined t u)
+pub joins_pass : (t u : BuilderTree) → CanJoin t u → join_passes t u ≡ over_limits (joined_builder t u)
 joins_pass (flat k xs) (flat m ys) h = rw (length-append xs ys, bytes_held-append xs ys) refl
 joins_pass (list large k rows c) (list wide m more d) h = rw (rows-joined rows more, end_from-joined rows more, joins_pass c d h.2) refl
 joins_pass (fixed_size_list k bits c) (fixed_size_list m more d) h = rw (length-append bits more, joins_pass c d h.1) refl
@@ -95,7 +96,7 @@ joins_pass (fixed_size_list k bits c) (struct m more ds) h = absurd h
 joins_pass (dictionary i k keys c) u h = absurd h
 joins_pass (struct k bits cs) u h = absurd h
 
-alike_type : (t u : BuilderTree) → AreAlike t u → builder_type t ≡ builder_type u
+alike_type : (t u : BuilderTree) → CanJoin t u → builder_type t ≡ builder_type u
 alike_type (flat k xs) (flat m ys) h = h
 alike_type (list large k rows c) (list wide m more d) h = h.1
 alike_type (fixed_size_list k bits c) (fixed_size_list m more d) h = h.0
@@ -114,10 +115,10 @@ alike_type (fixed_size_list k bits c) (struct m more ds) h = absurd h
 alike_type (dictionary i k keys c) u h = absurd h
 alike_type (struct k bits cs) u h = absurd h
 
-pub pass-joined : (t u : BuilderTree) → AreAlike t u → Pass (join_checks t u) → over_limits (joined t u) ≡ false
+pub pass-joined : (t u : BuilderTree) → CanJoin t u → Pass (join_checks t u) → over_limits (joined_builder t u) ≡ false
 pass-joined t u h p = sym (joins_pass t u h) ∙ p.1.0
 
-pub joined-pass : (t u : BuilderTree) → AreAlike t u → over_limits (joined t u) ≡ false → Pass (join_checks t u)
+pub joined-pass : (t u : BuilderTree) → CanJoin t u → over_limits (joined_builder t u) ≡ false → Pass (join_checks t u)
 joined-pass t u h p = (alike_type t u h, (joins_pass t u h ∙ p, tt))
 
 -- each check can be decided

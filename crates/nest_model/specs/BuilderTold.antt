@@ -4,7 +4,8 @@ use Rattle.nest_memory.specs.TypeTree.{item_type, fields_of, size_of, TypeTree}
 use Rattle.nest_model.specs.Slot as slots
 use Rattle.nest_model.specs.Slot.{Slot, seal}
 use Rattle.nest_model.specs.BuilderRow.{Row, told_row, end_from, RisesFrom}
-use Rattle.nest_model.specs.BuilderTree.{BuilderTree, flat, list, fixed_size_list, dictionary, struct, builder_type, builder_types, field_types, builder_len, BuilderTrees, no_builders, more_builders}
+use Rattle.nest_model.specs.BuilderTree.{BuilderTree, flat, list, fixed_size_list, dictionary, struct, builder_type, builder_types, builder_len, BuilderTrees, no_builders, more_builders}
+use Rattle.nest_model.specs.Layout.{field_types}
 use Rattle.nest_model.specs.BuilderLevels.{own_slots, own_slots_each, levels_below, valid_or_null, record_at, rows_of_items}
 use Rattle.nest_model.specs.BuilderWhole.{IsWhole, AreWhole, ValuesDiffer}
 use Rattle.nest_memory.specs.declared.error.Error.TheVariants.{InvalidArgumentError, Overflow}

@@ -1,6 +1,6 @@
 -- A builder as a plain tree: its kind, its data type, the rows that it was told, its children.
 use Rattle.std.specs.Prelude.{ℕ, ◌^◌, ◌<◌, Bool, List, [], ◌∷◌, length, Option}
-use Rattle.nest_memory.specs.TypeTree.{TypeTree, FieldTrees, no_fields, more_fields, field_type}
+use Rattle.nest_memory.specs.TypeTree.{TypeTree}
 use Rattle.nest_memory.specs.declared.datatypes.IntegerType.{IntegerType}
 use Rattle.nest_memory.specs.declared.datatypes.IntegerType.TheVariants as integers
 use Rattle.nest_model.specs.Slot.{Slot}
@@ -49,14 +49,10 @@ abbrev pub split_builders : BuilderTrees → List BuilderTree
 split_builders no_builders = []
 split_builders (more_builders c cs) = c ∷ split_builders cs
 
--- the children's data types, and those of fields
+-- the children's data types
 abbrev pub builder_types : BuilderTrees → List TypeTree
 builder_types no_builders = []
 builder_types (more_builders c cs) = builder_type c ∷ builder_types cs
-
-abbrev pub field_types : FieldTrees → List TypeTree
-field_types no_fields = []
-field_types (more_fields f fs) = field_type f ∷ field_types fs
 
 -- past the largest length
 abbrev pub IsPast : ℕ → Type 0

@@ -5,7 +5,8 @@ use Rattle.nest_model.specs.Slot as slots
 use Rattle.nest_model.specs.Slot.{Slot}
 use Rattle.nest_model.specs.Fits.{IsLogically}
 use Rattle.nest_model.specs.BuilderRow.{end_from, RisesFrom, values_needed}
-use Rattle.nest_model.specs.BuilderTree.{BuilderTree, BuilderTrees, flat, list, fixed_size_list, dictionary, struct, no_builders, more_builders, builder_type, builder_len, builder_types, field_types}
+use Rattle.nest_model.specs.BuilderTree.{BuilderTree, BuilderTrees, flat, list, fixed_size_list, dictionary, struct, no_builders, more_builders, builder_type, builder_len, builder_types}
+use Rattle.nest_model.specs.Layout.{field_types}
 use Rattle.nest_model.specs.BuilderLevels.{own_slots}
 
 -- its children are whole, of their fields' types, and have just the rows that its own rows need; of a dictionary the logical types are compared

@@ -88,5 +88,16 @@ first_of (Some e) rest = Some e
 abbrev pub largest_length : ℕ
 largest_length = 2 ^ 64 - 1
 
+-- Union Layout: how many types there are, whole numbers of 8 bits that aren't negative; how many fields a union has at most
+abbrev pub type_count : ℕ
+type_count = 128
+
+abbrev pub most_fields : ℕ
+most_fields = 127
+
+-- Union Layout, dense: so many slots at most, one after another, have offsets of 32 bits
+abbrev pub most_picks : ℕ
+most_picks = 2 ^ 31
+
 abbrev pub is_past : ℕ → Bool
 is_past n = nat_lt largest_length n

@@ -10,6 +10,7 @@ use Rattle.nest_model.specs.Accessors.{validity_of, key_type_of}
 use Rattle.nest_model.specs.Meaning.{len, first_len}
 use Rattle.nest_model.specs.Fits.{ValidityFits, EachType, EachLen, IdsCount, IdsInRange, EachMeansField, OffsetsCount, OffsetsByMode, SlotsThere, IsLogically, is_dictionary, EachText, EachValidNames}
 use Rattle.nest_model.specs.Array.{AreOffsets, AreKeys, TopFits}
+use Rattle.nest_model.specs.Checks.{most_fields}
 
 pub record IsBinary (large : Bool) (t : TypeTree) (os bs : List ℕ) (va : Validity) : Type 0 where
   pub rising : AreOffsets os
@@ -84,7 +85,7 @@ struct-facts t cs va h = record { typed = h.1.0; some_field = h.1.1.0; as_many =
 pub record IsUnion (t : TypeTree) (ks : List ℤ) (cs : Layouts) (os : Option (List ℤ)) (start : ℕ) : Type 0 where
   pub typed : physical_type t ≡ physical.Union
   pub as_many : count_layouts cs ≡ count_fields (fields_of t)
-  pub at_most : count_layouts cs ≤ 127
+  pub at_most : count_layouts cs ≤ most_fields
   pub each_type : EachType (fields_of t) cs
   pub offsets : OffsetsCount os (length ks)
   pub mode : OffsetsByMode os (is_dense t)

@@ -17,7 +17,7 @@ use Rattle.nest_memory.specs.declared.error.Spec.TheVariants as spec
 use Rattle.nest_memory.specs.declared.error.Argument.TheVariants as argument
 use Rattle.nest_memory.specs.declared.error.Error.{Error}
 use Rattle.nest_memory.specs.declared.error.Error.TheVariants.{OutOfSpec, InvalidArgumentError}
-use Rattle.nest_model.specs.Checks.{Checks, done, check, Pass, FailFirst}
+use Rattle.nest_model.specs.Checks.{Checks, done, check, Pass, FailFirst, most_fields, type_count}
 use Rattle.std.proofs.Common.{◌-◌}
 
 -- Validity bitmaps: a bit for each of n slots
@@ -66,7 +66,7 @@ IdsCount (Some ids) n = length ids ≡ n
 -- Union Layout: ids are types of 8 bits that aren't negative
 abbrev pub IdsInRange : Option (List ℤ) → Type 0
 IdsInRange None = Unit {0}
-IdsInRange (Some ids) = EachNames ids 128
+IdsInRange (Some ids) = EachNames ids type_count
 
 -- a union's type means one of n fields
 abbrev pub MeansField : Option ℕ → ℕ → Type 0
@@ -181,7 +181,7 @@ checks (struct t cs va) =
 checks (union t ks cs os start) =
     check (OutOfSpec spec.WrongType) (physical_type t ≡ physical.Union)
     (check (OutOfSpec spec.FieldCount) (count_layouts cs ≡ count_fields (fields_of t))
-    (check (OutOfSpec spec.TooManyFields) (count_layouts cs ≤ 127)
+    (check (OutOfSpec spec.TooManyFields) (count_layouts cs ≤ most_fields)
     (check (OutOfSpec spec.ChildType) (EachType (fields_of t) cs)
     (check (OutOfSpec spec.OffsetCount) (OffsetsCount os (length ks))
     (check (OutOfSpec spec.UnionMode) (OffsetsByMode os (is_dense t))

@@ -21,7 +21,7 @@ use Rattle.nest_model.specs.Layout.{Layout, Layouts, null, boolean, primitive, b
 use Rattle.nest_model.specs.Accessors.{validity_of, raw_keys, key_at, key_type_of}
 use Rattle.nest_model.specs.Meaning.{len, first_len}
 use Rattle.nest_memory.specs.declared.error.Error.{Error}
-use Rattle.nest_model.specs.Checks.{Pass}
+use Rattle.nest_model.specs.Checks.{Pass, most_fields, type_count}
 use Rattle.nest_model.specs.Fits.{ValidityFits, EachType, EachLen, EachCovers, Names, MeansField, IdsCount, IdsInRange, OffsetsCount, OffsetsByMode, SlotsThere, KeysInRange, IsLogically, is_dictionary, child_len, checks, Fits, FirstFault, EachValidNames, validity_checks, ValidityFault}
 use Rattle.nest_model.specs.Decide.{Decided, AllDecided, are_distinct, apart, decide_bool, decide_number, decide_both, decide_as, pass-or_fault}
 use Rattle.nest_memory.specs.TypeCode.{coded_type}
@@ -172,7 +172,7 @@ decide_ids_count (Some ids) n = decide_number (length ids) n
 
 decide_ids_range : (ids : Option (List ℤ)) → Decided (IdsInRange ids)
 decide_ids_range None = inl tt
-decide_ids_range (Some ids) = decide_all (λ z. Names z 128) (λ z. decide_names z 128) ids
+decide_ids_range (Some ids) = decide_all (λ z. Names z type_count) (λ z. decide_names z type_count) ids
 
 decide_means : (o : Option ℕ) (n : ℕ) → Decided (MeansField o n)
 decide_means None n = inr (λ h. h)
@@ -232,7 +232,7 @@ decide_checks (union t ks cs os start) u = (
   (
     decide_number (count_layouts cs) (count_fields (fields_of t)),
     (
-      decide_le (count_layouts cs) 127,
+      decide_le (count_layouts cs) most_fields,
       (
         decide_each_type (fields_of t) cs,
         (

@@ -1,7 +1,7 @@
 -- An array as a plain tree: its kind and its parts, as its accessors show them after its cuts. A kind is a layout of the Arrow columnar
 -- format; each begins with the data type.
-use Rattle.std.specs.Prelude.{ℕ, suc, ℤ, Bool, List, Option, ◌+◌}
-use Rattle.nest_memory.specs.TypeTree.{TypeTree}
+use Rattle.std.specs.Prelude.{ℕ, suc, ℤ, Bool, List, Option, ◌+◌, [], ◌∷◌}
+use Rattle.nest_memory.specs.TypeTree.{TypeTree, FieldTrees, no_fields, more_fields, field_type}
 use Rattle.nest_memory.specs.declared.datatypes.physical_type.PrimitiveType.{PrimitiveType}
 use Rattle.nest_model.specs.Part.{Validity}
 
@@ -51,6 +51,11 @@ layout_type (map t os c va) = t
 layout_type (struct t cs va) = t
 layout_type (union t ks cs os start) = t
 layout_type (dictionary t ks c) = t
+
+-- the data types of fields, in order
+abbrev pub field_types : FieldTrees → List TypeTree
+field_types no_fields = []
+field_types (more_fields f fs) = field_type f ∷ field_types fs
 
 abbrev pub count_layouts : Layouts → ℕ
 count_layouts no_layouts = 0

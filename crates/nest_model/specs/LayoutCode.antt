@@ -1,4 +1,4 @@
--- A code of layouts, by which a ghost value that is one is told apart from another; and how deep an array is.
+-- A code of layouts, by which a ghost value that is one is told apart from another.
 use Rattle.std.specs.Prelude.{◌≡◌, ℕ, ℤ, Bool, List, Option}
 use Rattle.std.specs.Coded.{Coded, coded_ℕ, coded_ℤ, coded_bool, coded_list, coded×, coded_option}
 use Rattle.std.proofs.Common.{refl, ap}

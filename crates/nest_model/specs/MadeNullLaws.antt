@@ -11,7 +11,7 @@ use Rattle.nest_memory.specs.declared.error.Error.{Error}
 use Rattle.nest_memory.specs.declared.error.Error.TheVariants.{Overflow}
 use Rattle.nest_model.specs.Layout.{Layout, layout_type}
 use Rattle.nest_model.specs.Meaning.{slots_of}
-use Rattle.nest_model.specs.Nulls.{fault_of, type_fault, empty_fault}
+use Rattle.nest_model.specs.Nulls.{fault_of, type_fault, empty_fault, float_fault}
 use Rattle.nest_model.specs.Array.{TopFits}
 use Rattle.nest_model.specs.Checks.{refuse_if, is_past}
 use Rattle.nest_model.specs.Decide.{refuse-none}
@@ -19,7 +19,7 @@ use Rattle.nest_model.specs.Fits.{Fits}
 use Rattle.nest_model.specs.Layout as layouts
 use Rattle.nest_model.specs.NullLayout.{zero_value, none_valid, null_array, null_layout, empty_layout}
 use Rattle.nest_model.specs.NullLaws.{IsNullArray, is-array, not-above, native-null, null-array, null-layout, empty-layout, null-slots}
-use Rattle.nest_model.specs.NullKinds.{is_plain, float_fault, native-parts, native-slot, plain-fault}
+use Rattle.nest_model.specs.NullKinds.{is_plain, native-parts, native-slot, plain-fault}
 use Rattle.nest_model.specs.MadeNulls.{HasNulls, HasNone}
 
 pub as-nulls : (t : TypeTree) (n : ℕ) (a : Layout) → IsNullArray t n (null_layout t n) → a ≡ null_layout t n → HasNulls t n a

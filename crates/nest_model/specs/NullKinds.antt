@@ -1,26 +1,24 @@
 -- Null and empty arrays by the kind of their data type, whatever extensions it has: their parts, their faults, and how deep a type is.
-use Rattle.std.specs.Prelude.{Option, Some, None, replicate, not, ◌&&◌, nat_eq, nat_lt, if◌then◌else◌, ◌^◌}
-use Rattle.std.proofs.Common.{◌≡◌, ℕ, zero, suc, ◌+◌, ◌*◌, ◌<◌, ◌≤◌, ℤ, Bool, true, false, List, [], ◌∷◌, refl, ap, sym, ◌∙◌, subst, arith}
+use Rattle.std.specs.Prelude.{Option, Some, None, replicate, not, ◌&&◌, nat_eq, nat_lt}
+use Rattle.std.proofs.Common.{◌≡◌, ℕ, suc, ◌+◌, ◌*◌, ◌<◌, ◌≤◌, ℤ, Bool, true, false, List, [], refl, ap, ◌∙◌, arith}
 use Rattle.nest_memory.specs.declared.datatypes.IntegerType.{IntegerType}
 use Rattle.nest_memory.specs.declared.datatypes.IntervalUnit.TheVariants.{YearMonth, DayTime, MonthDayNano}
 use Rattle.nest_memory.specs.declared.datatypes.UnionMode.{UnionMode}
 use Rattle.nest_memory.specs.declared.datatypes.physical_type.PhysicalType.{PhysicalType}
 use Rattle.nest_memory.specs.declared.datatypes.physical_type.PhysicalType.TheVariants as physical
 use Rattle.nest_memory.specs.declared.datatypes.physical_type.PrimitiveType.{PrimitiveType}
-use Rattle.nest_memory.specs.declared.datatypes.physical_type.PrimitiveType.TheVariants as primitives
 use Rattle.nest_memory.specs.declared.error.Error.{Error}
-use Rattle.nest_memory.specs.declared.error.Error.TheVariants.{OutOfSpec, InvalidArgumentError, Overflow, NotYetImplemented}
+use Rattle.nest_memory.specs.declared.error.Error.TheVariants.{OutOfSpec, InvalidArgumentError, Overflow}
 use Rattle.nest_memory.specs.declared.error.Spec.TheVariants as spec
 use Rattle.nest_memory.specs.declared.error.Argument.TheVariants as argument
 use Rattle.nest_memory.specs.Physical.{physical_type, list_of_width, binary_of_width, text_of_width}
 use Rattle.nest_memory.specs.TypeTree as types
 use Rattle.nest_memory.specs.TypeTree.{TypeTree, FieldTree, field, FieldTrees, no_fields, more_fields, field_type, count_fields, item_type, size_of, fields_of, ids_of, mode_of, is_dense_mode, has_pairs, is_pair, key_type, value_type}
-use Rattle.nest_model.specs.Checks.{refuse_if, first_of, is_past}
+use Rattle.nest_model.specs.Checks.{refuse_if, first_of, is_past, most_fields, most_picks}
 use Rattle.nest_model.specs.Layout as layouts
-use Rattle.nest_model.specs.Layout.{Layout}
 use Rattle.nest_model.specs.Accessors.{with_type}
 use Rattle.nest_model.specs.Slot as slots
-use Rattle.nest_model.specs.Nulls.{null_slot, ids_count_differs, has_bad_id, fault_of, fields_fault}
+use Rattle.nest_model.specs.Nulls.{null_slot, ids_count_differs, has_bad_id, fault_of, fields_fault, float_fault, union_fault}
 use Rattle.nest_model.specs.NullLayout.{none_valid, native_of_key, type_of_key, native_nulls, flat_nulls, null_type, null_offsets, null_array, null_children}
 
 -- how many types a data type is made of
@@ -147,13 +145,6 @@ dictionary-parts (types.dictionary j v b) u k n d h e =
 dictionary-parts (types.extension x t m) u k n d h e = ap (λ a. with_type a (types.extension x t m)) (dictionary-parts t u k n d h e)
 dictionary-parts t u k n d h e = cc
 
--- faults
-abbrev pub float_fault : PhysicalType → Option Error
-float_fault (physical.Primitive primitives.Float16) = Some NotYetImplemented
-float_fault (physical.Primitive primitives.Float32) = Some NotYetImplemented
-float_fault (physical.Primitive primitives.Float64) = Some NotYetImplemented
-float_fault p = None
-
 -- types whose slots take no product and no child: nulls, booleans, native values
 abbrev pub is_plain : PhysicalType → Bool
 is_plain physical.Null = true
@@ -230,16 +221,6 @@ dictionary-fault (types.dictionary j v b) u n d e = let q : v ≡ u = cc in ap (
 dictionary-fault (types.extension x t m) u n d e = dictionary-fault t u n d e
 dictionary-fault t u n d e = cc
 
--- the fault of a union of so many fields before that of its fields, which is the last
-abbrev pub union_fault : ℕ → Option (List ℤ) → UnionMode → ℕ → Option Error → Option Error
-union_fault count ids mode n rest =
-    refuse_if (nat_lt 127 count) (OutOfSpec spec.TooManyFields)
-    (refuse_if (ids_count_differs ids count) (OutOfSpec spec.IdCount)
-    (refuse_if (has_bad_id ids) (OutOfSpec spec.IdRange)
-    (refuse_if (nat_eq count 0 && nat_lt 0 n) (OutOfSpec spec.UnionType)
-    (refuse_if (is_dense_mode mode && nat_lt (2 ^ 31) n) Overflow
-    rest))))
-
 pub union-fault : (t : TypeTree) (mode : UnionMode) (n d : ℕ) → mode_of t ≡ Some mode → fault_of t n d ≡ union_fault (count_fields (fields_of t)) (ids_of t) mode n (fields_fault (fields_of t) n d)
 union-fault (types.union fs ids m) mode n d e = let q : m ≡ mode = cc in ap (λ o. union_fault (count_fields fs) ids o n (fields_fault fs n d)) q
 union-fault (types.extension x t m) mode n d e = union-fault t mode n d e
@@ -252,15 +233,15 @@ first-refused false e own rest = refl
 
 pub union-own : (count : ℕ) (ids : Option (List ℤ)) (mode : UnionMode) (n : ℕ) (rest : Option Error) → union_fault count ids mode n rest ≡ first_of (union_fault count ids mode n None) rest
 union-own count ids mode n rest =
-    let e5 = first-refused (is_dense_mode mode && nat_lt (2 ^ 31) n) Overflow None rest in
+    let e5 = first-refused (is_dense_mode mode && nat_lt most_picks n) Overflow None rest in
     let e4 = first-refused (nat_eq count 0 && nat_lt 0 n) (OutOfSpec spec.UnionType) _ rest in
     let e3 = first-refused (has_bad_id ids) (OutOfSpec spec.IdRange) _ rest in
     let e2 = first-refused (ids_count_differs ids count) (OutOfSpec spec.IdCount) _ rest in
-    let e1 = first-refused (nat_lt 127 count) (OutOfSpec spec.TooManyFields) _ rest in
-    ap (λ o. refuse_if (nat_lt 127 count) (OutOfSpec spec.TooManyFields) (refuse_if (ids_count_differs ids count) (OutOfSpec spec.IdCount) (refuse_if (has_bad_id ids) (OutOfSpec spec.IdRange) (refuse_if (nat_eq count 0 && nat_lt 0 n) (OutOfSpec spec.UnionType) o)))) e5
-    ∙ ap (λ o. refuse_if (nat_lt 127 count) (OutOfSpec spec.TooManyFields) (refuse_if (ids_count_differs ids count) (OutOfSpec spec.IdCount) (refuse_if (has_bad_id ids) (OutOfSpec spec.IdRange) o))) e4
-    ∙ ap (λ o. refuse_if (nat_lt 127 count) (OutOfSpec spec.TooManyFields) (refuse_if (ids_count_differs ids count) (OutOfSpec spec.IdCount) o)) e3
-    ∙ ap (λ o. refuse_if (nat_lt 127 count) (OutOfSpec spec.TooManyFields) o) e2
+    let e1 = first-refused (nat_lt most_fields count) (OutOfSpec spec.TooManyFields) _ rest in
+    ap (λ o. refuse_if (nat_lt most_fields count) (OutOfSpec spec.TooManyFields) (refuse_if (ids_count_differs ids count) (OutOfSpec spec.IdCount) (refuse_if (has_bad_id ids) (OutOfSpec spec.IdRange) (refuse_if (nat_eq count 0 && nat_lt 0 n) (OutOfSpec spec.UnionType) o)))) e5
+    ∙ ap (λ o. refuse_if (nat_lt most_fields count) (OutOfSpec spec.TooManyFields) (refuse_if (ids_count_differs ids count) (OutOfSpec spec.IdCount) (refuse_if (has_bad_id ids) (OutOfSpec spec.IdRange) o))) e4
+    ∙ ap (λ o. refuse_if (nat_lt most_fields count) (OutOfSpec spec.TooManyFields) (refuse_if (ids_count_differs ids count) (OutOfSpec spec.IdCount) o)) e3
+    ∙ ap (λ o. refuse_if (nat_lt most_fields count) (OutOfSpec spec.TooManyFields) o) e2
     ∙ e1
 
 -- a null slot of any type but a union's is Null

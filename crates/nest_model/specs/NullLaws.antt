@@ -36,6 +36,7 @@ use Rattle.nest_model.specs.Array.{AreOffsets, AreKeys, PartsHold, ChildrenFit, 
 use Rattle.nest_model.specs.Decide.{refuse-none, first-none, not-false}
 use Rattle.nest_model.specs.Nulls.{null_field, null_slot, null_pick, null_slots, is_id, are_ids, ids_count_differs, has_bad_id, fault_of, field_fault, fields_fault, type_fault, empty_fault}
 use Rattle.nest_model.specs.NullLayout.{zero_value, native_of_key, type_of_key, none_valid, native_nulls, null_type, null_offsets, null_array, null_item, null_children, null_layout, empty_layout}
+use Rattle.nest_model.specs.Checks.{most_fields, type_count}
 
 -- an array of n null slots of data type t
 pub record IsNullArray (t : TypeTree) (n : ℕ) (a : Layout) : Type 0 where
@@ -276,8 +277,8 @@ has-field zero n h k = absurd (let l = not-above 0 n h in omega arith)
 has-field (suc m) n h k = omega arith
 
 -- ids and offsets
-id-names : (z : ℤ) → is_id z ≡ true → Names z 128
-id-names (pos n) h = below n 128 h
+id-names : (z : ℤ) → is_id z ≡ true → Names z type_count
+id-names (pos n) h = below n type_count h
 id-names (negsuc n) h = cc
 
 and-first : (a b : Bool) → (a && b) ≡ true → a ≡ true
@@ -288,9 +289,9 @@ and-second : (a b : Bool) → (a && b) ≡ true → b ≡ true
 and-second true b h = h
 and-second false b h = cc
 
-ids-name : (zs : List ℤ) → are_ids zs ≡ true → All (λ z. Names z 128) zs
-ids-name [] h = All-nil (λ z. Names z 128)
-ids-name (z ∷ zs) h = All-cons (λ z. Names z 128) z zs (id-names z (and-first (is_id z) (are_ids zs) h)) (ids-name zs (and-second (is_id z) (are_ids zs) h))
+ids-name : (zs : List ℤ) → are_ids zs ≡ true → All (λ z. Names z type_count) zs
+ids-name [] h = All-nil (λ z. Names z type_count)
+ids-name (z ∷ zs) h = All-cons (λ z. Names z type_count) z zs (id-names z (and-first (is_id z) (are_ids zs) h)) (ids-name zs (and-second (is_id z) (are_ids zs) h))
 
 ids-in_range : (ids : Option (List ℤ)) → has_bad_id ids ≡ false → IdsInRange ids
 ids-in_range None h = tt
@@ -341,7 +342,7 @@ slots-there ids modes.Dense n cs h l = λ i j.
     let m : child_len cs (field_named ids (get_or (replicate n (null_type ids)) i (pos 0))) ≡ n = ap (child_len cs) t ∙ child-long cs n q.0 l q.1.there in
     subst (λ x. Names x (child_len cs (field_named ids (get_or (replicate n (null_type ids)) i (pos 0))))) (sym z) (let r : i < child_len cs (field_named ids (get_or (replicate n (null_type ids)) i (pos 0))) = omega arith in r)
 
-union-null : (fs : FieldTrees) (ids : Option (List ℤ)) (mode : UnionMode) (n : ℕ) (cs : Layouts) → nat_lt 127 (count_fields fs) ≡ false → ids_count_differs ids (count_fields fs) ≡ false → has_bad_id ids ≡ false
+union-null : (fs : FieldTrees) (ids : Option (List ℤ)) (mode : UnionMode) (n : ℕ) (cs : Layouts) → nat_lt most_fields (count_fields fs) ≡ false → ids_count_differs ids (count_fields fs) ≡ false → has_bad_id ids ≡ false
     → (nat_eq (count_fields fs) 0 && nat_lt 0 n) ≡ false → AreNullArrays fs n cs
     → IsNullArray (types.union fs ids mode) n (union (types.union fs ids mode) (replicate n (null_type ids)) cs (null_offsets mode n) 0)
 union-null fs ids mode n cs many count range some r =
@@ -364,7 +365,7 @@ union-null fs ids mode n cs many count range some r =
         (
           c,
           (
-            (let m = not-above 127 (count_fields fs) many in omega arith),
+            (let m = not-above most_fields (count_fields fs) many in omega arith),
             (
               r.typed,
               (
@@ -486,7 +487,7 @@ mutual
       let a = refuse-none (nat_eq (count_fields fs) 0) _ _ h in
       struct-null fs n d (null_children fs n d) p (positive (count_fields fs) a.0) (null-children fs n d p a.1)
   null-array (types.union fs ids mode) n d p h =
-      let a = refuse-none (nat_lt 127 (count_fields fs)) _ _ h in
+      let a = refuse-none (nat_lt most_fields (count_fields fs)) _ _ h in
       let b = refuse-none (ids_count_differs ids (count_fields fs)) _ _ a.1 in
       let c = refuse-none (has_bad_id ids) _ _ b.1 in
       let e = refuse-none (nat_eq (count_fields fs) 0 && nat_lt 0 n) _ _ c.1 in

@@ -1,16 +1,20 @@
--- Null and empty arrays of a data type: their slots, and the first refusal of a type and a length (of this project).
-use Rattle.std.specs.Prelude.{ℕ, zero, suc, ◌+◌, ◌*◌, ◌^◌, ℤ, pos, negsuc, Bool, true, false, not, ◌&&◌, nat_eq, nat_lt, List, [], ◌∷◌, length, replicate, Option, Some, None}
+-- Null and empty arrays of a data type: their slots, and the first fault that a type and a length have (of this project).
+use Rattle.std.specs.Prelude.{ℕ, zero, suc, ◌+◌, ◌*◌, ℤ, pos, negsuc, Bool, true, false, not, ◌&&◌, nat_eq, nat_lt, List, [], ◌∷◌, length, replicate, Option, Some, None}
 use Rattle.nest_memory.specs.TypeTree as types
 use Rattle.nest_memory.specs.TypeTree.{TypeTree, FieldTree, field, FieldTrees, no_fields, more_fields, field_type, count_fields, is_dense_mode, is_pair}
 use Rattle.nest_model.specs.Part.{last_place}
 use Rattle.nest_model.specs.Slot as slots
 use Rattle.nest_model.specs.Slot.{Slot}
 use Rattle.nest_model.specs.Meaning.{of_field}
-use Rattle.nest_model.specs.Checks.{refuse_if, first_of, is_past}
+use Rattle.nest_model.specs.Checks.{refuse_if, first_of, is_past, most_fields, most_picks, type_count}
 use Rattle.nest_memory.specs.declared.error.Spec.TheVariants as spec
 use Rattle.nest_memory.specs.declared.error.Argument.TheVariants as argument
 use Rattle.nest_memory.specs.declared.error.Error.{Error}
 use Rattle.nest_memory.specs.declared.error.Error.TheVariants.{OutOfSpec, InvalidArgumentError, Overflow, NotYetImplemented}
+use Rattle.nest_memory.specs.declared.datatypes.physical_type.PhysicalType.{PhysicalType}
+use Rattle.nest_memory.specs.declared.datatypes.physical_type.PhysicalType.TheVariants as physical
+use Rattle.nest_memory.specs.declared.datatypes.physical_type.PrimitiveType.TheVariants as primitives
+use Rattle.nest_memory.specs.declared.datatypes.UnionMode.{UnionMode}
 
 -- the field that a null slot of a union picks: the one that the first id names, without ids the first
 abbrev pub null_field : Option (List ℤ) → Option ℕ
@@ -38,7 +42,7 @@ abbrev pub null_slots : TypeTree → ℕ → List Slot
 null_slots t n = replicate n (null_slot t)
 
 abbrev pub is_id : ℤ → Bool
-is_id (pos n) = nat_lt n 128
+is_id (pos n) = nat_lt n type_count
 is_id (negsuc n) = false
 
 abbrev pub are_ids : List ℤ → Bool
@@ -52,6 +56,23 @@ ids_count_differs (Some ids) n = not (nat_eq (length ids) n)
 abbrev pub has_bad_id : Option (List ℤ) → Bool
 has_bad_id None = false
 has_bad_id (Some ids) = not (are_ids ids)
+
+-- faults
+abbrev pub float_fault : PhysicalType → Option Error
+float_fault (physical.Primitive primitives.Float16) = Some NotYetImplemented
+float_fault (physical.Primitive primitives.Float32) = Some NotYetImplemented
+float_fault (physical.Primitive primitives.Float64) = Some NotYetImplemented
+float_fault p = None
+
+-- the first fault of a union of so many fields and n null slots: its own, then the rest, that of its fields
+abbrev pub union_fault : ℕ → Option (List ℤ) → UnionMode → ℕ → Option Error → Option Error
+union_fault count ids mode n rest =
+    refuse_if (nat_lt most_fields count) (OutOfSpec spec.TooManyFields)
+    (refuse_if (ids_count_differs ids count) (OutOfSpec spec.IdCount)
+    (refuse_if (has_bad_id ids) (OutOfSpec spec.IdRange)
+    (refuse_if (nat_eq count 0 && nat_lt 0 n) (OutOfSpec spec.UnionType)
+    (refuse_if (is_dense_mode mode && nat_lt most_picks n) Overflow
+    rest))))
 
 -- The first fault of an array of n null slots, in the order node, product, children from the left.
 -- Below a dictionary lie d values: one in a null array, none in an empty one. Below a list or a map lies an empty array.
@@ -70,13 +91,7 @@ abbrev mutual
   fault_of (types.fixed_size_list f s) n d = refuse_if (nat_eq s 0) (OutOfSpec spec.ZeroSize) (refuse_if (is_past (n * s)) Overflow (field_fault f (n * s) d))
   fault_of (types.map f b) n d = refuse_if (not (is_pair (field_type f))) (InvalidArgumentError argument.MapInner) (refuse_if (is_past (n + 1)) Overflow (field_fault f 0 0))
   fault_of (types.struct fs) n d = refuse_if (nat_eq (count_fields fs) 0) (OutOfSpec spec.NoFields) (fields_fault fs n d)
-  fault_of (types.union fs ids mode) n d =
-      refuse_if (nat_lt 127 (count_fields fs)) (OutOfSpec spec.TooManyFields)
-      (refuse_if (ids_count_differs ids (count_fields fs)) (OutOfSpec spec.IdCount)
-      (refuse_if (has_bad_id ids) (OutOfSpec spec.IdRange)
-      (refuse_if (nat_eq (count_fields fs) 0 && nat_lt 0 n) (OutOfSpec spec.UnionType)
-      (refuse_if (is_dense_mode mode && nat_lt (2 ^ 31) n) Overflow
-      (fields_fault fs n d)))))
+  fault_of (types.union fs ids mode) n d = union_fault (count_fields fs) ids mode n (fields_fault fs n d)
   fault_of (types.dictionary k t b) n d = fault_of t d d
   fault_of (types.extension x t m) n d = fault_of t n d
   fault_of t n d = None

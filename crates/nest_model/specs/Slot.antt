@@ -1,5 +1,5 @@
 -- Slots: what the places of an array stand for, without buffers, offsets, keys or windows (of this project).
-use Rattle.std.specs.Prelude.{ℕ, ℤ, ◌+◌, Bool, List, [], ◌∷◌}
+use Rattle.std.specs.Prelude.{◌≡◌, ℕ, ℤ, ◌+◌, ◌≤◌, Bool, IsTrue, List, [], ◌∷◌}
 use Rattle.nest_memory.specs.TypeTree.{TypeTree}
 
 mutual
@@ -54,3 +54,8 @@ abbrev mutual
 abbrev pub node_counts : List Slot → ℕ
 node_counts [] = 0
 node_counts (s ∷ ss) = node_count s + node_counts ss
+
+-- of this project: a comparison's count rises by at most n, and by exactly n where its answer is true
+pub record Tells (answer : Bool) (old new n : ℕ) : Type 0 where
+  pub most : new ≤ old + n
+  pub all : IsTrue answer → new ≡ old + n

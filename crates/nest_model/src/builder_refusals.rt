@@ -12,7 +12,7 @@ ghost use Rattle.nest_model.specs.BuilderItem.{PlainValue, Item, seal_items, Sta
 ghost use Rattle.nest_model.specs.BuilderAppend.{appended, all_appended, nulls_appended, Accepted};
 ghost use Rattle.nest_model.specs.BuilderTold.{IsReady, HasWholeChildren, AreReady, FitsLimits, row_checks, lengths_checks};
 ghost use Rattle.nest_model.specs.BuilderExamples.{Texts, IsIterator, StepsOf};
-ghost use Rattle.nest_model.specs.BuilderJoin.{AreAlike, joined, join_checks};
+ghost use Rattle.nest_model.specs.BuilderJoin.{CanJoin, joined_builder, join_checks};
 ghost use Rattle.nest_model.specs.BuilderRefusals.{nulls_pass, is_known, item_refusal, items_refusal, value_refusal, plain_refusal, over_limits};
 ghost use Rattle.nest_model.specs.BuilderReading.{Read, ReadOf, ReadsValue, read_refusal, Refused, Took, TookEach, TookAll, RefusedSome, ReadsList, whole};
 
@@ -85,5 +85,5 @@ pub fn rows_ready()
 
 /// Builders of the same kinds are joined exactly where no level of the joined one is past a limit.
 pub fn joins_within_limits()
-    ensures { (t other : BuilderTree) → AreAlike t other → Pass (join_checks t other) ↔ (over_limits (joined t other) ≡ false) }
+    ensures { (t other : BuilderTree) → CanJoin t other → Pass (join_checks t other) ↔ (over_limits (joined_builder t other) ≡ false) }
 {}

@@ -16,7 +16,7 @@ ghost use Rattle.nest_model.specs.BuilderItem as items;
 ghost use Rattle.nest_model.specs.BuilderItem.{PlainValue, Item, takes, Stands, Lacks, place_of};
 ghost use Rattle.nest_model.specs.BuilderTold.{told, told_lengths, items_told, IsReady, Told, ToldLengths};
 ghost use Rattle.nest_model.specs.BuilderAppend.{appended, nulls_appended, all_appended, Accepted, AcceptedAll};
-ghost use Rattle.nest_model.specs.BuilderJoin.{AreAlike, joined, Joined};
+ghost use Rattle.nest_model.specs.BuilderJoin.{CanJoin, joined_builder, Joined};
 
 /// A builder has as many slots of its own as rows.
 pub fn own_count()
@@ -133,5 +133,5 @@ pub fn nested_kinds_taken()
 
 /// The rows of two whole builders of the same kinds are joined level by level.
 pub fn joined_rows()
-    ensures { (t other : BuilderTree) → AreAlike t other → IsWhole t → IsWhole other → Joined other t (joined t other) }
+    ensures { (t other : BuilderTree) → CanJoin t other → IsWhole t → IsWhole other → Joined other t (joined_builder t other) }
 {}

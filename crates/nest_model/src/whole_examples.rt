@@ -12,7 +12,7 @@ ghost use Rattle.nest_model.specs.BuilderRow.{Row};
 ghost use Rattle.nest_model.specs.BuilderTree as builders;
 ghost use Rattle.nest_model.specs.BuilderTree.{BuilderTree, BuilderTrees};
 ghost use Rattle.nest_model.specs.BuilderWhole.{IsWhole, ValuesDiffer};
-ghost use Rattle.nest_model.specs.BuilderJoin.{AreAlike};
+ghost use Rattle.nest_model.specs.BuilderJoin.{CanJoin};
 ghost use Rattle.nest_model.specs.BuilderAppend.{appended, all_appended};
 ghost use Rattle.nest_model.specs.BuilderTold.{IsReady, HasWholeChildren};
 ghost use Rattle.nest_model.specs.BuilderExamples.{an_int, some_ints, items_of, no_ints, no_lists, no_pairs, no_records, list_of, pairs_of, records_of, in_child, three_pending, two_pending, letters, keyed_ints};
@@ -56,8 +56,8 @@ pub fn children_of_rows()
     ensures pairs { (t : TypeTree) (bits : List Bool) (c : BuilderTree) → IsWhole c → HasWholeChildren (builders.fixed_size_list t bits c) }
     ensures keys { (k : IntegerType) (t : TypeTree) (keys : List (Option ℕ)) (c : BuilderTree) → IsWhole c → HasWholeChildren (builders.dictionary k t keys c) }
     ensures record { HasWholeChildren (in_child (appended (an_int 1)) (no_records no_ints)) }
-    ensures alike_flat { (t : TypeTree) (xs ys : List Slot) → AreAlike (builders.flat t xs) (builders.flat t ys) }
-    ensures alike_lists { AreAlike three_pending two_pending }
-    ensures alike_pairs { (t : TypeTree) (xs ys : List Bool) → AreAlike (builders.fixed_size_list t xs no_ints) (builders.fixed_size_list t ys no_ints) }
-    ensures not_widths { (t : TypeTree) (c : BuilderTree) → ¬ AreAlike (builders.list true t [] c) (builders.list false t [] c) }
+    ensures alike_flat { (t : TypeTree) (xs ys : List Slot) → CanJoin (builders.flat t xs) (builders.flat t ys) }
+    ensures alike_lists { CanJoin three_pending two_pending }
+    ensures alike_pairs { (t : TypeTree) (xs ys : List Bool) → CanJoin (builders.fixed_size_list t xs no_ints) (builders.fixed_size_list t ys no_ints) }
+    ensures not_widths { (t : TypeTree) (c : BuilderTree) → ¬ CanJoin (builders.list true t [] c) (builders.list false t [] c) }
 {}

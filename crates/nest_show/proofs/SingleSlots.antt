@@ -2,13 +2,13 @@
 use Rattle.std.specs.Prelude.{Some, ◌⊎◌, List as Seq}
 use Rattle.std.proofs.Common.{◌≡◌, ℕ, ◌+◌, Bool, true, List, [], ◌∷◌, ◌++◌, length, codes, refl, sym, ap, ◌∙◌, inl, inr, arith, append-nil}
 use Rattle.json.specs.Print.{quoted}
-use Rattle.nest_array.specs.ScalarParts.{ScalarParts, field_types, slots_in, types_in}
+use Rattle.nest_array.specs.ScalarParts.{ScalarParts, slots_in, types_in}
+use Rattle.nest_model.specs.Layout.{field_types, Layout, layout_type}
 use Rattle.nest_array.specs.SeenScalar.{shown_type}
 use Rattle.nest_memory.specs.TypeOf.{field_of, field_list_of}
 use Rattle.nest_memory.specs.TypeTree as types
 use Rattle.nest_memory.specs.TypeTree.{TypeTree, FieldTrees, field_type, fields_of, item_type}
 use Rattle.nest_memory.specs.declared.datatypes.field.Field.{Field}
-use Rattle.nest_model.specs.Layout.{Layout, layout_type}
 use Rattle.nest_model.specs.Meaning.{run, slot, slots_of, len}
 use Rattle.nest_model.specs.Slot as slots
 use Rattle.nest_model.specs.Slot.{Slot, Slots, seal, node_count, count_within}

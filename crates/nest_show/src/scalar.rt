@@ -2,7 +2,8 @@
 ghost use Rattle.std.specs.Prelude.{◌≡◌, false};
 ghost use Rattle.std.specs.Fmt.{WritesOnOk};
 ghost use Rattle.nest_memory.specs.TypeOf.{field_list_of, type_of};
-ghost use Rattle.nest_array.specs.ScalarParts.{field_types, slots_in, types_in};
+ghost use Rattle.nest_model.specs.Layout.{field_types};
+ghost use Rattle.nest_array.specs.ScalarParts.{slots_in, types_in};
 ghost use Rattle.nest_show.specs.Json.{json_members, json_of_slot, members_of, name_at};
 
 use crate::leaves::write_number;

@@ -1,6 +1,6 @@
 -- The words of these promises, by one name.
 pub use Rattle.nest_any.specs.Dictionaries.{dictionary_tree}
-pub use Rattle.nest_any.specs.Lent.{as_list, as_struct, child_at}
+pub use Rattle.nest_any.specs.Lent.{as_list, as_struct, child_builder}
 pub use Rattle.nest_any.specs.Refusals.{first_rows, nested_checks, nested_over, struct_checks}
 pub use Rattle.nest_any.specs.Trees.{tree_of, trees_of}
 pub use Rattle.nest_array.specs.Seen.{layout_of}

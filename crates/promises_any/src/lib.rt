@@ -10,7 +10,7 @@ ghost use Rattle.nest_any.specs.contracts.struct_.MutableStructArray.{the_row as
 ghost use Rattle.nest_any.specs.declared.any.AnyMutableArray.TheVariants.{List, Struct};
 ghost use Rattle.nest_model.specs.BuilderItem.{null as null_item};
 ghost use Rattle.nest_model.specs.BuilderTree as builders;
-ghost use Rattle.promises_any.specs.Words.{Accepted, AreEachWhole, FailFirst, HasWholeChildren, InvalidArgumentError, IsWhole, Memory, Pass, Stands, Told, Unfinished, as_list, as_struct, bits_told, builder_type, child_at, dictionary_child, dictionary_tree, emptied, first_rows, item_refusal, layout_of, layout_type, nested_checks, nested_over, own_slots, row_checks, slots_of, struct_checks, tree_of, trees_of, type_of};
+ghost use Rattle.promises_any.specs.Words.{Accepted, AreEachWhole, FailFirst, HasWholeChildren, InvalidArgumentError, IsWhole, Memory, Pass, Stands, Told, Unfinished, as_list, as_struct, bits_told, builder_type, child_builder, dictionary_child, dictionary_tree, emptied, first_rows, item_refusal, layout_of, layout_type, nested_checks, nested_over, own_slots, row_checks, slots_of, struct_checks, tree_of, trees_of, type_of};
 
 use nest_any::{AnyMutableArray, AnyMutableDictionary, ListBuilder, MutableStructArray};
 use nest_array::{AnyArray, StructArray};
@@ -63,7 +63,7 @@ pub fn push_null_of_any(builder: &mut AnyMutableArray) -> Result<(), Error>
 
 /// The child of lists for 0, child i of records; none of another kind.
 pub fn child_of_any(builder: &mut AnyMutableArray, i: usize) -> Option<&mut AnyMutableArray>
-    ensures { option_map (λ c. tree_of c.now) result ≡ child_at i (tree_of builder.old) }
+    ensures { option_map (λ c. tree_of c.now) result ≡ child_builder i (tree_of builder.old) }
 {
     builder.child(i)
 }

@@ -2,7 +2,7 @@ use Rattle.std.proofs.Common.{◌≤◌, ◌<◌, ◌∙◌, sym, ap, arith, ◌
 use Rattle.std.proofs.lemmas.List.{take_all}
 use Rattle.nest_memory.specs.Cut.{cut}
 use Rattle.nest_model.specs.Meaning.{slots_of}
-use Rattle.listcut_rows.proofs.Texts.{joined, cut-slot, cut-length, got-item, items-next, items-first}
+use Rattle.listcut_rows.proofs.Texts.{joined_items, cut-slot, cut-length, got-item, items-next, items-first}
 use Rattle.listcut_rows.proofs.writing.push_items.Goals as goal
 use Rattle.listcut_rows.proofs.writing.push_items.Goals.{then-i-gt0+in_ok-push, else-i-gt0}
 
@@ -21,4 +21,4 @@ pub returns : goal.returns
 returns c =
     let xs = cut (slots_of c.args.items.now) c.args.o c.args.n in
     let end : length xs ≤ c.loop-i.i = omega (arith, cut-length c.args.items.now c.args.o c.args.n c.requires) in
-    c.loop-i.invariant ∙ ap (λ ss. c.args.out.now.items ++ joined ss) (take_all c.loop-i.i xs end)
+    c.loop-i.invariant ∙ ap (λ ss. c.args.out.now.items ++ joined_items ss) (take_all c.loop-i.i xs end)

@@ -6,7 +6,7 @@ use Rattle.nest_model.specs.Meaning.{slot, slots_of}
 use Rattle.nest_model.specs.Accessors.{validity_of}
 use Rattle.nest_array.specs.WindowParts.{WindowParts, window_slots}
 use Rattle.listcut_rows.proofs.ItemTypes.{items-typed}
-use Rattle.listcut_rows.proofs.Texts.{joined, row-pushed}
+use Rattle.listcut_rows.proofs.Texts.{joined_items, row-pushed}
 use Rattle.listcut_rows.proofs.writing.push_row.Goals as goal
 
 pub numbers-requires : goal.numbers-requires
@@ -21,7 +21,7 @@ returns c =
     let opened = c.push.new.self.items in
     row-pushed _ _ _ _ (validity_of rows) c.args.i (slot rows c.args.i) (window_slots w) c.window-row.ensures.items some c.in_ok-push.ensures.items
     (c.in_ok-push_items.ensures
-    ∙ ap (λ (a : Layout). opened ++ joined (cut (slots_of a) c.offset.result c.len.result)) (c.numbers.ensures ∙ c.array.ensures)
-    ∙ ap (λ o. opened ++ joined (cut (slots_of w.array) o c.len.result)) c.offset.ensures
-    ∙ ap (λ n. opened ++ joined (cut (slots_of w.array) w.offset n)) c.len.ensures)
+    ∙ ap (λ (a : Layout). opened ++ joined_items (cut (slots_of a) c.offset.result c.len.result)) (c.numbers.ensures ∙ c.array.ensures)
+    ∙ ap (λ o. opened ++ joined_items (cut (slots_of w.array) o c.len.result)) c.offset.ensures
+    ∙ ap (λ n. opened ++ joined_items (cut (slots_of w.array) w.offset n)) c.len.ensures)
     c.in_ok-push-2.ensures.items

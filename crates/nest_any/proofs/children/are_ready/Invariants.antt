@@ -2,7 +2,8 @@ use Rattle.std.proofs.Common.{◌≡◌, ◌+◌, ◌<◌, ◌≤◌, ◌↔◌,
 use Rattle.nest_memory.specs.TypeOf.{field_list_of}
 use Rattle.nest_any.specs.Trees.{trees_of}
 use Rattle.nest_model.specs.BuilderTold.{HaveRows}
-use Rattle.nest_model.specs.BuilderTree.{builder_types, field_types}
+use Rattle.nest_model.specs.BuilderTree.{builder_types}
+use Rattle.nest_model.specs.Layout.{field_types}
 use Rattle.nest_model.specs.Checks.{largest_length}
 use Rattle.nest_any.proofs.children.are_ready.Given as goal
 

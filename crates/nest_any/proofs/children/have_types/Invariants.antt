@@ -1,7 +1,8 @@
 use Rattle.std.proofs.Common.{◌≡◌, ◌↔◌, drop}
 use Rattle.nest_memory.specs.TypeOf.{field_list_of}
 use Rattle.nest_any.specs.Trees.{trees_of}
-use Rattle.nest_model.specs.BuilderTree.{builder_types, field_types}
+use Rattle.nest_model.specs.BuilderTree.{builder_types}
+use Rattle.nest_model.specs.Layout.{field_types}
 use Rattle.nest_any.proofs.children.have_types.Given as goal
 
 abbrev pub invariant-loop-i : goal.invariant-loop-i

@@ -3,7 +3,7 @@ use Rattle.std.proofs.lemmas.Bool.Decides.{nat_tests}
 use Rattle.nest_memory.specs.Physical.{physical_type}
 use Rattle.nest_memory.specs.declared.datatypes.physical_type.PhysicalType.TheVariants as physical
 use Rattle.nest_memory.specs.TypeOf.{type_of}
-use Rattle.nest_model.specs.BuilderTree.{field_types}
+use Rattle.nest_model.specs.Layout.{field_types}
 use Rattle.nest_model.specs.BuilderTold.{HaveRows}
 use Rattle.nest_model.specs.Fits.{ValidityFits}
 use Rattle.nest_any.specs.Trees.{tree_of, trees_of}

@@ -1,7 +1,8 @@
 use Rattle.std.proofs.Common.{◌≡◌, [], ◌++◌, codes, false, sym, ap, subst, ◌∙◌, inl, inr, rules, arith}
 use Rattle.std.proofs.Output.{has_written_append, has_written_of_eq, writes_in_calls_nil}
 use Rattle.json.specs.Print.{quoted}
-use Rattle.nest_array.specs.ScalarParts.{field_types, slots_in, types_in}
+use Rattle.nest_model.specs.Layout.{field_types}
+use Rattle.nest_array.specs.ScalarParts.{slots_in, types_in}
 use Rattle.nest_array.specs.Seen.{layout_of}
 use Rattle.nest_array.specs.SeenScalar.{ValueFits, slot_of_value}
 use Rattle.nest_memory.specs.TypeOf.{field_list_of}

@@ -1,6 +1,7 @@
 use Rattle.std.proofs.Common.{◌≡◌, ◌+◌, ◌*◌, ◌≤◌, ℕ, List, ◌++◌, false}
 use Rattle.std.specs.Fmt.{HasWritten, IsPlainFormatter}
-use Rattle.nest_array.specs.ScalarParts.{field_types, slots_in, types_in}
+use Rattle.nest_model.specs.Layout.{field_types}
+use Rattle.nest_array.specs.ScalarParts.{slots_in, types_in}
 use Rattle.nest_memory.specs.TypeOf.{field_list_of}
 use Rattle.nest_model.specs.Slot.{node_count, count_within}
 use Rattle.nest_show.specs.Json.{json_members}

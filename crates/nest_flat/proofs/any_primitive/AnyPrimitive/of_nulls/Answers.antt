@@ -5,7 +5,7 @@ use Rattle.nest_memory.specs.declared.datatypes.physical_type.PhysicalType.TheVa
 use Rattle.nest_memory.specs.declared.datatypes.physical_type.PrimitiveType.{PrimitiveType}
 use Rattle.nest_memory.specs.declared.datatypes.physical_type.PrimitiveType.TheVariants as primitives
 use Rattle.nest_memory.specs.declared.error.Error.TheVariants.{NotYetImplemented}
-use Rattle.nest_model.specs.NullKinds.{float_fault}
+use Rattle.nest_model.specs.Nulls.{float_fault}
 use Rattle.nest_model.specs.MadeNullLaws.{no-float}
 use Rattle.nest_flat.proofs.any_primitive.AnyPrimitive.of_nulls.Goals as goal
 
