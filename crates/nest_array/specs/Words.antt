@@ -11,8 +11,8 @@ pub use Rattle.nest_memory.specs.TypeTree.{item_type, size_of}
 pub use Rattle.nest_memory.specs.declared.error.Error.TheVariants.{Memory}
 pub use Rattle.nest_model.specs.Accessors.{child_of, offsets_of, validity_of, with_validity}
 pub use Rattle.nest_model.specs.Array.{Keeps, TopFits}
-pub use Rattle.nest_model.specs.Cut.{cut_layout, IsCut}
-pub use Rattle.nest_model.specs.Fits.{HasValidity, RefusesValidity, FirstFault, Fits, ValidityFault, ValidityFits}
+pub use Rattle.nest_model.specs.Cut.{IsCut, cut_layout}
+pub use Rattle.nest_model.specs.Fits.{FirstFault, Fits, HasValidity, RefusesValidity, ValidityFault, ValidityFits}
 pub use Rattle.nest_model.specs.Layout.{Layout, layout_type}
 pub use Rattle.nest_model.specs.MadeNulls.{AcceptsKind, HasNone, HasNulls, RefusesKind, RefusesType}
 pub use Rattle.nest_model.specs.Meaning.{len, run, slot, slots_of, where_valid}

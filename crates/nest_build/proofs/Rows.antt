@@ -5,7 +5,7 @@ use Rattle.std.proofs.lemmas.List.{drop-append-le, length-map, length-append}
 use Rattle.std.proofs.lemmas.Bool.{cases_lt}
 use Rattle.std.proofs.Math.Seq.{take-append_seam}
 use Rattle.nest_memory.specs.Rising.{NeverFalls, last_of, joined, largest_offset}
-use Rattle.nest_model.specs.Part.{Validity, rows, cut_validity}
+use Rattle.nest_model.specs.Part.{Validity, count_rows, cut_validity}
 use Rattle.nest_model.specs.Fits.{ValidityFits}
 use Rattle.nest_model.specs.BuilderRow.{Row, told_row, end_from, RisesFrom}
 use Rattle.nest_memory.specs.declared.error.Error.{Error}
@@ -37,14 +37,14 @@ ending-ends : (va : Validity) (es : List ℕ) → ValidityFits va (length es) �
 ending-ends None es h = valid-ends es
 ending-ends (Some bits) es h = zip-ends bits es h
 
-pub tail-count : (os : List ℕ) → length (drop 1 os) ≡ rows os
+pub tail-count : (os : List ℕ) → length (drop 1 os) ≡ count_rows os
 tail-count os = length-drop 1 os
 
-pub told-ends : (os : List ℕ) (va : Validity) → ValidityFits va (rows os) → ends (rows_told os va) ≡ drop 1 os
+pub told-ends : (os : List ℕ) (va : Validity) → ValidityFits va (count_rows os) → ends (rows_told os va) ≡ drop 1 os
 told-ends os va h = ending-ends va (drop 1 os) (subst (ValidityFits va) (sym (tail-count os)) h)
 
 -- as many rows as the offsets tell
-pub told-count : (os : List ℕ) (va : Validity) (rs : List Row) → rows_told os va ≡ rs → ValidityFits va (rows os) → length rs ≡ rows os
+pub told-count : (os : List ℕ) (va : Validity) (rs : List Row) → rows_told os va ≡ rs → ValidityFits va (count_rows os) → length rs ≡ count_rows os
 told-count os va rs e h = ap length (sym e) ∙ sym (length-map (rows_told os va) (λ (r : Row). r.end)) ∙ ap length (told-ends os va h) ∙ tail-count os
 
 end-place : (s : ℕ) (rs : List Row) → end_from s rs ≡ get_or (s ∷ ends rs) (length rs) 0
@@ -56,21 +56,21 @@ first-rest [] h k = absurd (omega arith)
 first-rest (o ∷ os) h k = ap (λ x. x ∷ os) k
 
 -- the last row ends at the last offset
-pub told-end : (os : List ℕ) (va : Validity) (rs : List Row) → rows_told os va ≡ rs → 0 < length os → slice_index os 0 ≡ 0 → ValidityFits va (rows os) → end_from 0 rs ≡ last_of os
+pub told-end : (os : List ℕ) (va : Validity) (rs : List Row) → rows_told os va ≡ rs → 0 < length os → slice_index os 0 ≡ 0 → ValidityFits va (count_rows os) → end_from 0 rs ≡ last_of os
 told-end os va rs e h k v =
     let c = told-count os va rs e v in
     let f = first-rest os h k in
     end-place 0 rs
     ∙ ap (λ xs. get_or (0 ∷ xs) (length rs) 0) (ap ends (sym e) ∙ told-ends os va v)
     ∙ ap (λ n. get_or (0 ∷ drop 1 os) n 0) c
-    ∙ ap (λ xs. get_or xs (rows os) 0) (sym f)
+    ∙ ap (λ xs. get_or xs (count_rows os) 0) (sym f)
 
 rising : (s : ℕ) (rs : List Row) → NeverFalls (s ∷ ends rs) → RisesFrom s rs
 rising s [] h = tt
 rising s (r ∷ rs) h = (h 0 1 (omega arith) (omega arith), rising r.end rs (λ i j k l. h (suc i) (suc j) (omega arith) (omega arith)))
 
 -- rows never fall
-pub told-rises : (os : List ℕ) (va : Validity) (rs : List Row) → rows_told os va ≡ rs → 0 < length os → slice_index os 0 ≡ 0 → ValidityFits va (rows os) → NeverFalls os → RisesFrom 0 rs
+pub told-rises : (os : List ℕ) (va : Validity) (rs : List Row) → rows_told os va ≡ rs → 0 < length os → slice_index os 0 ≡ 0 → ValidityFits va (count_rows os) → NeverFalls os → RisesFrom 0 rs
 told-rises os va rs e h k v n =
     rising 0 rs (subst NeverFalls (first-rest os h k ∙ ap (λ xs. 0 ∷ xs) (sym (told-ends os va v) ∙ ap ends e)) n)
 
@@ -99,7 +99,7 @@ ending-push None es false e h =
 ending-push (Some bits) es b e h = zip-push bits es b e h
 
 -- one row more
-pub told-push : (os ps : List ℕ) (va wa : Validity) (rs : List Row) (n : ℕ) (b : Bool) (e end : ℕ) → rows_told os va ≡ rs → ps ≡ os ++ e ∷ [] → wa ≡ pushed_validity va n b → n ≡ rows os → e ≡ end → 0 < length os → ValidityFits va (rows os)
+pub told-push : (os ps : List ℕ) (va wa : Validity) (rs : List Row) (n : ℕ) (b : Bool) (e end : ℕ) → rows_told os va ≡ rs → ps ≡ os ++ e ∷ [] → wa ≡ pushed_validity va n b → n ≡ count_rows os → e ≡ end → 0 < length os → ValidityFits va (count_rows os)
     → rows_told ps wa ≡ rs ++ told_row b end ∷ []
 told-push os ps va wa rs n b e end h p w k x l v =
     let c = tail-count os in
@@ -172,7 +172,7 @@ zip-bits [] (e ∷ es) h = absurd (omega arith)
 zip-bits (b ∷ bits) [] h = absurd (omega arith)
 zip-bits (b ∷ bits) (e ∷ es) h = ap (λ bs. b ∷ bs) (zip-bits bits es (omega arith))
 
-pub told-bits : (os : List ℕ) (va : Validity) (rs : List Row) → rows_told os va ≡ rs → ValidityFits va (rows os) → SpellsBits va (row_bits rs)
+pub told-bits : (os : List ℕ) (va : Validity) (rs : List Row) → rows_told os va ≡ rs → ValidityFits va (count_rows os) → SpellsBits va (row_bits rs)
 told-bits os None rs e h = λ i l. ap (λ qs. get_or (row_bits qs) i true) (sym e) ∙ valid-all (drop 1 os) i
 told-bits os (Some bits) rs e h = sym (ap row_bits (sym e) ∙ zip-bits bits (drop 1 os) (h ∙ sym (tail-count os)))
 
@@ -181,7 +181,7 @@ offsets-ends : (s : ℕ) (rs : List Row) → offsets_from s rs ≡ s ∷ ends rs
 offsets-ends s [] = refl
 offsets-ends s (r ∷ rs) = ap (λ xs. s ∷ xs) (offsets-ends r.end rs)
 
-pub told-offsets : (os : List ℕ) (va : Validity) (rs : List Row) → rows_told os va ≡ rs → 0 < length os → slice_index os 0 ≡ 0 → ValidityFits va (rows os) → offsets_from 0 rs ≡ os
+pub told-offsets : (os : List ℕ) (va : Validity) (rs : List Row) → rows_told os va ≡ rs → 0 < length os → slice_index os 0 ≡ 0 → ValidityFits va (count_rows os) → offsets_from 0 rs ≡ os
 told-offsets os va rs e h k v = offsets-ends 0 rs ∙ ap (λ xs. 0 ∷ xs) (ap ends (sym e) ∙ told-ends os va v) ∙ sym (first-rest os h k)
 
 -- rows by their lengths, one more
@@ -246,7 +246,7 @@ ending-joined (Some cs) (Some bs) es fs s h k =
     zip-append cs bs es (map (λ n. s + n) fs) h ∙ ap (λ rs. zip_rows cs es ++ rs) (zip-moved s bs fs)
 
 pub told-joined : (os ps qs : List ℕ) (va vb wa : Validity) (rs more : List Row) (n m s : ℕ) → rows_told os va ≡ rs → rows_told ps vb ≡ more → qs ≡ joined os ps → wa ≡ joined_validity va n vb m
-    → n ≡ rows os → m ≡ rows ps → s ≡ last_of os → 0 < length os → ValidityFits va (rows os) → ValidityFits vb (rows ps) → rows_told qs wa ≡ rs ++ moved s more
+    → n ≡ count_rows os → m ≡ count_rows ps → s ≡ last_of os → 0 < length os → ValidityFits va (count_rows os) → ValidityFits vb (count_rows ps) → rows_told qs wa ≡ rs ++ moved s more
 told-joined os ps qs va vb wa rs more n m s e f q w k j x l v u =
     let c = tail-count os in
     let d = tail-count ps in
@@ -320,7 +320,7 @@ pub by-width-past : (n largest : ℕ) (large : Bool) → largest ≡ largest_off
 by-width-past n largest large e l = omega (arith, e, l)
 
 -- joined rows
-pub rows-joined : (os ps : List ℕ) → 0 < length os → rows (joined os ps) ≡ rows os + rows ps
+pub rows-joined : (os ps : List ℕ) → 0 < length os → count_rows (joined os ps) ≡ count_rows os + count_rows ps
 rows-joined os ps h =
     let m = map (λ n. last_of os + n) (drop 1 ps) in
     omega (arith, length-append os m, length-map (drop 1 ps) (λ n. last_of os + n), tail-count ps)

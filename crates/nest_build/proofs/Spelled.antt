@@ -6,7 +6,7 @@ use Rattle.nest_memory.specs.TypeTree.{TypeTree, item_type}
 use Rattle.nest_memory.specs.Physical.{physical_type, list_of_width}
 use Rattle.nest_memory.specs.Cut.{cut}
 use Rattle.nest_memory.specs.Rising.{last_of}
-use Rattle.nest_model.specs.Part.{Validity, valid_at, rows, begin, extent}
+use Rattle.nest_model.specs.Part.{Validity, valid_at, count_rows, begin, extent}
 use Rattle.nest_model.specs.Fits.{Fits, ValidityFits}
 use Rattle.nest_model.specs.Slot as slots
 use Rattle.nest_model.specs.Slot.{Slot, seal}
@@ -52,7 +52,7 @@ valid-ending None es i h k = ap (λ (r : Row). r.valid) (get_or-map (told_row tr
 valid-ending (Some bits) es i h k = valid-zip bits es i h k
 
 module _ (large : Bool) (os : List ℕ) (va : Validity) (rs : List Row) (s : Spells os va rs) where
-  count : length rs ≡ rows os
+  count : length rs ≡ count_rows os
   count = told-count os va rs s.told s.fits
 
   whole : os ≡ 0 ∷ ends rs
@@ -79,7 +79,7 @@ module _ (large : Bool) (os : List ℕ) (va : Validity) (rs : List Row) (s : Spe
 
   row-slot : (t : TypeTree) (c : Layout) (i : ℕ) → last_of os ≤ len c → i < length rs → slot (layouts.list large t os c va) i ≡ row_at 0 rs (slots_of c) i
   row-slot t c i l k =
-      let n : i < rows os = omega (arith, count) in
+      let n : i < count_rows os = omega (arith, count) in
       let p = starts i in
       let q = stops i k in
       let cuts = items-cut c (begin os i) (extent os i) (extent-fits os (len c) i s.offsets l n) in

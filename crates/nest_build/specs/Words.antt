@@ -23,10 +23,10 @@ pub use Rattle.nest_memory.specs.declared.error.Spec.TheVariants.{ZeroSize}
 pub use Rattle.nest_model.specs.Accessors.{bytes_of, validity_of, with_validity}
 pub use Rattle.nest_model.specs.Array.{TopFits}
 pub use Rattle.nest_model.specs.BuilderAppend.{Accepted, AcceptedAll}
-pub use Rattle.nest_model.specs.BuilderTold.{IsReady, Told, ToldLengths, items_told, pending_slot, rows_of_lengths, told, HasWholeChildren, lengths_checks, row_checks}
+pub use Rattle.nest_model.specs.BuilderTold.{HasWholeChildren, IsReady, Told, ToldLengths, items_told, lengths_checks, pending_slot, row_checks, rows_of_lengths, told}
 pub use Rattle.nest_model.specs.BuilderFreeze.{SpellsBits, offsets_from, row_bits}
 pub use Rattle.nest_model.specs.BuilderItem.{Holds}
-pub use Rattle.nest_model.specs.BuilderJoin.{Joined, moved, join_checks}
+pub use Rattle.nest_model.specs.BuilderJoin.{Joined, join_checks, moved}
 pub use Rattle.nest_model.specs.BuilderLevels.{own_slots, rows_of_items, rows_of_size}
 pub use Rattle.nest_model.specs.BuilderReading.{Read, ReadsList, ReadsValue, Refused, RefusedSome, Took, TookAll, TookEach}
 pub use Rattle.nest_model.specs.BuilderRefusals.{asked_item, asked_refusal, item_refusal, nulls_pass, plain_refusal}

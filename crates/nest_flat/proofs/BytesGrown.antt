@@ -9,7 +9,7 @@ use Rattle.nest_memory.specs.Rising.{last_of, NeverFalls}
 use Rattle.nest_memory.specs.TypeTree.{TypeTree}
 use Rattle.nest_memory.specs.declared.error.Error.{Error}
 use Rattle.nest_memory.specs.declared.error.Error.TheVariants.{Memory, Overflow}
-use Rattle.nest_model.specs.Part.{Validity, valid_at, begin, extent, rows, cut_validity}
+use Rattle.nest_model.specs.Part.{Validity, valid_at, begin, extent, count_rows, cut_validity}
 use Rattle.nest_model.specs.Slot as slots
 use Rattle.nest_model.specs.Slot.{Slot}
 use Rattle.nest_model.specs.Layout.{Layout, binary, text, layout_type}
@@ -32,21 +32,21 @@ use Rattle.nest_flat.proofs.Grown.{fits-joined, valid-before, valid-after, slots
 abbrev both : List ℕ → List ℕ → List ℕ
 both os ps = os ++ map (λ e. last_of os + e) (drop 1 ps)
 
-pub rows-both : (os ps : List ℕ) → 0 < length os → rows (both os ps) ≡ rows os + rows ps
+pub rows-both : (os ps : List ℕ) → 0 < length os → count_rows (both os ps) ≡ count_rows os + count_rows ps
 rows-both os ps h =
     let f = λ (e : ℕ). last_of os + e in
     omega (arith, length-append os (map f (drop 1 ps)), length-map (drop 1 ps) f, length-drop 1 ps)
 
-begin-after : (os ps : List ℕ) (j : ℕ) → 0 < length os → begin ps 0 ≡ 0 → j < length ps → get_or (both os ps) (rows os + j) 0 ≡ last_of os + get_or ps j 0
+begin-after : (os ps : List ℕ) (j : ℕ) → 0 < length os → begin ps 0 ≡ 0 → j < length ps → get_or (both os ps) (count_rows os + j) 0 ≡ last_of os + get_or ps j 0
 begin-after os ps zero h z k =
     let f = λ (e : ℕ). last_of os + e in
-    let p : rows os + 0 ≡ rows os = omega arith in
+    let p : count_rows os + 0 ≡ count_rows os = omega arith in
     ap (λ i. get_or (both os ps) i 0) p
-    ∙ get_or_append_left os (map f (drop 1 ps)) 0 (rows os) (omega arith)
+    ∙ get_or_append_left os (map f (drop 1 ps)) 0 (count_rows os) (omega arith)
     ∙ (let e : last_of os ≡ last_of os + get_or ps 0 0 = omega arith in e)
 begin-after os ps (suc j) h z k =
     let f = λ (e : ℕ). last_of os + e in
-    let p : rows os + suc j ≡ length os + j = omega arith in
+    let p : count_rows os + suc j ≡ length os + j = omega arith in
     let q : 1 + j ≡ suc j = omega arith in
     ap (λ i. get_or (both os ps) i 0) p
     ∙ get_or-append-add os (map f (drop 1 ps)) j 0
@@ -54,7 +54,7 @@ begin-after os ps (suc j) h z k =
     ∙ ap f (get_or-drop 1 ps j 0 ∙ ap (λ i. get_or ps i 0) q)
 
 pub last-both : (os ps : List ℕ) → 0 < length os → 0 < length ps → begin ps 0 ≡ 0 → last_of (both os ps) ≡ last_of os + last_of ps
-last-both os ps h k z = ap (λ i. get_or (both os ps) i 0) (rows-both os ps h) ∙ begin-after os ps (rows ps) h z (omega arith)
+last-both os ps h k z = ap (λ i. get_or (both os ps) i 0) (rows-both os ps h) ∙ begin-after os ps (count_rows ps) h z (omega arith)
 
 -- a window within the first of two lists, and one within the second
 cut-left : (bs cs : List ℕ) (o n : ℕ) → o + n ≤ length bs → cut (bs ++ cs) o n ≡ cut bs o n
@@ -66,22 +66,22 @@ cut-right : (bs cs : List ℕ) (o n : ℕ) → cut (bs ++ cs) (length bs + o) n 
 cut-right bs cs o n = ap (take n) (sym (drop-drop o (length bs) (bs ++ cs)) ∙ ap (drop o) (drop-append_seam bs cs))
 
 -- how many bytes each slot of both has
-before-extent : (os ps : List ℕ) (i : ℕ) → i < rows os → extent (both os ps) i ≡ extent os i
+before-extent : (os ps : List ℕ) (i : ℕ) → i < count_rows os → extent (both os ps) i ≡ extent os i
 before-extent os ps i k =
     let more = map (λ (e : ℕ). last_of os + e) (drop 1 ps) in
     let a = get_or_append_left os more 0 i (omega arith) in
     let b = get_or_append_left os more 0 (i + 1) (omega arith) in
     λ j. b j - a j
 
-after-extent : (os ps : List ℕ) (i : ℕ) → 0 < length os → begin ps 0 ≡ 0 → i < rows ps → extent (both os ps) (rows os + i) ≡ extent ps i
+after-extent : (os ps : List ℕ) (i : ℕ) → 0 < length os → begin ps 0 ≡ 0 → i < count_rows ps → extent (both os ps) (count_rows os + i) ≡ extent ps i
 after-extent os ps i h z k =
     let a = begin-after os ps i h z (omega arith) in
-    let p : rows os + (i + 1) ≡ rows os + i + 1 = omega arith in
+    let p : count_rows os + (i + 1) ≡ count_rows os + i + 1 = omega arith in
     let b = ap (λ q. get_or (both os ps) q 0) (sym p) ∙ begin-after os ps (i + 1) h z (omega arith) in
     omega arith
 
 -- the bytes of the slots of both
-before-bytes : (os ps bs cs : List ℕ) (i : ℕ) → AreOffsets os → last_of os ≡ length bs → i < rows os
+before-bytes : (os ps bs cs : List ℕ) (i : ℕ) → AreOffsets os → last_of os ≡ length bs → i < count_rows os
     → cut (bs ++ cs) (begin (both os ps) i) (extent (both os ps) i) ≡ cut bs (begin os i) (extent os i)
 before-bytes os ps bs cs i h l k =
     let more = map (λ (e : ℕ). last_of os + e) (drop 1 ps) in
@@ -90,16 +90,16 @@ before-bytes os ps bs cs i h l k =
     let w = extent-fits os (length bs) i h (omega arith) k in
     (λ j. cut (bs ++ cs) (a j) (b j - a j)) ∙ cut-left bs cs (begin os i) (extent os i) w
 
-after-bytes : (os ps bs cs : List ℕ) (i : ℕ) → 0 < length os → last_of os ≡ length bs → begin ps 0 ≡ 0 → i < rows ps
-    → cut (bs ++ cs) (begin (both os ps) (rows os + i)) (extent (both os ps) (rows os + i)) ≡ cut cs (begin ps i) (extent ps i)
+after-bytes : (os ps bs cs : List ℕ) (i : ℕ) → 0 < length os → last_of os ≡ length bs → begin ps 0 ≡ 0 → i < count_rows ps
+    → cut (bs ++ cs) (begin (both os ps) (count_rows os + i)) (extent (both os ps) (count_rows os + i)) ≡ cut cs (begin ps i) (extent ps i)
 after-bytes os ps bs cs i h l z k =
-    let o : begin (both os ps) (rows os + i) ≡ length bs + begin ps i = begin-after os ps i h z (omega arith) ∙ ap (λ q. q + begin ps i) l in
+    let o : begin (both os ps) (count_rows os + i) ≡ length bs + begin ps i = begin-after os ps i h z (omega arith) ∙ ap (λ q. q + begin ps i) l in
     let x = after-extent os ps i h z k in
     (λ j. cut (bs ++ cs) (o j) (x j)) ∙ cut-right bs cs (begin ps i) (extent ps i)
 
 -- how arrays of bytes and of texts are made of their parts
 pub record SpansKind (make : Spans → Layout) (wrap : List ℕ → Slot) : Type 0 where
-  pub count : (s : Spans) → len (make s) ≡ rows s.offsets
+  pub count : (s : Spans) → len (make s) ≡ count_rows s.offsets
   pub place : (s : Spans) (i : ℕ) → slot (make s) i ≡ (if valid_at s.validity i then wrap (cut s.bytes (begin s.offsets i) (extent s.offsets i)) else slots.null)
   pub typed : (s r : Spans) → layout_type (make s) ≡ layout_type (make r)
   pub shown : (s : Spans) → spans_of (make s) ≡ s
@@ -152,7 +152,7 @@ places P (suc n) m f g (suc i) h =
 pub each-joined : (s r : Spans) → AreSpans s → AreSpans r → EachText s.offsets s.bytes → EachText r.offsets r.bytes → EachText (joined_spans s r).offsets (joined_spans s r).bytes
 each-joined s r h k t u i j =
     let e = rows-both s.offsets r.offsets h.rising.0 in
-    places (λ q. IsUtf8 (cut (s.bytes ++ r.bytes) (begin (both s.offsets r.offsets) q) (extent (both s.offsets r.offsets) q))) (rows s.offsets) (rows r.offsets)
+    places (λ q. IsUtf8 (cut (s.bytes ++ r.bytes) (begin (both s.offsets r.offsets) q) (extent (both s.offsets r.offsets) q))) (count_rows s.offsets) (count_rows r.offsets)
     (λ q w. subst IsUtf8 (sym (before-bytes s.offsets r.offsets s.bytes r.bytes q h.rising h.ends w)) (t q w))
     (λ q w. subst IsUtf8 (sym (after-bytes s.offsets r.offsets s.bytes r.bytes q h.rising.0 h.ends k.first w)) (u q w))
     i (omega arith)
@@ -160,8 +160,8 @@ each-joined s r h k t u i j =
 -- no byte lies under a null of both
 bare-joined : (s r : Spans) → AreSpans s → AreSpans r → NullsAreBare (joined_spans s r).validity (joined_spans s r).offsets
 bare-joined s r h k i j v =
-    let n = rows s.offsets in
-    let m = rows r.offsets in
+    let n = count_rows s.offsets in
+    let m = count_rows r.offsets in
     let e = rows-both s.offsets r.offsets h.rising.0 in
     places (λ q. valid_at (joined_validity s.validity n r.validity m) q ≡ false → extent (both s.offsets r.offsets) q ≡ 0) n m
     (λ q w f. before-extent s.offsets r.offsets q w ∙ h.bare q w (sym (valid-before s.validity r.validity n m q h.fits w) ∙ f))
@@ -196,7 +196,7 @@ one-spans (Some xs) = record { rising = one-rising (length xs); first = refl; en
 -- a pushed slot is one slot behind the others
 pushed-one : (s : Spans) (item : Option (List ℕ)) → pushed_span item s ≡ joined_spans s (one item)
 pushed-one s item =
-    let v = pushed-joined s.validity (rows s.offsets) (is_some item) in
+    let v = pushed-joined s.validity (count_rows s.offsets) (is_some item) in
     λ j. record { offsets = s.offsets ++ (last_of s.offsets + length (item_bytes item)) ∷ []; bytes = s.bytes ++ item_bytes item; validity = v j }
 
 whole-item : (xs : List ℕ) → take (length xs - 0) xs ≡ xs
@@ -211,13 +211,13 @@ each-pushed s item h u t =
     one-text (suc i) j = absurd (omega arith)
 
 -- the first n slots
-pub rows-first : (os : List ℕ) (n : ℕ) → 0 < length os → n ≤ rows os → rows (take (n + 1) os) ≡ n
+pub rows-first : (os : List ℕ) (n : ℕ) → 0 < length os → n ≤ count_rows os → count_rows (take (n + 1) os) ≡ n
 rows-first os n z h = omega (arith, length-take-le (n + 1) os (omega arith))
 
-pub last-first : (os : List ℕ) (n : ℕ) → 0 < length os → n ≤ rows os → last_of (take (n + 1) os) ≡ begin os n
+pub last-first : (os : List ℕ) (n : ℕ) → 0 < length os → n ≤ count_rows os → last_of (take (n + 1) os) ≡ begin os n
 last-first os n z h = ap (λ k. get_or (take (n + 1) os) k 0) (rows-first os n z h) ∙ get_or-take (n + 1) os n 0 (omega arith)
 
-first-bytes : (os bs : List ℕ) (n i : ℕ) → AreOffsets os → n ≤ rows os → i < n
+first-bytes : (os bs : List ℕ) (n i : ℕ) → AreOffsets os → n ≤ count_rows os → i < n
     → cut (take (begin os n) bs) (begin (take (n + 1) os) i) (extent (take (n + 1) os) i) ≡ cut bs (begin (take (n + 1) os) i) (extent (take (n + 1) os) i)
 first-bytes os bs n i h k j =
     let z = h.0 in
@@ -229,7 +229,7 @@ first-bytes os bs n i h k j =
     let x = extent (take (n + 1) os) i in
     cut-cut bs 0 (begin os n) o x (omega arith) ∙ ap (λ p. take x (drop p bs)) (let e : 0 + o ≡ o = omega arith in e)
 
-pub each-first : (s : Spans) (n : ℕ) → AreSpans s → n ≤ rows s.offsets → EachText s.offsets s.bytes → EachText (first_spans n s).offsets (first_spans n s).bytes
+pub each-first : (s : Spans) (n : ℕ) → AreSpans s → n ≤ count_rows s.offsets → EachText s.offsets s.bytes → EachText (first_spans n s).offsets (first_spans n s).bytes
 each-first s n h k t i j =
     let z = h.rising.0 in
     let r = rows-first s.offsets n z k in
@@ -242,7 +242,7 @@ valid-first : (va : Validity) (n i : ℕ) → i < n → valid_at (cut_validity v
 valid-first None n i h = refl
 valid-first (Some bits) n i h = get_or-take n bits i true h
 
-bare-first : (s : Spans) (n : ℕ) → AreSpans s → n ≤ rows s.offsets → NullsAreBare (first_spans n s).validity (first_spans n s).offsets
+bare-first : (s : Spans) (n : ℕ) → AreSpans s → n ≤ count_rows s.offsets → NullsAreBare (first_spans n s).validity (first_spans n s).offsets
 bare-first s n h k i j v =
     let r = rows-first s.offsets n h.rising.0 k in
     let m : i < n = omega arith in
@@ -257,7 +257,7 @@ bare-none os i j v = cc
 
 -- ---- what the calls leave
 abbrev pub Whole : Spans → Type 0
-Whole s = (last_of s.offsets ≡ length s.bytes) × ValidityFits s.validity (rows s.offsets) × NullsAreBare s.validity s.offsets
+Whole s = (last_of s.offsets ≡ length s.bytes) × ValidityFits s.validity (count_rows s.offsets) × NullsAreBare s.validity s.offsets
 
 pub spans-known : (os bs : List ℕ) (va : Validity) → 0 < length os → NeverFalls os → slice_index os 0 ≡ 0 → Whole (spans os bs va) → AreSpans (record { offsets = os; bytes = bs; validity = va })
 spans-known os bs va z h f w = record { rising = (z, h); first = f; ends = w.0; fits = w.1; bare = w.2 }
@@ -271,20 +271,20 @@ joined-whole s r h k =
     let e = h.ends in
     let f = k.ends in (
       omega (arith, l, length-append s.bytes r.bytes),
-      fits-joined s.validity r.validity (rows s.offsets) (rows r.offsets) (rows (joined_spans s r).offsets) h.fits k.fits (rows-both s.offsets r.offsets h.rising.0),
+      fits-joined s.validity r.validity (count_rows s.offsets) (count_rows r.offsets) (count_rows (joined_spans s r).offsets) h.fits k.fits (rows-both s.offsets r.offsets h.rising.0),
       bare-joined s r h k,
     )
 
 pub pushed-whole : (s : Spans) (item : Option (List ℕ)) → AreSpans s → Whole (pushed_span item s)
 pushed-whole s item h = whole-at (pushed_span item s) (joined_spans s (one item)) (pushed-one s item) (joined-whole s (one item) h (one-spans item))
 
-pub first-whole : (s : Spans) (n : ℕ) → AreSpans s → n ≤ rows s.offsets → Whole (first_spans n s)
+pub first-whole : (s : Spans) (n : ℕ) → AreSpans s → n ≤ count_rows s.offsets → Whole (first_spans n s)
 first-whole s n h k =
     let z = h.rising.0 in
     let a = h.rising.1 n (length s.offsets - 1) (omega arith) (omega arith) in
     let e = h.ends in (
       last-first s.offsets n z k ∙ sym (length-take-le (begin s.offsets n) s.bytes (omega arith)),
-      subst (ValidityFits (cut_validity s.validity 0 n)) (sym (rows-first s.offsets n z k)) (fits-first s.validity (rows s.offsets) n h.fits k),
+      subst (ValidityFits (cut_validity s.validity 0 n)) (sym (rows-first s.offsets n z k)) (fits-first s.validity (count_rows s.offsets) n h.fits k),
       bare-first s n h k,
     )
   where
@@ -294,13 +294,13 @@ first-whole s n h k =
 
 -- the parts by what each call says of its own
 pub parts-pushed : (s : Spans) (os bs xs : List ℕ) (va : Validity) (n : ℕ) (item : Option (List ℕ)) → os ≡ s.offsets ++ (last_of s.offsets + length xs) ∷ [] → xs ≡ item_bytes item → bs ≡ s.bytes ++ item_bytes item
-    → va ≡ pushed_validity s.validity n (is_some item) → n ≡ rows s.offsets → record { offsets = os; bytes = bs; validity = va } ≡ pushed_span item s
+    → va ≡ pushed_validity s.validity n (is_some item) → n ≡ count_rows s.offsets → record { offsets = os; bytes = bs; validity = va } ≡ pushed_span item s
 parts-pushed s os bs xs va n item e f g v m =
     let o = e ∙ ap (λ ys. s.offsets ++ (last_of s.offsets + length ys) ∷ []) f in
     let w = v ∙ ap (λ i. pushed_validity s.validity i (is_some item)) m in
     λ j. record { offsets = o j; bytes = g j; validity = w j }
 
-pub parts-taken : (s : Spans) (os bs : List ℕ) (va : Validity) (n last : ℕ) (m : Bool) → AreSpans s → n ≤ rows s.offsets → os ≡ take (n + 1) s.offsets → last ≡ last_of os → bs ≡ take last s.bytes
+pub parts-taken : (s : Spans) (os bs : List ℕ) (va : Validity) (n last : ℕ) (m : Bool) → AreSpans s → n ≤ count_rows s.offsets → os ≡ take (n + 1) s.offsets → last ≡ last_of os → bs ≡ take last s.bytes
     → va ≡ (if m then cut_validity s.validity 0 n else None) → spans os bs va ≡ (if m then first_spans n s else bare_spans (first_spans n s))
 parts-taken s os bs va n last m h k e f g v =
     let z = h.rising.0 in
@@ -313,12 +313,12 @@ parts-taken s os bs va n last m h k e f g v =
     by-mask false v e b = λ w. spans (e w) (b w) (v w)
 
 pub parts-joined : (s r : Spans) (os bs cs : List ℕ) (va vb : Validity) (n m : ℕ) → os ≡ s.offsets ++ map (λ e. last_of s.offsets + e) (drop 1 r.offsets) → bs ≡ s.bytes ++ cs → cs ≡ r.bytes
-    → va ≡ joined_validity s.validity n vb m → vb ≡ r.validity → n ≡ rows s.offsets → m ≡ rows r.offsets → spans os bs va ≡ joined_spans s r
+    → va ≡ joined_validity s.validity n vb m → vb ≡ r.validity → n ≡ count_rows s.offsets → m ≡ count_rows r.offsets → spans os bs va ≡ joined_spans s r
 parts-joined s r os bs cs va vb n m e f g v x i j =
     let b = f ∙ ap (λ ys. s.bytes ++ ys) g in
     λ w. spans (e w) (b w) ((v ∙ (λ q. joined_validity s.validity (i q) (x q) (j q))) w)
 
-pub taken-whole : (s : Spans) (n : ℕ) (m : Bool) → AreSpans s → n ≤ rows s.offsets
+pub taken-whole : (s : Spans) (n : ℕ) (m : Bool) → AreSpans s → n ≤ count_rows s.offsets
     → Whole (if m then first_spans n s else bare_spans (first_spans n s))
 taken-whole s n true h k = first-whole s n h k
 taken-whole s n false h k = ((first-whole s n h k).0, tt, bare-none (take (n + 1) s.offsets))
@@ -334,7 +334,7 @@ memory-alone {T} {U} r x P h n = (λ e. absurd (never r h e), λ p. absurd (not-
     not-err : (x : U) → IsErrOf {T = U} {E = Error} (Ok x) Overflow → ⊥
     not-err x e = cc
 
-pub each-taken : (s : Spans) (n : ℕ) (m : Bool) → AreSpans s → n ≤ rows s.offsets → EachText s.offsets s.bytes → EachText (if m then first_spans n s else bare_spans (first_spans n s)).offsets (if m then first_spans n s else bare_spans (first_spans n s)).bytes
+pub each-taken : (s : Spans) (n : ℕ) (m : Bool) → AreSpans s → n ≤ count_rows s.offsets → EachText s.offsets s.bytes → EachText (if m then first_spans n s else bare_spans (first_spans n s)).offsets (if m then first_spans n s else bare_spans (first_spans n s)).bytes
 each-taken s n true h k t = each-first s n h k t
 each-taken s n false h k t = each-first s n h k t
 
@@ -358,8 +358,8 @@ validity-whole (Some bits) n h = ap Some (take_all n bits (omega arith))
 module _ (make : Spans → Layout) (wrap : List ℕ → Slot) (kind : SpansKind make wrap) where
   pub kind-joined : (s r : Spans) → AreSpans s → AreSpans r → slots_of (make (joined_spans s r)) ≡ slots_of (make s) ++ slots_of (make r)
   kind-joined s r h k =
-      let n = rows s.offsets in
-      let m = rows r.offsets in
+      let n = count_rows s.offsets in
+      let m = count_rows r.offsets in
       let a = kind.count s in
       let b = kind.count r in
       let c = kind.count (joined_spans s r) in
@@ -389,7 +389,7 @@ module _ (make : Spans → Layout) (wrap : List ℕ → Slot) (kind : SpansKind 
       ∙ kind-joined s (one item) h (one-spans item)
       ∙ ap (λ ss. slots_of (make s) ++ ss) (kind-one item)
 
-  pub kind-first : (s : Spans) (n : ℕ) → AreSpans s → n ≤ rows s.offsets → slots_of (make (first_spans n s)) ≡ cut (slots_of (make s)) 0 n
+  pub kind-first : (s : Spans) (n : ℕ) → AreSpans s → n ≤ count_rows s.offsets → slots_of (make (first_spans n s)) ≡ cut (slots_of (make s)) 0 n
   kind-first s n h k =
       let os = take (n + 1) s.offsets in
       let va = cut_validity s.validity 0 n in
@@ -414,7 +414,7 @@ module _ (make : Spans → Layout) (wrap : List ℕ → Slot) (kind : SpansKind 
       ∙ ap (λ (q : Spans). with_spans (make s) (f q)) (sym (kind.shown s))
       ∙ ap (λ b. with_spans b (f (spans_of b))) e
 
-  first-both : (s r : Spans) (n : ℕ) → AreSpans s → n ≤ rows s.offsets → is_some s.validity ≡ true → first_spans n (joined_spans s r) ≡ first_spans n s
+  first-both : (s r : Spans) (n : ℕ) → AreSpans s → n ≤ count_rows s.offsets → is_some s.validity ≡ true → first_spans n (joined_spans s r) ≡ first_spans n s
   first-both s r n h k m =
       let z = h.rising.0 in
       let more = map (λ (e : ℕ). last_of s.offsets + e) (drop 1 r.offsets) in
@@ -423,10 +423,10 @@ module _ (make : Spans → Layout) (wrap : List ℕ → Slot) (kind : SpansKind 
       let l = h.rising.1 n (length s.offsets - 1) (omega arith) (omega arith) in
       let ends = h.ends in
       let bs = ap (λ i. take i (s.bytes ++ r.bytes)) e ∙ take-append-le (begin s.offsets n) s.bytes r.bytes (omega arith) in
-      let va = validity-back s.validity r.validity (rows s.offsets) (rows r.offsets) n h.fits k m in
+      let va = validity-back s.validity r.validity (count_rows s.offsets) (count_rows r.offsets) n h.fits k m in
       λ w. spans (os w) (bs w) (va w)
 
-  bare-both : (s r : Spans) (n : ℕ) → AreSpans s → n ≤ rows s.offsets → bare_spans (first_spans n (joined_spans s r)) ≡ bare_spans (first_spans n s)
+  bare-both : (s r : Spans) (n : ℕ) → AreSpans s → n ≤ count_rows s.offsets → bare_spans (first_spans n (joined_spans s r)) ≡ bare_spans (first_spans n s)
   bare-both s r n h k =
       let z = h.rising.0 in
       let more = map (λ (e : ℕ). last_of s.offsets + e) (drop 1 r.offsets) in
@@ -442,7 +442,7 @@ module _ (make : Spans → Layout) (wrap : List ℕ → Slot) (kind : SpansKind 
   kind-taken s n true = kind.first s n
   kind-taken s n false = ap (λ a. with_validity a None) (kind.first s n) ∙ kind.bare (first_spans n s)
 
-  kind-back : (s r : Spans) (n : ℕ) (m : Bool) → AreSpans s → n ≤ rows s.offsets → (m ≡ true → is_some s.validity ≡ true) → taken_back (make (joined_spans s r)) n m ≡ taken_back (make s) n m
+  kind-back : (s r : Spans) (n : ℕ) (m : Bool) → AreSpans s → n ≤ count_rows s.offsets → (m ≡ true → is_some s.validity ≡ true) → taken_back (make (joined_spans s r)) n m ≡ taken_back (make s) n m
   kind-back s r n true h k e = kind-taken (joined_spans s r) n true ∙ ap make (first-both s r n h k (e refl)) ∙ sym (kind-taken s n true)
   kind-back s r n false h k e = kind-taken (joined_spans s r) n false ∙ ap make (bare-both s r n h k) ∙ sym (kind-taken s n false)
 
@@ -454,23 +454,23 @@ module _ (make : Spans → Layout) (wrap : List ℕ → Slot) (kind : SpansKind 
       record {
         slots = kind-joined s r h k;
         same_type = kind.typed (joined_spans s r) s;
-        masked = λ e. ap is_some c ∙ masked-joined s.validity r.validity (rows s.offsets) (rows r.offsets) (ap is_some (sym b) ∙ e);
+        masked = λ e. ap is_some c ∙ masked-joined s.validity r.validity (count_rows s.offsets) (count_rows r.offsets) (ap is_some (sym b) ∙ e);
         back = λ n m i e. kind-back s r n m h (omega arith) (λ f. ap is_some (sym b) ∙ e f);
       }
 
   pub grew-pushed : (s : Spans) (item : Option (List ℕ)) → AreSpans s → Grew (optional wrap item ∷ []) (make s) (make (pushed_span item s))
   grew-pushed s item h = rw (pushed-one s item, ← kind-one item) (grew-joined s (one item) h (one-spans item))
 
-  whole-masked : (s : Spans) (m : Bool) → AreSpans s → m ≡ is_some s.validity → (if m then first_spans (rows s.offsets) s else bare_spans (first_spans (rows s.offsets) s)) ≡ s
+  whole-masked : (s : Spans) (m : Bool) → AreSpans s → m ≡ is_some s.validity → (if m then first_spans (count_rows s.offsets) s else bare_spans (first_spans (count_rows s.offsets) s)) ≡ s
   whole-masked s m h e =
       let z = h.rising.0 in
-      let os = take_all (rows s.offsets + 1) s.offsets (omega arith) in
+      let os = take_all (count_rows s.offsets + 1) s.offsets (omega arith) in
       let l = h.ends in
-      let bs = take_all (begin s.offsets (rows s.offsets)) s.bytes (omega arith) in
-      masked-whole s m os bs (validity-whole s.validity (rows s.offsets) h.fits) e
+      let bs = take_all (begin s.offsets (count_rows s.offsets)) s.bytes (omega arith) in
+      masked-whole s m os bs (validity-whole s.validity (count_rows s.offsets) h.fits) e
     where
-      masked-whole : (s : Spans) (m : Bool) → take (rows s.offsets + 1) s.offsets ≡ s.offsets → take (begin s.offsets (rows s.offsets)) s.bytes ≡ s.bytes → cut_validity s.validity 0 (rows s.offsets) ≡ s.validity → m ≡ is_some s.validity
-          → (if m then first_spans (rows s.offsets) s else bare_spans (first_spans (rows s.offsets) s)) ≡ s
+      masked-whole : (s : Spans) (m : Bool) → take (count_rows s.offsets + 1) s.offsets ≡ s.offsets → take (begin s.offsets (count_rows s.offsets)) s.bytes ≡ s.bytes → cut_validity s.validity 0 (count_rows s.offsets) ≡ s.validity → m ≡ is_some s.validity
+          → (if m then first_spans (count_rows s.offsets) s else bare_spans (first_spans (count_rows s.offsets) s)) ≡ s
       masked-whole s true a b c e = λ w. spans (a w) (b w) (c w)
       masked-whole s false a b c e = let n = unmasked s.validity e in λ w. spans (a w) (b w) (n w)
         where
@@ -482,5 +482,5 @@ module _ (make : Spans → Layout) (wrap : List ℕ → Slot) (kind : SpansKind 
   pub kind-whole : (s : Spans) → AreSpans s → taken_back (make s) (len (make s)) (is_masked (make s)) ≡ make s
   kind-whole s h =
       ap (λ n. taken_back (make s) n (is_masked (make s))) (kind.count s)
-      ∙ kind-taken s (rows s.offsets) (is_masked (make s))
+      ∙ kind-taken s (count_rows s.offsets) (is_masked (make s))
       ∙ ap make (whole-masked s (is_masked (make s)) h (ap is_some (kind.bits s)))

@@ -7,7 +7,7 @@ use Rattle.nest_memory.specs.Rising.{last_of}
 use Rattle.nest_model.specs.BuilderItem.{byte_count, bytes_held}
 use Rattle.nest_model.specs.Layout.{Layout}
 use Rattle.nest_model.specs.Meaning.{run, slot, slots_of}
-use Rattle.nest_model.specs.Part.{valid_at, begin, extent, rows}
+use Rattle.nest_model.specs.Part.{valid_at, begin, extent, count_rows}
 use Rattle.nest_model.specs.Reads.{extent-fits}
 use Rattle.nest_model.specs.Slot as slots
 use Rattle.nest_model.specs.Slot.{Slot}
@@ -19,13 +19,13 @@ counted wrap f true xs n e g = f xs ∙ e
 counted wrap f false xs n e g = sym (g refl)
 
 module _ (make : Spans → Layout) (wrap : List ℕ → Slot) (kind : SpansKind make wrap) (weigh : (xs : List ℕ) → byte_count (wrap xs) ≡ length xs) (s : Spans) (h : AreSpans s) where
-  held-at : (i : ℕ) → i < rows s.offsets → byte_count (slot (make s) i) ≡ extent s.offsets i
+  held-at : (i : ℕ) → i < count_rows s.offsets → byte_count (slot (make s) i) ≡ extent s.offsets i
   held-at i k =
       let w = extent-fits s.offsets (length s.bytes) i h.rising (let e = h.ends in omega arith) k in
       ap byte_count (kind.place s i)
       ∙ counted wrap weigh (valid_at s.validity i) (cut s.bytes (begin s.offsets i) (extent s.offsets i)) (extent s.offsets i) (length-cut s.bytes (begin s.offsets i) (extent s.offsets i) w) (h.bare i k)
 
-  held-run : (o n : ℕ) → o + n ≤ rows s.offsets → bytes_held (run (slot (make s)) o n) + begin s.offsets o ≡ begin s.offsets (o + n)
+  held-run : (o n : ℕ) → o + n ≤ count_rows s.offsets → bytes_held (run (slot (make s)) o n) + begin s.offsets o ≡ begin s.offsets (o + n)
   held-run o zero k = let p = ap (begin s.offsets) (let e : o ≡ o + 0 = omega arith in e) in omega arith
   held-run o (suc n) k =
       let a = held-at o (omega arith) in
@@ -38,6 +38,6 @@ module _ (make : Spans → Layout) (wrap : List ℕ → Slot) (kind : SpansKind 
   pub kind-held : bytes_held (slots_of (make s)) ≡ last_of s.offsets
   kind-held =
       let z = h.first in
-      let e = held-run 0 (rows s.offsets) (omega arith) in
-      let p = ap (begin s.offsets) (let q : 0 + rows s.offsets ≡ rows s.offsets = omega arith in q) in
-      ap (λ n. bytes_held (run (slot (make s)) 0 n)) (kind.count s) ∙ (let r : bytes_held (run (slot (make s)) 0 (rows s.offsets)) ≡ begin s.offsets (rows s.offsets) = omega arith in r)
+      let e = held-run 0 (count_rows s.offsets) (omega arith) in
+      let p = ap (begin s.offsets) (let q : 0 + count_rows s.offsets ≡ count_rows s.offsets = omega arith in q) in
+      ap (λ n. bytes_held (run (slot (make s)) 0 n)) (kind.count s) ∙ (let r : bytes_held (run (slot (make s)) 0 (count_rows s.offsets)) ≡ begin s.offsets (count_rows s.offsets) = omega arith in r)

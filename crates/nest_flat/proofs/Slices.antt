@@ -22,7 +22,7 @@ use Rattle.nest_model.specs.Checks.{refuse_if, first_of, largest_length}
 use Rattle.nest_model.specs.FlatReads.{boolean-slots, primitive-slots}
 use Rattle.nest_model.specs.Layout.{Layout, boolean, primitive}
 use Rattle.nest_model.specs.Meaning.{slots_of}
-use Rattle.nest_model.specs.Part.{Validity, rows}
+use Rattle.nest_model.specs.Part.{Validity, count_rows}
 use Rattle.nest_model.specs.Slot as slots
 use Rattle.nest_model.specs.Slot.{Slot}
 use Rattle.nest_flat.specs.BytesGrowth.{Spans, item_bytes, item_refusal, pushed_item, pushed_span, spans, with_spans}
@@ -215,16 +215,16 @@ module _ (make : Spans → Layout) (wrap : List ℕ → Slot) (kind : SpansKind 
   pushed-made s i = ap (λ r. with_spans (make s) (pushed_span i r)) (kind.shown s) ∙ kind.changed s (pushed_span i s)
 
   bits-grown : (s : Spans) (xs : List (Option (Bor (List ℕ)))) → 0 < length s.offsets
-      → validity_of (pushed_all put (make s) xs) ≡ grown s.validity (rows s.offsets) (map (λ x. is_some (option_copied x)) xs)
+      → validity_of (pushed_all put (make s) xs) ≡ grown s.validity (count_rows s.offsets) (map (λ x. is_some (option_copied x)) xs)
   bits-grown s [] h = kind.bits s
   bits-grown s (x ∷ xs) h =
       let i = option_copied x in
       let end = last_of s.offsets + length (item_bytes i) in
       let l : length (s.offsets ++ end ∷ []) ≡ length s.offsets + 1 = omega (arith, length-append s.offsets (end ∷ [])) in
-      let r : rows (s.offsets ++ end ∷ []) ≡ rows s.offsets + 1 = omega arith in
+      let r : count_rows (s.offsets ++ end ∷ []) ≡ count_rows s.offsets + 1 = omega arith in
       ap (λ a. validity_of (pushed_all put a xs)) (pushed-made s i)
       ∙ bits-grown (pushed_span i s) xs (omega arith)
-      ∙ ap (λ n. grown (pushed_validity s.validity (rows s.offsets) (is_some i)) n (map (λ y. is_some (option_copied y)) xs)) r
+      ∙ ap (λ n. grown (pushed_validity s.validity (count_rows s.offsets) (is_some i)) n (map (λ y. is_some (option_copied y)) xs)) r
 
   weigh-item : (i : Option (List ℕ)) → byte_count (optional wrap i) ≡ length (item_bytes i)
   weigh-item None = refl
@@ -251,7 +251,7 @@ module _ (make : Spans → Layout) (wrap : List ℕ → Slot) (kind : SpansKind 
   pub spans-bits : (a : Layout) (xs : List (Option (Bor (List ℕ)))) → a ≡ make (spans (0 ∷ []) [] None) → validity_of (pushed_all (λ b x. pushed_item b (option_copied x)) a xs) ≡ option_bits xs
   spans-bits a xs e =
       let some : 0 < length {A = ℕ} (0 ∷ []) = omega arith in
-      let r : rows (0 ∷ []) ≡ 0 = omega arith in
+      let r : count_rows (0 ∷ []) ≡ 0 = omega arith in
       ap (λ b. validity_of (pushed_all put b xs)) e
       ∙ bits-grown (spans (0 ∷ []) [] None) xs some
       ∙ ap (λ n. grown None n (map (λ x. is_some (option_copied x)) xs)) r

@@ -5,7 +5,7 @@ use Rattle.nest_memory.specs.declared.error.Error.TheVariants.{Overflow}
 use Rattle.nest_memory.specs.TypeTree as types
 use Rattle.nest_memory.specs.TypeTree.{TypeTree}
 use Rattle.nest_memory.specs.Rising.{last_of}
-use Rattle.nest_model.specs.Part.{Validity, rows, begin, extent, valid_at, cut_validity}
+use Rattle.nest_model.specs.Part.{Validity, count_rows, begin, extent, valid_at, cut_validity}
 use Rattle.nest_model.specs.Checks.{refuse_if}
 use Rattle.nest_model.specs.Fits.{ValidityFits}
 use Rattle.nest_model.specs.Array.{AreOffsets}
@@ -28,14 +28,14 @@ no_spans = spans (0 ∷ []) [] None
 
 -- no byte lies under a null
 abbrev pub NullsAreBare : Validity → List ℕ → Type 0
-NullsAreBare va os = (i : ℕ) → i < rows os → valid_at va i ≡ false → extent os i ≡ 0
+NullsAreBare va os = (i : ℕ) → i < count_rows os → valid_at va i ≡ false → extent os i ≡ 0
 
 -- what holds of a builder's: the first slot begins with the bytes, the last ends with them, and a null has none
 pub record AreSpans (s : Spans) : Type 0 where
   pub rising : AreOffsets s.offsets
   pub first : begin s.offsets 0 ≡ 0
   pub ends : last_of s.offsets ≡ length s.bytes
-  pub fits : ValidityFits s.validity (rows s.offsets)
+  pub fits : ValidityFits s.validity (count_rows s.offsets)
   pub bare : NullsAreBare s.validity s.offsets
 
 -- the bytes of an item: a null has none
@@ -48,7 +48,7 @@ abbrev pub pushed_span : Option (List ℕ) → Spans → Spans
 pushed_span item s = record {
   offsets = s.offsets ++ (last_of s.offsets + length (item_bytes item)) ∷ [];
   bytes = s.bytes ++ item_bytes item;
-  validity = pushed_validity s.validity (rows s.offsets) (is_some item);
+  validity = pushed_validity s.validity (count_rows s.offsets) (is_some item);
 }
 
 -- the slots of another behind these
@@ -56,7 +56,7 @@ abbrev pub joined_spans : Spans → Spans → Spans
 joined_spans s t = record {
   offsets = s.offsets ++ map (λ e. last_of s.offsets + e) (drop 1 t.offsets);
   bytes = s.bytes ++ t.bytes;
-  validity = joined_validity s.validity (rows s.offsets) t.validity (rows t.offsets);
+  validity = joined_validity s.validity (count_rows s.offsets) t.validity (count_rows t.offsets);
 }
 
 -- the first n slots

@@ -19,14 +19,14 @@ pub use Rattle.nest_model.specs.BuilderItem.{PlainValue, bytes_held}
 pub use Rattle.nest_model.specs.BuilderSpells.{Gives}
 pub use Rattle.nest_model.specs.BuilderTree.{IsPast}
 pub use Rattle.nest_model.specs.Checks.{FailFirst, Pass}
-pub use Rattle.nest_model.specs.Cut.{cut_layout, IsCut}
-pub use Rattle.nest_model.specs.Fits.{HasValidity, RefusesValidity, EachText, FirstFault, Fits, ValidityFault, ValidityFits}
+pub use Rattle.nest_model.specs.Cut.{IsCut, cut_layout}
+pub use Rattle.nest_model.specs.Fits.{EachText, FirstFault, Fits, HasValidity, RefusesValidity, ValidityFault, ValidityFits}
 pub use Rattle.nest_model.specs.Layout.{Layout, layout_type}
 pub use Rattle.nest_model.specs.MadeNulls.{AcceptsKind, HasNone, HasNulls, RefusesKind}
 pub use Rattle.nest_model.specs.Meaning.{len, run, slot, slots_of, where_valid}
 pub use Rattle.nest_model.specs.Nullness.{is_null_at, null_count}
 pub use Rattle.nest_model.specs.NullLayout.{none_valid, null_array}
 pub use Rattle.nest_model.specs.Nulls.{empty_fault, fault_of, type_fault}
-pub use Rattle.nest_model.specs.Part.{begin, cut_validity, extent, rows, valid_at}
+pub use Rattle.nest_model.specs.Part.{begin, count_rows, cut_validity, extent, valid_at}
 pub use Rattle.nest_model.specs.SameArray.{IsSameArray, same_array}
 pub use Rattle.nest_model.specs.Slot.{Slot}

@@ -1,6 +1,6 @@
 //! Offsets over bytes: what arrays of bytes and of texts share.
 ghost use Rattle.std.specs.Prelude.{◌≡◌, ◌+◌, ◌↔◌, ◌≤◌, ◌<◌, ◌^◌, [], IfOk, IsOkUnless, IsTrue, IsUtf8, alloc_error, length, replicate, suc};
-ghost use Rattle.nest_flat.specs.Words.{AreOffsets, EachText, Memory, begin, cut, extent, last_of, rows};
+ghost use Rattle.nest_flat.specs.Words.{AreOffsets, EachText, Memory, begin, cut, extent, last_of, count_rows};
 
 use nest_memory::buffer::Buffer;
 use nest_memory::error::Error;
@@ -25,7 +25,7 @@ pub(crate) fn span<'a, O: Offset>(
     i: usize,
 ) -> &'a [u8]
     requires fits { last_of offsets.now ≤ length bytes.now }
-    requires within { i < rows offsets.now }
+    requires within { i < count_rows offsets.now }
     ensures { result.now ≡ cut bytes.now (begin offsets.now i) (extent offsets.now i) }
 {
     offsets.known();

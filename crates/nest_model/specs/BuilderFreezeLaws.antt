@@ -8,7 +8,7 @@ use Rattle.nest_memory.specs.Cut.{cut}
 use Rattle.nest_memory.specs.declared.datatypes.IntegerType.{IntegerType}
 use Rattle.nest_model.specs.Slot as slots
 use Rattle.nest_model.specs.Slot.{Slot, Slots, seal}
-use Rattle.nest_model.specs.Part.{Validity, valid_at, begin, extent, rows, place}
+use Rattle.nest_model.specs.Part.{Validity, valid_at, begin, extent, count_rows, place}
 use Rattle.nest_model.specs.Layout as layouts
 use Rattle.nest_model.specs.Layout.{Layout, Layouts, no_layouts, more_layouts}
 use Rattle.nest_model.specs.Accessors.{validity_of, key_at}
@@ -79,7 +79,7 @@ pub list-frozen : (large : Bool) (t : TypeTree) (rs : List Row) (c : BuilderTree
 list-frozen large t rs c a va w f v =
     let own = own-length (list large t rs c) in
     let os = offsets_from 0 rs in
-    let count : rows os ≡ length (own_slots (list large t rs c)) = omega (arith, length-offsets 0 rs, own) in
+    let count : count_rows os ≡ length (own_slots (list large t rs c)) = omega (arith, length-offsets 0 rs, own) in
     frozen-by_place (layouts.list large t os a va) (own_slots (list large t rs c)) count (λ i l.
     let below : i < length rs = omega (arith, l, own) in
     let bit : valid_at va i ≡ get_or (row_bits rs) i true = valid-bits va (row_bits rs) i v (omega (arith, below, length-map rs (λ (r : Row). r.valid))) in

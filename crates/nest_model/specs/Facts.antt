@@ -4,7 +4,7 @@ use Rattle.nest_memory.specs.declared.datatypes.physical_type.PhysicalType.TheVa
 use Rattle.nest_memory.specs.TypeTree.{TypeTree, count_fields, item_type, size_of, fields_of, ids_of, is_dense, has_pairs, key_type, value_type}
 use Rattle.nest_memory.specs.Physical.{physical_type, list_of_width, binary_of_width, text_of_width}
 use Rattle.nest_memory.specs.Rising.{last_of}
-use Rattle.nest_model.specs.Part.{Validity, rows}
+use Rattle.nest_model.specs.Part.{Validity, count_rows}
 use Rattle.nest_model.specs.Layout.{Layout, Layouts, binary, text, fixed_size_binary, fixed_size_list, list, map, struct, union, dictionary, layout_type, count_layouts}
 use Rattle.nest_model.specs.Accessors.{validity_of, key_type_of}
 use Rattle.nest_model.specs.Meaning.{len, first_len}
@@ -15,7 +15,7 @@ use Rattle.nest_model.specs.Checks.{most_fields}
 pub record IsBinary (large : Bool) (t : TypeTree) (os bs : List ℕ) (va : Validity) : Type 0 where
   pub rising : AreOffsets os
   pub within : last_of os ≤ length bs
-  pub bits : ValidityFits va (rows os)
+  pub bits : ValidityFits va (count_rows os)
   pub typed : physical_type t ≡ binary_of_width large
 
 pub binary-facts : (large : Bool) (t : TypeTree) (os bs : List ℕ) (va : Validity) → TopFits (binary large t os bs va) → IsBinary large t os bs va
@@ -25,7 +25,7 @@ pub record IsText (large : Bool) (t : TypeTree) (os bs : List ℕ) (va : Validit
   pub rising : AreOffsets os
   pub within : last_of os ≤ length bs
   pub texts : EachText os bs
-  pub bits : ValidityFits va (rows os)
+  pub bits : ValidityFits va (count_rows os)
   pub typed : physical_type t ≡ text_of_width large
 
 pub text-facts : (large : Bool) (t : TypeTree) (os bs : List ℕ) (va : Validity) → TopFits (text large t os bs va) → IsText large t os bs va
@@ -53,7 +53,7 @@ fixed_size_list-facts t c va h = record { typed = h.1.0; sized = h.1.1.0; items 
 pub record IsList (large : Bool) (t : TypeTree) (os : List ℕ) (c : Layout) (va : Validity) : Type 0 where
   pub rising : AreOffsets os
   pub within : last_of os ≤ len c
-  pub bits : ValidityFits va (rows os)
+  pub bits : ValidityFits va (count_rows os)
   pub typed : physical_type t ≡ list_of_width large
   pub items : item_type t ≡ Some (layout_type c)
 
@@ -66,7 +66,7 @@ pub record IsMap (t : TypeTree) (os : List ℕ) (c : Layout) (va : Validity) : T
   pub typed : physical_type t ≡ physical.Map
   pub pairs : IsTrue (has_pairs t)
   pub entries : item_type t ≡ Some (layout_type c)
-  pub bits : ValidityFits va (rows os)
+  pub bits : ValidityFits va (count_rows os)
 
 pub map-facts : (t : TypeTree) (os : List ℕ) (c : Layout) (va : Validity) → TopFits (map t os c va) → IsMap t os c va
 map-facts t os c va h = record { rising = h.0; within = h.1.0; typed = h.1.1.0; pairs = h.1.1.1.0; entries = h.1.1.1.1.0; bits = h.1.1.1.1.1.0 }

@@ -9,7 +9,7 @@ use Rattle.nest_memory.specs.declared.datatypes.physical_type.PhysicalType.TheVa
 use Rattle.nest_memory.specs.Physical.{physical_type, list_of_width, binary_of_width, text_of_width}
 use Rattle.nest_memory.specs.Cut.{cut}
 use Rattle.nest_memory.specs.Rising.{last_of}
-use Rattle.nest_model.specs.Part.{Validity, valid_at, begin, extent, rows, field_named}
+use Rattle.nest_model.specs.Part.{Validity, valid_at, begin, extent, count_rows, field_named}
 use Rattle.nest_model.specs.Layout.{Layout, Layouts, null, boolean, primitive, binary, text, fixed_size_binary, fixed_size_list, list, map, struct, union, dictionary, no_layouts, more_layouts, layout_type, count_layouts}
 use Rattle.nest_model.specs.Accessors.{validity_of, raw_keys, key_at, key_type_of, with_validity}
 use Rattle.nest_model.specs.Meaning.{len, first_len}
@@ -120,7 +120,7 @@ EachValidNames va ks n = (i : ℕ) → i < len ks → valid_at va i ≡ true →
 
 -- the bytes of each slot are a text
 abbrev pub EachText : List ℕ → List ℕ → Type 0
-EachText os bs = (i : ℕ) → i < rows os → IsUtf8 (cut bs (begin os i) (extent os i))
+EachText os bs = (i : ℕ) → i < count_rows os → IsUtf8 (cut bs (begin os i) (extent os i))
 
 -- the bytes that the offsets cover
 abbrev pub covered : List ℕ → List ℕ → List ℕ
@@ -142,12 +142,12 @@ checks (primitive k t vs va) =
     (check (OutOfSpec spec.WrongType) (physical_type t ≡ physical.Primitive k) done)
 checks (binary large t os bs va) =
     check (OutOfSpec spec.OffsetPastChild) (last_of os ≤ length bs)
-    (check (OutOfSpec spec.ValidityLength) (ValidityFits va (rows os))
+    (check (OutOfSpec spec.ValidityLength) (ValidityFits va (count_rows os))
     (check (OutOfSpec spec.WrongType) (physical_type t ≡ binary_of_width large) done))
 checks (text large t os bs va) =
     check (OutOfSpec spec.OffsetPastChild) (last_of os ≤ length bs)
     (check (OutOfSpec spec.Text) (EachText os bs)
-    (check (OutOfSpec spec.ValidityLength) (ValidityFits va (rows os))
+    (check (OutOfSpec spec.ValidityLength) (ValidityFits va (count_rows os))
     (check (OutOfSpec spec.WrongType) (physical_type t ≡ text_of_width large) done)))
 checks (fixed_size_binary t bs va) =
     check (OutOfSpec spec.WrongType) (physical_type t ≡ physical.FixedSizeBinary)
@@ -162,7 +162,7 @@ checks (fixed_size_list t c va) =
     (check (OutOfSpec spec.ValidityLength) (ValidityFits va (len (fixed_size_list t c va))) done))))
 checks (list large t os c va) =
     check (OutOfSpec spec.OffsetPastChild) (last_of os ≤ len c)
-    (check (OutOfSpec spec.ValidityLength) (ValidityFits va (rows os))
+    (check (OutOfSpec spec.ValidityLength) (ValidityFits va (count_rows os))
     (check (OutOfSpec spec.WrongType) (physical_type t ≡ list_of_width large)
     (check (OutOfSpec spec.ChildType) (item_type t ≡ Some (layout_type c)) done)))
 checks (map t os c va) =
@@ -170,7 +170,7 @@ checks (map t os c va) =
     (check (OutOfSpec spec.WrongType) (physical_type t ≡ physical.Map)
     (check (InvalidArgumentError argument.MapInner) (IsTrue (has_pairs t))
     (check (InvalidArgumentError argument.ChildType) (item_type t ≡ Some (layout_type c))
-    (check (OutOfSpec spec.ValidityLength) (ValidityFits va (rows os)) done))))
+    (check (OutOfSpec spec.ValidityLength) (ValidityFits va (count_rows os)) done))))
 checks (struct t cs va) =
     check (OutOfSpec spec.WrongType) (physical_type t ≡ physical.Struct)
     (check (OutOfSpec spec.NoFields) (0 < count_fields (fields_of t))

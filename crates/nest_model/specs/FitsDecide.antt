@@ -16,7 +16,7 @@ use Rattle.nest_memory.specs.contracts.datatypes.physical_type.PrimitiveType.{th
 use Rattle.nest_memory.specs.contracts.datatypes.IntegerType.{the_row as integer_row}
 use Rattle.nest_memory.specs.Cut.{cut}
 use Rattle.nest_memory.specs.Rising.{last_of}
-use Rattle.nest_model.specs.Part.{Validity, valid_at, begin, extent, rows, field_named}
+use Rattle.nest_model.specs.Part.{Validity, valid_at, begin, extent, count_rows, field_named}
 use Rattle.nest_model.specs.Layout.{Layout, Layouts, null, boolean, primitive, binary, text, fixed_size_binary, fixed_size_list, list, map, struct, union, dictionary, no_layouts, more_layouts, layout_type, count_layouts}
 use Rattle.nest_model.specs.Accessors.{validity_of, raw_keys, key_at, key_type_of}
 use Rattle.nest_model.specs.Meaning.{len, first_len}
@@ -198,12 +198,12 @@ pub decide_checks : (a : Layout) → ((bs : List ℕ) → Decided (IsUtf8 bs)) �
 decide_checks (null t n) u = (decide_null (physical_type t), tt)
 decide_checks (boolean t bs va) u = (decide_validity va (length bs), (decide_boolean (physical_type t), tt))
 decide_checks (primitive k t vs va) u = (decide_validity va (length vs), (decide_primitive k (physical_type t), tt))
-decide_checks (binary l t os bs va) u = (decide_le (last_of os) (length bs), (decide_validity va (rows os), (decide_binary l (physical_type t), tt)))
+decide_checks (binary l t os bs va) u = (decide_le (last_of os) (length bs), (decide_validity va (count_rows os), (decide_binary l (physical_type t), tt)))
 decide_checks (text l t os bs va) u = (
   decide_le (last_of os) (length bs),
   (
-    decide_below (λ i. IsUtf8 (cut bs (begin os i) (extent os i))) (λ i. u (cut bs (begin os i) (extent os i))) (rows os),
-    (decide_validity va (rows os), (decide_text l (physical_type t), tt)),
+    decide_below (λ i. IsUtf8 (cut bs (begin os i) (extent os i))) (λ i. u (cut bs (begin os i) (extent os i))) (count_rows os),
+    (decide_validity va (count_rows os), (decide_text l (physical_type t), tt)),
   ),
 )
 decide_checks (fixed_size_binary t bs va) u =
@@ -211,9 +211,9 @@ decide_checks (fixed_size_binary t bs va) u =
 decide_checks (fixed_size_list t c va) u =
     (decide_fixed_size_list (physical_type t), (decide_lt 0 (size_of t), (decide_item (item_type t) (layout_type c), (decide_number (len c % size_of t) 0, (decide_validity va (len (fixed_size_list t c va)), tt)))))
 decide_checks (list l t os c va) u =
-    (decide_le (last_of os) (len c), (decide_validity va (rows os), (decide_list l (physical_type t), (decide_item (item_type t) (layout_type c), tt))))
+    (decide_le (last_of os) (len c), (decide_validity va (count_rows os), (decide_list l (physical_type t), (decide_item (item_type t) (layout_type c), tt))))
 decide_checks (map t os c va) u =
-    (decide_le (last_of os) (len c), (decide_map (physical_type t), (decide_bool (has_pairs t), (decide_item (item_type t) (layout_type c), (decide_validity va (rows os), tt)))))
+    (decide_le (last_of os) (len c), (decide_map (physical_type t), (decide_bool (has_pairs t), (decide_item (item_type t) (layout_type c), (decide_validity va (count_rows os), tt)))))
 decide_checks (struct t cs va) u = (
   decide_struct (physical_type t),
   (
@@ -293,12 +293,12 @@ pub validity-or_fault : (a : Layout) (va : Validity) → Pass (validity_checks a
 validity-or_fault (null t n) va = pass-or_fault (validity_checks (null t n) va) (inr (λ h. h), tt) refl
 validity-or_fault (boolean t bs old) va = pass-or_fault (validity_checks (boolean t bs old) va) (decide_validity va (length bs), tt) refl
 validity-or_fault (primitive k t vs old) va = pass-or_fault (validity_checks (primitive k t vs old) va) (decide_validity va (length vs), tt) refl
-validity-or_fault (binary l t os bs old) va = pass-or_fault (validity_checks (binary l t os bs old) va) (decide_validity va (rows os), tt) refl
-validity-or_fault (text l t os bs old) va = pass-or_fault (validity_checks (text l t os bs old) va) (decide_validity va (rows os), tt) refl
+validity-or_fault (binary l t os bs old) va = pass-or_fault (validity_checks (binary l t os bs old) va) (decide_validity va (count_rows os), tt) refl
+validity-or_fault (text l t os bs old) va = pass-or_fault (validity_checks (text l t os bs old) va) (decide_validity va (count_rows os), tt) refl
 validity-or_fault (fixed_size_binary t bs old) va = pass-or_fault (validity_checks (fixed_size_binary t bs old) va) (decide_validity va (len (fixed_size_binary t bs old)), tt) refl
 validity-or_fault (fixed_size_list t c old) va = pass-or_fault (validity_checks (fixed_size_list t c old) va) (decide_validity va (len (fixed_size_list t c old)), tt) refl
-validity-or_fault (list l t os c old) va = pass-or_fault (validity_checks (list l t os c old) va) (decide_validity va (rows os), tt) refl
-validity-or_fault (map t os c old) va = pass-or_fault (validity_checks (map t os c old) va) (decide_validity va (rows os), tt) refl
+validity-or_fault (list l t os c old) va = pass-or_fault (validity_checks (list l t os c old) va) (decide_validity va (count_rows os), tt) refl
+validity-or_fault (map t os c old) va = pass-or_fault (validity_checks (map t os c old) va) (decide_validity va (count_rows os), tt) refl
 validity-or_fault (struct t cs old) va = pass-or_fault (validity_checks (struct t cs old) va) (decide_validity va (first_len cs), tt) refl
 validity-or_fault (union t ks cs os start) va = pass-or_fault (validity_checks (union t ks cs os start) va) (inr (λ h. h), tt) refl
 validity-or_fault (dictionary t ks c) va = pass-or_fault (validity_checks (dictionary t ks c) va) (decide_validity va (len ks), (decide_valid_keys va ks (len c), tt)) refl

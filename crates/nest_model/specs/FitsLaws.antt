@@ -7,7 +7,7 @@ use Rattle.std.specs.Str.{IsUtf8}
 use Rattle.nest_memory.specs.TypeTree.{FieldTrees, no_fields, more_fields, size_of, ids_of, fields_of, is_dense}
 use Rattle.nest_memory.specs.Cut.{cut}
 use Rattle.nest_memory.specs.Rising.{last_of}
-use Rattle.nest_model.specs.Part.{Validity, cut_validity, rows, begin, extent, field_named}
+use Rattle.nest_model.specs.Part.{Validity, cut_validity, count_rows, begin, extent, field_named}
 use Rattle.nest_model.specs.Layout.{Layout, Layouts, null, boolean, primitive, binary, text, fixed_size_binary, fixed_size_list, list, map, struct, union, dictionary, no_layouts, more_layouts, count_layouts}
 use Rattle.std.specs.List.{take-map, drop-map}
 use Rattle.nest_model.specs.Accessors.{validity_of, whole, raw_keys, key_type_of}
@@ -25,10 +25,10 @@ validity-fits-cut (Some bits) m o n h k = length-cut bits o n (omega arith)
 validity-fits-at : (va : Validity) (m n : ℕ) → m ≡ n → ValidityFits va m → ValidityFits va n
 validity-fits-at va m n e h = subst (ValidityFits va) e h
 
-offsets-length : (os : List ℕ) (o n : ℕ) → 0 < length os → o + n ≤ rows os → length (take (n + 1) (drop o os)) ≡ n + 1
+offsets-length : (os : List ℕ) (o n : ℕ) → 0 < length os → o + n ≤ count_rows os → length (take (n + 1) (drop o os)) ≡ n + 1
 offsets-length os o n z h = length-cut os o (n + 1) (omega arith)
 
-offsets-cut : (os : List ℕ) (o n : ℕ) → AreOffsets os → o + n ≤ rows os → AreOffsets (cut os o (n + 1))
+offsets-cut : (os : List ℕ) (o n : ℕ) → AreOffsets os → o + n ≤ count_rows os → AreOffsets (cut os o (n + 1))
 offsets-cut os o n h k =
     let e = offsets-length os o n h.0 k in (
       omega arith,
@@ -39,7 +39,7 @@ offsets-cut os o n h k =
           omega arith,
     )
 
-last-cut : (os : List ℕ) (o n m : ℕ) → AreOffsets os → o + n ≤ rows os → last_of os ≤ m → last_of (cut os o (n + 1)) ≤ m
+last-cut : (os : List ℕ) (o n m : ℕ) → AreOffsets os → o + n ≤ count_rows os → last_of os ≤ m → last_of (cut os o (n + 1)) ≤ m
 last-cut os o n m h k l =
     let e = rows-cut os o n k in
     let x = get_or-cut os o (n + 1) n 0 (omega arith) in
@@ -47,10 +47,10 @@ last-cut os o n m h k l =
     let w = ap (λ q. get_or (cut os o (n + 1)) q 0) e in
     omega arith
 
-rows-validity : (va : Validity) (os : List ℕ) (o n : ℕ) → ValidityFits va (rows os) → o + n ≤ rows os → ValidityFits (cut_validity va o n) (rows (cut os o (n + 1)))
-rows-validity va os o n h k = validity-fits-at (cut_validity va o n) n (rows (cut os o (n + 1))) (sym (rows-cut os o n k)) (validity-fits-cut va (rows os) o n h k)
+rows-validity : (va : Validity) (os : List ℕ) (o n : ℕ) → ValidityFits va (count_rows os) → o + n ≤ count_rows os → ValidityFits (cut_validity va o n) (count_rows (cut os o (n + 1)))
+rows-validity va os o n h k = validity-fits-at (cut_validity va o n) n (count_rows (cut os o (n + 1))) (sym (rows-cut os o n k)) (validity-fits-cut va (count_rows os) o n h k)
 
-text-cut : (os bs : List ℕ) (o n : ℕ) → o + n ≤ rows os → EachText os bs → EachText (cut os o (n + 1)) bs
+text-cut : (os bs : List ℕ) (o n : ℕ) → o + n ≤ count_rows os → EachText os bs → EachText (cut os o (n + 1)) bs
 text-cut os bs o n k h i j =
     let e = rows-cut os o n k in
     let b = begin-cut os o n i (omega arith) in

@@ -2,7 +2,7 @@
 use Rattle.std.specs.Prelude.{ℕ, zero, suc, ◌+◌, ◌*◌, ◌/◌, ℤ, pos, false, List, [], ◌∷◌, Option, Some, None, length, get_or, if◌then◌else◌}
 use Rattle.nest_memory.specs.TypeTree.{size_of, ids_of, TypeTree}
 use Rattle.nest_memory.specs.Cut.{cut}
-use Rattle.nest_model.specs.Part.{valid_at, begin, extent, rows, place, field_named, Validity}
+use Rattle.nest_model.specs.Part.{valid_at, begin, extent, count_rows, place, field_named, Validity}
 use Rattle.nest_model.specs.Layout.{Layout, Layouts, null, boolean, primitive, binary, text, fixed_size_binary, fixed_size_list, list, map, struct, union, dictionary, no_layouts, more_layouts, layout_type, count_layouts}
 use Rattle.nest_model.specs.Accessors.{validity_of, key_at, child_at}
 use Rattle.nest_model.specs.Slot as slots
@@ -20,12 +20,12 @@ abbrev mutual
   len (null t n) = n
   len (boolean t bs va) = length bs
   len (primitive k t vs va) = length vs
-  len (binary l t os bs va) = rows os
-  len (text l t os bs va) = rows os
+  len (binary l t os bs va) = count_rows os
+  len (text l t os bs va) = count_rows os
   len (fixed_size_binary t bs va) = length bs / size_of t
   len (fixed_size_list t c va) = len c / size_of t
-  len (list l t os c va) = rows os
-  len (map t os c va) = rows os
+  len (list l t os c va) = count_rows os
+  len (map t os c va) = count_rows os
   len (struct t cs va) = first_len cs
   len (union t ks cs os start) = length ks
   len (dictionary t ks c) = len ks

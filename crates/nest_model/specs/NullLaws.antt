@@ -22,7 +22,7 @@ use Rattle.nest_memory.specs.TypeTree.{Letters, Entries, TypeTree, FieldTree, fi
 use Rattle.nest_memory.specs.Physical.{physical_type, list_of_width, binary_of_width, text_of_width}
 use Rattle.nest_memory.specs.Cut.{cut}
 use Rattle.nest_memory.specs.Rising.{last_of}
-use Rattle.nest_model.specs.Part.{valid_at, begin, extent, rows, place, last_place, field_named}
+use Rattle.nest_model.specs.Part.{valid_at, begin, extent, count_rows, place, last_place, field_named}
 use Rattle.nest_model.specs.Slot as slots
 use Rattle.nest_model.specs.Slot.{Slot}
 use Rattle.nest_model.specs.Layout.{Layout, Layouts, null, boolean, primitive, binary, text, fixed_size_binary, fixed_size_list, list, struct, union, dictionary, no_layouts, more_layouts, layout_type, count_layouts}
@@ -100,7 +100,7 @@ zero-offsets n = (
   λ i j h k. let a = zero-at (suc n) i in let b = zero-at (suc n) j in omega arith,
 )
 
-zero-rows : (n : ℕ) → rows (replicate (suc n) 0) ≡ n
+zero-rows : (n : ℕ) → count_rows (replicate (suc n) 0) ≡ n
 zero-rows n = let e = length-replicate {A = ℕ} (suc n) 0 in omega arith
 
 zero-last : (n m : ℕ) → last_of (replicate (suc n) 0) ≤ m
@@ -126,7 +126,7 @@ binary-null large t n d h p e =
       long = zero-rows n;
       nulls = λ i j. otherwise (valid_at (none_valid d n) i) _ slots.null (null-valid d n i h j) ∙ sym e;
       parts = zero-offsets n;
-      fits = (zero-last n 0, (null-bits-at d n (rows (replicate (suc n) 0)) (zero-rows n), (p, tt)));
+      fits = (zero-last n 0, (null-bits-at d n (count_rows (replicate (suc n) 0)) (zero-rows n), (p, tt)));
       children = tt;
     }
 
@@ -137,7 +137,7 @@ text-null large t n d h p e =
       long = zero-rows n;
       nulls = λ i j. otherwise (valid_at (none_valid d n) i) _ slots.null (null-valid d n i h j) ∙ sym e;
       parts = zero-offsets n;
-      fits = (zero-last n 0, (λ i j. no-bytes i, (null-bits-at d n (rows (replicate (suc n) 0)) (zero-rows n), (p, tt))));
+      fits = (zero-last n 0, (λ i j. no-bytes i, (null-bits-at d n (count_rows (replicate (suc n) 0)) (zero-rows n), (p, tt))));
       children = tt;
     }
   where
@@ -169,7 +169,7 @@ list-null large t u n d c h p q e r =
       long = zero-rows n;
       nulls = λ i j. otherwise (valid_at (none_valid d n) i) _ slots.null (null-valid d n i h j) ∙ sym e;
       parts = zero-offsets n;
-      fits = (zero-last n (len c), (null-bits-at d n (rows (replicate (suc n) 0)) (zero-rows n), (p, (q ∙ ap Some (sym r.typed), tt))));
+      fits = (zero-last n (len c), (null-bits-at d n (count_rows (replicate (suc n) 0)) (zero-rows n), (p, (q ∙ ap Some (sym r.typed), tt))));
       children = is-array u 0 c r;
     }
 
@@ -181,7 +181,7 @@ map-null f b n d c h p r =
       long = zero-rows n;
       nulls = λ i j. otherwise (valid_at (none_valid d n) i) _ slots.null (null-valid d n i h j);
       parts = zero-offsets n;
-      fits = (zero-last n (len c), (refl, (p, (ap Some (sym r.typed), (null-bits-at d n (rows (replicate (suc n) 0)) (zero-rows n), tt)))));
+      fits = (zero-last n (len c), (refl, (p, (ap Some (sym r.typed), (null-bits-at d n (count_rows (replicate (suc n) 0)) (zero-rows n), tt)))));
       children = is-array (field_type f) 0 c r;
     }
 

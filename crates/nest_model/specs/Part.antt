@@ -23,8 +23,8 @@ abbrev pub extent : List ℕ → ℕ → ℕ
 extent os i = get_or os (i + 1) 0 - get_or os i 0
 
 -- Variable-size List Layout: one offset more than slots
-abbrev pub rows : List ℕ → ℕ
-rows os = length os - 1
+abbrev pub count_rows : List ℕ → ℕ
+count_rows os = length os - 1
 
 -- the place that an offset or a key names
 abbrev pub place : ℤ → ℕ

@@ -2,11 +2,10 @@
 use Rattle.std.specs.Prelude.{Option, Some, None, if◌then◌else◌}
 use Rattle.std.proofs.Common.{◌≡◌, ℕ, zero, suc, ◌+◌, ◌-◌, ◌*◌, ◌<◌, ◌≤◌, ℤ, pos, negsuc, Bool, true, false, List, length, get_or, refl, ap, sym, ◌∙◌, arith}
 use Rattle.std.proofs.lemmas.List.Elements.{All-get_or}
-use Rattle.nest_memory.specs.TypeTree.{TypeTree}
-use Rattle.nest_memory.specs.TypeTree.{size_of, ids_of}
+use Rattle.nest_memory.specs.TypeTree.{TypeTree, size_of, ids_of}
 use Rattle.nest_memory.specs.Cut.{cut}
 use Rattle.nest_memory.specs.Rising.{last_of}
-use Rattle.nest_model.specs.Part.{Validity, valid_at, rows, begin, extent, place, field_named}
+use Rattle.nest_model.specs.Part.{Validity, valid_at, count_rows, begin, extent, place, field_named}
 use Rattle.nest_model.specs.Layout.{Layout, Layouts, fixed_size_list, list, map, struct, union, dictionary, no_layouts, more_layouts, layout_type, count_layouts}
 use Rattle.nest_model.specs.Slot as slots
 use Rattle.nest_model.specs.Slot.{Slot, seal}
@@ -26,17 +25,17 @@ slot-place a i d h = get_or-run (slot a) 0 (len a) i d h ∙ ap (slot a) (let e 
 pub items-cut : (c : Layout) (o n : ℕ) → o + n ≤ len c → run (slot c) o n ≡ cut (slots_of c) o n
 items-cut c o n h = ap (λ q. run (slot c) q n) (let e : o ≡ 0 + o = omega arith in e) ∙ sym (cut-run (slot c) 0 (len c) o n h)
 
-pub extent-fits : (os : List ℕ) (m i : ℕ) → AreOffsets os → last_of os ≤ m → i < rows os → begin os i + extent os i ≤ m
+pub extent-fits : (os : List ℕ) (m i : ℕ) → AreOffsets os → last_of os ≤ m → i < count_rows os → begin os i + extent os i ≤ m
 extent-fits os m i h l k =
     let a = h.1 i (i + 1) (omega arith) (omega arith) in
     let b = h.1 (i + 1) (length os - 1) (omega arith) (omega arith) in
     omega arith
 
-pub list-slot : (l : Bool) (t : TypeTree) (os : List ℕ) (c : Layout) (va : Validity) (i : ℕ) → TopFits (list l t os c va) → i < rows os
+pub list-slot : (l : Bool) (t : TypeTree) (os : List ℕ) (c : Layout) (va : Validity) (i : ℕ) → TopFits (list l t os c va) → i < count_rows os
     → slot (list l t os c va) i ≡ where_valid va i (slots.list (seal (cut (slots_of c) (begin os i) (extent os i))))
 list-slot l t os c va i h k = ap (λ ss. where_valid va i (slots.list (seal ss))) (items-cut c (begin os i) (extent os i) (extent-fits os (len c) i h.0 h.1.0 k))
 
-pub map-slot : (t : TypeTree) (os : List ℕ) (c : Layout) (va : Validity) (i : ℕ) → TopFits (map t os c va) → i < rows os
+pub map-slot : (t : TypeTree) (os : List ℕ) (c : Layout) (va : Validity) (i : ℕ) → TopFits (map t os c va) → i < count_rows os
     → slot (map t os c va) i ≡ where_valid va i (slots.list (seal (cut (slots_of c) (begin os i) (extent os i))))
 map-slot t os c va i h k = ap (λ ss. where_valid va i (slots.list (seal ss))) (items-cut c (begin os i) (extent os i) (extent-fits os (len c) i h.0 h.1.0 k))
 

@@ -8,13 +8,13 @@ use Rattle.std.proofs.Math.Seq.{take-add}
 use Rattle.std.proofs.lemmas.List.{drop-take, drop-drop}
 use Rattle.nest_memory.specs.Cut.{cut}
 use Rattle.nest_memory.specs.Rising.{last_of}
-use Rattle.nest_model.specs.Part.{begin, extent, rows}
+use Rattle.nest_model.specs.Part.{begin, extent, count_rows}
 use Rattle.nest_model.specs.Fits.{EachText, WholeText, covered}
 use Rattle.nest_model.specs.Array.{AreOffsets}
 use Rattle.nest_model.specs.Runs.{cut-cut, length-cut}
 
 -- a slot's bytes lie in the covered ones
-slot-covered : (os bs : List ℕ) (i : ℕ) → AreOffsets os → i < rows os
+slot-covered : (os bs : List ℕ) (i : ℕ) → AreOffsets os → i < count_rows os
     → take (get_or os (i + 1) 0 - begin os 0 - (get_or os i 0 - begin os 0)) (drop (get_or os i 0 - begin os 0) (covered os bs)) ≡ cut bs (begin os i) (extent os i)
 slot-covered os bs i h k =
     let a = h.1 0 i (omega arith) (omega arith) in
@@ -41,7 +41,7 @@ after os bs i = cut bs (get_or os i 0) (last_of os - get_or os i 0)
 cut-joined : (bs : List ℕ) (o n m : ℕ) → cut bs o (n + m) ≡ cut bs o n ++ cut bs (o + n) m
 cut-joined bs o n m = take-add n m (drop o bs) ∙ ap (λ r. take n (drop o bs) ++ take m r) (drop-drop n o bs)
 
-after-joined : (os bs : List ℕ) (i : ℕ) → AreOffsets os → i < rows os → cut bs (begin os i) (extent os i) ++ after os bs (i + 1) ≡ after os bs i
+after-joined : (os bs : List ℕ) (i : ℕ) → AreOffsets os → i < count_rows os → cut bs (begin os i) (extent os i) ++ after os bs (i + 1) ≡ after os bs i
 unfolding after
 after-joined os bs i h k =
     let a = h.1 i (i + 1) (omega arith) (omega arith) in
@@ -60,7 +60,7 @@ text-after os bs zero i h t e =
     let z : 0 ≡ last_of os - get_or os i 0 = omega arith in
     subst (λ n. IsUtf8 (take n (drop (get_or os i 0) bs))) z IsUtf8-nil
 text-after os bs (suc n) i h t e =
-    let k : i < rows os = omega arith in
+    let k : i < count_rows os = omega arith in
     subst IsUtf8 (after-joined os bs i h k) (IsUtf8-append (cut bs (begin os i) (extent os i)) (after os bs (i + 1)) (t i k) (text-after os bs n (i + 1) h t (omega arith)))
 
 after-covered : (os bs : List ℕ) (i : ℕ) → AreOffsets os → i < length os → after os bs i ≡ drop (get_or os i 0 - begin os 0) (covered os bs)

@@ -4,7 +4,7 @@ ghost use Rattle.std.specs.Prelude.{◌≡◌, ℕ, ◌*◌, ◌<◌, ℤ, Bool,
 ghost use Rattle.nest_memory.specs.declared.datatypes.physical_type.PrimitiveType.{PrimitiveType};
 ghost use Rattle.nest_memory.specs.TypeTree.{TypeTree, size_of};
 ghost use Rattle.nest_memory.specs.Cut.{cut};
-ghost use Rattle.nest_model.specs.Part.{Validity, begin, extent, rows, place};
+ghost use Rattle.nest_model.specs.Part.{Validity, begin, extent, count_rows, place};
 ghost use Rattle.nest_model.specs.Layout as layouts;
 ghost use Rattle.nest_model.specs.Layout.{Layout, Layouts};
 ghost use Rattle.nest_model.specs.Accessors.{validity_of, key_at};
@@ -36,13 +36,13 @@ pub fn bytes_slots()
 
 /// A list's slot is null or the list of the items that it covers.
 pub fn list_slots()
-    ensures { (large : Bool) (t : TypeTree) (os : List ℕ) (c : Layout) (va : Validity) (i : ℕ) → TopFits (layouts.list large t os c va) → i < rows os
+    ensures { (large : Bool) (t : TypeTree) (os : List ℕ) (c : Layout) (va : Validity) (i : ℕ) → TopFits (layouts.list large t os c va) → i < count_rows os
         → slot (layouts.list large t os c va) i ≡ where_valid va i (slots.list (seal (cut (slots_of c) (begin os i) (extent os i)))) }
 {}
 
 /// A map's slot is null or the list of the entries that it covers.
 pub fn map_slots()
-    ensures { (t : TypeTree) (os : List ℕ) (c : Layout) (va : Validity) (i : ℕ) → TopFits (layouts.map t os c va) → i < rows os
+    ensures { (t : TypeTree) (os : List ℕ) (c : Layout) (va : Validity) (i : ℕ) → TopFits (layouts.map t os c va) → i < count_rows os
         → slot (layouts.map t os c va) i ≡ where_valid va i (slots.list (seal (cut (slots_of c) (begin os i) (extent os i)))) }
 {}
 

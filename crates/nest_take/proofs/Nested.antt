@@ -14,7 +14,7 @@ use Rattle.nest_model.specs.Facts.{list-facts, map-facts, fixed_size_list-facts,
 use Rattle.nest_model.specs.Fits.{Fits, ValidityFits, EachType, EachLen}
 use Rattle.nest_model.specs.Layout.{Layout, Layouts, null, fixed_size_binary, fixed_size_list, list, map, struct, no_layouts, more_layouts, layout_type, count_layouts}
 use Rattle.nest_model.specs.Meaning.{len, first_len, slot, each, slots_of}
-use Rattle.nest_model.specs.Part.{Validity, valid_at, begin, extent, rows}
+use Rattle.nest_model.specs.Part.{Validity, valid_at, begin, extent, count_rows}
 use Rattle.nest_model.specs.Reads.{slots-length, slot-place, list-slot, map-slot, fixed_size_list-slot}
 use Rattle.nest_model.specs.Runs.{length-cut, product-fits, product-exact}
 use Rattle.nest_model.specs.Slot as slots
@@ -43,11 +43,11 @@ pub null-taken : (t : TypeTree) (n : ℕ) (is : List ℕ) → AreBelow is n → 
 null-taken t n is h = taken (null t n) (null t (length is)) is h refl (λ j k. refl) refl
 
 -- the items of a row of lists or maps
-rows-in : (c : Layout) (os : List ℕ) (va : Validity) (is : List ℕ) → AreOffsets os → last_of os ≤ len c → AreBelow is (rows os)
+rows-in : (c : Layout) (os : List ℕ) (va : Validity) (is : List ℕ) → AreOffsets os → last_of os ≤ len c → AreBelow is (count_rows os)
     → All (λ i. begin os i + count_at os va i ≤ length (slots_of c)) is
 rows-in c os va is h l b = rows-within os va (length (slots_of c)) is h (let e = slots-length c in omega arith) b
 
-pub list-places : (c : Layout) (os : List ℕ) (va : Validity) (is : List ℕ) → AreOffsets os → last_of os ≤ len c → AreBelow is (rows os)
+pub list-places : (c : Layout) (os : List ℕ) (va : Validity) (is : List ℕ) → AreOffsets os → last_of os ≤ len c → AreBelow is (count_rows os)
     → AreBelow (item_places os va is) (len c)
 list-places c os va is h l b = pieces-below (len c) (begin os) (count_at os va) is (rows-within os va (len c) is h l b)
 
@@ -78,7 +78,7 @@ row-same c d os va is j w t k v =
 abbrev pub list_at : Bool → TypeTree → List ℕ → Layout → Validity → List ℕ → Layout
 list_at large t os d va is = list large t (ends (count_at os va) is) d (taken_validity va is)
 
-list-core : (large : Bool) (t : TypeTree) (os : List ℕ) (c d : Layout) (va : Validity) (is : List ℕ) → TopFits (list large t os c va) → AreBelow is (rows os)
+list-core : (large : Bool) (t : TypeTree) (os : List ℕ) (c d : Layout) (va : Validity) (is : List ℕ) → TopFits (list large t os c va) → AreBelow is (count_rows os)
     → AreOffsets (ends (count_at os va) is) → IsTaken c (item_places os va is) d
     → Fits (list_at large t os d va is) × IsTaken (list large t os c va) is (list_at large t os d va is)
 list-core large t os c d va is h b o g =
@@ -91,7 +91,7 @@ list-core large t os c d va is h b o g =
       taken (list large t os c va) (list_at large t os d va is) is b (ends-rows (count_at os va) is)
           (λ j k.
           let i = get_or is j 0 in
-          let r : j < rows es = omega (arith, ends-rows (count_at os va) is) in
+          let r : j < count_rows es = omega (arith, ends-rows (count_at os va) is) in
           list-slot large t es d v j (o, fits) r
           ∙ mask-same va v is j _ _ refl k (row-same c d os va is j w g k)
           ∙ sym (list-slot large t os c va i h (b j 0 k)))
@@ -110,7 +110,7 @@ list-taken large a u os es c d va v is ps h e b p q o r s g =
 abbrev pub map_at : TypeTree → List ℕ → Layout → Validity → List ℕ → Layout
 map_at t os d va is = map t (ends (count_at os va) is) d (taken_validity va is)
 
-map-core : (t : TypeTree) (os : List ℕ) (c d : Layout) (va : Validity) (is : List ℕ) → TopFits (map t os c va) → AreBelow is (rows os)
+map-core : (t : TypeTree) (os : List ℕ) (c d : Layout) (va : Validity) (is : List ℕ) → TopFits (map t os c va) → AreBelow is (count_rows os)
     → AreOffsets (ends (count_at os va) is) → IsTaken c (item_places os va is) d
     → Fits (map_at t os d va is) × IsTaken (map t os c va) is (map_at t os d va is)
 map-core t os c d va is h b o g =
@@ -123,7 +123,7 @@ map-core t os c d va is h b o g =
       taken (map t os c va) (map_at t os d va is) is b (ends-rows (count_at os va) is)
           (λ j k.
           let i = get_or is j 0 in
-          let r : j < rows es = omega (arith, ends-rows (count_at os va) is) in
+          let r : j < count_rows es = omega (arith, ends-rows (count_at os va) is) in
           map-slot t es d v j (o, fits) r
           ∙ mask-same va v is j _ _ refl k (row-same c d os va is j w g k)
           ∙ sym (map-slot t os c va i h (b j 0 k)))

@@ -1,6 +1,5 @@
 -- Pieces of a list one after another, and where each lies.
-use Rattle.std.specs.Prelude.{List, [], ◌∷◌, ◌++◌, map, length, get_or}
-use Rattle.std.specs.Prelude.{if◌then◌else◌}
+use Rattle.std.specs.Prelude.{List, [], ◌∷◌, ◌++◌, map, length, get_or, if◌then◌else◌}
 use Rattle.std.specs.List.{All, flat_map, range_with_len, sum_by}
 use Rattle.std.proofs.Common.{◌≡◌, ℕ, Bool, true, false, sum, zero, suc, ◌+◌, ◌-◌, ◌*◌, ◌<◌, ◌≤◌, take, drop, refl, ap, sym, ◌∙◌, arith, append-nil, length-append}
 use Rattle.std.proofs.Math.Seq.{take-suc}
@@ -12,7 +11,7 @@ use Rattle.nest_memory.specs.Cut.{cut}
 use Rattle.nest_memory.specs.Rising.{ends_from, last_of, largest_offset}
 use Rattle.nest_model.specs.Chosen.{chosen}
 use Rattle.nest_model.specs.ChosenLaws.{chosen-range, chosen-append}
-use Rattle.nest_model.specs.Part.{Validity, valid_at, begin, extent, rows}
+use Rattle.nest_model.specs.Part.{Validity, valid_at, begin, extent, count_rows}
 use Rattle.nest_model.specs.Array.{AreOffsets}
 use Rattle.nest_model.specs.Reads.{extent-fits}
 use Rattle.nest_model.specs.Runs.{length-cut}
@@ -51,7 +50,7 @@ ends-length : (n : ℕ → ℕ) (is : List ℕ) (a : ℕ) → length (ends_from 
 ends-length n [] a = refl
 ends-length n (i ∷ is) a = ap suc (ends-length n is (a + n i))
 
-pub ends-rows : (n : ℕ → ℕ) (is : List ℕ) → rows (ends n is) ≡ length is
+pub ends-rows : (n : ℕ → ℕ) (is : List ℕ) → count_rows (ends n is) ≡ length is
 ends-rows n is = omega (arith, ends-length n is 0)
 
 take-whole : (is : List ℕ) → take (length is) is ≡ is
@@ -175,7 +174,7 @@ count-le false n = omega arith
 pub count-valid : (os : List ℕ) (va : Validity) (i : ℕ) → valid_at va i ≡ true → count_at os va i ≡ extent os i
 count-valid os va i h = ap (λ b. if b then extent os i else 0) h
 
-pub rows-within : (os : List ℕ) (va : Validity) (m : ℕ) (is : List ℕ) → AreOffsets os → last_of os ≤ m → AreBelow is (rows os)
+pub rows-within : (os : List ℕ) (va : Validity) (m : ℕ) (is : List ℕ) → AreOffsets os → last_of os ≤ m → AreBelow is (count_rows os)
     → All (λ i. begin os i + count_at os va i ≤ m) is
 rows-within os va m is h l b j d k =
     let i = get_or is j d in

@@ -10,7 +10,7 @@ use Rattle.nest_model.specs.Facts.{binary-facts, text-facts}
 use Rattle.nest_model.specs.Fits.{Fits, ValidityFits}
 use Rattle.nest_model.specs.Layout.{Layout, binary, text, layout_type}
 use Rattle.nest_model.specs.Meaning.{len}
-use Rattle.nest_model.specs.Part.{Validity, valid_at, begin, extent, rows}
+use Rattle.nest_model.specs.Part.{Validity, valid_at, begin, extent, count_rows}
 use Rattle.nest_model.specs.Slot as slots
 use Rattle.nest_model.specs.Slot.{Slot}
 use Rattle.nest_take.specs.Places.{AreBelow, count_at, items_at, taken_validity}
@@ -20,7 +20,7 @@ use Rattle.nest_take.proofs.Flats.{mask-same}
 use Rattle.nest_take.proofs.Pieces.{ends, ends-last, ends-rows, rows-within, row-items, items-length, count-valid}
 use Rattle.nest_take.proofs.Rows.{taken}
 
-pub validity-rows : (os : List ℕ) (va : Validity) (is : List ℕ) → ValidityFits (taken_validity va is) (rows (ends (count_at os va) is))
+pub validity-rows : (os : List ℕ) (va : Validity) (is : List ℕ) → ValidityFits (taken_validity va is) (count_rows (ends (count_at os va) is))
 validity-rows os va is = subst (ValidityFits (taken_validity va is)) (sym (ends-rows (count_at os va) is)) (taken-fits va is)
 
 -- the parts of what is taken
@@ -30,7 +30,7 @@ binary_at large t os bs va is = binary large t (ends (count_at os va) is) (items
 abbrev pub text_at : Bool → TypeTree → List ℕ → List ℕ → Validity → List ℕ → Layout
 text_at large t os bs va is = text large t (ends (count_at os va) is) (items_at bs os va is) (taken_validity va is)
 
-binary-core : (large : Bool) (t : TypeTree) (os bs : List ℕ) (va : Validity) (is : List ℕ) → TopFits (binary large t os bs va) → AreBelow is (rows os)
+binary-core : (large : Bool) (t : TypeTree) (os bs : List ℕ) (va : Validity) (is : List ℕ) → TopFits (binary large t os bs va) → AreBelow is (count_rows os)
     → Fits (binary_at large t os bs va is) × IsTaken (binary large t os bs va) is (binary_at large t os bs va is)
 binary-core large t os bs va is h b =
     let f = binary-facts large t os bs va h in
@@ -61,7 +61,7 @@ some-text : (b : Bool) (bs : List ℕ) (o n : ℕ) → IsUtf8 (cut bs o n) → I
 some-text true bs o n h = h
 some-text false bs o n h = IsUtf8-nil
 
-text-core : (large : Bool) (t : TypeTree) (os bs : List ℕ) (va : Validity) (is : List ℕ) → TopFits (text large t os bs va) → AreBelow is (rows os)
+text-core : (large : Bool) (t : TypeTree) (os bs : List ℕ) (va : Validity) (is : List ℕ) → TopFits (text large t os bs va) → AreBelow is (count_rows os)
     → Fits (text_at large t os bs va is) × IsTaken (text large t os bs va) is (text_at large t os bs va is)
 text-core large t os bs va is h b =
     let f = text-facts large t os bs va h in

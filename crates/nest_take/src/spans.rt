@@ -2,7 +2,7 @@
 ghost use Rattle.std.specs.Prelude.{◌≡◌, ◌+◌, ◌<◌, ◌≤◌, ◌^◌, ◌⊎◌, ◌∷◌, [], IfOk, IfErr, IsOkUnless, MatchResult, alloc_error, length, map, option_map};
 ghost use Rattle.std.specs.List.{sum_by};
 ghost use Rattle.nest_flat.specs.FlatParts.{ValidityCovers};
-ghost use Rattle.nest_take.specs.Words.{AreBelow, Memory, Overflow, PassesOffsets, ReachesBits, begin, count_at, ends_from, item_places, items_at, last_of, rows, taken_validity};
+ghost use Rattle.nest_take.specs.Words.{AreBelow, Memory, Overflow, PassesOffsets, ReachesBits, begin, count_at, ends_from, item_places, items_at, last_of, count_rows, taken_validity};
 
 use crate::places;
 use nest_memory::bitmap::immutable::Bitmap;
@@ -18,7 +18,7 @@ fn range<O: Offset>(
     validity: Option<&Bitmap>,
     i: usize,
 ) -> (usize, usize)
-    requires within { i < rows offsets.now }
+    requires within { i < count_rows offsets.now }
     requires bits { ValidityCovers (option_map (λ b. b.now) validity) (i + 1) }
     ensures start { result.0 ≡ begin offsets.now i }
     ensures count { result.1 ≡ count_at offsets.now (option_map (λ b. b.now) validity.entry) i }
@@ -40,7 +40,7 @@ pub(crate) fn count<O: Offset>(
     validity: Option<&Bitmap>,
     places: &[usize],
 ) -> Result<usize, Error>
-    requires within { AreBelow places.now (rows offsets.now) }
+    requires within { AreBelow places.now (count_rows offsets.now) }
     requires bits { ReachesBits (option_map (λ b. b.now) validity) places.now }
     ensures { MatchResult result
         (λ n. (n ≡ sum_by (count_at offsets.now (option_map (λ b. b.now) validity.entry)) places.now) × (n ≤ O.largest))
@@ -76,7 +76,7 @@ fn offsets_at<O: Offset>(
     validity: Option<&Bitmap>,
     places: &[usize],
 ) -> Result<OffsetsBuffer<O>, Error>
-    requires within { AreBelow places.now (rows offsets.now) }
+    requires within { AreBelow places.now (count_rows offsets.now) }
     requires bits { ReachesBits (option_map (λ b. b.now) validity) places.now }
     requires room { sum_by (count_at offsets.now (option_map (λ b. b.now) validity)) places.now ≤ O.largest }
     ensures ok { IfOk result (λ b. b ≡ 0 ∷ ends_from 0 (map (count_at offsets.now (option_map (λ b. b.now) validity.entry)) places.now)) }
@@ -97,7 +97,7 @@ pub(crate) fn items<O: Offset>(
     places: &[usize],
     count: usize,
 ) -> Result<Vec<usize>, Error>
-    requires within { AreBelow places.now (rows offsets.now) }
+    requires within { AreBelow places.now (count_rows offsets.now) }
     requires bits { ReachesBits (option_map (λ b. b.now) validity) places.now }
     ensures ok { IfOk result (λ v. v.items ≡ item_places offsets.now (option_map (λ b. b.now) validity.entry) places.now) }
     ensures err { IsOkUnless result (Memory alloc_error) }
@@ -119,7 +119,7 @@ fn bytes_at<O: Offset>(
     places: &[usize],
     count: usize,
 ) -> Result<(OffsetsBuffer<O>, Buffer<u8>), Error>
-    requires within { AreBelow places.now (rows offsets.now) }
+    requires within { AreBelow places.now (count_rows offsets.now) }
     requires bits { ReachesBits (option_map (λ b. b.now) validity) places.now }
     requires fits { last_of offsets.now ≤ length bytes.now }
     requires room { sum_by (count_at offsets.now (option_map (λ b. b.now) validity)) places.now ≤ O.largest }
@@ -153,7 +153,7 @@ pub(crate) fn take<O: Offset>(
     bytes: &[u8],
     places: &[usize],
 ) -> Result<Spans<O>, Error>
-    requires within { AreBelow places.now (rows offsets.now) }
+    requires within { AreBelow places.now (count_rows offsets.now) }
     requires bits { ReachesBits (option_map (λ b. b.now) validity) places.now }
     requires fits { last_of offsets.now ≤ length bytes.now }
     ensures offsets { IfOk result (λ s. s.offsets ≡ 0 ∷ ends_from 0 (map (count_at offsets.now (option_map (λ b. b.now) validity.entry)) places.now)) }
@@ -185,7 +185,7 @@ pub(crate) fn take_rows<O: Offset>(
     validity: Option<&Bitmap>,
     places: &[usize],
 ) -> Result<Rows<O>, Error>
-    requires within { AreBelow places.now (rows offsets.now) }
+    requires within { AreBelow places.now (count_rows offsets.now) }
     requires bits { ReachesBits (option_map (λ b. b.now) validity) places.now }
     ensures offsets { IfOk result (λ s. s.offsets ≡ 0 ∷ ends_from 0 (map (count_at offsets.now (option_map (λ b. b.now) validity.entry)) places.now)) }
     ensures items { IfOk result (λ s. s.items.items ≡ item_places offsets.now (option_map (λ b. b.now) validity.entry) places.now) }

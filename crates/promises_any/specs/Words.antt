@@ -10,7 +10,7 @@ pub use Rattle.nest_memory.specs.TypeOf.{type_of}
 pub use Rattle.nest_memory.specs.declared.error.Argument.TheVariants.{Unfinished}
 pub use Rattle.nest_memory.specs.declared.error.Error.TheVariants.{InvalidArgumentError, Memory}
 pub use Rattle.nest_model.specs.BuilderAppend.{Accepted}
-pub use Rattle.nest_model.specs.BuilderTold.{Told, AreEachWhole, HasWholeChildren, row_checks}
+pub use Rattle.nest_model.specs.BuilderTold.{AreEachWhole, HasWholeChildren, Told, row_checks}
 pub use Rattle.nest_model.specs.BuilderItem.{Stands}
 pub use Rattle.nest_model.specs.BuilderLevels.{own_slots}
 pub use Rattle.nest_model.specs.BuilderRefusals.{item_refusal}

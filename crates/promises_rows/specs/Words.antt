@@ -18,7 +18,7 @@ pub use Rattle.nest_memory.specs.declared.error.Argument.TheVariants.{ChildNotEm
 pub use Rattle.nest_memory.specs.declared.error.Error.TheVariants.{InvalidArgumentError, Memory, Overflow}
 pub use Rattle.nest_model.specs.Accessors.{bytes_of, whole}
 pub use Rattle.nest_model.specs.BuilderAppend.{Accepted}
-pub use Rattle.nest_model.specs.BuilderTold.{Told, ToldLengths, HasWholeChildren, lengths_checks, row_checks}
+pub use Rattle.nest_model.specs.BuilderTold.{HasWholeChildren, Told, ToldLengths, lengths_checks, row_checks}
 pub use Rattle.nest_model.specs.BuilderItem.{Holds, Stands, slot_of_item}
 pub use Rattle.nest_model.specs.BuilderJoin.{Joined, join_checks}
 pub use Rattle.nest_model.specs.BuilderLevels.{own_slots}

@@ -6,7 +6,7 @@ ghost use Rattle.nest_model.specs.Array.{AreOffsets};
 ghost use Rattle.nest_model.specs.Layout as layouts;
 ghost use Rattle.nest_model.specs.NullLayout.{none_valid};
 ghost use Rattle.nest_memory.specs.Rising.{last_of};
-ghost use Rattle.nest_model.specs.Part.{rows, cut_validity};
+ghost use Rattle.nest_model.specs.Part.{count_rows, cut_validity};
 ghost use Rattle.nest_array.specs.Words.{FirstFault, Fits, Memory, ValidityFits, begin, cut, extent, layout_of, type_of};
 
 use crate::any::AnyArray;
@@ -44,7 +44,7 @@ impl<O: Offset> Ranges<O> {
 
     /// How many lists there are.
     pub(crate) fn len(&self) -> usize
-        ensures { result ≡ rows self.now.offsets }
+        ensures { result ≡ count_rows self.now.offsets }
     {
         self.offsets.len_proxy()
     }
@@ -60,7 +60,7 @@ impl<O: Offset> Ranges<O> {
 
     /// Where the items of list i begin, and how many there are.
     pub(crate) fn range(&self, i: usize) -> (usize, usize)
-        requires { i < rows self.now.offsets }
+        requires { i < count_rows self.now.offsets }
         ensures start { result.0 ≡ begin self.now.offsets i }
         ensures count { result.1 ≡ extent self.now.offsets i }
     {
@@ -71,8 +71,8 @@ impl<O: Offset> Ranges<O> {
 
     /// Keeps the n lists from place o.
     pub(crate) fn slice(&mut self, o: usize, n: usize)
-        requires within { o + n ≤ rows self.old.offsets }
-        requires bits { ValidityFits self.old.validity (rows self.old.offsets) }
+        requires within { o + n ≤ count_rows self.old.offsets }
+        requires bits { ValidityFits self.old.validity (count_rows self.old.offsets) }
         ensures offsets { self.new.offsets ≡ cut self.old.offsets o (n + 1) }
         ensures validity { self.new.validity ≡ cut_validity self.old.validity o n }
     {

@@ -25,7 +25,7 @@ pub struct ListRows<O: Offset> {
 impl<O: Offset> Model for ListRows<O> {
     ghost use Rattle.std.specs.Prelude.{List};
     ghost use Rattle.nest_model.specs.BuilderRow.{Row};
-    ghost use Rattle.nest_model.specs.Part.{rows};
+    ghost use Rattle.nest_model.specs.Part.{count_rows};
     ghost use Rattle.nest_model.specs.Fits.{ValidityFits};
     ghost use Rattle.nest_build.specs.Rows.{rows_told};
 
@@ -33,7 +33,7 @@ impl<O: Offset> Model for ListRows<O> {
 
     ghost view = { λ a. rows_told a.offsets a.validity };
 
-    ghost invariant = { λ a. ValidityFits a.validity (rows a.offsets) };
+    ghost invariant = { λ a. ValidityFits a.validity (count_rows a.offsets) };
 }
 
 impl<O: Offset> ListRows<O> {

@@ -1,7 +1,7 @@
 //! Slots of bytes that grow: what the builders of bytes and of texts share.
 ghost use Rattle.std.specs.Prelude.{◌≡◌, ◌↔◌, ◌⊎◌, ◌+◌, ◌^◌, ◌++◌, ◌∷◌, [], ◌<◌, ◌≤◌, OnOk, OnErr, IfOk, IfErr, IsErrOf, IsOkUnless, alloc_error, length, is_some, option_map, map, drop, if◌then◌else◌};
 ghost use Rattle.std.specs.Option.{option_copied};
-ghost use Rattle.nest_flat.specs.Words.{AreSpans, Memory, Overflow, ValidityFits, bare_spans, begin, cut, extent, first_spans, item_bytes, joined_spans, joined_validity, last_of, no_spans, pushed_span, pushed_validity, rows, spans, valid_at};
+ghost use Rattle.nest_flat.specs.Words.{AreSpans, Memory, Overflow, ValidityFits, bare_spans, begin, cut, extent, first_spans, item_bytes, joined_spans, joined_validity, last_of, no_spans, pushed_span, pushed_validity, count_rows, spans, valid_at};
 
 use crate::growth::validity;
 use nest_memory::bitmap::immutable::Bitmap;
@@ -30,14 +30,14 @@ impl<O: Offset> Model for BytesBuilder<O> {
     ghost use Rattle.std.specs.Prelude.{◌≡◌, length};
     ghost use Rattle.nest_memory.specs.Rising.{last_of};
     ghost use Rattle.nest_model.specs.Fits.{ValidityFits};
-    ghost use Rattle.nest_model.specs.Part.{rows};
+    ghost use Rattle.nest_model.specs.Part.{count_rows};
     ghost use Rattle.nest_flat.specs.BytesGrowth.{NullsAreBare, Spans};
 
     ghost Value = { Spans };
 
     ghost view = { λ b. record { offsets = b.offsets; bytes = b.bytes.items; validity = b.validity } };
 
-    ghost invariant = { λ b. (last_of b.offsets ≡ length b.bytes.items) × ValidityFits b.validity (rows b.offsets) × NullsAreBare b.validity b.offsets };
+    ghost invariant = { λ b. (last_of b.offsets ≡ length b.bytes.items) × ValidityFits b.validity (count_rows b.offsets) × NullsAreBare b.validity b.offsets };
 }
 
 /// The bytes of an item: a null has none.
@@ -148,7 +148,7 @@ impl<O: Offset> BytesBuilder<O> {
 
     /// How many slots it has.
     pub(crate) fn len(&self) -> usize
-        ensures { result ≡ rows self.now.offsets }
+        ensures { result ≡ count_rows self.now.offsets }
     {
         self.offsets.len_proxy()
     }
@@ -193,7 +193,7 @@ impl<O: Offset> BytesBuilder<O> {
 
     /// Keeps the first n slots, and drops the validity where it is not to stay.
     pub(crate) fn take_back(&mut self, n: usize, masked: bool)
-        requires { n ≤ rows self.old.offsets }
+        requires { n ≤ count_rows self.old.offsets }
         ensures { self.new ≡ (if masked then first_spans n self.old else bare_spans (first_spans n self.old)) }
     {
         self.offsets.known();
@@ -235,7 +235,7 @@ impl<O: Offset> BytesBuilder<O> {
 
     /// The bytes of slot i.
     pub(crate) fn value(&self, i: usize) -> &[u8]
-        requires { i < rows self.now.offsets }
+        requires { i < count_rows self.now.offsets }
         ensures { result.now ≡ cut self.now.bytes (begin self.now.offsets i) (extent self.now.offsets i) }
     {
         self.offsets.known();
@@ -245,7 +245,7 @@ impl<O: Offset> BytesBuilder<O> {
 
     /// Whether slot i is valid.
     pub(crate) fn is_valid(&self, i: usize) -> bool
-        requires { i < rows self.now.offsets }
+        requires { i < count_rows self.now.offsets }
         ensures { result ≡ valid_at self.now.validity i }
     {
         validity::is_valid(&self.validity, i)

@@ -1,6 +1,6 @@
 use Rattle.std.proofs.Common.{◌+◌, ◌∙◌, arith}
 use Rattle.std.proofs.lemmas.List.{length-map}
-use Rattle.nest_model.specs.Part.{rows}
+use Rattle.nest_model.specs.Part.{count_rows}
 use Rattle.nest_model.specs.BuilderRow.{Row}
 use Rattle.nest_model.specs.BuilderFreeze.{row_bits}
 use Rattle.nest_model.specs.BuilderFreezeLaws.{valid-bits}
@@ -11,7 +11,7 @@ pub is_valid-requires : goal.is_valid-requires
 is_valid-requires g c =
     let a = c.self.inside in
     let e = told-count a.offsets a.validity c.args.self.now c.self.view_is c.self.invariant in
-    covers a.validity (rows a.offsets) (c.args.i + 1) c.self.invariant (omega (arith, e, c.requires))
+    covers a.validity (count_rows a.offsets) (c.args.i + 1) c.self.invariant (omega (arith, e, c.requires))
 
 pub returns : goal.returns
 returns g c =

@@ -1,5 +1,5 @@
 use Rattle.std.proofs.Common.{arith}
-use Rattle.nest_model.specs.Part.{rows}
+use Rattle.nest_model.specs.Part.{count_rows}
 use Rattle.nest_build.proofs.Rows.{told-count, told-cut, covers}
 use Rattle.nest_build.proofs.list.rows.ListRows.truncate.Goals as goal
 
@@ -8,7 +8,7 @@ truncate-requires g c =
     let a = c.self.inside in
     let e = told-count a.offsets a.validity c.args.self.now c.self.view_is c.self.invariant in
     let l = c.requires in
-    covers a.validity (rows a.offsets) c.args.n c.self.invariant (omega arith)
+    covers a.validity (count_rows a.offsets) c.args.n c.self.invariant (omega arith)
 
 pub truncate-requires-2 : goal.truncate-requires-2
 truncate-requires-2 g c =

@@ -1,10 +1,10 @@
 use Rattle.std.proofs.Common.{◌<◌, ap, sym, subst, arith}
 use Rattle.std.specs.Str.{IsUtf8}
 use Rattle.nest_model.specs.Meaning.{len}
-use Rattle.nest_model.specs.Part.{rows}
+use Rattle.nest_model.specs.Part.{count_rows}
 use Rattle.nest_flat.proofs.utf8.mutable.MutableUtf8Array.value.Goals as goal
 
 pub text_of-requires : goal.text_of-requires
 text_of-requires g c =
-    let within : c.args.i < rows c.self.inside.spans.offsets = omega (arith, ap len c.self.view_is, c.requires) in
+    let within : c.args.i < count_rows c.self.inside.spans.offsets = omega (arith, ap len c.self.view_is, c.requires) in
     subst IsUtf8 (sym c.value.ensures) (c.self.invariant.1 c.args.i within)

@@ -3,7 +3,7 @@ use Rattle.std.specs.Prelude.{if◌then◌else◌}
 use Rattle.nest_memory.specs.TypeOf.{type_of}
 use Rattle.nest_model.specs.Layout.{Layout}
 use Rattle.nest_model.specs.Meaning.{len}
-use Rattle.nest_model.specs.Part.{rows}
+use Rattle.nest_model.specs.Part.{count_rows}
 use Rattle.nest_model.specs.Slot as slots
 use Rattle.nest_flat.specs.Growth.{taken_back}
 use Rattle.nest_flat.specs.BytesGrowth.{first_spans, bare_spans}
@@ -20,7 +20,7 @@ returns g c =
 pub invariant_of-self : goal.invariant_of-self
 invariant_of-self g c =
     let s = c.self.inside.spans in
-    let k : c.args.n ≤ rows s.offsets = omega (arith, c.requires, ap len c.self.view_is) in (
+    let k : c.args.n ≤ count_rows s.offsets = omega (arith, c.requires, ap len c.self.view_is) in (
       c.self.invariant.0,
       each-at c.take_back.new.self (if c.args.masked then first_spans c.args.n s else bare_spans (first_spans c.args.n s)) c.take_back.ensures
           (each-taken s c.args.n c.args.masked c.known.ensures.spans k c.self.invariant.1),
