@@ -6,7 +6,7 @@ use Rattle.nest_memory.specs.TypeTree.{TypeTree, key_type}
 use Rattle.nest_memory.specs.declared.datatypes.physical_type.PhysicalType.TheVariants as physical
 use Rattle.nest_model.specs.Accessors.{child_of, keys_of, key_type_of}
 use Rattle.nest_model.specs.Array.{TopFits}
-use Rattle.nest_model.specs.Facts.{dictionary-facts}
+use Rattle.nest_model.specs.FactLaws.{dictionary-facts}
 use Rattle.nest_model.specs.Fits.{is_dictionary}
 use Rattle.nest_model.specs.Layout.{Layout, dictionary, layout_type}
 use Rattle.nest_array.specs.Keys.{keyed_by}

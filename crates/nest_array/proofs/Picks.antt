@@ -4,7 +4,8 @@ use Rattle.std.proofs.Common.{◌≡◌, ℕ, zero, suc, ◌+◌, ◌<◌, ◌�
 use Rattle.nest_memory.specs.TypeTree.{TypeTree, fields_of, ids_of}
 use Rattle.nest_model.specs.Accessors.{child_at, children_of, start_of, types_of, union_offsets_of}
 use Rattle.nest_model.specs.Array.{TopFits}
-use Rattle.nest_model.specs.Facts.{IsUnion, union-facts}
+use Rattle.nest_model.specs.Facts.{IsUnion}
+use Rattle.nest_model.specs.FactLaws.{union-facts}
 use Rattle.nest_model.specs.Fits.{EachType}
 use Rattle.nest_model.specs.Layout.{Layout, Layouts, no_layouts, more_layouts, union, layout_type, count_layouts, weight, weight_all}
 use Rattle.nest_model.specs.Meaning.{len, run, slot, union_place}

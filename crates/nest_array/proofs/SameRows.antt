@@ -4,7 +4,8 @@ use Rattle.std.proofs.Common.{◌≡◌, ℕ, zero, suc, ◌+◌, ◌<◌, ◌�
 use Rattle.nest_memory.specs.TypeTree.{TypeTree, FieldTrees, no_fields, more_fields, fields_of, logical_type}
 use Rattle.nest_model.specs.Accessors.{children_of, validity_of}
 use Rattle.nest_model.specs.Array.{TopFits}
-use Rattle.nest_model.specs.Facts.{IsStruct, struct-facts}
+use Rattle.nest_model.specs.Facts.{IsStruct}
+use Rattle.nest_model.specs.FactLaws.{struct-facts}
 use Rattle.nest_model.specs.Fits.{EachType, EachCovers}
 use Rattle.nest_model.specs.Layout.{Layout, Layouts, struct, no_layouts, more_layouts, layout_type, weight_all}
 use Rattle.nest_model.specs.Meaning.{run, len, first_len, slot, each, slots_of}

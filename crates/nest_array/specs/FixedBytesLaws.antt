@@ -23,7 +23,8 @@ use Rattle.nest_model.specs.FitsLaws.{top-fits-cut}
 use Rattle.nest_model.specs.Runs.{run-ext, product-end, product-exact}
 use Rattle.nest_model.specs.Fits.{ValidityFits}
 use Rattle.nest_model.specs.Array.{TopFits}
-use Rattle.nest_model.specs.Facts.{IsFixedSizeBinary, fixed_size_binary-facts}
+use Rattle.nest_model.specs.Facts.{IsFixedSizeBinary}
+use Rattle.nest_model.specs.FactLaws.{fixed_size_binary-facts}
 use Rattle.nest_flat.specs.FlatParts.{optional}
 use Rattle.nest_flat.specs.Growth.{pushed_validity, joined_validity}
 use Rattle.nest_array.specs.FixedBytes.{sized_bytes, pushed_bytes, joined_bytes, IsOtherSize}

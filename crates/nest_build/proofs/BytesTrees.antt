@@ -16,7 +16,7 @@ use Rattle.nest_flat.specs.NullSlots.{NullsByValidity}
 use Rattle.nest_model.specs.Accessors.{validity_of, offsets_of, bytes_of}
 use Rattle.nest_model.specs.Array.{TopFits}
 use Rattle.nest_model.specs.Checks.{largest_length, is_past, Pass, FailFirst}
-use Rattle.nest_model.specs.Facts.{binary-facts, text-facts}
+use Rattle.nest_model.specs.FactLaws.{binary-facts, text-facts}
 use Rattle.nest_model.specs.Layout.{Layout, binary, text, layout_type}
 use Rattle.nest_model.specs.Meaning.{len, slot, slots_of, where_valid}
 use Rattle.nest_model.specs.Part.{valid_at}

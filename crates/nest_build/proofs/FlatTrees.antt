@@ -24,7 +24,7 @@ use Rattle.nest_model.specs.Meaning.{len, slot, slots_of}
 use Rattle.nest_model.specs.Reads.{slots-length, slot-place}
 use Rattle.nest_model.specs.Fits.{ValidityFits}
 use Rattle.nest_model.specs.Array.{TopFits}
-use Rattle.nest_model.specs.Facts.{binary-facts, text-facts, fixed_size_binary-facts, fixed_size_list-facts, list-facts, map-facts, struct-facts}
+use Rattle.nest_model.specs.FactLaws.{binary-facts, text-facts, fixed_size_binary-facts, fixed_size_list-facts, list-facts, map-facts, struct-facts}
 use Rattle.nest_model.specs.Checks.{refuse_if, largest_length, is_past, Pass, FailFirst}
 use Rattle.nest_model.specs.DecideType.{decide_type}
 use Rattle.nest_model.specs.BuilderTree.{flat, builder_len}

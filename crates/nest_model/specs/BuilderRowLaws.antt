@@ -1,4 +1,4 @@
--- Rows that are joined and cut.
+-- Laws of rows: where they end, that they rise, and the values that keys need, as rows are pushed, joined and cut.
 use Rattle.std.specs.Prelude.{Option, Some, None}
 use Rattle.std.proofs.Common.{◌≡◌, ℕ, zero, suc, ◌+◌, ◌≤◌, ◌<◌, false, List, [], ◌∷◌, ◌++◌, length, get_or, take, max, replicate, refl, ap, arith}
 use Rattle.std.proofs.lemmas.List.{take_more}

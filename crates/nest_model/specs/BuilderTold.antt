@@ -1,4 +1,4 @@
--- Rows that are told over the items that wait in the children: when those make a row, what the row says, and why it is refused.
+-- Rows that are told over the items that wait in the children: when those make a row, why one is refused, and what it adds.
 use Rattle.std.specs.Prelude.{◌≡◌, ℕ, ◌+◌, ◌*◌, ◌≤◌, Bool, true, false, List, [], ◌∷◌, ◌++◌, drop, length, Option, Some, None}
 use Rattle.nest_memory.specs.TypeTree.{item_type, fields_of, size_of, TypeTree}
 use Rattle.nest_model.specs.Slot as slots
@@ -12,38 +12,6 @@ use Rattle.nest_memory.specs.declared.error.Error.TheVariants.{InvalidArgumentEr
 use Rattle.nest_memory.specs.declared.error.Argument.TheVariants.{ItemSize, ItemType, Unfinished, LengthsSum}
 use Rattle.nest_memory.specs.Rising.{largest_offset}
 use Rattle.nest_model.specs.Checks.{Checks, done, check, largest_length}
-
--- one row more, over the items that wait in the children; those stay as they are
-abbrev pub told : Bool → BuilderTree → BuilderTree
-told valid (flat t xs) = flat t xs
-told valid (list large t rows c) = list large t (rows ++ told_row valid (builder_len c) ∷ []) c
-told valid (fixed_size_list t bits c) = fixed_size_list t (bits ++ valid ∷ []) c
-told valid (dictionary k t keys c) = dictionary k t keys c
-told valid (struct t bits cs) = struct t (bits ++ valid ∷ []) cs
-
--- the slot that the waiting items are: a list of those from the last row on, a record of the children's next row
-abbrev pub pending_slot : Bool → BuilderTree → Slot
-pending_slot valid (flat t xs) = slots.null
-pending_slot valid (list large t rows c) = valid_or_null valid (slots.list (seal (drop (end_from 0 rows) (own_slots c))))
-pending_slot valid (fixed_size_list t bits c) = valid_or_null valid (slots.list (seal (drop (length bits * size_of t) (own_slots c))))
-pending_slot valid (dictionary k t keys c) = slots.null
-pending_slot valid (struct t bits cs) = valid_or_null valid (slots.record_of (record_at (length bits) (own_slots_each cs)))
-
--- the items that wait in the children make a row
-abbrev pub IsReady : BuilderTree → Type 0
-IsReady (flat t xs) = ⊥
-IsReady (list large t rows c) = IsWhole c × (item_type t ≡ Some (builder_type c)) × (end_from 0 rows ≤ builder_len c) × RisesFrom 0 rows
-IsReady (fixed_size_list t bits c) = IsWhole c × (item_type t ≡ Some (builder_type c)) × (builder_len c ≡ (length bits + 1) * size_of t)
-IsReady (dictionary k t keys c) = ⊥
-IsReady (struct t bits cs) = AreWhole cs (length bits + 1) × (builder_types cs ≡ field_types (fields_of t))
-
--- A row was told over the items that waited: they are its slot, none waits any more, and the levels below are as they were.
-pub record Told (valid : Bool) (old new : BuilderTree) : Type 0 where
-  pub exact : new ≡ told valid old
-  pub last : own_slots new ≡ own_slots old ++ pending_slot valid old ∷ []
-  pub below : levels_below new ≡ levels_below old
-  pub whole : IsWhole new
-  pub differ : ValuesDiffer old → ValuesDiffer new
 
 -- each child is whole
 abbrev pub AreEachWhole : BuilderTrees → Type 0
@@ -67,6 +35,14 @@ HaveRows (more_builders c cs) n = (builder_len c ≡ n) × HaveRows cs n
 abbrev pub CoversRows : TypeTree → List Row → BuilderTree → Type 0
 CoversRows t rows c = (item_type t ≡ Some (builder_type c)) × (end_from 0 rows ≤ builder_len c)
 
+-- the items that wait in the children make a row
+abbrev pub IsReady : BuilderTree → Type 0
+IsReady (flat t xs) = ⊥
+IsReady (list large t rows c) = IsWhole c × (item_type t ≡ Some (builder_type c)) × (end_from 0 rows ≤ builder_len c) × RisesFrom 0 rows
+IsReady (fixed_size_list t bits c) = IsWhole c × (item_type t ≡ Some (builder_type c)) × (builder_len c ≡ (length bits + 1) * size_of t)
+IsReady (dictionary k t keys c) = ⊥
+IsReady (struct t bits cs) = AreWhole cs (length bits + 1) × (builder_types cs ≡ field_types (fields_of t))
+
 -- n rows more over the items that wait are within the limits of their own offsets; no other ready row can pass one
 abbrev pub FitsLimits : ℕ → BuilderTree → Type 0
 FitsLimits n (list large t rows c) = (length rows + n ≤ largest_length) × (builder_len c ≤ largest_offset large)
@@ -85,6 +61,30 @@ row_checks (fixed_size_list t bits c) =
 row_checks (dictionary k t keys c) = check (InvalidArgumentError ItemType) ⊥ done
 row_checks (struct t bits cs) =
     check (InvalidArgumentError Unfinished) ((builder_types cs ≡ field_types (fields_of t)) × HaveRows cs (length bits + 1)) done
+
+-- one row more, over the items that wait in the children; those stay as they are
+abbrev pub told : Bool → BuilderTree → BuilderTree
+told valid (flat t xs) = flat t xs
+told valid (list large t rows c) = list large t (rows ++ told_row valid (builder_len c) ∷ []) c
+told valid (fixed_size_list t bits c) = fixed_size_list t (bits ++ valid ∷ []) c
+told valid (dictionary k t keys c) = dictionary k t keys c
+told valid (struct t bits cs) = struct t (bits ++ valid ∷ []) cs
+
+-- the slot that the waiting items are: a list of those from the last row on, a record of the children's next row
+abbrev pub pending_slot : Bool → BuilderTree → Slot
+pending_slot valid (flat t xs) = slots.null
+pending_slot valid (list large t rows c) = valid_or_null valid (slots.list (seal (drop (end_from 0 rows) (own_slots c))))
+pending_slot valid (fixed_size_list t bits c) = valid_or_null valid (slots.list (seal (drop (length bits * size_of t) (own_slots c))))
+pending_slot valid (dictionary k t keys c) = slots.null
+pending_slot valid (struct t bits cs) = valid_or_null valid (slots.record_of (record_at (length bits) (own_slots_each cs)))
+
+-- A row was told over the items that waited: they are its slot, none waits any more, and the levels below are as they were.
+pub record Told (valid : Bool) (old new : BuilderTree) : Type 0 where
+  pub exact : new ≡ told valid old
+  pub last : own_slots new ≡ own_slots old ++ pending_slot valid old ∷ []
+  pub below : levels_below new ≡ levels_below old
+  pub whole : IsWhole new
+  pub differ : ValuesDiffer old → ValuesDiffer new
 
 -- rows of a list by their lengths, from offset s on; one of no length given is null and empty
 abbrev pub rows_of_lengths : ℕ → List (Option ℕ) → List Row
@@ -113,14 +113,6 @@ pending_slots ns (fixed_size_list t bits c) = []
 pending_slots ns (dictionary k t keys c) = []
 pending_slots ns (struct t bits cs) = []
 
--- the same of rows by their lengths
-pub record ToldLengths (ns : List (Option ℕ)) (old new : BuilderTree) : Type 0 where
-  pub exact : new ≡ told_lengths ns old
-  pub last : own_slots new ≡ own_slots old ++ pending_slots ns old
-  pub below : levels_below new ≡ levels_below old
-  pub whole : IsWhole new
-  pub differ : ValuesDiffer old → ValuesDiffer new
-
 -- rows of these lengths are made of just the items that wait
 abbrev pub AreReady : List (Option ℕ) → BuilderTree → Type 0
 AreReady ns (list large t rows c) = IsReady (list large t rows c) × (end_from 0 rows + items_told ns ≡ builder_len c)
@@ -133,3 +125,11 @@ lengths_checks ns (list large t rows c) =
     (check (InvalidArgumentError LengthsSum) (end_from 0 rows + items_told ns ≡ builder_len c)
     (check Overflow (FitsLimits (length ns) (list large t rows c)) done))
 lengths_checks ns _ = check (InvalidArgumentError ItemType) ⊥ done
+
+-- the same of rows by their lengths
+pub record ToldLengths (ns : List (Option ℕ)) (old new : BuilderTree) : Type 0 where
+  pub exact : new ≡ told_lengths ns old
+  pub last : own_slots new ≡ own_slots old ++ pending_slots ns old
+  pub below : levels_below new ≡ levels_below old
+  pub whole : IsWhole new
+  pub differ : ValuesDiffer old → ValuesDiffer new

@@ -1,8 +1,7 @@
 -- Items of a list at places, and the places that a mask chooses (of this project).
-use Rattle.std.specs.Prelude.{ℕ, suc, true, List, [], ◌∷◌, map, get_or, length}
+use Rattle.std.specs.Prelude.{ℕ, suc, true, List, [], ◌∷◌, map, get_or, length, ◌≡◌, ◌<◌}
 use Rattle.nest_model.specs.Slot as slots
 use Rattle.nest_model.specs.Slot.{Slot}
-use Rattle.std.proofs.Common.{◌≡◌, ◌<◌}
 
 -- the slots at these places, in that order; a place past the end counts as Null
 abbrev pub chosen : List Slot → List ℕ → List Slot

@@ -1,6 +1,6 @@
 -- Which parts make an array: the checks of each constructor, in order. What is checked is what the Arrow columnar format asks of a
 -- layout; the order and the errors are of this project. A check asks of a child its length and its data type alone.
-use Rattle.std.specs.Prelude.{◌≡◌, ℕ, zero, suc, ◌+◌, ◌≤◌, ◌<◌, ◌%◌, ℤ, pos, negsuc, Bool, true, false, IsTrue, List, length, get_or, Option, Some, None}
+use Rattle.std.specs.Prelude.{◌≡◌, ℕ, zero, suc, ◌+◌, ◌≤◌, ◌<◌, ◌%◌, ℤ, pos, negsuc, Bool, true, false, IsTrue, List, length, get_or, Option, Some, None, ◌-◌}
 use Rattle.std.specs.Str.{IsUtf8, IsCharBoundary}
 use Rattle.std.specs.List.{All}
 use Rattle.nest_memory.specs.TypeTree as types
@@ -18,7 +18,6 @@ use Rattle.nest_memory.specs.declared.error.Argument.TheVariants as argument
 use Rattle.nest_memory.specs.declared.error.Error.{Error}
 use Rattle.nest_memory.specs.declared.error.Error.TheVariants.{OutOfSpec, InvalidArgumentError}
 use Rattle.nest_model.specs.Checks.{Checks, done, check, Pass, FailFirst, most_fields, type_count}
-use Rattle.std.proofs.Common.{◌-◌}
 
 -- Validity bitmaps: a bit for each of n slots
 abbrev pub ValidityFits : Validity → ℕ → Type 0

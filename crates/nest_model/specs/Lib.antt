@@ -13,6 +13,7 @@ pub mod Cut
 pub mod Checks
 pub mod Fits
 pub mod Array
+pub mod Facts
 -- null and empty arrays
 pub mod Nulls
 pub mod NullLayout
@@ -40,7 +41,7 @@ pub mod CutLaws
 pub mod Reads
 pub mod FlatReads
 pub mod NullnessLaws
-pub mod Facts
+pub mod FactLaws
 pub mod FitsLaws
 pub mod ValidityLaws
 pub mod TextLaws

@@ -1,5 +1,5 @@
 -- Which slots an array stands for: the meaning of each layout of the Arrow columnar format.
-use Rattle.std.specs.Prelude.{ℕ, zero, suc, ◌+◌, ◌*◌, ◌/◌, ℤ, pos, false, List, [], ◌∷◌, Option, Some, None, length, get_or, if◌then◌else◌}
+use Rattle.std.specs.Prelude.{ℕ, zero, suc, ◌+◌, ◌*◌, ◌/◌, ℤ, pos, false, List, [], ◌∷◌, Option, Some, None, length, get_or, if◌then◌else◌, ◌≡◌, ◌<◌}
 use Rattle.nest_memory.specs.TypeTree.{size_of, ids_of, TypeTree}
 use Rattle.nest_memory.specs.Cut.{cut}
 use Rattle.nest_model.specs.Part.{valid_at, begin, extent, count_rows, place, field_named, Validity}
@@ -7,7 +7,6 @@ use Rattle.nest_model.specs.Layout.{Layout, Layouts, null, boolean, primitive, b
 use Rattle.nest_model.specs.Accessors.{validity_of, key_at, child_at}
 use Rattle.nest_model.specs.Slot as slots
 use Rattle.nest_model.specs.Slot.{Slot, Slots, seal}
-use Rattle.std.proofs.Common.{◌≡◌, ◌<◌}
 
 -- the slots that f has at the n places from o
 abbrev pub run : (ℕ → Slot) → ℕ → ℕ → List Slot

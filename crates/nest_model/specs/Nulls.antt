@@ -41,6 +41,7 @@ abbrev mutual
 abbrev pub null_slots : TypeTree → ℕ → List Slot
 null_slots t n = replicate n (null_slot t)
 
+-- Union Layout: an id is a type; each of them is; there aren't as many as fields; one of them is no type
 abbrev pub is_id : ℤ → Bool
 is_id (pos n) = nat_lt n type_count
 is_id (negsuc n) = false
@@ -57,7 +58,7 @@ abbrev pub has_bad_id : Option (List ℤ) → Bool
 has_bad_id None = false
 has_bad_id (Some ids) = not (are_ids ids)
 
--- faults
+-- of native values: floats have no array of nulls
 abbrev pub float_fault : PhysicalType → Option Error
 float_fault (physical.Primitive primitives.Float16) = Some NotYetImplemented
 float_fault (physical.Primitive primitives.Float32) = Some NotYetImplemented

@@ -1,6 +1,5 @@
 -- When two arrays are the same: their data types are equal, and so are their lists of slots (of this project).
-use Rattle.std.specs.Prelude.{Bool, ◌&&◌}
-use Rattle.std.proofs.Common.{◌≡◌}
+use Rattle.std.specs.Prelude.{◌≡◌, Bool, ◌&&◌}
 use Rattle.nest_memory.specs.TypeEq.{same_type}
 use Rattle.nest_model.specs.SlotCode.{same_slots}
 use Rattle.nest_model.specs.Layout.{Layout, layout_type}

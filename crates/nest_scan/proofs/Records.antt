@@ -2,7 +2,7 @@
 use Rattle.std.proofs.Common.{◌≡◌, ℕ, ◌≤◌, sym, ap, subst, arith}
 use Rattle.nest_model.specs.Accessors.{children_of, validity_of}
 use Rattle.nest_model.specs.Array.{TopFits}
-use Rattle.nest_model.specs.Facts.{struct-facts}
+use Rattle.nest_model.specs.FactLaws.{struct-facts}
 use Rattle.nest_model.specs.Fits.{EachCovers, EachLen}
 use Rattle.nest_model.specs.Layout.{Layout, Layouts, struct, no_layouts, more_layouts, layout_type}
 use Rattle.nest_model.specs.Meaning.{len, first_len}

@@ -17,7 +17,7 @@ use Rattle.nest_memory.specs.declared.datatypes.field.Field.{Field}
 use Rattle.nest_memory.specs.declared.datatypes.physical_type.PhysicalType.TheVariants as physical
 use Rattle.nest_model.specs.Accessors.{validity_of, offsets_of, child_of, children_of, types_of, union_offsets_of, start_of, keys_of, key_at}
 use Rattle.nest_model.specs.Array.{TopFits}
-use Rattle.nest_model.specs.Facts.{list-facts, map-facts, fixed_size_list-facts, union-facts, dictionary-facts}
+use Rattle.nest_model.specs.FactLaws.{list-facts, map-facts, fixed_size_list-facts, union-facts, dictionary-facts}
 use Rattle.nest_model.specs.Fits.{EachCovers, EachType, IsLogically}
 use Rattle.nest_model.specs.Layout as layouts
 use Rattle.nest_model.specs.Layout.{Layout, layout_type, count_layouts, weight, weight_all}

@@ -6,7 +6,7 @@ use Rattle.std.proofs.lemmas.List.Elements.{All-from_get_or, All-nil, All-cons}
 use Rattle.nest_memory.specs.TypeTree.{TypeTree, FieldTrees, no_fields, more_fields, fields_of, ids_of}
 use Rattle.nest_model.specs.Accessors.{child_at}
 use Rattle.nest_model.specs.Array.{TopFits}
-use Rattle.nest_model.specs.Facts.{union-facts}
+use Rattle.nest_model.specs.FactLaws.{union-facts}
 use Rattle.nest_model.specs.Fits.{Fits, Names, EachType, EachMeansField, MeansField, IdsCount, EachOffsetNames, child_len}
 use Rattle.nest_model.specs.Layout.{Layout, Layouts, union, no_layouts, more_layouts, layout_type, count_layouts}
 use Rattle.nest_model.specs.Meaning.{len, slot, of_field, picked}

@@ -6,7 +6,7 @@ use Rattle.std.proofs.lemmas.List.{get_or-map, length-map}
 use Rattle.nest_memory.specs.TypeTree.{TypeTree, fields_of, ids_of}
 use Rattle.nest_model.specs.Accessors.{validity_of, key_at, raw_keys}
 use Rattle.nest_model.specs.Array.{TopFits}
-use Rattle.nest_model.specs.Facts.{dictionary-facts, union-facts}
+use Rattle.nest_model.specs.FactLaws.{dictionary-facts, union-facts}
 use Rattle.nest_model.specs.Fits.{Fits, Names, KeysInRange, EachLen, EachCovers, EachMeansField, MeansField, IdsCount}
 use Rattle.nest_model.specs.Layout.{Layout, Layouts, dictionary, union, no_layouts, more_layouts, layout_type, count_layouts}
 use Rattle.nest_model.specs.Meaning.{len, slot, of_field, picked, union_place}

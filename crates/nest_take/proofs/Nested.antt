@@ -10,7 +10,7 @@ use Rattle.nest_memory.specs.Rising.{last_of}
 use Rattle.nest_memory.specs.TypeTree.{TypeTree, FieldTrees, no_fields, more_fields, size_of, fields_of}
 use Rattle.nest_model.specs.Array.{AreOffsets, TopFits}
 use Rattle.nest_model.specs.ChosenLaws.{length-chosen}
-use Rattle.nest_model.specs.Facts.{list-facts, map-facts, fixed_size_list-facts, fixed_size_binary-facts, struct-facts}
+use Rattle.nest_model.specs.FactLaws.{list-facts, map-facts, fixed_size_list-facts, fixed_size_binary-facts, struct-facts}
 use Rattle.nest_model.specs.Fits.{Fits, ValidityFits, EachType, EachLen}
 use Rattle.nest_model.specs.Layout.{Layout, Layouts, null, fixed_size_binary, fixed_size_list, list, map, struct, no_layouts, more_layouts, layout_type, count_layouts}
 use Rattle.nest_model.specs.Meaning.{len, first_len, slot, each, slots_of}

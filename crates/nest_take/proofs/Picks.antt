@@ -5,25 +5,21 @@ use Rattle.std.proofs.lemmas.Bool.{eq-eqb}
 use Rattle.std.proofs.lemmas.Bool.Decides.{eqb_tells}
 use Rattle.std.proofs.lemmas.List.{take_more, take_all, get_or-set_same, get_or-set_other}
 use Rattle.nest_memory.specs.Rising.{largest_offset}
-use Rattle.nest_memory.specs.TypeTree.{ids_of}
-use Rattle.nest_model.specs.Accessors.{children_of, start_of, types_of, union_offsets_of}
+use Rattle.nest_memory.specs.TypeTree.{ids_of, TypeTree}
+use Rattle.nest_model.specs.Accessors.{children_of, start_of, types_of, union_offsets_of, child_at}
 use Rattle.nest_model.specs.Array.{TopFits}
-use Rattle.nest_model.specs.Facts.{union-facts}
+use Rattle.nest_model.specs.FactLaws.{union-facts}
 use Rattle.nest_model.specs.Layout.{Layout, Layouts, union, no_layouts, more_layouts, layout_type, count_layouts}
-use Rattle.nest_model.specs.Meaning.{union_place}
+use Rattle.nest_model.specs.Meaning.{union_place, len}
 use Rattle.nest_model.specs.Part.{field_named}
 use Rattle.nest_take.specs.Limits.{PassesLimits, PicksPass, is_pick_of, picks_of}
-use Rattle.nest_take.specs.Taken.{pick_places, field_at, offsets_after, offsets_in}
+use Rattle.nest_take.specs.Taken.{pick_places, field_at, offsets_after, offsets_in, IsTaken, EachPicked, RefusesTake}
 use Rattle.nest_array.specs.declared.any.AnyArray.{AnyArray}
 use Rattle.nest_array.specs.Seen.{layout_of, layouts_of}
-use Rattle.nest_memory.specs.TypeTree.{TypeTree}
 use Rattle.nest_memory.specs.declared.error.Error.{Error}
 use Rattle.nest_memory.specs.declared.error.Error.TheVariants.{Memory, Overflow}
-use Rattle.nest_model.specs.Accessors.{child_at}
 use Rattle.nest_model.specs.Fits.{Fits}
-use Rattle.nest_model.specs.Meaning.{len}
 use Rattle.nest_take.specs.Places.{AreAt, AreBelow}
-use Rattle.nest_take.specs.Taken.{IsTaken, EachPicked, RefusesTake}
 use Rattle.nest_take.proofs.Children.{layout-at}
 use Rattle.nest_take.proofs.Dense.{dense-taken, picks-more, pick-at, pick-places-below}
 

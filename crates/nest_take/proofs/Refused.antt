@@ -6,7 +6,7 @@ use Rattle.nest_memory.specs.declared.error.Error.{Error}
 use Rattle.nest_memory.specs.declared.error.Error.TheVariants.{Memory, Overflow}
 use Rattle.nest_model.specs.Accessors.{child_of, children_of, offsets_of, start_of, types_of, union_offsets_of, validity_of}
 use Rattle.nest_model.specs.Array.{TopFits}
-use Rattle.nest_model.specs.Facts.{list-facts, map-facts, struct-facts, union-facts}
+use Rattle.nest_model.specs.FactLaws.{list-facts, map-facts, struct-facts, union-facts}
 use Rattle.nest_model.specs.Layout as layouts
 use Rattle.nest_model.specs.Layout.{Layout, Layouts, layout_type, weight, weight_all}
 use Rattle.nest_model.specs.Meaning.{len, union_place}

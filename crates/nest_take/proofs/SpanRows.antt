@@ -6,7 +6,7 @@ use Rattle.std.proofs.Common.{◌≡◌, ℕ, ◌<◌, Bool, true, false, List, 
 use Rattle.nest_memory.specs.Cut.{cut}
 use Rattle.nest_memory.specs.TypeTree.{TypeTree}
 use Rattle.nest_model.specs.Array.{TopFits}
-use Rattle.nest_model.specs.Facts.{binary-facts, text-facts}
+use Rattle.nest_model.specs.FactLaws.{binary-facts, text-facts}
 use Rattle.nest_model.specs.Fits.{Fits, ValidityFits}
 use Rattle.nest_model.specs.Layout.{Layout, binary, text, layout_type}
 use Rattle.nest_model.specs.Meaning.{len}

@@ -6,7 +6,7 @@ use Rattle.nest_model.specs.Layout as layouts
 use Rattle.nest_model.specs.Layout.{weight, weight_all}
 use Rattle.nest_model.specs.Meaning.{len, first_len}
 use Rattle.nest_model.specs.Fits.{EachCovers}
-use Rattle.nest_model.specs.Facts.{struct-facts}
+use Rattle.nest_model.specs.FactLaws.{struct-facts}
 use Rattle.nest_model.specs.Cut.{cut_layout, cut_layouts}
 use Rattle.nest_model.specs.CutLaws.{first_len-cut}
 use Rattle.nest_model.specs.FitsLaws.{top-fits-cut}

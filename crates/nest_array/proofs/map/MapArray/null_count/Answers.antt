@@ -1,7 +1,7 @@
 use Rattle.std.proofs.Common.{ap, ◌∙◌}
 use Rattle.nest_memory.specs.TypeOf.{type_of}
 use Rattle.nest_array.specs.Seen.{layout_of}
-use Rattle.nest_model.specs.Facts.{map-facts}
+use Rattle.nest_model.specs.FactLaws.{map-facts}
 use Rattle.nest_model.specs.Nullness.{null_count}
 use Rattle.nest_flat.specs.NullCounts.{unset-nulls}
 use Rattle.nest_array.proofs.map.MapArray.null_count.Goals as goal

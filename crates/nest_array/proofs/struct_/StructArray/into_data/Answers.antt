@@ -3,7 +3,7 @@ use Rattle.std.proofs.Common.{ap, sym, ◌∙◌}
 use Rattle.nest_memory.specs.TypeOf.{type_of, field_list_of}
 use Rattle.nest_memory.specs.TypeTree.{fields_of}
 use Rattle.nest_model.specs.Layout.{layout_type}
-use Rattle.nest_model.specs.Facts.{struct-facts}
+use Rattle.nest_model.specs.FactLaws.{struct-facts}
 use Rattle.nest_array.specs.Seen.{layouts_of}
 use Rattle.nest_array.proofs.ChildTypes.{struct-has_fields, own-fields}
 use Rattle.nest_array.proofs.struct_.StructArray.into_data.Goals as goal

@@ -1,7 +1,7 @@
 use Rattle.std.proofs.Common.{true, ap, ◌∙◌}
 use Rattle.nest_memory.specs.TypeOf.{type_of}
 use Rattle.nest_array.specs.Seen.{layout_of}
-use Rattle.nest_model.specs.Facts.{list-facts}
+use Rattle.nest_model.specs.FactLaws.{list-facts}
 use Rattle.nest_model.specs.Nullness.{null_count}
 use Rattle.nest_flat.specs.NullCounts.{unset-nulls}
 use Rattle.nest_array.proofs.list.large.LargeListArray.null_count.Goals as goal
