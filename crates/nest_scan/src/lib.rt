@@ -5,6 +5,7 @@
 #![tactic(auto)]
 
 pub mod dictionary;
+pub mod examples;
 pub mod fixed_size_binary;
 pub mod fixed_size_list;
 pub mod list;

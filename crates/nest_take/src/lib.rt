@@ -8,6 +8,7 @@ mod any;
 mod binary;
 mod boolean;
 mod dictionary;
+pub mod examples;
 mod fixed_size_binary;
 mod fixed_size_list;
 pub mod laws;
