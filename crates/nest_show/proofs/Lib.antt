@@ -1,3 +1,4 @@
+mod Natives
 mod Nesting
 mod OneText
 mod Pieces

@@ -55,12 +55,12 @@ items-more t after f o (suc k) =
     ∙ sym (append_assoc (comma after) _ _)
 
 -- the text of k items, what stands before the next, and it
-pub items-next : (t : TypeTree) (f : ℕ → Slot) (o k : ℕ) (sep : List ℕ) → sep ≡ comma (nat_lt 0 k)
-    → (json_items t false (seal (run f o k)) ++ sep) ++ json_of_slot t (f (o + k)) ≡ json_items t false (seal (run f o (k + 1)))
-items-next t f o k sep e =
+pub items-next : (t : TypeTree) (f : ℕ → Slot) (o k : ℕ)
+    → (json_items t false (seal (run f o k)) ++ comma (nat_lt 0 k)) ++ json_of_slot t (f (o + k)) ≡ json_items t false (seal (run f o (k + 1)))
+items-next t f o k =
     let z : suc k ≡ k + 1 = omega arith in
-    append_assoc (json_items t false (seal (run f o k))) sep (json_of_slot t (f (o + k)))
-    ∙ ap (λ s. json_items t false (seal (run f o k)) ++ (s ++ json_of_slot t (f (o + k)))) (e ∙ sym (ap comma (after-lt k)))
+    append_assoc (json_items t false (seal (run f o k))) (comma (nat_lt 0 k)) (json_of_slot t (f (o + k)))
+    ∙ ap (λ b. json_items t false (seal (run f o k)) ++ (comma b ++ json_of_slot t (f (o + k)))) (sym (after-lt k))
     ∙ sym (items-more t false f o k)
     ∙ ap (λ n. json_items t false (seal (run f o n))) z
 
@@ -168,14 +168,13 @@ text-step d s q x r =
     ∙ append_assoc (d ++ s) q (58 ∷ (x ++ r))
     ∙ append_assoc d s (q ++ 58 ∷ (x ++ r))
 
-pub member-text : (x : AnyArray) (f : Field) (all fs : Seq Field) (every cs : Seq AnyArray) (i : ℕ) (after : Bool) (done sep name whole : List ℕ) → all ≡ f ∷ fs → every ≡ x ∷ cs
-    → layout_type (layout_of x) ≡ field_type (field_of f) → sep ≡ comma after → name ≡ field_name (field_of f)
+pub member-text : (x : AnyArray) (f : Field) (all fs : Seq Field) (every cs : Seq AnyArray) (i : ℕ) (after : Bool) (done name whole : List ℕ) → all ≡ f ∷ fs → every ≡ x ∷ cs
+    → layout_type (layout_of x) ≡ field_type (field_of f) → name ≡ field_name (field_of f)
     → done ++ json_members (field_list_of all) after (each (layouts_of every) i) ≡ whole
-    → ((((done ++ sep) ++ quoted name) ++ codes ":") ++ shown (layout_of x) i) ++ json_members (field_list_of fs) true (each (layouts_of cs) i) ≡ whole
-member-text x f all fs every cs i after done sep name whole e h t p q w =
+    → ((((done ++ comma after) ++ quoted name) ++ codes ":") ++ shown (layout_of x) i) ++ json_members (field_list_of fs) true (each (layouts_of cs) i) ≡ whole
+member-text x f all fs every cs i after done name whole e h t q w =
     let rest = json_members (field_list_of fs) true (each (layouts_of cs) i) in
-    text-step done sep (quoted name) (shown (layout_of x) i) rest
-    ∙ ap (λ s. done ++ (s ++ (quoted name ++ 58 ∷ (shown (layout_of x) i ++ rest)))) p
+    text-step done (comma after) (quoted name) (shown (layout_of x) i) rest
     ∙ ap (λ n. done ++ (comma after ++ (quoted n ++ 58 ∷ (shown (layout_of x) i ++ rest)))) q
     ∙ ap (λ u. done ++ (comma after ++ (quoted (field_name (field_of f)) ++ 58 ∷ (json_of_slot u (slot (layout_of x) i) ++ rest)))) t
     ∙ sym (ap (λ gs. done ++ json_members (field_list_of gs) after (each (layouts_of every) i)) e ∙ ap (λ ys. done ++ json_members (field_list_of (f ∷ fs)) after (each (layouts_of ys) i)) h)

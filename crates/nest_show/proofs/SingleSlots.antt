@@ -45,14 +45,13 @@ first-value v f all fs every vs e h t =
     sym (ap (λ gs. field_types (field_list_of gs)) e) ∙ t ∙ ap types_in h in
     record { typed = cc; rest_typed = cc; lighter = sym (ap (λ ws. count_within (slots_in ws)) h) }
 
-pub value-text : (v : ScalarParts) (f : Field) (all fs : Seq Field) (every vs : Seq ScalarParts) (after : Bool) (done sep name whole : List ℕ) → all ≡ f ∷ fs → every ≡ v ∷ vs
-    → v.data_type ≡ field_type (field_of f) → sep ≡ comma after → name ≡ field_name (field_of f)
+pub value-text : (v : ScalarParts) (f : Field) (all fs : Seq Field) (every vs : Seq ScalarParts) (after : Bool) (done name whole : List ℕ) → all ≡ f ∷ fs → every ≡ v ∷ vs
+    → v.data_type ≡ field_type (field_of f) → name ≡ field_name (field_of f)
     → done ++ json_members (field_list_of all) after (slots_in every) ≡ whole
-    → ((((done ++ sep) ++ quoted name) ++ codes ":") ++ json_of_slot v.data_type v.slot) ++ json_members (field_list_of fs) true (slots_in vs) ≡ whole
-value-text v f all fs every vs after done sep name whole e h t p q w =
+    → ((((done ++ comma after) ++ quoted name) ++ codes ":") ++ json_of_slot v.data_type v.slot) ++ json_members (field_list_of fs) true (slots_in vs) ≡ whole
+value-text v f all fs every vs after done name whole e h t q w =
     let rest = json_members (field_list_of fs) true (slots_in vs) in
-    text-step done sep (quoted name) (json_of_slot v.data_type v.slot) rest
-    ∙ ap (λ s. done ++ (s ++ (quoted name ++ 58 ∷ (json_of_slot v.data_type v.slot ++ rest)))) p
+    text-step done (comma after) (quoted name) (json_of_slot v.data_type v.slot) rest
     ∙ ap (λ n. done ++ (comma after ++ (quoted n ++ 58 ∷ (json_of_slot v.data_type v.slot ++ rest)))) q
     ∙ ap (λ u. done ++ (comma after ++ (quoted (field_name (field_of f)) ++ 58 ∷ (json_of_slot u v.slot ++ rest)))) t
     ∙ sym (ap (λ gs. done ++ json_members (field_list_of gs) after (slots_in every)) e ∙ ap (λ ws. done ++ json_members (field_list_of (f ∷ fs)) after (slots_in ws)) h)

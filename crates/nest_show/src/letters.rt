@@ -1,12 +1,20 @@
-//! Texts and bytes in quotes.
+//! Commas, and texts and bytes in quotes.
 ghost use Rattle.std.specs.Prelude.{◌≡◌, ◌<◌, IsTrue, flat_map};
 ghost use Rattle.std.specs.Char.{digit_char};
 ghost use Rattle.std.specs.Fmt.{WritesOnOk};
 ghost use Rattle.json.specs.Print.{escape, escape_byte, quoted};
-ghost use Rattle.nest_show.specs.Json.{has_escape, hex_byte, hex_quoted};
+ghost use Rattle.nest_show.specs.Json.{comma, has_escape, hex_byte, hex_quoted};
 
 use std::fmt;
 use std::fmt::Formatter;
+
+/// What stands before an item or a member: a comma, where it comes after another.
+#[inline]
+pub(crate) fn write_comma<W: fmt::Write>(f: &mut Formatter<W>, after: bool) -> fmt::Result
+    ensures { WritesOnOk W.write_str_gives f.old result (comma after) f.new }
+{
+    if after { f.write_str(",") } else { Ok(()) }
+}
 
 /// A text in quotes, with the shortest escapes.
 pub(crate) fn write_quoted<W: fmt::Write>(f: &mut Formatter<W>, text: &str) -> fmt::Result

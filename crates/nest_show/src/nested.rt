@@ -7,10 +7,12 @@ ghost use Rattle.nest_model.specs.Fits.{EachCovers, EachType};
 ghost use Rattle.nest_model.specs.Layout.{layout_type};
 ghost use Rattle.nest_model.specs.Meaning.{each, len, run, slot};
 ghost use Rattle.nest_model.specs.Slot.{seal};
-ghost use Rattle.nest_show.specs.Json.{comma, field_name, json_items, json_list, json_members, shown};
+ghost use Rattle.nest_show.specs.Json.{field_name, json_items, json_list, json_members, shown};
 
-use crate::leaves::{write_binary, write_block, write_native, write_text, write_truth};
-use crate::letters::write_quoted;
+use crate::leaves::{
+    write_binary, write_block, write_native, write_natives, write_text, write_truth,
+};
+use crate::letters::{write_comma, write_quoted};
 use nest_array::{
     AnyArray, DictionaryArray, FixedSizeListArray, LargeListArray, ListArray, MapArray,
     StructArray, UnionArray,
@@ -67,8 +69,25 @@ pub(crate) fn write_run<W: fmt::Write>(
     f.write_str("]")
 }
 
+/// The n slots from place o, with commas between.
 #[cycle(show)]
-fn write_items<W: fmt::Write>(
+pub(crate) fn write_items<W: fmt::Write>(
+    f: &mut Formatter<W>,
+    array: &AnyArray,
+    o: usize,
+    n: usize,
+) -> fmt::Result
+    requires { o + n ≤ len (layout_of array.now) }
+    ensures { WritesOnOk W.write_str_gives f.old result (json_items (layout_type (layout_of array.now)) false (seal (run (slot (layout_of array.now)) o n))) f.new }
+{
+    match array {
+        AnyArray::Primitive(array) => write_natives(f, array, o, n),
+        _ => write_each(f, array, o, n),
+    }
+}
+
+#[cycle(show)]
+fn write_each<W: fmt::Write>(
     f: &mut Formatter<W>,
     array: &AnyArray,
     o: usize,
@@ -79,17 +98,10 @@ fn write_items<W: fmt::Write>(
 {
     let _end = array.len();
     for k in 0..n {
-        f.write_str(separator(k > 0))?;
+        write_comma(f, k > 0)?;
         write_slot(f, array, o + k)?;
     }
     Ok(())
-}
-
-/// What stands before an item or a member: a comma, where it comes after another.
-pub(crate) fn separator(after: bool) -> &'static str
-    ensures { result.now ≡ comma after }
-{
-    if after { "," } else { "" }
 }
 
 pub(crate) fn name(field: &Field) -> &str
@@ -209,7 +221,7 @@ fn write_members<W: fmt::Write>(
 {
     let mut after = false;
     for (field, child) in fields.iter().zip(children) {
-        f.write_str(separator(after))?;
+        write_comma(f, after)?;
         write_quoted(f, name(field))?;
         f.write_str(":")?;
         write_slot(f, child, i)?;

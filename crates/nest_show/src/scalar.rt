@@ -7,8 +7,8 @@ ghost use Rattle.nest_array.specs.ScalarParts.{slots_in, types_in};
 ghost use Rattle.nest_show.specs.Json.{json_members, json_of_slot, members_of, name_at};
 
 use crate::leaves::write_number;
-use crate::letters::{write_bytes, write_quoted};
-use crate::nested::{name, separator, write_run};
+use crate::letters::{write_bytes, write_comma, write_quoted};
+use crate::nested::{name, write_run};
 use nest_array::{AnyScalar, ScalarValue};
 use nest_memory::datatypes::{DataType, Field};
 use std::fmt;
@@ -53,7 +53,7 @@ fn write_values<W: fmt::Write>(
 {
     let mut after = false;
     for (field, value) in fields.iter().zip(values) {
-        f.write_str(separator(after))?;
+        write_comma(f, after)?;
         write_quoted(f, name(field))?;
         f.write_str(":")?;
         write_scalar(f, value)?;

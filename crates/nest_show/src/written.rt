@@ -1,12 +1,15 @@
 //! What is written as JSON: arrays of each kind, windows and scalars.
-ghost use Rattle.std.specs.Prelude.{◌≡◌, ◌<◌, ℕ, List, false};
+ghost use Rattle.std.specs.Prelude.{◌≡◌, ◌+◌, ◌≤◌, ◌<◌, ℕ, List, false};
 ghost use Rattle.std.specs.Fmt.{WritesOnOk};
 ghost use Rattle.nest_model.specs.Layout.{Layout, layout_type};
 ghost use Rattle.nest_model.specs.Meaning.{len, slot, run};
 ghost use Rattle.nest_model.specs.Slot.{seal};
 ghost use Rattle.nest_show.specs.Json.{json_items, json_of_array, shown};
 
-use crate::leaves::{write_binary, write_block, write_primitive, write_text, write_truth};
+use crate::leaves::{
+    write_binary, write_block, write_primitive, write_primitives, write_text, write_truth,
+};
+use crate::letters::write_comma;
 use crate::nested;
 use crate::scalar::write_scalar;
 use nest_array::array::Slotted;
@@ -39,6 +42,19 @@ pub trait WriteSlot: Slotted {
     fn write_slot<W: fmt::Write>(&self, f: &mut Formatter<W>, i: usize) -> fmt::Result
         requires { i < len (Self.parts self.now) }
         ensures { WritesOnOk W.write_str_gives f.old result (shown (Self.parts self.now) i) f.new };
+
+    /// Writes the n slots from place o, with commas between.
+    fn write_items<W: fmt::Write>(&self, f: &mut Formatter<W>, o: usize, n: usize) -> fmt::Result
+        requires { o + n ≤ len (Self.parts self.now) }
+        ensures { WritesOnOk W.write_str_gives f.old result (json_items (layout_type (Self.parts self.now)) false (seal (run (slot (Self.parts self.now)) o n))) f.new }
+    {
+        let _end = Slotted::len(self);
+        for k in 0..n {
+            write_comma(f, k > 0)?;
+            self.write_slot(f, o + k)?;
+        }
+        Ok(())
+    }
 }
 
 impl<A: WriteSlot> WriteJson for A {
@@ -48,19 +64,9 @@ impl<A: WriteSlot> WriteJson for A {
 
     fn write_json<W: fmt::Write>(&self, f: &mut Formatter<W>) -> fmt::Result {
         f.write_str("[")?;
-        write_slots(f, self)?;
+        self.write_items(f, 0, Slotted::len(self))?;
         f.write_str("]")
     }
-}
-
-fn write_slots<W: fmt::Write, A: WriteSlot>(f: &mut Formatter<W>, array: &A) -> fmt::Result
-    ensures { WritesOnOk W.write_str_gives f.old result (json_items (layout_type (A.parts array.now)) false (seal (run (slot (A.parts array.now)) 0 (len (A.parts array.now))))) f.new }
-{
-    for k in 0..Slotted::len(array) {
-        f.write_str(nested::separator(k > 0))?;
-        array.write_slot(f, k)?;
-    }
-    Ok(())
 }
 
 impl WriteJson for Window<'_> {
@@ -88,6 +94,10 @@ impl WriteSlot for AnyArray {
     fn write_slot<W: fmt::Write>(&self, f: &mut Formatter<W>, i: usize) -> fmt::Result {
         nested::write_slot(f, self, i)
     }
+
+    fn write_items<W: fmt::Write>(&self, f: &mut Formatter<W>, o: usize, n: usize) -> fmt::Result {
+        nested::write_items(f, self, o, n)
+    }
 }
 
 impl WriteSlot for BooleanArray {
@@ -99,6 +109,10 @@ impl WriteSlot for BooleanArray {
 impl<T: Native> WriteSlot for PrimitiveArray<T> {
     fn write_slot<W: fmt::Write>(&self, f: &mut Formatter<W>, i: usize) -> fmt::Result {
         write_primitive(f, self, i)
+    }
+
+    fn write_items<W: fmt::Write>(&self, f: &mut Formatter<W>, o: usize, n: usize) -> fmt::Result {
+        write_primitives(f, self, o, n)
     }
 }
 

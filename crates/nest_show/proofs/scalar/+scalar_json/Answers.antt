@@ -7,7 +7,7 @@ use Rattle.nest_array.specs.Seen.{layout_of}
 use Rattle.nest_array.specs.SeenScalar.{ValueFits, slot_of_value}
 use Rattle.nest_memory.specs.TypeOf.{field_list_of}
 use Rattle.nest_model.specs.Slot.{node_count, count_within}
-use Rattle.nest_show.specs.Json.{json_members, json_of_slot, members_of}
+use Rattle.nest_show.specs.Json.{comma, json_members, json_of_slot, members_of}
 use Rattle.nest_show.proofs.SingleSlots.{members-shown, items-text, first-value, value-text, values-none}
 use Rattle.nest_show.proofs.scalar.+scalar_json.Goals as goal
 
@@ -46,13 +46,13 @@ write_values-loop-field-preserved g t c =
       omega (arith, x.lighter, lighter),
       λ plain.
           let (done, wrote, whole) = text plain in
-          let one = c.write_str.ensures.writes wrote.plain (search rules) in
+          let one = c.write_comma.ensures wrote.plain (search rules) in
           let two = c.write_quoted.ensures one.plain (search rules) in
-          let three = c.write_str-in-loop-field.ensures.writes two.plain (search rules) in
+          let three = c.write_str.ensures.writes two.plain (search rules) in
           let four = c.write_scalar.ensures three.plain (search rules) in (
-            (((done ++ c.separator.result.now) ++ quoted c.name.result.now) ++ codes ":") ++ json_of_slot c.in-Some.value.now.data_type c.in-Some.value.now.slot,
+            (((done ++ comma c.loop-field.after) ++ quoted c.name.result.now) ++ codes ":") ++ json_of_slot c.in-Some.value.now.data_type c.in-Some.value.now.slot,
             has_written_append _ _ _ _ _ _ (has_written_append _ _ _ _ _ _ (has_written_append _ _ _ _ _ _ (has_written_append _ _ _ _ _ _ wrote one) two) three) four,
-            value-text c.in-Some.value.now c.in-Some.field.now l.a.rest.now c.next.new.self.a.rest.now l.b.rest.now c.next.new.self.b.rest.now c.loop-field.after done _ _ _ e h x.typed c.separator.ensures c.name.ensures whole,
+            value-text c.in-Some.value.now c.in-Some.field.now l.a.rest.now c.next.new.self.a.rest.now l.b.rest.now c.next.new.self.b.rest.now c.loop-field.after done _ _ e h x.typed c.name.ensures whole,
           ),
     )
 

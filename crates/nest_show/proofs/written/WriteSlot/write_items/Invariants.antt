@@ -4,9 +4,9 @@ use Rattle.nest_model.specs.Layout.{layout_type}
 use Rattle.nest_model.specs.Meaning.{run, slot}
 use Rattle.nest_model.specs.Slot.{seal}
 use Rattle.nest_show.specs.Json.{json_items}
-use Rattle.nest_show.proofs.written.write_slots.Given as goal
+use Rattle.nest_show.proofs.written.WriteSlot.write_items.Given as goal
 
 abbrev pub invariant-loop-k : goal.invariant-loop-k
 invariant-loop-k g l =
-    let a = g.A.Slotted.parts l.array in
-    IsPlainFormatter l.initial.f → HasWritten g.W.Write.write_str_gives l.initial.f (json_items (layout_type a) false (seal (run (slot a) 0 l.k))) l.f
+    let a = g.Self.Slotted.parts l.self in
+    IsPlainFormatter l.initial.f → HasWritten g.W.Write.write_str_gives l.initial.f (json_items (layout_type a) false (seal (run (slot a) l.o l.k))) l.f
