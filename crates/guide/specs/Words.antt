@@ -8,6 +8,7 @@ pub use Rattle.nest_memory.specs.Cut.{cut}
 pub use Rattle.nest_memory.specs.Physical.{physical_type}
 pub use Rattle.nest_memory.specs.Rising.{to_nat}
 pub use Rattle.nest_memory.specs.TypeOf.{field_list_of, type_of}
+pub use Rattle.nest_memory.specs.TypeText.{text_of_type}
 pub use Rattle.nest_memory.specs.declared.error.Error.TheVariants.{Memory}
 pub use Rattle.nest_model.specs.Accessors.{validity_of, with_validity}
 pub use Rattle.nest_model.specs.Chosen.{chosen, mask_places}

@@ -4,3 +4,4 @@ pub mod nested;
 pub mod parts;
 pub mod refused;
 pub mod tagged;
+pub mod types;

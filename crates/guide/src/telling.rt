@@ -3,7 +3,7 @@ ghost use Rattle.guide.specs.People.{ArePeople};
 
 use crate::building::{self, any, dictionaries, people, rows};
 use crate::making::parts::validity;
-use crate::making::{flat, nested, refused, tagged};
+use crate::making::{flat, nested, refused, tagged, types};
 use crate::{comparing, cutting, reading, sharing, taking};
 use anyhow::Result;
 use std::rc::Rc;
@@ -47,7 +47,22 @@ pub fn making<R: Print + AllocGlobal>(rt: &R) -> Result<()> {
         rt,
         "make a list past its items",
         refused::list_past_items(alloc),
-    )
+    )?;
+    tell_type(rt, "list<item: int64 not null>")?;
+    tell_type(rt, "list<item: int46>")
+}
+
+/// Prints the data type of a text, or why it is none's.
+fn tell_type<R: Print + AllocGlobal>(rt: &R, text: &str) -> Result<()> {
+    match types::told_type(rt.alloc(), text) {
+        Ok(data_type) => {
+            let told = println!(rt; "make a type: {data_type}");
+            drop(data_type);
+            told?;
+        }
+        Err(error) => println!(rt; "make no type: {error}")?,
+    }
+    Ok(())
 }
 
 /// Rows of lists read by each call.

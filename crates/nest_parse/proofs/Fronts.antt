@@ -1,9 +1,9 @@
 -- Fronts of texts and names that end at a mark: what std's `strip_prefix` and `split_once` say, in the words of this crate.
 use Rattle.std.specs.Str.Pattern.{LacksTextAt}
-use Rattle.std.proofs.Common.{◌≡◌, ℕ, zero, suc, ◌≤◌, ◌<◌, Bool, true, false, cond, eqb, List, [], ◌∷◌, ◌++◌, length, take, drop, Option, Some, None, refl, sym, ap, ◌∙◌, arith}
+use Rattle.std.proofs.Common.{◌≡◌, ℕ, zero, suc, ◌≤◌, ◌<◌, Bool, true, false, cond, eqb, List, [], ◌∷◌, ◌++◌, length, take, drop, Some, None, refl, ap, ◌∙◌, arith}
 use Rattle.std.proofs.lemmas.Bool.{eqb-true}
 use Rattle.std.proofs.Common.{eq-eqb}
-use Rattle.nest_parse.specs.Reading.{after, or_later, split}
+use Rattle.nest_parse.specs.Reading.{after, split}
 
 pub after-front : (p rest : List ℕ) → after p (p ++ rest) ≡ Some rest
 after-front [] rest = refl

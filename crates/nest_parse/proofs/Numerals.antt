@@ -4,18 +4,17 @@ use Rattle.std.specs.List.{prefix_len}
 use Rattle.std.specs.Result.{OkIff}
 use Rattle.std.specs.Str.{IsCharBoundary, IsUtf8}
 use Rattle.std.specs.Str.Parse.{AllDigits, ParsesUnsigned, digits_value}
-use Rattle.std.proofs.Common.{◌≡◌, ℕ, zero, suc, ◌+◌, ◌^◌, ◌≤◌, ◌<◌, Bool, true, false, cond, ltb, List, [], ◌∷◌, length, get_or, take, drop, Result, Ok, Err, refl, sym, ap, subst, ◌∙◌, inl, inr, leb, arith}
-use Rattle.std.proofs.lemmas.Bool.{and_parts, cases_lt, le-ltb, leb-true, lt-ltb}
+use Rattle.std.proofs.Common.{◌≡◌, ℕ, zero, suc, ◌+◌, ◌^◌, ◌≤◌, ◌<◌, Bool, true, false, cond, ltb, List, [], ◌∷◌, length, get_or, take, Result, Ok, Err, refl, sym, ap, subst, ◌∙◌, inl, inr, leb, arith}
+use Rattle.std.proofs.lemmas.Bool.{and_parts, cases_lt, le-ltb, leb-true}
 use Rattle.std.proofs.lemmas.Str.{digit_value_digit, IsCharBoundary-start, IsCharBoundary-after_ascii}
 use Rattle.std.proofs.lemmas.Str.Parse.{numerals_by_value, tells_digits, IsNumeralModel, parse_digits}
-use Rattle.nest_parse.specs.declared.error.Fault.{Fault}
 use Rattle.nest_parse.specs.declared.error.Fault.TheVariants.{Text}
 use Rattle.nest_parse.specs.Reading.{is_decimal, read_number}
 
 abbrev okay : (E : Type 0) → ℕ → Result ℕ E
 okay E v = Ok v
 
-own : IsNumeralModel (AllDigits 10) (digits_value 10)
+pub own : IsNumeralModel (AllDigits 10) (digits_value 10)
 own = numerals_by_value (AllDigits 10) tells_digits
 
 abbrev digit : ℕ → Bool
@@ -28,7 +27,7 @@ digit-value : (b : ℕ) → digit b ≡ true → digit_value b < 10
 digit-value b e = let p = digit-below b e in let q = digit_value_digit b (p.0, p.1) in omega (arith, p.0, p.1, q)
 
 -- the digits in front of a text
-digits-run : (bs : List ℕ) → AllDigits 10 (take (prefix_len digit bs) bs)
+pub digits-run : (bs : List ℕ) → AllDigits 10 (take (prefix_len digit bs) bs)
 digits-run [] = tt
 digits-run (b ∷ bs) =
     let P : Bool → Type 0 = λ v. digit b ≡ v → AllDigits 10 (take (cond v (1 + prefix_len digit bs) 0) (b ∷ bs)) in
@@ -59,21 +58,9 @@ digits-cut bs (suc m) u e =
     let k : m + 1 ≡ suc m = omega arith in
     rw (← k) (IsCharBoundary-after_ascii bs m u p.0 p.1)
 
-is-some : (ds : List ℕ) → is_decimal ds ≡ true → 0 < length ds
+pub is-some : (ds : List ℕ) → is_decimal ds ≡ true → 0 < length ds
 is-some [] e = absurd cc
 is-some (d ∷ ds) e = omega arith
-
-pub number-refused : (bs ds rest : List ℕ) → ds ≡ take (prefix_len digit bs) bs → is_decimal ds ≡ false → read_number bs ≡ Err (Text (length bs))
-number-refused bs ds rest d e = let f : is_decimal (take (prefix_len digit bs) bs) ≡ false = ap is_decimal (sym d) ∙ e in rw f refl
-
-pub number-read : {E : Type 0} (bs ds rest : List ℕ) (r : Result ℕ E) (v : ℕ) → ds ≡ take (prefix_len digit bs) bs → rest ≡ drop (prefix_len digit bs) bs → is_decimal ds ≡ true → ParsesUnsigned 64 10 ds r → r ≡ Ok v → read_number bs ≡ Ok (v, rest)
-number-read {E} bs ds rest r v d b e p is =
-    let run : AllDigits 10 ds = subst (AllDigits 10) (sym d) (digits-run bs) in
-    let q : OkIff (okay E v) ((0 < length ds) × (digits_value 10 ds < 2 ^ 64)) (digits_value 10 ds) = subst (λ (x : Result ℕ E). OkIff x ((0 < length ds) × (digits_value 10 ds < 2 ^ 64)) (digits_value 10 ds)) is (parse_digits own 64 ds r p run) in
-    let f : is_decimal (take (prefix_len digit bs) bs) ≡ true = ap is_decimal (sym d) ∙ e in
-    let lt : ltb (digits_value 10 (take (prefix_len digit bs) bs)) (2 ^ 64) ≡ true = ap (λ x. ltb (digits_value 10 x) (2 ^ 64)) (sym d) ∙ lt-ltb _ _ q.0.1 in
-    let w : digits_value 10 (take (prefix_len digit bs) bs) ≡ v = ap (digits_value 10) (sym d) ∙ sym q.1 in
-    rw (f, lt, w, b) refl
 
 pub number-too-large : {E : Type 0} (bs ds : List ℕ) (r : Result ℕ E) (x : E) → ds ≡ take (prefix_len digit bs) bs → is_decimal ds ≡ true → ParsesUnsigned 64 10 ds r → r ≡ Err x → read_number bs ≡ Err (Text (length bs))
 number-too-large {E} bs ds r x d e p is =

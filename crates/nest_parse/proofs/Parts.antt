@@ -1,17 +1,15 @@
 -- Reading fields one after the other, as a loop does.
-use Rattle.std.proofs.Common.{◌≡◌, ℕ, zero, suc, ◌+◌, ◌-◌, ◌<◌, ◌≤◌, ℤ, pos, Bool, true, cond, ◌^◌, drop, get_or, List, [], ◌∷◌, ◌++◌, codes, length, Option, Some, None, Result, Ok, Err, refl, sym, ap, subst, ◌∙◌, append_assoc, arith}
+use Rattle.std.proofs.Common.{◌≡◌, ℕ, zero, suc, ◌+◌, ◌-◌, ◌<◌, ◌≤◌, ℤ, Bool, drop, get_or, List, [], ◌∷◌, ◌++◌, codes, length, Option, Some, None, Result, Ok, Err, refl, sym, ap, ◌∙◌, append_assoc, arith}
 use Rattle.std.specs.Option.{option_to_list}
-use Rattle.nest_memory.specs.TypeTree.{FieldTree, TypeTree}
+use Rattle.nest_memory.specs.TypeTree.{FieldTree}
 use Rattle.nest_parse.specs.declared.error.Fault.{Fault}
 use Rattle.nest_parse.specs.declared.error.Fault.TheVariants.{Depth, Text}
-use Rattle.nest_parse.specs.declared.error.ParseError.{ParseError}
 use Rattle.nest_parse.specs.declared.error.Stop.{Stop}
 use Rattle.nest_parse.specs.declared.error.Stop.TheVariants as stops
-use Rattle.std.proofs.lemmas.Bool.{le-ltb}
 use Rattle.std.proofs.lemmas.List.{drop_all}
 use Rattle.nest_parse.specs.Heads.{head_text}
 use Rattle.nest_parse.specs.declared.head.Head.{Head}
-use Rattle.nest_parse.specs.Reading.{◌>>=◌, Answers, Fails, Refuses, told_at, Fields, Gives, Reader, after, expect, fields_on, first_head, id_below, one_more, read_body, read_field, read_head, read_id, read_number, read_type}
+use Rattle.nest_parse.specs.Reading.{◌>>=◌, Fails, Fields, Reader, after, expect, fields_on, first_head, one_more, read_body, read_field, read_head, read_id, read_type}
 
 -- what was read before, and what is still read
 abbrev pub with_front : Fields → Result (Fields × List ℕ) Fault → Result (Fields × List ℕ) Fault
@@ -104,10 +102,6 @@ no-head levels bs (stops.Fault f) some h =
     let k : levels ≡ suc (levels - 1) = omega arith in
     ap (λ n. read_type n bs) k ∙ ap (λ r. r >>= λ head. read_body (read_type (levels - 1)) head.0 head.1) h
 
--- what one function gives, another that ends in its call gives too
-pub gives-along : {X Y : Type 0} (view : X → Y) (r : Result X Stop) (a b : Result Y Fault) → b ≡ a → Gives view r a → Gives view r b
-gives-along view r a b e g = subst (Gives view r) (sym e) g
-
 -- ---- heads, one after the other
 
 drop-head : (hs : List Head) (i : ℕ) (h : Head) → i < length hs → drop i hs ≡ get_or hs i h ∷ drop (i + 1) hs
@@ -131,17 +125,3 @@ found-head bs hs i d rest total lt some so_far =
 
 pub nothing-found : (bs : List ℕ) (hs : List Head) (i : ℕ) (total : Result (Head × List ℕ) Fault) → length hs ≤ i → first_head bs (drop i hs) ≡ total → total ≡ Err (Text (length bs))
 nothing-found bs hs i total le so_far = sym so_far ∙ ap (first_head bs) (drop_all i hs le)
-
--- ---- ids
-
-pub id-refused : (bs rest behind : List ℕ) (n : ℕ) → expect (codes "=") bs ≡ Ok rest → read_number rest ≡ Ok (n, behind) → 2 ^ 31 ≤ n → read_id true bs ≡ Err (Text (length rest))
-unfolding read_id
-id-refused bs rest behind n e h le =
-    ap (λ r. r >>= λ x. read_number x >>= λ m. id_below x m) e ∙ ap (λ r. r >>= λ m. id_below rest m) h ∙ ap (λ b. cond b (Ok (Some (pos n), behind)) (Err (Text (length rest)))) (le-ltb n (2 ^ 31) le)
-
--- ---- what is answered
-
-pub refused : (len : ℕ) (stop : Stop) (e : ParseError) (read : Result TypeTree Fault) → Refuses len stop e → Fails stop read → Answers (Err e) (told_at len read)
-refused len stops.Memory e read r h = subst (λ (x : ParseError). Answers (Err x) (told_at len read)) (sym r) tt
-refused len (stops.Fault (Text left)) e read r h = subst (λ (x : ParseError). Answers (Err x) (told_at len read)) (sym r) (ap (told_at len) h)
-refused len (stops.Fault (Depth left)) e read r h = subst (λ (x : ParseError). Answers (Err x) (told_at len read)) (sym r) (ap (told_at len) h)

@@ -1,7 +1,6 @@
 -- How the texts of data types begin (of this project).
-use Rattle.std.specs.Prelude.{ℕ, List, [], ◌∷◌, codes}
+use Rattle.std.specs.Prelude.{ℕ, List, codes}
 use Rattle.nest_memory.specs.TypeText.{integer_text}
-use Rattle.nest_memory.specs.declared.datatypes.IntegerType.TheVariants.{Int8, Int16, Int32, Int64, UInt8, UInt16, UInt32, UInt64}
 use Rattle.nest_parse.specs.declared.head.Plain.{Plain}
 use Rattle.nest_parse.specs.declared.head.Plain.TheVariants as plains
 use Rattle.nest_parse.specs.declared.head.Flat.{Flat}

@@ -1,6 +1,6 @@
 -- Reading a data type from its text, from left to right (of this project). A part that is read leaves the bytes after it; one that
 -- cannot be read stops with the number of bytes that are left where it begins.
-use Rattle.std.specs.Prelude.{alloc_error, ◌≡◌, ℕ, zero, suc, ◌-◌, ◌+◌, ◌^◌, nat_lt, ◌==◌, ◌||◌, ℤ, pos, Bool, true, false, not, List, [], ◌∷◌, ◌++◌, length, take, drop, map, codes, Option, Some, None, Result, Ok, Err, if◌then◌else◌}
+use Rattle.std.specs.Prelude.{alloc_error, ◌≡◌, ℕ, zero, suc, ◌-◌, ◌≤◌, ◌^◌, nat_lt, ◌==◌, ℤ, pos, Bool, true, false, not, List, [], ◌∷◌, ◌++◌, length, take, drop, map, codes, Option, Some, None, Result, Ok, Err, if◌then◌else◌}
 use Rattle.std.specs.Char.{is_ascii_digit}
 use Rattle.std.specs.Global.{Vec}
 use Rattle.std.specs.List.{prefix_len}
@@ -423,3 +423,9 @@ abbrev pub Answers : Result DataType ParseError → Result TypeTree ParseError �
 Answers (Ok t) read = read ≡ Ok (type_of t)
 Answers (Err (errors.Memory refused)) read = Unit {0}
 Answers (Err e) read = read ≡ Err e
+
+-- the byte of an error stands in a text of that length, or at its end
+abbrev pub IsWithin : ℕ → ParseError → Type 0
+IsWithin len (errors.Text byte) = byte ≤ len
+IsWithin len (errors.Depth byte) = byte ≤ len
+IsWithin len (errors.Memory refused) = Unit {0}

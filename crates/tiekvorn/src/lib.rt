@@ -101,6 +101,8 @@ pub use nest_memory::types::NativeType;
 pub use nest_memory::types::days_ms;
 pub use nest_memory::types::i256;
 pub use nest_memory::types::months_days_ns;
+pub use nest_parse::ParseError;
+pub use nest_parse::parse_type;
 pub use nest_scan::BothEnds;
 pub use nest_scan::DictionaryIter;
 pub use nest_scan::DictionaryIterTyped;

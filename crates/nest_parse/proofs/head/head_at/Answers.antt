@@ -1,4 +1,4 @@
-use Rattle.std.proofs.Common.{◌≡◌, sym, ap, ◌∙◌}
+use Rattle.std.proofs.Common.{sym, ap, ◌∙◌}
 use Rattle.nest_parse.specs.Reading.{after, all_heads, first_head, read_head}
 use Rattle.nest_parse.proofs.Parts.{found-head, nothing-found, other-head}
 use Rattle.nest_parse.proofs.head.head_at.Goals as goal

@@ -1,10 +1,10 @@
-use Rattle.std.proofs.Common.{rules, ◌≡◌, ◌++◌, List, [], ◌∷◌, length, map, Ok, sym, ap, ◌∙◌, refl, arith}
+use Rattle.std.proofs.Common.{rules, ◌≡◌, ◌++◌, [], ◌∷◌, length, map, refl, arith}
 use Rattle.std.specs.Option.{option_to_list}
 use Rattle.std.proofs.lemmas.List.{map_push}
 use Rattle.std.proofs.lemmas.Result.{err_from_is_err_and}
 use Rattle.nest_memory.specs.TypeOf.{field_of}
-use Rattle.nest_parse.specs.Reading.{fields_on, read_type, views}
-use Rattle.nest_parse.proofs.Parts.{ends-here, goes-on, no-head, no-level, one-level, stops-at-end, stops-at-field, stops-at-id, too-many, with_front}
+use Rattle.nest_parse.specs.Reading.{fields_on, read_type}
+use Rattle.nest_parse.proofs.Parts.{ends-here, goes-on, no-head, no-level, one-level, stops-at-end, stops-at-field, stops-at-id, too-many}
 use Rattle.nest_parse.proofs.nested.+types.Goals.{some_fields-in-Some+in_ok-push-2, some_fields-in_default}
 use Rattle.nest_parse.proofs.nested.+types.Goals as goal
 
