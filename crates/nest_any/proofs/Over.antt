@@ -6,8 +6,8 @@ use Rattle.nest_memory.specs.TypeTree.{size_of}
 use Rattle.nest_model.specs.Layout.{Layout, layout_type}
 use Rattle.nest_model.specs.Meaning.{slots_of}
 use Rattle.nest_model.specs.BuilderLevels.{own_slots}
-use Rattle.nest_model.specs.BuilderTree.{BuilderTree, builder_len, builder_type}
-use Rattle.nest_model.specs.BuilderWhole.{IsWhole}
+use Rattle.nest_model.specs.BuilderTree.{BuilderTree, flat, list, fixed_size_list, dictionary, struct, builder_len, builder_type}
+use Rattle.nest_model.specs.BuilderWhole.{IsWhole, emptied}
 use Rattle.nest_model.specs.BuilderRowLaws.{end_from-front}
 use Rattle.nest_any.specs.declared.rows.TypedRows.{TypedRows}
 use Rattle.nest_any.specs.declared.rows.TypedRows.TheVariants.{List, LargeList, FixedSizeList}
@@ -29,6 +29,14 @@ pub weight-over : (r : TypedRows) (c : BuilderTree) → weight (lists_over r c) 
 weight-over (List t rows) c = omega arith
 weight-over (LargeList t rows) c = omega arith
 weight-over (FixedSizeList t bits) c = omega arith
+
+-- no row is left
+pub emptied_none : (t new : BuilderTree) → new ≡ emptied t → builder_len new ≡ 0
+emptied_none (flat t xs) new e = ap builder_len e
+emptied_none (list large t rows c) new e = ap builder_len e
+emptied_none (fixed_size_list t bits c) new e = ap builder_len e
+emptied_none (dictionary k t keys c) new e = ap builder_len e
+emptied_none (struct t bits cs) new e = ap builder_len e
 
 -- the child's array has the items of the rows
 pub has-items : (r : TypedRows) (c : BuilderTree) (a : Layout) → IsWhole (lists_over r c) → slots_of a ≡ own_slots c → layout_type a ≡ builder_type c → HasItems r a

@@ -29,6 +29,11 @@ use Rattle.nest_any.specs.TypedRows.{Fitting, FitsOffsets, lists_over}
 use Rattle.nest_build.specs.Nulled.{items-slot, size-slot, valid_or_not, lists-tell}
 use Rattle.nest_build.specs.Told.{TellsNulls, own_slot, reserve_passes, reserve_passes_each}
 
+-- no row at all
+pub no-row : {A : Type 0} (xs : Seq A) → length xs ≡ 0 → xs ≡ []
+no-row [] e = refl
+no-row (x ∷ xs) e = absurd (omega (arith, e))
+
 -- which rows are null
 pub list_tells : (large : Bool) (t : TypeTree) (rows : Seq Row) (c : BuilderTree) (va : Validity) → SpellsBits va (row_bits rows) → TellsNulls va (list large t rows c)
 list_tells large t rows c va s = lists-tell va (row_bits rows) (list large t rows c) s (length-map rows (λ (r : Row). r.valid)) (λ i l. items-slot 0 i rows (own_slots c) l)

@@ -8,6 +8,7 @@ use Rattle.nest_model.specs.BuilderWhole.{IsWhole}
 use Rattle.nest_model.specs.BuilderTold.{Told, told, HasWholeChildren, row_checks}
 use Rattle.nest_model.specs.BuilderToldLaws.{told-ready}
 use Rattle.nest_model.specs.BuilderRowCheckLaws.{pass-ready}
+use Rattle.nest_build.specs.Children.{list_child}
 use Rattle.nest_any.specs.declared.rows.TypedRows.{TypedRows}
 use Rattle.nest_any.specs.declared.rows.TypedRows.TheVariants.{List, LargeList, FixedSizeList}
 use Rattle.nest_any.specs.TypedRows.{lists_over, rows_len}
@@ -16,6 +17,11 @@ pub rows-count : (r : TypedRows) (c : BuilderTree) → rows_len r ≡ builder_le
 rows-count (List t rows) c = refl
 rows-count (LargeList t rows) c = refl
 rows-count (FixedSizeList t bits) c = refl
+
+pub child-over : (r : TypedRows) (c : BuilderTree) → list_child (lists_over r c) ≡ c
+child-over (List t rows) c = refl
+child-over (LargeList t rows) c = refl
+child-over (FixedSizeList t bits) c = refl
 
 pub takes-none : (r : TypedRows) (c : BuilderTree) (v : PlainValue) → takes (lists_over r c) v ≡ false
 takes-none (List t rows) c v = refl

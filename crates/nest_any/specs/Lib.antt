@@ -1,3 +1,4 @@
+pub mod Bare
 pub mod BuilderCode
 pub mod Dictionaries
 pub mod Each

@@ -1,5 +1,6 @@
 //! A builder of any kind.
 ghost use Rattle.std.specs.Prelude.{◌≡◌, ◌≢◌, ◌≤◌, ◌<◌, ◌↔◌, ◌⊎◌, IsTrue, MatchOption, OnOk, OnErr, IfOk, IfErr, IsOkUnless, None, Some, true, false, option_map, alloc_error};
+ghost use Rattle.nest_any.specs.Bare.{IsBare};
 ghost use Rattle.nest_any.specs.Flat.{values_tree};
 ghost use Rattle.nest_any.specs.Trees.{tree_of};
 ghost use Rattle.nest_any.specs.Words.{FailFirst, HasWholeChildren, IsWhole, Memory, Overflow, Pass, Told, builder_len, builder_type, cut_builder, emptied, empty_lists, is_flat, layout_of, layout_type, lists_checks, nested_checks, nested_over, nulls_appended, nulls_pass, own_slots, physical_type, reserve_passes, row_checks, slots_of, type_of};
@@ -246,12 +247,14 @@ impl AnyMutableArray {
         each_kind!(self, flat => MutableArray::shrink_to_fit(flat), nested => nested.shrink())
     }
 
+    #[tactic(auto, using(crate::proofs::Over::emptied_none))]
     #[cycle(frozen)]
     pub(crate) fn frozen(&mut self) -> Result<AnyArray, Error>
         requires { IsWhole (tree_of self.old) }
         ensures slots { IfOk result (λ a. slots_of (layout_of a) ≡ own_slots (tree_of self.old)) }
         ensures same_type { IfOk result (λ a. layout_type (layout_of a) ≡ builder_type (tree_of self.old)) }
         ensures emptied { tree_of self.new ≡ emptied (tree_of self.old) }
+        ensures validity { IsBare self.new }
         ensures memory { IsOkUnless result (Memory alloc_error) }
     {
         each_kind!(self, flat => MutableArray::as_box(flat), nested => nested.frozen())
@@ -278,6 +281,8 @@ impl AnyMutableArray {
 
 impl MutableArray for AnyMutableArray {
     ghost model = { tree_of };
+
+    ghost bare = { IsBare };
 
     fn data_type(&self) -> &DataType {
         each_kind!(self, flat => MutableArray::data_type(flat), nested => nested.data_type())

@@ -1,6 +1,6 @@
 //! A builder of dictionaries, by keys of any width.
 ghost use Rattle.std.specs.Prelude.{◌≡◌, ◌⊎◌, ◌↔◌, ℕ, [], IfErr, IfOk, IsOkUnless, IsTrue, MatchOption, Some, alloc_error};
-ghost use Rattle.nest_any.specs.Dictionaries.{dictionary_tree};
+ghost use Rattle.nest_any.specs.Dictionaries.{dictionary_tree, keyed_rows};
 ghost use Rattle.nest_any.specs.Flat.{values_tree};
 ghost use Rattle.nest_any.specs.Trees.{tree_of};
 ghost use Rattle.nest_any.specs.Words.{AreFlat, FailFirst, Memory, Pass, builder_len, builder_type, is_flat, key_type, keyed_checks, own_slots, type_of, value_type};
@@ -230,6 +230,8 @@ fn place_of<K: BuilderKey, T: AsPlain>(
 
 impl MutableArray for AnyMutableDictionary {
     ghost model = { dictionary_tree };
+
+    ghost bare = { λ b. keyed_rows b ≡ [] };
 
     fn data_type(&self) -> &DataType {
         each_width!(self, keyed => keyed.data_type())

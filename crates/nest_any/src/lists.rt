@@ -1,5 +1,5 @@
 //! The builder of lists of any kind over a builder of any kind.
-ghost use Rattle.std.specs.Prelude.{◌≡◌, ◌≢◌, ◌≤◌, ◌<◌, ◌↔◌, ◌⊎◌, IsTrue, OnOk, OnErr, IfOk, IfErr, IsOkUnless, None, Some, true, false, option_map, alloc_error};
+ghost use Rattle.std.specs.Prelude.{◌≡◌, ◌≢◌, ◌≤◌, ◌<◌, ◌↔◌, ◌⊎◌, IsNone, IsTrue, OnOk, OnErr, IfOk, IfErr, IsOkUnless, None, Some, true, false, option_map, alloc_error};
 ghost use Rattle.nest_model.specs.Slot as slots;
 ghost use Rattle.nest_any.specs.Trees.{tree_of};
 ghost use Rattle.nest_model.specs.BuilderItem.{PlainValue, takes};
@@ -81,10 +81,12 @@ impl ListBuilder {
         }
     }
 
-    /// What holds of every such builder: it takes no plain value, and its data type is one of lists.
-    pub(crate) fn known(&self)
+    /// What holds of every such builder: it takes no plain value, its data type is one of lists, and over a whole child a row
+    /// may be told.
+    pub fn known(&self)
         ensures takes { (v : PlainValue) → takes self.now v ≡ false }
         ensures lists { IsOfLists (physical_type (builder_type self.now)) }
+        ensures tells { IsWhole (list_child self.now) → HasWholeChildren self.now }
     {
         self.rows.known();
     }
@@ -102,7 +104,8 @@ impl ListBuilder {
     }
 
     pub(crate) fn validity(&self) -> Option<&MutableBitmap>
-        ensures { TellsNulls (option_map (λ b. b.now) result) self.now }
+        ensures tells { TellsNulls (option_map (λ b. b.now) result) self.now }
+        ensures none { builder_len self.now ≡ 0 → IsNone result }
     {
         self.rows.validity()
     }

@@ -1,5 +1,5 @@
 //! The rows of a builder of lists of any kind, with its data type and without its items.
-ghost use Rattle.std.specs.Prelude.{◌≡◌, ◌≢◌, ◌≤◌, ◌<◌, ◌↔◌, ◌⊎◌, IsTrue, OnOk, OnErr, IfOk, IfErr, IsOkUnless, MatchOption, Some, None, true, false, ◌+◌, ◌++◌, ◌∷◌, [], option_map, alloc_error};
+ghost use Rattle.std.specs.Prelude.{◌≡◌, ◌≢◌, ◌≤◌, ◌<◌, ◌↔◌, ◌⊎◌, IsNone, IsTrue, OnOk, OnErr, IfOk, IfErr, IsOkUnless, MatchOption, Some, None, true, false, ◌+◌, ◌++◌, ◌∷◌, [], option_map, alloc_error};
 ghost use Rattle.nest_model.specs.BuilderTree as builders;
 ghost use Rattle.nest_model.specs.Slot as slots;
 ghost use Rattle.nest_any.specs.Words.{BuilderTree, FailFirst, Fitting, HasItems, HasSize, HasWholeChildren, IsOfLists, IsWhole, Memory, Overflow, Pass, TellsNulls, told, builder_len, builder_type, child_nulls, cut_builder, emptied, empty_lists, item_type, items_needed, largest_length, layout_of, layout_type, lists_checks, lists_over, nulls_appended, own_slot, own_slots, physical_type, reserve_passes, row_checks, rows_len, slots_of, type_of};
@@ -55,7 +55,8 @@ impl TypedRows {
     }
 
     pub(crate) fn validity(&self) -> Option<&MutableBitmap>
-        ensures { (c : BuilderTree) → TellsNulls (option_map (λ b. b.now) result) (lists_over self.now c) }
+        ensures tells { (c : BuilderTree) → TellsNulls (option_map (λ b. b.now) result) (lists_over self.now c) }
+        ensures none { rows_len self.now ≡ 0 → IsNone result }
     {
         each_rows!(self, rows => rows.validity())
     }

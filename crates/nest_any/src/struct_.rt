@@ -1,5 +1,5 @@
 //! The builder of arrays of records.
-ghost use Rattle.std.specs.Prelude.{◌≡◌, ◌≢◌, ◌≤◌, ◌<◌, ◌+◌, ◌↔◌, ◌⊎◌, Bool, List, ℕ, IsTrue, OnOk, OnErr, IfOk, IfErr, IsErrOf, IsOkUnless, MatchResult, MatchOption, None, Some, true, false, option_map, alloc_error};
+ghost use Rattle.std.specs.Prelude.{◌≡◌, ◌≢◌, ◌≤◌, ◌<◌, ◌+◌, ◌↔◌, ◌⊎◌, Bool, List, ℕ, IsNone, IsTrue, OnOk, OnErr, IfOk, IfErr, IsErrOf, IsOkUnless, MatchResult, MatchOption, None, Some, true, false, option_map, alloc_error};
 ghost use Rattle.nest_memory.specs.TypeTree.{count_fields, fields_of};
 ghost use Rattle.nest_memory.specs.declared.datatypes.physical_type.PhysicalType.TheVariants as physical;
 ghost use Rattle.nest_model.specs.BuilderTree as builders;
@@ -168,7 +168,8 @@ impl MutableStructArray {
     }
 
     pub(crate) fn validity(&self) -> Option<&MutableBitmap>
-        ensures { TellsNulls (option_map (λ b. b.now) result) self.now }
+        ensures tells { TellsNulls (option_map (λ b. b.now) result) self.now }
+        ensures none { builder_len self.now ≡ 0 → IsNone result }
     {
         self.rows.validity()
     }
@@ -448,6 +449,8 @@ fn fault(
 impl MutableArray for MutableStructArray {
     ghost model = { λ b. b };
 
+    ghost bare = { λ b. builder_len b ≡ 0 };
+
     fn data_type(&self) -> &DataType {
         self.data_type()
     }
@@ -501,6 +504,7 @@ impl MutableArray for MutableStructArray {
         self.shrink()
     }
 
+    #[tactic(auto, using(crate::proofs::Over::emptied_none))]
     fn as_box(&mut self) -> Result<AnyArray, Error> {
         if !self.whole() {
             return Err(Error::InvalidArgumentError(Argument::Unfinished));

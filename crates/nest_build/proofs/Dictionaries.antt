@@ -1,5 +1,5 @@
 -- Builders of dictionaries as trees.
-use Rattle.std.specs.Prelude.{IfOk, IsOk, ◌↔◌, ◌⊎◌, Option, Some, None, Result, Ok, Err, OnOk, OnErr, IfErr, IsTrue, is_some, map, alloc_error}
+use Rattle.std.specs.Prelude.{IfOk, IsNone, IsOk, MatchOption, ◌↔◌, ◌⊎◌, Option, Some, None, Result, Ok, Err, OnOk, OnErr, IfErr, IsTrue, is_some, map, alloc_error}
 use Rattle.std.proofs.Common.{◌≡◌, ◌≢◌, ℕ, zero, suc, ◌+◌, ◌<◌, ◌≤◌, Bool, true, false, List, [], ◌∷◌, ◌++◌, length, get_or, take, refl, sym, ap, subst, ◌∙◌, inl, inr, arith}
 use Rattle.std.proofs.lemmas.Bool.{cases_lt, le-leb}
 use Rattle.std.proofs.lemmas.List.{length-map, get_or-map}
@@ -245,3 +245,8 @@ pub keyed-type : (t : TypeTree) (k : IntegerType) → key_type t ≡ Some k → 
 keyed-type (types.dictionary k u b) i h = refl
 keyed-type (types.extension n t m) i h = keyed-type t i h
 keyed-type t i h = cc
+
+-- a value that stands there has a key, so it is not lacking
+pub not_lacking : {K : Type 0} (o : Option K) (most n : ℕ) (P : K → Type 0) (c : BuilderTree) (v w : PlainValue) → MatchOption o (most ≤ n) P → Stands c w n → w ≡ v → builder_len c ≤ most → IsNone o ↔ Lacks c v
+not_lacking None most n P c v w m s e l = absurd (let k = s.0 in omega (arith, m, k, l))
+not_lacking (Some key) most n P c v w m s e l = (λ h. absurd (let p : true ≡ false = h in cc), λ h. absurd (h n (subst (λ u. Stands c u n) e s)))

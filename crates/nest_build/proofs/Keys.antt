@@ -2,7 +2,7 @@
 use Rattle.std.specs.Prelude.{Option, Some, None, Result, Ok, Err, IfOk, map, is_some, if◌then◌else◌}
 use Rattle.std.specs.Option.{unwrap_or}
 use Rattle.std.proofs.Common.{◌≡◌, ℕ, zero, suc, ℤ, pos, ◌+◌, ◌<◌, ◌≤◌, max, Bool, true, false, List, [], ◌∷◌, ◌++◌, length, get_or, take, replicate, refl, sym, ap, subst, ◌∙◌, arith}
-use Rattle.std.proofs.lemmas.List.{map_push, length-map, take-map}
+use Rattle.std.proofs.lemmas.List.{map_push, length-append, length-map, take-map}
 use Rattle.nest_memory.specs.Cut.{cut}
 use Rattle.nest_memory.specs.TypeTree.{TypeTree}
 use Rattle.nest_memory.specs.declared.datatypes.physical_type.PrimitiveType.{PrimitiveType}
@@ -83,7 +83,21 @@ pub kept_push : (a b : Layout) (k : PrimitiveType) (t : TypeTree) (vs : List (Li
 kept_push a b k t vs va x o n m h e f g w c = record {
   raw = ap raw_keys f ∙ (raw-push a k t vs va x e ∙ (rw (h.raw, w) (sym (map_push raw_key (keys_told a) o)) ∙ sym (ap (map raw_key) g)));
   count = c ∙ sym (ap values_needed g);
+  bare = λ z. absurd (omega (arith, z, sym (told-length b), ap length g, length-append (keys_told a) (o ∷ [])));
 }
+
+-- no validity without a row
+pub bare_none : (a : Layout) (keys : List (Option ℕ)) → keys_told a ≡ keys → (len a ≡ 0 → validity_of a ≡ None) → keys ≡ [] → validity_of a ≡ None
+bare_none a keys e h z = h (sym (told-length a) ∙ ap length (e ∙ z))
+
+some_left : {A : Type 0} (xs : List A) (n : ℕ) → 0 < n → 0 < length xs → 0 < length (take n xs)
+some_left [] n p l = absurd (omega arith)
+some_left (x ∷ xs) zero p l = absurd (omega arith)
+some_left (x ∷ xs) (suc n) p l = omega arith
+
+-- some rows are left
+pub rows_left : (a b : Layout) (n : ℕ) → keys_told b ≡ take n (keys_told a) → 0 < n → 0 < len a → 0 < len b
+rows_left a b n e p l = omega (arith, told-length b, ap length e, some_left (keys_told a) n p (let m = told-length a in omega arith))
 
 pub whole_zeros : (n : ℕ) → whole (replicate n (pos 0)) ≡ pos 0
 whole_zeros zero = refl

@@ -1,5 +1,5 @@
 -- Rows of lists by their offsets and bits.
-use Rattle.std.specs.Prelude.{Option, Some, None, slice_index, ◌⊎◌, Result, Err, IsErrOf, alloc_error}
+use Rattle.std.specs.Prelude.{Option, Some, None, slice_index, ◌⊎◌, Result, Err, IsErrOf, IsNone, alloc_error, option_map}
 use Rattle.std.proofs.Common.{append_assoc, ◌≡◌, ℕ, zero, suc, ◌+◌, ◌<◌, Bool, true, false, List, [], ◌∷◌, ◌++◌, length, map, replicate, drop, take, get_or, refl, ap, sym, ◌∙◌, subst, arith, length-drop, inl, inr, ◌≤◌}
 use Rattle.std.proofs.lemmas.List.{drop-append-le, length-map, length-append}
 use Rattle.std.proofs.lemmas.Bool.{cases_lt}
@@ -17,7 +17,7 @@ use Rattle.nest_model.specs.BuilderFreeze.{SpellsBits, offsets_from, row_bits}
 use Rattle.nest_model.specs.BuilderJoin.{moved}
 use Rattle.nest_flat.specs.FlatParts.{ValidityCovers}
 use Rattle.nest_flat.specs.Growth.{pushed_validity, joined_validity}
-use Rattle.nest_build.specs.Rows.{zip_rows, rows_ending, rows_told, bits_told}
+use Rattle.nest_build.specs.Rows.{IsOfRows, zip_rows, rows_ending, rows_told, bits_told}
 
 -- where rows end
 abbrev ends : List Row → List ℕ
@@ -330,6 +330,33 @@ joined-fits None None n m k h j e = tt
 joined-fits None (Some bs) n m k h j e = omega (arith, length-append (replicate n true) bs, replicated n, j, e)
 joined-fits (Some bits) None n m k h j e = omega (arith, length-append bits (replicate m true), replicated m, h, e)
 joined-fits (Some bits) (Some bs) n m k h j e = omega (arith, length-append bits bs, h, j, e)
+
+pub joined-rows : (va vb : Validity) (n m k : ℕ) → IsOfRows va n → IsOfRows vb m → k ≡ n + m → IsOfRows (joined_validity va n vb m) k
+joined-rows va vb n m k h j e = record {
+  fits = joined-fits va vb n m k h.fits j.fits e;
+  bare = λ z. (λ i. joined_validity (h.bare (omega (arith, e, z)) i) n (j.bare (omega (arith, e, z)) i) m);
+}
+
+-- no row at all, whatever the validity
+no-row : {A : Type 0} (xs : List A) → length xs ≡ 0 → xs ≡ []
+no-row [] e = refl
+no-row (x ∷ xs) e = absurd (omega arith)
+
+ending-none : (va : Validity) → rows_ending va [] ≡ []
+ending-none None = refl
+ending-none (Some []) = refl
+ending-none (Some (b ∷ bs)) = refl
+
+pub told-same : (os : List ℕ) (va wa : Validity) → (0 < count_rows os → wa ≡ va) → (count_rows os ≡ 0 → wa ≡ None) → rows_told os wa ≡ rows_told os va
+told-same os va wa s n = elim (cases_lt 0 (count_rows os)) [
+  | inl lt ↦ ap (rows_told os) (s lt)
+  | inr le ↦ let d = no-row (drop 1 os) (omega (arith, tail-count os, le)) in ap (rows_ending wa) d ∙ ending-none wa ∙ sym (ap (rows_ending va) d ∙ ending-none va)
+]
+
+-- a validity that is not there is not shown
+pub none_shown : {A B : Type 0} (f : A → B) (r : Option A) (va : Option B) → option_map f r ≡ va → va ≡ None → IsNone r
+none_shown f None va e h = refl
+none_shown f (Some x) va e h = absurd (let p : Some (f x) ≡ None = e ∙ h in cc)
 
 -- rows that were told by their lengths so far
 pub so-far-end : (rs now : List Row) (ns : List (Option ℕ)) → now ≡ rs ++ rows_of_lengths (end_from 0 rs) ns → end_from 0 now ≡ end_from 0 rs + items_told ns

@@ -4,8 +4,8 @@ use Rattle.nest_model.specs.Part.{place}
 use Rattle.nest_model.specs.Slot as slots
 use Rattle.nest_model.specs.Slot.{Slot}
 use Rattle.nest_model.specs.Layout.{Layout}
-use Rattle.nest_model.specs.Accessors.{whole, raw_keys}
-use Rattle.nest_model.specs.Meaning.{slots_of}
+use Rattle.nest_model.specs.Accessors.{whole, raw_keys, validity_of}
+use Rattle.nest_model.specs.Meaning.{len, slots_of}
 use Rattle.nest_model.specs.BuilderRow.{values_needed}
 use Rattle.nest_model.specs.BuilderTree.{BuilderTree, dictionary}
 
@@ -22,10 +22,11 @@ abbrev pub raw_key : Option ℕ → ℤ
 raw_key None = pos 0
 raw_key (Some k) = pos k
 
--- each raw key is its row's, and they need so many values
+-- each raw key is its row's, and they need so many values; without a row there is no validity
 pub record AreKept (a : Layout) (needed : ℕ) : Type 0 where
   pub raw : raw_keys a ≡ map raw_key (keys_told a)
   pub count : needed ≡ values_needed (keys_told a)
+  pub bare : len a ≡ 0 → validity_of a ≡ None
 
 -- the keys and the values of a builder of dictionaries
 abbrev pub told_keys : BuilderTree → List (Option ℕ)

@@ -1,18 +1,33 @@
 -- The data types of builders of lists, and why no builder is made.
-use Rattle.std.specs.Prelude.{◌≡◌, ℕ, ◌<◌, Bool, Some, if◌then◌else◌}
+use Rattle.std.specs.Prelude.{◌≡◌, ◌≢◌, ◌⊎◌, ℕ, ◌<◌, Bool, [], Some, alloc_error, if◌then◌else◌}
 use Rattle.nest_memory.specs.TypeTree as types
 use Rattle.nest_memory.specs.TypeTree.{TypeTree, FieldTree, item_type, size_of}
 use Rattle.nest_memory.specs.Physical.{list_of_width, physical_type}
 use Rattle.nest_memory.specs.declared.datatypes.physical_type.PhysicalType.TheVariants as physical
 use Rattle.nest_memory.specs.declared.error.Argument.TheVariants.{ChildNotEmpty}
-use Rattle.nest_memory.specs.declared.error.Error.TheVariants.{InvalidArgumentError, OutOfSpec}
+use Rattle.nest_memory.specs.declared.error.Error.{Error}
+use Rattle.nest_memory.specs.declared.error.Error.TheVariants.{InvalidArgumentError, Memory, OutOfSpec}
 use Rattle.nest_memory.specs.declared.error.Spec.TheVariants.{ChildType, WrongType, ZeroSize}
 use Rattle.nest_model.specs.Checks.{Checks, done, check}
-use Rattle.nest_model.specs.BuilderTree.{BuilderTree, builder_len, builder_type}
+use Rattle.nest_model.specs.BuilderTree.{BuilderTree, list, fixed_size_list, builder_len, builder_type}
 
 -- lists of such items, by offsets of 64 bits or of 32
 abbrev pub list_type : Bool → FieldTree → TypeTree
 list_type large f = if large then types.large_list f else types.list f
+
+-- no row of such lists over a child
+abbrev pub no_lists : Bool → FieldTree → BuilderTree → BuilderTree
+no_lists large f c = list large (list_type large f) [] c
+
+abbrev pub no_fixed_lists : FieldTree → ℕ → BuilderTree → BuilderTree
+no_fixed_lists f size c = fixed_size_list (types.fixed_size_list f size) [] c
+
+-- a child is refused that has rows, then a size of no item; or memory was wanting
+abbrev pub RefusesChild : BuilderTree → Error → Type 0
+RefusesChild c e = (e ≡ Memory alloc_error) ⊎ ((e ≡ InvalidArgumentError ChildNotEmpty) × (builder_len c ≢ 0))
+
+abbrev pub RefusesFixed : ℕ → BuilderTree → Error → Type 0
+RefusesFixed size c e = (e ≡ Memory alloc_error) ⊎ (((e ≡ InvalidArgumentError ChildNotEmpty) × (builder_len c ≢ 0)) ⊎ ((e ≡ OutOfSpec ZeroSize) × (builder_len c ≡ 0) × (size ≡ 0)))
 
 -- a data type isn't one of such lists, or its lists have items of another type
 abbrev pub list_type_checks : Bool → TypeTree → TypeTree → Checks

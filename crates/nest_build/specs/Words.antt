@@ -5,7 +5,7 @@ pub use Rattle.nest_array.specs.Types.{default_field, default_list_type}
 pub use Rattle.nest_build.specs.BuiltKind.{built_kind}
 pub use Rattle.nest_build.specs.Children.{IsListBy, ListCovers, list_child}
 pub use Rattle.nest_build.specs.FlatTree.{flat_tree}
-pub use Rattle.nest_build.specs.Rows.{Spells, bits_told, rows_told, told_rows_checks}
+pub use Rattle.nest_build.specs.Rows.{EndsPast, Spells, WithinLimits, bits_told, rows_told, told_rows_checks}
 pub use Rattle.nest_build.specs.Slices.{row_item, row_len}
 pub use Rattle.nest_build.specs.Told.{IsOfOtherKind, TellsNulls, own_slot, reserve_passes}
 pub use Rattle.nest_flat.specs.AnyMutablePrimitive.{built_layout}

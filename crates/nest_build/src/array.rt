@@ -1,5 +1,5 @@
 //! What every builder does: arrow2's trait `MutableArray`.
-ghost use Rattle.std.specs.Prelude.{◌≡◌, ◌≢◌, ◌≤◌, ◌<◌, ◌↔◌, ◌⊎◌, true, false, IsTrue, OnOk, OnErr, IfOk, IfErr, IsErrOf, IsOkUnless, Some, None, option_map, alloc_error};
+ghost use Rattle.std.specs.Prelude.{◌≡◌, ◌≢◌, ◌≤◌, ◌<◌, ◌↔◌, ◌⊎◌, true, false, IsNone, IsTrue, OnOk, OnErr, IfOk, IfErr, IsErrOf, IsOkUnless, Some, None, option_map, alloc_error};
 ghost use Rattle.nest_model.specs.BuilderItem.{null as null_item};
 ghost use Rattle.nest_model.specs.Slot as slots;
 ghost use Rattle.nest_build.specs.Words.{Accepted, BuilderTree, Holds, InvalidArgumentError, IsOfOtherKind, IsWhole, ItemType, Memory, Overflow, TellsNulls, Unfinished, asked_item, asked_refusal, builder_len, builder_type, cut_builder, emptied, item_refusal, layout_of, layout_type, own_slot, own_slots, plain_value, plain_values, reserve_passes, slots_of, type_of};
@@ -21,6 +21,9 @@ pub trait MutableArray: Drop {
     /// Its levels.
     ghost model: { Self → BuilderTree };
 
+    /// That it has no validity.
+    ghost bare: { Self → Type 0 };
+
     /// Its data type.
     fn data_type(&self) -> &DataType
         ensures { type_of result.now ≡ builder_type (model self.now) };
@@ -35,7 +38,8 @@ pub trait MutableArray: Drop {
 
     /// Which rows are valid, a bit a row; without it all are, but for a builder of nulls.
     fn validity(&self) -> Option<&MutableBitmap>
-        ensures { TellsNulls (option_map (λ b. b.now) result) (model self.now) };
+        ensures tells { TellsNulls (option_map (λ b. b.now) result) (model self.now) }
+        ensures none { bare self.now → IsNone result };
 
     /// Whether row i is not null.
     fn is_valid(&self, i: usize) -> bool
@@ -110,6 +114,7 @@ pub trait MutableArray: Drop {
         ensures unfinished { IsErrOf result (InvalidArgumentError Unfinished) ↔ ¬ IsWhole (model self.old) }
         ensures unchanged { ¬ IsWhole (model self.old) → model self.new ≡ model self.old }
         ensures emptied { IsWhole (model self.old) → model self.new ≡ emptied (model self.old) }
+        ensures validity { IsWhole (model self.old) → bare self.new }
         ensures errors { IfErr result (λ e. (e ≡ InvalidArgumentError Unfinished) ⊎ (e ≡ Memory alloc_error)) };
 
     /// The same array, owned by what shares it.
@@ -122,6 +127,7 @@ pub trait MutableArray: Drop {
         ensures unfinished { IsErrOf result (InvalidArgumentError Unfinished) ↔ ¬ IsWhole (model self.old) }
         ensures unchanged { ¬ IsWhole (model self.old) → model self.new ≡ model self.old }
         ensures emptied { IsWhole (model self.old) → model self.new ≡ emptied (model self.old) }
+        ensures validity { IsWhole (model self.old) → bare self.new }
         ensures errors { IfErr result (λ e. (e ≡ InvalidArgumentError Unfinished) ⊎ (e ≡ Memory alloc_error)) };
 }
 

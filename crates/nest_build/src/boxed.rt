@@ -11,6 +11,8 @@ use std::rc::Rc;
 impl MutableArray for Box<dyn MutableArray> {
     ghost model = { λ b. (MutableArray-box b).model b.value };
 
+    ghost bare = { λ b. (MutableArray-box b).bare b.value };
+
     fn data_type(&self) -> &DataType {
         (**self).data_type()
     }

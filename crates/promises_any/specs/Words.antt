@@ -4,6 +4,7 @@ pub use Rattle.nest_any.specs.Lent.{as_list, as_struct, child_builder}
 pub use Rattle.nest_any.specs.Refusals.{first_rows, nested_checks, nested_over, struct_checks}
 pub use Rattle.nest_any.specs.Trees.{tree_of, trees_of}
 pub use Rattle.nest_array.specs.Seen.{layout_of}
+pub use Rattle.nest_build.specs.Children.{list_child}
 pub use Rattle.nest_build.specs.Keys.{dictionary_child}
 pub use Rattle.nest_build.specs.Rows.{bits_told}
 pub use Rattle.nest_memory.specs.TypeOf.{type_of}

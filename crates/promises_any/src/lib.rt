@@ -10,7 +10,7 @@ ghost use Rattle.nest_any.specs.contracts.struct_.MutableStructArray.{the_row as
 ghost use Rattle.nest_any.specs.declared.any.AnyMutableArray.TheVariants.{List, Struct};
 ghost use Rattle.nest_model.specs.BuilderItem.{null as null_item};
 ghost use Rattle.nest_model.specs.BuilderTree as builders;
-ghost use Rattle.promises_any.specs.Words.{Accepted, AreEachWhole, FailFirst, HasWholeChildren, InvalidArgumentError, IsWhole, Memory, Pass, Stands, Told, Unfinished, as_list, as_struct, bits_told, builder_type, child_builder, dictionary_child, dictionary_tree, emptied, first_rows, item_refusal, layout_of, layout_type, nested_checks, nested_over, own_slots, row_checks, slots_of, struct_checks, tree_of, trees_of, type_of};
+ghost use Rattle.promises_any.specs.Words.{Accepted, AreEachWhole, FailFirst, HasWholeChildren, InvalidArgumentError, IsWhole, Memory, Pass, Stands, Told, Unfinished, as_list, as_struct, bits_told, builder_type, child_builder, dictionary_child, dictionary_tree, emptied, first_rows, item_refusal, layout_of, layout_type, list_child, nested_checks, nested_over, own_slots, row_checks, slots_of, struct_checks, tree_of, trees_of, type_of};
 
 use nest_any::{AnyMutableArray, AnyMutableDictionary, ListBuilder, MutableStructArray};
 use nest_array::{AnyArray, StructArray};
@@ -101,6 +101,13 @@ pub fn tell_any(builder: &mut AnyMutableArray, valid: bool) -> Result<(), Error>
     ensures refused { IfErr result (λ e. (e ≡ Memory alloc_error) ⊎ FailFirst e (row_checks (tree_of builder.old))) }
 {
     builder.tell(valid)
+}
+
+/// Over a whole child a row of lists may be told.
+pub fn lists_may_be_told(lists: &ListBuilder)
+    ensures { IsWhole (list_child lists.now) → HasWholeChildren lists.now }
+{
+    lists.known()
 }
 
 /// Whether a row may be told.

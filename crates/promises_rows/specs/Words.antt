@@ -19,7 +19,7 @@ pub use Rattle.nest_memory.specs.declared.error.Error.TheVariants.{InvalidArgume
 pub use Rattle.nest_model.specs.Accessors.{bytes_of, whole}
 pub use Rattle.nest_model.specs.BuilderAppend.{Accepted}
 pub use Rattle.nest_model.specs.BuilderTold.{HasWholeChildren, Told, ToldLengths, lengths_checks, row_checks}
-pub use Rattle.nest_model.specs.BuilderItem.{Holds, Stands, slot_of_item}
+pub use Rattle.nest_model.specs.BuilderItem.{Holds, Lacks, Stands, slot_of_item}
 pub use Rattle.nest_model.specs.BuilderJoin.{Joined, join_checks}
 pub use Rattle.nest_model.specs.BuilderLevels.{own_slots}
 pub use Rattle.nest_model.specs.BuilderReading.{Refused, RefusedSome, Took, TookAll, TookEach}

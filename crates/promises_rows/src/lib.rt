@@ -8,13 +8,13 @@ pub mod dictionaries;
 pub mod leaves;
 pub mod owned;
 
-ghost use Rattle.std.specs.Prelude.{◌≡◌, ◌≢◌, ◌≤◌, ◌<◌, ◌+◌, ◌⊎◌, ◌↔◌, ◌++◌, ◌∷◌, [], true, false, ℕ, map, length, option_map, pos, slice_get, take, IsTrue, OnOk, OnErr, IfOk, IfErr, IfSome, IfNone, IsErrOf, IsOkUnless, None, Some, alloc_error};
+ghost use Rattle.std.specs.Prelude.{◌≡◌, ◌≢◌, ◌≤◌, ◌<◌, ◌+◌, ◌⊎◌, ◌↔◌, ◌++◌, ◌∷◌, [], true, false, ℕ, map, length, option_map, pos, slice_get, take, IsTrue, OnOk, OnErr, IfOk, IfErr, IfSome, IfNone, IsErrOf, IsNone, IsOkUnless, None, Some, alloc_error};
 ghost use Rattle.std.specs.List.{All, items_where_true};
 ghost use Rattle.std.specs.Option.{option_copied};
 ghost use Rattle.nest_model.specs.BuilderItem.{null as null_item};
 ghost use Rattle.nest_model.specs.BuilderTree as builders;
 ghost use Rattle.nest_model.specs.Slot as slots;
-ghost use Rattle.promises_rows.specs.Words.{Accepted, AreDifferent, CanRead, FailFirst, HasWholeChildren, Holds, InvalidArgumentError, IsOfOtherKind, IsWhole, ItemType, Joined, Memory, Overflow, Pass, Refused, RefusedSome, Stands, TellsNulls, Told, ToldLengths, Took, TookAll, TookEach, Unfinished, asked_item, asked_refusal, builder_len, builder_type, cut_builder, dictionary_child, emptied, item_refusal, join_checks, largest_offset, layout_of, layout_type, lengths_checks, list_child, new_fixed_checks, new_list_checks, own_slot, own_slots, plain_value, plain_values, reserve_passes, row_checks, row_item, row_len, rows_told, slot_of_item, slots_of, told_rows_checks, type_of, whole};
+ghost use Rattle.promises_rows.specs.Words.{Accepted, AreDifferent, CanRead, FailFirst, HasWholeChildren, Holds, InvalidArgumentError, IsOfOtherKind, IsWhole, ItemType, Joined, Lacks, Memory, Overflow, Pass, Refused, RefusedSome, Stands, TellsNulls, Told, ToldLengths, Took, TookAll, TookEach, Unfinished, asked_item, asked_refusal, builder_len, builder_type, cut_builder, dictionary_child, emptied, item_refusal, join_checks, largest_offset, layout_of, layout_type, lengths_checks, list_child, new_fixed_checks, new_list_checks, own_slot, own_slots, plain_value, plain_values, reserve_passes, row_checks, row_item, row_len, rows_told, slot_of_item, slots_of, told_rows_checks, type_of, whole};
 
 use nest_array::AnyArray;
 use nest_build::array::MutableArray;
@@ -55,7 +55,8 @@ pub fn is_row<B: MutableArray>(builder: &B, i: usize) -> bool
 
 /// The same of all rows at once, a bit each; without bits no row is null, but in a builder of nulls.
 pub fn bits_of_rows<B: MutableArray>(builder: &B) -> Option<&MutableBitmap>
-    ensures { TellsNulls (option_map (λ b. b.now) result) (B.model builder.now) }
+    ensures tells { TellsNulls (option_map (λ b. b.now) result) (B.model builder.now) }
+    ensures none { B.bare builder.now → IsNone result }
 {
     builder.validity()
 }
@@ -162,6 +163,7 @@ pub fn freeze_rows<B: MutableArray>(builder: &mut B) -> Result<AnyArray, Error>
     ensures unfinished { IsErrOf result (InvalidArgumentError Unfinished) ↔ ¬ IsWhole (B.model builder.old) }
     ensures unchanged { ¬ IsWhole (B.model builder.old) → B.model builder.new ≡ B.model builder.old }
     ensures emptied { IsWhole (B.model builder.old) → B.model builder.new ≡ emptied (B.model builder.old) }
+    ensures validity { IsWhole (B.model builder.old) → B.bare builder.new }
     ensures errors { IfErr result (λ e. (e ≡ InvalidArgumentError Unfinished) ⊎ (e ≡ Memory alloc_error)) }
 {
     builder.as_box()
@@ -174,9 +176,19 @@ pub fn freeze_shared<B: MutableArray>(builder: &mut B, alloc: Global) -> Result<
     ensures unfinished { IsErrOf result (InvalidArgumentError Unfinished) ↔ ¬ IsWhole (B.model builder.old) }
     ensures unchanged { ¬ IsWhole (B.model builder.old) → B.model builder.new ≡ B.model builder.old }
     ensures emptied { IsWhole (B.model builder.old) → B.model builder.new ≡ emptied (B.model builder.old) }
+    ensures validity { IsWhole (B.model builder.old) → B.bare builder.new }
     ensures errors { IfErr result (λ e. (e ≡ InvalidArgumentError Unfinished) ⊎ (e ≡ Memory alloc_error)) }
 {
     builder.as_arc(alloc)
+}
+
+/// A builder that was frozen shows no validity.
+pub fn shows_validity_after_freeze<B: MutableArray>(builder: &mut B) -> bool
+    requires { IsWhole (B.model builder.old) }
+    ensures { result ≡ false }
+{
+    drop(builder.as_box());
+    builder.validity().is_some()
 }
 
 /// Each item that is accepted, in order; the others are left, and the marks say which.
@@ -244,9 +256,9 @@ pub fn tell_row<O: ListWidth, M: MutableArray>(
     lists: &mut MutableListArray<O, M>,
 ) -> Result<(), Error>
     requires { HasWholeChildren (⟦<MutableListArray<O, M> as MutableArray>⟧.model lists.old) }
-    ensures ok { OnOk result (Told true (⟦<MutableListArray<O, M> as MutableArray>⟧.model lists.old) (⟦<MutableListArray<O, M> as MutableArray>⟧.model lists.new)) }
+    ensures ok { let tree = ⟦<MutableListArray<O, M> as MutableArray>⟧.model in OnOk result (Told true (tree lists.old) (tree lists.new)) }
     ensures passed { OnOk result (Pass (row_checks (⟦<MutableListArray<O, M> as MutableArray>⟧.model lists.old))) }
-    ensures err { OnErr result (⟦<MutableListArray<O, M> as MutableArray>⟧.model lists.new ≡ ⟦<MutableListArray<O, M> as MutableArray>⟧.model lists.old) }
+    ensures err { let tree = ⟦<MutableListArray<O, M> as MutableArray>⟧.model in OnErr result (tree lists.new ≡ tree lists.old) }
     ensures refused { IfErr result (λ e. (e ≡ Memory alloc_error) ⊎ FailFirst e (row_checks (⟦<MutableListArray<O, M> as MutableArray>⟧.model lists.old))) }
 {
     lists.try_push_valid()
@@ -258,9 +270,9 @@ pub fn tell_rows<O: ListWidth, M: MutableArray>(
     lengths: &[Option<usize>],
 ) -> Result<(), Error>
     requires { HasWholeChildren (⟦<MutableListArray<O, M> as MutableArray>⟧.model lists.old) }
-    ensures ok { OnOk result (ToldLengths lengths.now (⟦<MutableListArray<O, M> as MutableArray>⟧.model lists.old) (⟦<MutableListArray<O, M> as MutableArray>⟧.model lists.new)) }
+    ensures ok { let tree = ⟦<MutableListArray<O, M> as MutableArray>⟧.model in OnOk result (ToldLengths lengths.now (tree lists.old) (tree lists.new)) }
     ensures passed { OnOk result (Pass (lengths_checks lengths.now (⟦<MutableListArray<O, M> as MutableArray>⟧.model lists.old))) }
-    ensures err { OnErr result (⟦<MutableListArray<O, M> as MutableArray>⟧.model lists.new ≡ ⟦<MutableListArray<O, M> as MutableArray>⟧.model lists.old) }
+    ensures err { let tree = ⟦<MutableListArray<O, M> as MutableArray>⟧.model in OnErr result (tree lists.new ≡ tree lists.old) }
     ensures refused { IfErr result (λ e. (e ≡ Memory alloc_error) ⊎ FailFirst e (lengths_checks lengths.now (⟦<MutableListArray<O, M> as MutableArray>⟧.model lists.old))) }
 {
     lists.try_extend_from_lengths(lengths)
@@ -271,9 +283,9 @@ pub fn tell_row_of_size<M: MutableArray>(
     lists: &mut MutableFixedSizeListArray<M>,
 ) -> Result<(), Error>
     requires { HasWholeChildren (⟦<MutableFixedSizeListArray<M> as MutableArray>⟧.model lists.old) }
-    ensures ok { OnOk result (Told true (⟦<MutableFixedSizeListArray<M> as MutableArray>⟧.model lists.old) (⟦<MutableFixedSizeListArray<M> as MutableArray>⟧.model lists.new)) }
+    ensures ok { let tree = ⟦<MutableFixedSizeListArray<M> as MutableArray>⟧.model in OnOk result (Told true (tree lists.old) (tree lists.new)) }
     ensures passed { OnOk result (Pass (row_checks (⟦<MutableFixedSizeListArray<M> as MutableArray>⟧.model lists.old))) }
-    ensures err { OnErr result (⟦<MutableFixedSizeListArray<M> as MutableArray>⟧.model lists.new ≡ ⟦<MutableFixedSizeListArray<M> as MutableArray>⟧.model lists.old) }
+    ensures err { let tree = ⟦<MutableFixedSizeListArray<M> as MutableArray>⟧.model in OnErr result (tree lists.new ≡ tree lists.old) }
     ensures refused { IfErr result (λ e. (e ≡ Memory alloc_error) ⊎ FailFirst e (row_checks (⟦<MutableFixedSizeListArray<M> as MutableArray>⟧.model lists.old))) }
 {
     lists.try_push_valid()
@@ -285,9 +297,9 @@ pub fn push_values<O: ListWidth, A: AsPlain + Copy + Drop, M: FlatBuilder + Take
     row: Option<&[Option<A>]>,
 ) -> Result<(), Error>
     requires { IsWhole (⟦<MutableListArray<O, M> as MutableArray>⟧.model lists.old) }
-    ensures accepted { OnOk result (Accepted (row_item A.value (option_copied row.entry)) (⟦<MutableListArray<O, M> as MutableArray>⟧.model lists.old) (⟦<MutableListArray<O, M> as MutableArray>⟧.model lists.new)) }
+    ensures accepted { let tree = ⟦<MutableListArray<O, M> as MutableArray>⟧.model in OnOk result (Accepted (row_item A.value (option_copied row.entry)) (tree lists.old) (tree lists.new)) }
     ensures fits { OnOk result (item_refusal (row_item A.value (option_copied row.entry)) (⟦<MutableListArray<O, M> as MutableArray>⟧.model lists.old) ≡ None) }
-    ensures err { OnErr result (⟦<MutableListArray<O, M> as MutableArray>⟧.model lists.new ≡ ⟦<MutableListArray<O, M> as MutableArray>⟧.model lists.old) }
+    ensures err { let tree = ⟦<MutableListArray<O, M> as MutableArray>⟧.model in OnErr result (tree lists.new ≡ tree lists.old) }
     ensures refused { IfErr result (λ e. (e ≡ Memory alloc_error) ⊎ (item_refusal (row_item A.value (option_copied row.entry)) (⟦<MutableListArray<O, M> as MutableArray>⟧.model lists.old) ≡ Some e)) }
 {
     lists.try_push_slice(row)
@@ -299,9 +311,9 @@ pub fn push_fixed_values<A: AsPlain + Copy + Drop, M: FlatBuilder + TakesValue<A
     row: Option<&[Option<A>]>,
 ) -> Result<(), Error>
     requires { IsWhole (⟦<MutableFixedSizeListArray<M> as MutableArray>⟧.model lists.old) }
-    ensures accepted { OnOk result (Accepted (row_item A.value (option_copied row.entry)) (⟦<MutableFixedSizeListArray<M> as MutableArray>⟧.model lists.old) (⟦<MutableFixedSizeListArray<M> as MutableArray>⟧.model lists.new)) }
+    ensures accepted { let tree = ⟦<MutableFixedSizeListArray<M> as MutableArray>⟧.model in OnOk result (Accepted (row_item A.value (option_copied row.entry)) (tree lists.old) (tree lists.new)) }
     ensures fits { OnOk result (item_refusal (row_item A.value (option_copied row.entry)) (⟦<MutableFixedSizeListArray<M> as MutableArray>⟧.model lists.old) ≡ None) }
-    ensures err { OnErr result (⟦<MutableFixedSizeListArray<M> as MutableArray>⟧.model lists.new ≡ ⟦<MutableFixedSizeListArray<M> as MutableArray>⟧.model lists.old) }
+    ensures err { let tree = ⟦<MutableFixedSizeListArray<M> as MutableArray>⟧.model in OnErr result (tree lists.new ≡ tree lists.old) }
     ensures refused { IfErr result (λ e. (e ≡ Memory alloc_error) ⊎ (item_refusal (row_item A.value (option_copied row.entry)) (⟦<MutableFixedSizeListArray<M> as MutableArray>⟧.model lists.old) ≡ Some e)) }
 {
     lists.try_push_slice(row)
@@ -345,12 +357,14 @@ pub fn different_values<K: BuilderKey, M: MutableArray>(
     builder.values()
 }
 
-/// A value has a key exactly where the child takes it and it stands among the values; the key is its place there.
+/// A value has a key exactly where the child takes it and it stands among the values; the key is its place there, and there is
+/// none exactly where it stands nowhere.
 pub fn key_of_value<K: BuilderKey, M: MutableArray, T: AsPlain>(
     builder: &MutableDictionaryArray<K, M>,
     value: &T,
 ) -> Option<K>
-    ensures { (k : ℕ) → (option_map (λ key. whole (K.numbers key)) result ≡ Some (pos k)) ↔ Stands (dictionary_child (⟦<MutableDictionaryArray<K, M> as MutableArray>⟧.model builder.now)) (T.value value.now) k }
+    ensures place { (k : ℕ) → (option_map (λ key. whole (K.numbers key)) result ≡ Some (pos k)) ↔ Stands (dictionary_child (⟦<MutableDictionaryArray<K, M> as MutableArray>⟧.model builder.now)) (T.value value.now) k }
+    ensures absent { IsNone result ↔ Lacks (dictionary_child (⟦<MutableDictionaryArray<K, M> as MutableArray>⟧.model builder.now)) (T.value value.now) }
 {
     builder.key_of(value)
 }

@@ -12,6 +12,7 @@
 //! | Records are shared, and taken apart into their data type and children | `records::records_are_shared_and_taken_apart` |
 //! | Of a validity without nulls `freeze` leaves none, `as_box` keeps it | `records::freeze_drops_a_validity_without_nulls` |
 //! | A record waits in a builder of lists over records until it is told | `records::an_untold_record_waits_under_a_list` |
+//! | A null brings records and builders of any kind a validity, and a freeze takes it | `bare` |
 //! | Records of a child that is known to fit, made without checks; a number for the child that they lend | `known_parts` |
 //! | "A", "B", null, "A" are frozen to the keys 0, 1, null, 0 over two texts; the emptied builder takes "C" by key 0 | `dictionaries::each_text_is_kept_once` |
 //! | A number of 32 bits is no value of a dictionary of numbers of 64 bits, and a text is refused | `dictionaries::a_number_is_found_by_its_own_kind` |
@@ -23,6 +24,7 @@
 //! | A number that was pushed twice is one value with a key, another has none | `nested_dictionaries::a_number_is_looked_up` |
 //! | Records 1, null and 2 slot by slot, and the raw numbers below them; a fourth that is not told keeps them from being frozen | `slots::told_records_are_the_slots` |
 
+mod bare;
 mod dictionaries;
 mod known_parts;
 mod nested_dictionaries;

@@ -27,6 +27,8 @@
 //! | In a table of hashes 0, 0, 0, 8, 8 number 2 is found by hash 0 and not by 8; cut to two hashes it is gone. A thousand numbers of one hash, and numbers around the end of the places, are found | `key_tables` |
 //! | Any one request for memory refused: a table of hashes is as it was | `key_tables::a_refused_push_changes_nothing` |
 //! | "A", "B", null, "C" are frozen to the keys 0, 1, null, 2 over these values; the emptied builder takes "C" by key 0 | `dictionaries::rows_are_the_keys_of_their_values` |
+//! | A null brings a validity, and a freeze takes it: of lists by either width and of one size, of dictionaries, flat and boxed builders; so does a cut to no row of nested ones | `bare` |
+//! | A value that is there has its place as its key, and one that is not there has none: by keys with a sign and without, of bytes, of texts and of texts by keys of their own | `keys_of_values` |
 //! | A value's key is found by its own kind alone | `dictionaries::a_key_is_of_its_own_kind` |
 //! | 128 values by keys of 8 bits with a sign, and no other; a known one is taken | `dictionaries::a_full_key_type_takes_known_values` |
 //! | A value of another size leaves no key and no value | `dictionaries::a_value_of_another_size_leaves_no_key` |
@@ -38,6 +40,7 @@
 //! | Rows that were accepted, of lists of pairs, of lists of one size and by keys, slot by slot; extensions are kept | `frozen` |
 //! | Items that an iterator gives whose size hint is loose | `hints` |
 
+mod bare;
 mod by_parts;
 mod bytes;
 mod dictionaries;
@@ -47,6 +50,7 @@ mod flat;
 mod frozen;
 mod hints;
 mod key_tables;
+mod keys_of_values;
 mod lists;
 mod makers;
 mod nested;

@@ -1,5 +1,5 @@
 //! The builder of arrays of dictionaries, over any builder of their values.
-ghost use Rattle.std.specs.Prelude.{◌≡◌, ◌≢◌, ◌<◌, ◌≤◌, ◌⊎◌, ◌↔◌, [], ℕ, ⊤, pos, false, IfErr, IfOk, IsErrOf, IsOk, IsOkUnless, IsTrue, None, OnErr, OnOk, Some, alloc_error, option_map};
+ghost use Rattle.std.specs.Prelude.{◌≡◌, ◌≢◌, ◌<◌, ◌≤◌, ◌⊎◌, ◌↔◌, [], ℕ, ⊤, pos, false, IfErr, IfOk, IsErrOf, IsNone, IsOk, IsOkUnless, IsTrue, None, OnErr, OnOk, Some, alloc_error, option_map};
 ghost use Rattle.nest_array.specs.Types.{default_dictionary_type};
 ghost use Rattle.nest_model.specs.Accessors.{whole};
 ghost use Rattle.nest_model.specs.BuilderFreeze.{SpellsKeys};
@@ -15,7 +15,8 @@ ghost use Rattle.nest_memory.specs.TypeTree.{key_type};
 ghost use Rattle.nest_array.specs.SeenKeys.{keys_layout};
 ghost use Rattle.nest_build.specs.Hashes.{value_hash};
 ghost use Rattle.nest_build.specs.Keys.{dictionary_child, told_keys};
-ghost use Rattle.nest_build.specs.Words.{Accepted, ChildNotEmpty, Fits, InvalidArgumentError, IsWhole, ItemType, Memory, Overflow, ReadsValue, Unfinished, builder_len, builder_type, emptied, layout_of, layout_type, own_slots, plain_refusal, plain_value, slots_of, type_of};
+ghost use Rattle.nest_build.specs.Lists.{RefusesChild};
+ghost use Rattle.nest_build.specs.Words.{Accepted, ChildNotEmpty, Fits, InvalidArgumentError, IsWhole, ItemType, Memory, Overflow, ReadsValue, Unfinished, builder_len, builder_type, emptied, layout_of, layout_type, own_slots, plain_refusal, plain_value, slots_of, type_of, validity_of};
 
 use crate::array::{MutableArray, shared};
 use crate::dictionary::data_type::DictionaryType;
@@ -89,7 +90,7 @@ impl<K: BuilderKey, M: MutableArray> MutableDictionaryArray<K, M> {
         requires { IsWhole (M.model values) }
         ensures ok { IfOk result (λ b. ⟦<MutableDictionaryArray<K, M> as MutableArray>⟧.model b ≡ builders.dictionary K.KEY_TYPE (default_dictionary_type K.KEY_TYPE (builder_type (M.model values))) [] (M.model values)) }
         ensures empty { IfOk result (λ b. builder_len (M.model values) ≡ 0) }
-        ensures cause { IfErr result (λ e. (e ≡ Memory alloc_error) ⊎ ((e ≡ InvalidArgumentError ChildNotEmpty) × (builder_len (M.model values) ≢ 0))) }
+        ensures cause { IfErr result (RefusesChild (M.model values)) }
     {
         if !values.is_empty() {
             return Err(Error::InvalidArgumentError(Argument::ChildNotEmpty));
@@ -106,7 +107,8 @@ impl<K: BuilderKey, M: MutableArray> MutableDictionaryArray<K, M> {
 
     /// The keys, one for each row.
     pub fn keys(&self) -> &MutablePrimitiveArray<K>
-        ensures { SpellsKeys result.now (told_keys (⟦<MutableDictionaryArray<K, M> as MutableArray>⟧.model self.now)) }
+        ensures spelled { SpellsKeys result.now (told_keys (⟦<MutableDictionaryArray<K, M> as MutableArray>⟧.model self.now)) }
+        ensures bare { told_keys (⟦<MutableDictionaryArray<K, M> as MutableArray>⟧.model self.now) ≡ [] → validity_of result.now ≡ None }
     {
         self.rows.keys()
     }
@@ -121,7 +123,8 @@ impl<K: BuilderKey, M: MutableArray> MutableDictionaryArray<K, M> {
 
     /// The key of a value, `None` where none of the values is it. No memory is taken.
     pub fn key_of<T: AsPlain>(&self, value: &T) -> Option<K>
-        ensures { (k : ℕ) → (option_map (λ key. whole (K.numbers key)) result ≡ Some (pos k)) ↔ Stands (dictionary_child (⟦<MutableDictionaryArray<K, M> as MutableArray>⟧.model self.now)) (T.value value.now) k }
+        ensures place { (k : ℕ) → (option_map (λ key. whole (K.numbers key)) result ≡ Some (pos k)) ↔ Stands (dictionary_child (⟦<MutableDictionaryArray<K, M> as MutableArray>⟧.model self.now)) (T.value value.now) k }
+        ensures absent { IsNone result ↔ Lacks (dictionary_child (⟦<MutableDictionaryArray<K, M> as MutableArray>⟧.model self.now)) (T.value value.now) }
     {
         let value = value.as_plain();
         match self.values.find(&value, hash_of(&value)) {
@@ -140,9 +143,9 @@ impl<K: BuilderKey, M: MutableArray> MutableDictionaryArray<K, M> {
     // Adds a row of the value, which is added to the values where none of them is it.
     fn push_value(&mut self, value: &Plain<'_>) -> Result<(), Error>
         requires { IsWhole (⟦<MutableDictionaryArray<K, M> as MutableArray>⟧.model self.old) }
-        ensures accepted { OnOk result (Accepted (plain (plain_value value.now)) (⟦<MutableDictionaryArray<K, M> as MutableArray>⟧.model self.old) (⟦<MutableDictionaryArray<K, M> as MutableArray>⟧.model self.new)) }
+        ensures accepted { let tree = ⟦<MutableDictionaryArray<K, M> as MutableArray>⟧.model in OnOk result (Accepted (plain (plain_value value.now)) (tree self.old) (tree self.new)) }
         ensures unrefused { OnOk result (value_refusal (plain_value value.now) (⟦<MutableDictionaryArray<K, M> as MutableArray>⟧.model self.old) ≡ None) }
-        ensures err { OnErr result (⟦<MutableDictionaryArray<K, M> as MutableArray>⟧.model self.new ≡ ⟦<MutableDictionaryArray<K, M> as MutableArray>⟧.model self.old) }
+        ensures err { let tree = ⟦<MutableDictionaryArray<K, M> as MutableArray>⟧.model in OnErr result (tree self.new ≡ tree self.old) }
         ensures cause { IfErr result (λ e. (e ≡ Memory alloc_error) ⊎ (value_refusal (plain_value value.now) (⟦<MutableDictionaryArray<K, M> as MutableArray>⟧.model self.old) ≡ Some e)) }
     {
         let hash = hash_of(value);
@@ -160,9 +163,9 @@ impl<K: BuilderKey, M: MutableArray> MutableDictionaryArray<K, M> {
     // The same, but a value of another kind is refused first.
     fn push_kind(&mut self, value: &Plain<'_>) -> Result<(), Error>
         requires { IsWhole (⟦<MutableDictionaryArray<K, M> as MutableArray>⟧.model self.old) }
-        ensures accepted { OnOk result (Accepted (plain (plain_value value.now)) (⟦<MutableDictionaryArray<K, M> as MutableArray>⟧.model self.old) (⟦<MutableDictionaryArray<K, M> as MutableArray>⟧.model self.new)) }
+        ensures accepted { let tree = ⟦<MutableDictionaryArray<K, M> as MutableArray>⟧.model in OnOk result (Accepted (plain (plain_value value.now)) (tree self.old) (tree self.new)) }
         ensures unrefused { OnOk result (plain_refusal (plain_value value.now) (⟦<MutableDictionaryArray<K, M> as MutableArray>⟧.model self.old) ≡ None) }
-        ensures err { OnErr result (⟦<MutableDictionaryArray<K, M> as MutableArray>⟧.model self.new ≡ ⟦<MutableDictionaryArray<K, M> as MutableArray>⟧.model self.old) }
+        ensures err { let tree = ⟦<MutableDictionaryArray<K, M> as MutableArray>⟧.model in OnErr result (tree self.new ≡ tree self.old) }
         ensures kind { IsErrOf result (InvalidArgumentError ItemType) ↔ (takes (⟦<MutableDictionaryArray<K, M> as MutableArray>⟧.model self.old) (plain_value value.now) ≡ false) }
         ensures cause { IfErr result (λ e. (e ≡ Memory alloc_error) ⊎ (plain_refusal (plain_value value.now) (⟦<MutableDictionaryArray<K, M> as MutableArray>⟧.model self.old) ≡ Some e)) }
     {
@@ -182,9 +185,9 @@ impl<K: BuilderKey, M: MutableArray> MutableDictionaryArray<K, M> {
     fn push_known(&mut self, _value: &Plain<'_>, number: usize) -> Result<(), Error>
         requires whole { IsWhole (⟦<MutableDictionaryArray<K, M> as MutableArray>⟧.model self.old) }
         requires known { Stands (dictionary_child (⟦<MutableDictionaryArray<K, M> as MutableArray>⟧.model self.old)) (plain_value _value.now) number }
-        ensures accepted { OnOk result (Accepted (plain (plain_value _value.now)) (⟦<MutableDictionaryArray<K, M> as MutableArray>⟧.model self.old) (⟦<MutableDictionaryArray<K, M> as MutableArray>⟧.model self.new)) }
+        ensures accepted { let tree = ⟦<MutableDictionaryArray<K, M> as MutableArray>⟧.model in OnOk result (Accepted (plain (plain_value _value.now)) (tree self.old) (tree self.new)) }
         ensures unrefused { OnOk result (value_refusal (plain_value _value.now) (⟦<MutableDictionaryArray<K, M> as MutableArray>⟧.model self.old) ≡ None) }
-        ensures err { OnErr result (⟦<MutableDictionaryArray<K, M> as MutableArray>⟧.model self.new ≡ ⟦<MutableDictionaryArray<K, M> as MutableArray>⟧.model self.old) }
+        ensures err { let tree = ⟦<MutableDictionaryArray<K, M> as MutableArray>⟧.model in OnErr result (tree self.new ≡ tree self.old) }
         ensures memory { IsOkUnless result (Memory alloc_error) }
     {
         let _count = self.values.get().len();
@@ -200,9 +203,9 @@ impl<K: BuilderKey, M: MutableArray> MutableDictionaryArray<K, M> {
         requires whole { IsWhole (⟦<MutableDictionaryArray<K, M> as MutableArray>⟧.model self.old) }
         requires unknown { Lacks (dictionary_child (⟦<MutableDictionaryArray<K, M> as MutableArray>⟧.model self.old)) (plain_value value.now) }
         requires room { builder_len (dictionary_child (⟦<MutableDictionaryArray<K, M> as MutableArray>⟧.model self.old)) < key_count K.KEY_TYPE }
-        ensures accepted { OnOk result (Accepted (plain (plain_value value.now)) (⟦<MutableDictionaryArray<K, M> as MutableArray>⟧.model self.old) (⟦<MutableDictionaryArray<K, M> as MutableArray>⟧.model self.new)) }
+        ensures accepted { let tree = ⟦<MutableDictionaryArray<K, M> as MutableArray>⟧.model in OnOk result (Accepted (plain (plain_value value.now)) (tree self.old) (tree self.new)) }
         ensures unrefused { OnOk result (value_refusal (plain_value value.now) (⟦<MutableDictionaryArray<K, M> as MutableArray>⟧.model self.old) ≡ None) }
-        ensures err { OnErr result (⟦<MutableDictionaryArray<K, M> as MutableArray>⟧.model self.new ≡ ⟦<MutableDictionaryArray<K, M> as MutableArray>⟧.model self.old) }
+        ensures err { let tree = ⟦<MutableDictionaryArray<K, M> as MutableArray>⟧.model in OnErr result (tree self.new ≡ tree self.old) }
         ensures kind { IsErrOf result (InvalidArgumentError ItemType) ↔ (takes (dictionary_child (⟦<MutableDictionaryArray<K, M> as MutableArray>⟧.model self.old)) (plain_value value.now) ≡ false) }
         ensures cause { IfErr result (λ e. (e ≡ Memory alloc_error) ⊎ (plain_refusal (plain_value value.now) (dictionary_child (⟦<MutableDictionaryArray<K, M> as MutableArray>⟧.model self.old)) ≡ Some e)) }
     {
@@ -226,7 +229,7 @@ impl<K: BuilderKey, M: MutableArray> MutableDictionaryArray<K, M> {
         requires whole { IsWhole (⟦<MutableDictionaryArray<K, M> as MutableArray>⟧.model self.old) }
         requires unknown { Lacks (dictionary_child (⟦<MutableDictionaryArray<K, M> as MutableArray>⟧.model self.old)) (plain_value value.now) }
         requires full { key_count K.KEY_TYPE ≤ builder_len (dictionary_child (⟦<MutableDictionaryArray<K, M> as MutableArray>⟧.model self.old)) }
-        ensures same { ⟦<MutableDictionaryArray<K, M> as MutableArray>⟧.model self.new ≡ ⟦<MutableDictionaryArray<K, M> as MutableArray>⟧.model self.old }
+        ensures same { let tree = ⟦<MutableDictionaryArray<K, M> as MutableArray>⟧.model in tree self.new ≡ tree self.old }
         ensures kind { (result ≡ InvalidArgumentError ItemType) ↔ (takes (dictionary_child (⟦<MutableDictionaryArray<K, M> as MutableArray>⟧.model self.old)) (plain_value value.now) ≡ false) }
         ensures cause { plain_refusal (plain_value value.now) (⟦<MutableDictionaryArray<K, M> as MutableArray>⟧.model self.old) ≡ Some result }
     {
@@ -247,8 +250,9 @@ impl<K: BuilderKey, M: MutableArray> MutableDictionaryArray<K, M> {
         ensures slots { IfOk result (λ a. slots_of a ≡ own_slots (⟦<MutableDictionaryArray<K, M> as MutableArray>⟧.model self.old)) }
         ensures same_type { IfOk result (λ a. layout_type a ≡ builder_type (⟦<MutableDictionaryArray<K, M> as MutableArray>⟧.model self.old)) }
         ensures unfinished { IsErrOf result (InvalidArgumentError Unfinished) ↔ ¬ IsWhole (⟦<MutableDictionaryArray<K, M> as MutableArray>⟧.model self.old) }
-        ensures unchanged { ¬ IsWhole (⟦<MutableDictionaryArray<K, M> as MutableArray>⟧.model self.old) → ⟦<MutableDictionaryArray<K, M> as MutableArray>⟧.model self.new ≡ ⟦<MutableDictionaryArray<K, M> as MutableArray>⟧.model self.old }
-        ensures emptied { IsWhole (⟦<MutableDictionaryArray<K, M> as MutableArray>⟧.model self.old) → ⟦<MutableDictionaryArray<K, M> as MutableArray>⟧.model self.new ≡ emptied (⟦<MutableDictionaryArray<K, M> as MutableArray>⟧.model self.old) }
+        ensures unchanged { let tree = ⟦<MutableDictionaryArray<K, M> as MutableArray>⟧.model in ¬ IsWhole (tree self.old) → tree self.new ≡ tree self.old }
+        ensures emptied { let tree = ⟦<MutableDictionaryArray<K, M> as MutableArray>⟧.model in IsWhole (tree self.old) → tree self.new ≡ emptied (tree self.old) }
+        ensures validity { IsWhole (⟦<MutableDictionaryArray<K, M> as MutableArray>⟧.model self.old) → ⟦<MutableDictionaryArray<K, M> as MutableArray>⟧.bare self.new }
         ensures errors { IfErr result (λ e. (e ≡ InvalidArgumentError Unfinished) ⊎ (e ≡ Memory alloc_error)) }
     {
         if !self.is_whole() {
@@ -335,6 +339,8 @@ fn over(
 
 impl<K: BuilderKey, M: MutableArray> MutableArray for MutableDictionaryArray<K, M> {
     ghost model = { λ b. builders.dictionary K.KEY_TYPE b.data_type b.rows (M.model b.values.values) };
+
+    ghost bare = { λ b. b.rows ≡ [] };
 
     fn data_type(&self) -> &DataType {
         self.data_type.get()

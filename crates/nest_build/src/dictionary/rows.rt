@@ -1,5 +1,5 @@
 //! The rows of a builder of dictionaries, without their values.
-ghost use Rattle.std.specs.Prelude.{◌≡◌, ◌+◌, ◌≤◌, ◌<◌, ◌⊎◌, ◌^◌, ◌++◌, ◌∷◌, [], ℕ, take, get_or, length, map, is_some, OnOk, OnErr, IfOk, IfErr, IfSome, IsOkUnless, None, Some, option_map, alloc_error};
+ghost use Rattle.std.specs.Prelude.{◌≡◌, ◌+◌, ◌≤◌, ◌<◌, ◌⊎◌, ◌^◌, ◌++◌, ◌∷◌, [], ℕ, take, get_or, length, map, is_some, OnOk, OnErr, IfOk, IfErr, IfSome, IsNone, IsOkUnless, None, Some, option_map, alloc_error};
 ghost use Rattle.nest_memory.specs.Physical.{primitive_tree};
 ghost use Rattle.nest_array.specs.SeenKeys.{keys_layout};
 ghost use Rattle.nest_model.specs.Accessors.{key_type_of, natives_of, raw_keys};
@@ -21,7 +21,7 @@ use std::alloc::Global;
 use std::marker::Model;
 
 /// The keys of rows: the Dictionary-encoded Layout of the Arrow format, without the values. A row without a key is null. A
-/// validity is made at the first null row.
+/// validity is made at the first null row, and there is none without a row.
 ///
 /// A call that answers `Err` changes no row, but for `freeze`.
 #[derive(Drop)]
@@ -29,6 +29,7 @@ pub struct DictionaryRows<K: BuilderKey> {
     keys: MutablePrimitiveArray<K>,
     // how many values the keys need
     needed: usize,
+    alloc: Global,
 }
 
 impl<K: BuilderKey> Model for DictionaryRows<K> {
@@ -50,6 +51,7 @@ impl<K: BuilderKey> DictionaryRows<K> {
         DictionaryRows {
             keys: MutablePrimitiveArray::new(alloc),
             needed: 0,
+            alloc,
         }
     }
 
@@ -62,7 +64,8 @@ impl<K: BuilderKey> DictionaryRows<K> {
 
     /// The keys, one for each row.
     pub fn keys(&self) -> &MutablePrimitiveArray<K>
-        ensures { SpellsKeys result.now self.now }
+        ensures spelled { SpellsKeys result.now self.now }
+        ensures bare { self.now ≡ [] → validity_of result.now ≡ None }
     {
         self.keys.known();
         &self.keys
@@ -85,7 +88,8 @@ impl<K: BuilderKey> DictionaryRows<K> {
 
     /// Which rows are valid, a bit a row; without it all are.
     pub fn validity(&self) -> Option<&MutableBitmap>
-        ensures { SpellsBits (option_map (λ b. b.now) result) (map is_some self.now) }
+        ensures bits { SpellsBits (option_map (λ b. b.now) result) (map is_some self.now) }
+        ensures none { self.now ≡ [] → IsNone result }
     {
         self.keys.known();
         self.keys.validity()
@@ -158,10 +162,22 @@ impl<K: BuilderKey> DictionaryRows<K> {
         ensures { self.new ≡ take n self.old }
     {
         self.keys.known();
-        if n < self.keys.len() {
-            self.keys.truncate(n);
-            self.needed = needed_by(&self.keys);
+        if n >= self.keys.len() {
+            return;
         }
+        if n == 0 {
+            return self.clear();
+        }
+        self.keys.truncate(n);
+        self.needed = needed_by(&self.keys);
+    }
+
+    // Leaves no row, and no validity.
+    fn clear(&mut self)
+        ensures { self.new ≡ [] }
+    {
+        self.keys = MutablePrimitiveArray::new(self.alloc);
+        self.needed = 0;
     }
 
     /// Room for so many rows more.

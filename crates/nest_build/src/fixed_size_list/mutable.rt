@@ -5,7 +5,7 @@ ghost use Rattle.nest_memory.specs.TypeTree as types;
 ghost use Rattle.nest_memory.specs.TypeTree.{field};
 ghost use Rattle.nest_memory.specs.declared.datatypes.physical_type.PhysicalType.TheVariants as physical;
 ghost use Rattle.nest_model.specs.BuilderTree as builders;
-ghost use Rattle.nest_build.specs.Lists.{new_fixed_checks};
+ghost use Rattle.nest_build.specs.Lists.{RefusesFixed, new_fixed_checks, no_fixed_lists};
 ghost use Rattle.nest_build.specs.Words.{CanReadList, ChildNotEmpty, FailFirst, HasWholeChildren, InvalidArgumentError, IsWhole, Memory, OutOfSpec, Pass, ReadsList, Told, Unfinished, ZeroSize, builder_len, builder_type, default_field, emptied, item_type, largest_length, layout_of, layout_type, len, list_child, own_slots, physical_type, row_checks, rows_of_size, size_of, slots_of, type_of};
 
 use crate::array::{MutableArray, shared};
@@ -41,9 +41,9 @@ impl<M: MutableArray> MutableFixedSizeListArray<M> {
     /// `ChildNotEmpty` where the child has rows, then `ZeroSize`; `Memory`.
     pub fn new(alloc: Global, values: M, size: usize) -> Result<MutableFixedSizeListArray<M>, Error>
         requires { IsWhole (M.model values) }
-        ensures ok { IfOk result (λ b. ⟦<MutableFixedSizeListArray<M> as MutableArray>⟧.model b ≡ builders.fixed_size_list (types.fixed_size_list (default_field (builder_type (M.model values))) size) [] (M.model values)) }
+        ensures ok { IfOk result (λ b. ⟦<MutableFixedSizeListArray<M> as MutableArray>⟧.model b ≡ no_fixed_lists (default_field (builder_type (M.model values))) size (M.model values)) }
         ensures passed { IfOk result (λ b. (builder_len (M.model values) ≡ 0) × (0 < size)) }
-        ensures cause { IfErr result (λ e. (e ≡ Memory alloc_error) ⊎ (((e ≡ InvalidArgumentError ChildNotEmpty) × (builder_len (M.model values) ≢ 0)) ⊎ ((e ≡ OutOfSpec ZeroSize) × (builder_len (M.model values) ≡ 0) × (size ≡ 0)))) }
+        ensures cause { IfErr result (RefusesFixed size (M.model values)) }
     {
         MutableFixedSizeListArray::new_with_field(alloc, values, "item", true, size)
     }
@@ -60,9 +60,9 @@ impl<M: MutableArray> MutableFixedSizeListArray<M> {
         size: usize,
     ) -> Result<MutableFixedSizeListArray<M>, Error>
         requires { IsWhole (M.model values) }
-        ensures ok { IfOk result (λ b. ⟦<MutableFixedSizeListArray<M> as MutableArray>⟧.model b ≡ builders.fixed_size_list (types.fixed_size_list (field name.now (builder_type (M.model values)) nullable []) size) [] (M.model values)) }
+        ensures ok { IfOk result (λ b. ⟦<MutableFixedSizeListArray<M> as MutableArray>⟧.model b ≡ no_fixed_lists (field name.now (builder_type (M.model values)) nullable []) size (M.model values)) }
         ensures passed { IfOk result (λ b. (builder_len (M.model values) ≡ 0) × (0 < size)) }
-        ensures cause { IfErr result (λ e. (e ≡ Memory alloc_error) ⊎ (((e ≡ InvalidArgumentError ChildNotEmpty) × (builder_len (M.model values) ≢ 0)) ⊎ ((e ≡ OutOfSpec ZeroSize) × (builder_len (M.model values) ≡ 0) × (size ≡ 0)))) }
+        ensures cause { IfErr result (RefusesFixed size (M.model values)) }
     {
         if !values.is_empty() {
             return Err(Error::InvalidArgumentError(Argument::ChildNotEmpty));
@@ -143,9 +143,9 @@ impl<M: MutableArray> MutableFixedSizeListArray<M> {
     /// `Memory`. No row is added then, and the items go on waiting.
     pub fn try_push_valid(&mut self) -> Result<(), Error>
         requires { HasWholeChildren (⟦<MutableFixedSizeListArray<M> as MutableArray>⟧.model self.old) }
-        ensures ok { OnOk result (Told true (⟦<MutableFixedSizeListArray<M> as MutableArray>⟧.model self.old) (⟦<MutableFixedSizeListArray<M> as MutableArray>⟧.model self.new)) }
+        ensures ok { let tree = ⟦<MutableFixedSizeListArray<M> as MutableArray>⟧.model in OnOk result (Told true (tree self.old) (tree self.new)) }
         ensures passed { OnOk result (Pass (row_checks (⟦<MutableFixedSizeListArray<M> as MutableArray>⟧.model self.old))) }
-        ensures err { OnErr result (⟦<MutableFixedSizeListArray<M> as MutableArray>⟧.model self.new ≡ ⟦<MutableFixedSizeListArray<M> as MutableArray>⟧.model self.old) }
+        ensures err { let tree = ⟦<MutableFixedSizeListArray<M> as MutableArray>⟧.model in OnErr result (tree self.new ≡ tree self.old) }
         ensures cause { IfErr result (λ e. (e ≡ Memory alloc_error) ⊎ FailFirst e (row_checks (⟦<MutableFixedSizeListArray<M> as MutableArray>⟧.model self.old))) }
     {
         let items = self.values.len();
@@ -182,9 +182,9 @@ impl<M: MutableArray> MutableFixedSizeListArray<M> {
     /// As `try_push_valid`.
     pub fn push_valid(&mut self) -> Result<(), Error>
         requires { HasWholeChildren (⟦<MutableFixedSizeListArray<M> as MutableArray>⟧.model self.old) }
-        ensures ok { OnOk result (Told true (⟦<MutableFixedSizeListArray<M> as MutableArray>⟧.model self.old) (⟦<MutableFixedSizeListArray<M> as MutableArray>⟧.model self.new)) }
+        ensures ok { let tree = ⟦<MutableFixedSizeListArray<M> as MutableArray>⟧.model in OnOk result (Told true (tree self.old) (tree self.new)) }
         ensures passed { OnOk result (Pass (row_checks (⟦<MutableFixedSizeListArray<M> as MutableArray>⟧.model self.old))) }
-        ensures err { OnErr result (⟦<MutableFixedSizeListArray<M> as MutableArray>⟧.model self.new ≡ ⟦<MutableFixedSizeListArray<M> as MutableArray>⟧.model self.old) }
+        ensures err { let tree = ⟦<MutableFixedSizeListArray<M> as MutableArray>⟧.model in OnErr result (tree self.new ≡ tree self.old) }
         ensures cause { IfErr result (λ e. (e ≡ Memory alloc_error) ⊎ FailFirst e (row_checks (⟦<MutableFixedSizeListArray<M> as MutableArray>⟧.model self.old))) }
     {
         self.try_push_valid()
@@ -199,8 +199,9 @@ impl<M: MutableArray> MutableFixedSizeListArray<M> {
         ensures slots { IfOk result (λ a. slots_of a ≡ own_slots (⟦<MutableFixedSizeListArray<M> as MutableArray>⟧.model self.old)) }
         ensures same_type { IfOk result (λ a. layout_type a ≡ builder_type (⟦<MutableFixedSizeListArray<M> as MutableArray>⟧.model self.old)) }
         ensures unfinished { IsErrOf result (InvalidArgumentError Unfinished) ↔ ¬ IsWhole (⟦<MutableFixedSizeListArray<M> as MutableArray>⟧.model self.old) }
-        ensures unchanged { ¬ IsWhole (⟦<MutableFixedSizeListArray<M> as MutableArray>⟧.model self.old) → ⟦<MutableFixedSizeListArray<M> as MutableArray>⟧.model self.new ≡ ⟦<MutableFixedSizeListArray<M> as MutableArray>⟧.model self.old }
-        ensures emptied { IsWhole (⟦<MutableFixedSizeListArray<M> as MutableArray>⟧.model self.old) → ⟦<MutableFixedSizeListArray<M> as MutableArray>⟧.model self.new ≡ emptied (⟦<MutableFixedSizeListArray<M> as MutableArray>⟧.model self.old) }
+        ensures unchanged { let tree = ⟦<MutableFixedSizeListArray<M> as MutableArray>⟧.model in ¬ IsWhole (tree self.old) → tree self.new ≡ tree self.old }
+        ensures emptied { let tree = ⟦<MutableFixedSizeListArray<M> as MutableArray>⟧.model in IsWhole (tree self.old) → tree self.new ≡ emptied (tree self.old) }
+        ensures validity { IsWhole (⟦<MutableFixedSizeListArray<M> as MutableArray>⟧.model self.old) → ⟦<MutableFixedSizeListArray<M> as MutableArray>⟧.bare self.new }
         ensures errors { IfErr result (λ e. (e ≡ InvalidArgumentError Unfinished) ⊎ (e ≡ Memory alloc_error)) }
     {
         if !self.is_whole() {
@@ -245,6 +246,8 @@ pub fn freeze_over(
 
 impl<M: MutableArray> MutableArray for MutableFixedSizeListArray<M> {
     ghost model = { λ b. builders.fixed_size_list b.data_type b.rows (M.model b.values) };
+
+    ghost bare = { λ b. b.rows ≡ [] };
 
     fn data_type(&self) -> &DataType {
         self.data_type.get()

@@ -1,7 +1,8 @@
 //! The rows of a builder of lists of one size, without their items.
-ghost use Rattle.std.specs.Prelude.{◌≡◌, ◌+◌, ◌≤◌, ◌<◌, ◌⊎◌, ◌++◌, ◌∷◌, [], true, take, get_or, length, OnOk, OnErr, IfOk, IfErr, IsOkUnless, option_map, alloc_error};
+ghost use Rattle.std.specs.Prelude.{◌≡◌, ◌+◌, ◌≤◌, ◌<◌, ◌⊎◌, ◌++◌, ◌∷◌, [], true, take, get_or, length, IsNone, OnOk, OnErr, IfOk, IfErr, IsOkUnless, option_map, alloc_error};
 ghost use Rattle.nest_build.specs.Words.{Memory, Overflow, SpellsBits, ValidityFits, bits_told, largest_length};
 
+use crate::list::rows::of_rows;
 use nest_flat::growth::validity;
 use nest_memory::bitmap::immutable::Bitmap;
 use nest_memory::bitmap::mutable::MutableBitmap;
@@ -10,7 +11,7 @@ use std::alloc::Global;
 use std::marker::Model;
 
 /// How many rows there are, and whether they are valid: the Fixed-Size List Layout of the Arrow format, without the
-/// items. A validity is made at the first null row.
+/// items. A validity is made at the first null row, and there is none without a row.
 ///
 /// A call that answers `Err` changes no row, but for `freeze`.
 #[derive(Drop)]
@@ -22,14 +23,13 @@ pub struct FixedRows {
 
 impl Model for FixedRows {
     ghost use Rattle.std.specs.Prelude.{Bool, List};
-    ghost use Rattle.nest_model.specs.Fits.{ValidityFits};
-    ghost use Rattle.nest_build.specs.Rows.{bits_told};
+    ghost use Rattle.nest_build.specs.Rows.{IsOfRows, bits_told};
 
     ghost Value = { List Bool };
 
     ghost view = { λ a. bits_told a.len a.validity };
 
-    ghost invariant = { λ a. ValidityFits a.validity a.len };
+    ghost invariant = { λ a. IsOfRows a.validity a.len };
 }
 
 impl FixedRows {
@@ -51,14 +51,15 @@ impl FixedRows {
     {
         FixedRows {
             len,
-            validity,
+            validity: of_rows(validity, len),
             alloc,
         }
     }
 
     /// The bits, where there are some.
     pub fn into_validity(self) -> Option<MutableBitmap>
-        ensures { SpellsBits result self }
+        ensures bits { SpellsBits result self }
+        ensures none { self ≡ [] → IsNone result }
     {
         let FixedRows {
             len: _,
@@ -77,7 +78,8 @@ impl FixedRows {
 
     /// Which rows are valid, a bit a row; without it all are.
     pub fn validity(&self) -> Option<&MutableBitmap>
-        ensures { SpellsBits (option_map (λ b. b.now) result) self.now }
+        ensures bits { SpellsBits (option_map (λ b. b.now) result) self.now }
+        ensures none { self.now ≡ [] → IsNone result }
     {
         self.validity.as_ref()
     }
@@ -138,6 +140,9 @@ impl FixedRows {
         requires { n ≤ length self.old }
         ensures { self.new ≡ take n self.old }
     {
+        if n == 0 {
+            return self.clear();
+        }
         validity::truncate(&mut self.validity, n);
         self.len = n;
     }

@@ -23,9 +23,9 @@ impl<M: FlatBuilder> MutableFixedSizeListArray<M> {
     where
         M: TakesValue<A>,
         requires { IsWhole (⟦<MutableFixedSizeListArray<M> as MutableArray>⟧.model self.old) }
-        ensures accepted { OnOk result (Accepted (row_item A.value (option_copied row.entry)) (⟦<MutableFixedSizeListArray<M> as MutableArray>⟧.model self.old) (⟦<MutableFixedSizeListArray<M> as MutableArray>⟧.model self.new)) }
+        ensures accepted { let tree = ⟦<MutableFixedSizeListArray<M> as MutableArray>⟧.model in OnOk result (Accepted (row_item A.value (option_copied row.entry)) (tree self.old) (tree self.new)) }
         ensures unrefused { OnOk result (item_refusal (row_item A.value (option_copied row.entry)) (⟦<MutableFixedSizeListArray<M> as MutableArray>⟧.model self.old) ≡ None) }
-        ensures err { OnErr result (⟦<MutableFixedSizeListArray<M> as MutableArray>⟧.model self.new ≡ ⟦<MutableFixedSizeListArray<M> as MutableArray>⟧.model self.old) }
+        ensures err { let tree = ⟦<MutableFixedSizeListArray<M> as MutableArray>⟧.model in OnErr result (tree self.new ≡ tree self.old) }
         ensures cause { IfErr result (λ e. (e ≡ Memory alloc_error) ⊎ (item_refusal (row_item A.value (option_copied row.entry)) (⟦<MutableFixedSizeListArray<M> as MutableArray>⟧.model self.old) ≡ Some e)) }
     {
         match row {

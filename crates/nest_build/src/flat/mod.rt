@@ -83,6 +83,7 @@ pub trait FlatBuilder: Drop {
     fn frozen(&mut self) -> Result<AnyArray, Error>
         ensures ok { IfOk result (λ a. layout_of a ≡ parts self.old) }
         ensures emptied { flat_tree (parts self.new) ≡ builders.flat (layout_type (parts self.old)) [] }
+        ensures validity { validity_of (parts self.new) ≡ None }
         ensures memory { IsOkUnless result (Memory alloc_error) };
 }
 
@@ -91,6 +92,8 @@ pub trait TakesValue<A: AsPlain> {}
 
 impl<B: FlatBuilder> MutableArray for B {
     ghost model = { λ b. flat_tree (B.parts b) };
+
+    ghost bare = { λ b. validity_of (B.parts b) ≡ None };
 
     fn data_type(&self) -> &DataType {
         self.type_of_slots()

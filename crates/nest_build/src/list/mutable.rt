@@ -3,7 +3,7 @@ ghost use Rattle.std.specs.Prelude.{◌≡◌, ◌≢◌, ◌<◌, ◌⊎◌, �
 ghost use Rattle.std.specs.Borrow.{sem, Lends};
 ghost use Rattle.nest_memory.specs.TypeTree.{field};
 ghost use Rattle.nest_model.specs.BuilderTree as builders;
-ghost use Rattle.nest_build.specs.Lists.{list_type, new_list_checks};
+ghost use Rattle.nest_build.specs.Lists.{RefusesChild, list_type, new_list_checks, no_lists};
 ghost use Rattle.nest_build.specs.Words.{CanReadList, ChildNotEmpty, FailFirst, HasWholeChildren, InvalidArgumentError, IsListBy, IsWhole, ListCovers, Memory, Pass, ReadsList, RisesFrom, Told, ToldLengths, Unfinished, builder_len, builder_type, default_field, emptied, layout_of, layout_type, items_told, lengths_checks, list_child, own_slots, row_checks, rows_told, slots_of, told_rows_checks, type_of};
 
 use crate::array::{MutableArray, shared};
@@ -40,9 +40,9 @@ impl<O: ListWidth, M: MutableArray> MutableListArray<O, M> {
     /// `ChildNotEmpty` where the child has rows, `Memory`.
     pub fn new(alloc: Global, values: M) -> Result<MutableListArray<O, M>, Error>
         requires { IsWhole (M.model values) }
-        ensures ok { IfOk result (λ b. ⟦<MutableListArray<O, M> as MutableArray>⟧.model b ≡ builders.list O.IS_LARGE (list_type O.IS_LARGE (default_field (builder_type (M.model values)))) [] (M.model values)) }
+        ensures ok { IfOk result (λ b. ⟦<MutableListArray<O, M> as MutableArray>⟧.model b ≡ no_lists O.IS_LARGE (default_field (builder_type (M.model values))) (M.model values)) }
         ensures empty { IfOk result (λ b. builder_len (M.model values) ≡ 0) }
-        ensures cause { IfErr result (λ e. (e ≡ Memory alloc_error) ⊎ ((e ≡ InvalidArgumentError ChildNotEmpty) × (builder_len (M.model values) ≢ 0))) }
+        ensures cause { IfErr result (RefusesChild (M.model values)) }
     {
         MutableListArray::new_with_field(alloc, values, "item", true)
     }
@@ -58,9 +58,9 @@ impl<O: ListWidth, M: MutableArray> MutableListArray<O, M> {
         nullable: bool,
     ) -> Result<MutableListArray<O, M>, Error>
         requires { IsWhole (M.model values) }
-        ensures ok { IfOk result (λ b. ⟦<MutableListArray<O, M> as MutableArray>⟧.model b ≡ builders.list O.IS_LARGE (list_type O.IS_LARGE (field name.now (builder_type (M.model values)) nullable [])) [] (M.model values)) }
+        ensures ok { IfOk result (λ b. ⟦<MutableListArray<O, M> as MutableArray>⟧.model b ≡ no_lists O.IS_LARGE (field name.now (builder_type (M.model values)) nullable []) (M.model values)) }
         ensures empty { IfOk result (λ b. builder_len (M.model values) ≡ 0) }
-        ensures cause { IfErr result (λ e. (e ≡ Memory alloc_error) ⊎ ((e ≡ InvalidArgumentError ChildNotEmpty) × (builder_len (M.model values) ≢ 0))) }
+        ensures cause { IfErr result (RefusesChild (M.model values)) }
     {
         if !values.is_empty() {
             return Err(Error::InvalidArgumentError(Argument::ChildNotEmpty));
@@ -81,9 +81,9 @@ impl<O: ListWidth, M: MutableArray> MutableListArray<O, M> {
         capacity: usize,
     ) -> Result<MutableListArray<O, M>, Error>
         requires { IsWhole (M.model values) }
-        ensures ok { IfOk result (λ b. ⟦<MutableListArray<O, M> as MutableArray>⟧.model b ≡ builders.list O.IS_LARGE (list_type O.IS_LARGE (default_field (builder_type (M.model values)))) [] (M.model values)) }
+        ensures ok { IfOk result (λ b. ⟦<MutableListArray<O, M> as MutableArray>⟧.model b ≡ no_lists O.IS_LARGE (default_field (builder_type (M.model values))) (M.model values)) }
         ensures empty { IfOk result (λ b. builder_len (M.model values) ≡ 0) }
-        ensures cause { IfErr result (λ e. (e ≡ Memory alloc_error) ⊎ ((e ≡ InvalidArgumentError ChildNotEmpty) × (builder_len (M.model values) ≢ 0))) }
+        ensures cause { IfErr result (RefusesChild (M.model values)) }
     {
         let mut lists: MutableListArray<O, M> = MutableListArray::new(alloc, values)?;
         lists.rows.reserve(capacity)?;
@@ -100,9 +100,9 @@ impl<O: ListWidth, M: MutableArray> MutableListArray<O, M> {
         capacity: usize,
     ) -> Result<MutableListArray<O, M>, Error>
         requires { IsWhole (M.model values) }
-        ensures ok { IfOk result (λ b. ⟦<MutableListArray<O, M> as MutableArray>⟧.model b ≡ builders.list O.IS_LARGE (list_type O.IS_LARGE (default_field (builder_type (M.model values)))) [] (M.model values)) }
+        ensures ok { IfOk result (λ b. ⟦<MutableListArray<O, M> as MutableArray>⟧.model b ≡ no_lists O.IS_LARGE (default_field (builder_type (M.model values))) (M.model values)) }
         ensures empty { IfOk result (λ b. builder_len (M.model values) ≡ 0) }
-        ensures cause { IfErr result (λ e. (e ≡ Memory alloc_error) ⊎ ((e ≡ InvalidArgumentError ChildNotEmpty) × (builder_len (M.model values) ≢ 0))) }
+        ensures cause { IfErr result (RefusesChild (M.model values)) }
     {
         MutableListArray::with_capacity(alloc, values, capacity)
     }
@@ -207,7 +207,7 @@ impl<O: ListWidth, M: MutableArray> MutableListArray<O, M> {
 
     /// What holds of every such builder: its offsets never fall.
     pub fn known(&self)
-        ensures { IsWhole (list_child (⟦<MutableListArray<O, M> as MutableArray>⟧.model self.now)) → HasWholeChildren (⟦<MutableListArray<O, M> as MutableArray>⟧.model self.now) }
+        ensures { let tree = ⟦<MutableListArray<O, M> as MutableArray>⟧.model in IsWhole (list_child (tree self.now)) → HasWholeChildren (tree self.now) }
     {
         let _last = self.rows.last();
     }
@@ -219,9 +219,9 @@ impl<O: ListWidth, M: MutableArray> MutableListArray<O, M> {
     /// more than an offset can be; `Memory`. No row is added then, and the items go on waiting.
     pub fn try_push_valid(&mut self) -> Result<(), Error>
         requires { HasWholeChildren (⟦<MutableListArray<O, M> as MutableArray>⟧.model self.old) }
-        ensures ok { OnOk result (Told true (⟦<MutableListArray<O, M> as MutableArray>⟧.model self.old) (⟦<MutableListArray<O, M> as MutableArray>⟧.model self.new)) }
+        ensures ok { let tree = ⟦<MutableListArray<O, M> as MutableArray>⟧.model in OnOk result (Told true (tree self.old) (tree self.new)) }
         ensures passed { OnOk result (Pass (row_checks (⟦<MutableListArray<O, M> as MutableArray>⟧.model self.old))) }
-        ensures err { OnErr result (⟦<MutableListArray<O, M> as MutableArray>⟧.model self.new ≡ ⟦<MutableListArray<O, M> as MutableArray>⟧.model self.old) }
+        ensures err { let tree = ⟦<MutableListArray<O, M> as MutableArray>⟧.model in OnErr result (tree self.new ≡ tree self.old) }
         ensures cause { IfErr result (λ e. (e ≡ Memory alloc_error) ⊎ FailFirst e (row_checks (⟦<MutableListArray<O, M> as MutableArray>⟧.model self.old))) }
     {
         if !self.covers_rows() {
@@ -239,9 +239,9 @@ impl<O: ListWidth, M: MutableArray> MutableListArray<O, M> {
     /// the child has more items than an offset can be; `Memory`. The items go on waiting then.
     pub fn try_extend_from_lengths(&mut self, lengths: &[Option<usize>]) -> Result<(), Error>
         requires { HasWholeChildren (⟦<MutableListArray<O, M> as MutableArray>⟧.model self.old) }
-        ensures ok { OnOk result (ToldLengths lengths.now (⟦<MutableListArray<O, M> as MutableArray>⟧.model self.old) (⟦<MutableListArray<O, M> as MutableArray>⟧.model self.new)) }
+        ensures ok { let tree = ⟦<MutableListArray<O, M> as MutableArray>⟧.model in OnOk result (ToldLengths lengths.now (tree self.old) (tree self.new)) }
         ensures passed { OnOk result (Pass (lengths_checks lengths.now (⟦<MutableListArray<O, M> as MutableArray>⟧.model self.old))) }
-        ensures err { OnErr result (⟦<MutableListArray<O, M> as MutableArray>⟧.model self.new ≡ ⟦<MutableListArray<O, M> as MutableArray>⟧.model self.old) }
+        ensures err { let tree = ⟦<MutableListArray<O, M> as MutableArray>⟧.model in OnErr result (tree self.new ≡ tree self.old) }
         ensures cause { IfErr result (λ e. (e ≡ Memory alloc_error) ⊎ FailFirst e (lengths_checks lengths.now (⟦<MutableListArray<O, M> as MutableArray>⟧.model self.old))) }
     {
         if !self.covers_rows() {
@@ -271,8 +271,9 @@ impl<O: ListWidth, M: MutableArray> MutableListArray<O, M> {
         ensures slots { IfOk result (λ a. slots_of (O.Rows.List.parts a) ≡ own_slots (⟦<MutableListArray<O, M> as MutableArray>⟧.model self.old)) }
         ensures same_type { IfOk result (λ a. layout_type (O.Rows.List.parts a) ≡ builder_type (⟦<MutableListArray<O, M> as MutableArray>⟧.model self.old)) }
         ensures unfinished { IsErrOf result (InvalidArgumentError Unfinished) ↔ ¬ IsWhole (⟦<MutableListArray<O, M> as MutableArray>⟧.model self.old) }
-        ensures unchanged { ¬ IsWhole (⟦<MutableListArray<O, M> as MutableArray>⟧.model self.old) → ⟦<MutableListArray<O, M> as MutableArray>⟧.model self.new ≡ ⟦<MutableListArray<O, M> as MutableArray>⟧.model self.old }
-        ensures emptied { IsWhole (⟦<MutableListArray<O, M> as MutableArray>⟧.model self.old) → ⟦<MutableListArray<O, M> as MutableArray>⟧.model self.new ≡ emptied (⟦<MutableListArray<O, M> as MutableArray>⟧.model self.old) }
+        ensures unchanged { let tree = ⟦<MutableListArray<O, M> as MutableArray>⟧.model in ¬ IsWhole (tree self.old) → tree self.new ≡ tree self.old }
+        ensures emptied { let tree = ⟦<MutableListArray<O, M> as MutableArray>⟧.model in IsWhole (tree self.old) → tree self.new ≡ emptied (tree self.old) }
+        ensures validity { IsWhole (⟦<MutableListArray<O, M> as MutableArray>⟧.model self.old) → ⟦<MutableListArray<O, M> as MutableArray>⟧.bare self.new }
         ensures errors { IfErr result (λ e. (e ≡ InvalidArgumentError Unfinished) ⊎ (e ≡ Memory alloc_error)) }
     {
         if !self.is_whole() {
@@ -336,6 +337,8 @@ fn end_there(lengths: &[Option<usize>], from: usize, to: usize) -> bool
 
 impl<O: ListWidth, M: MutableArray> MutableArray for MutableListArray<O, M> {
     ghost model = { λ b. builders.list O.IS_LARGE b.data_type (O.Rows.told b.rows) (M.model b.values) };
+
+    ghost bare = { λ b. O.Rows.told b.rows ≡ [] };
 
     fn data_type(&self) -> &DataType {
         self.data_type.get()

@@ -1,6 +1,6 @@
 //! The rows of a builder of lists, without their items.
-ghost use Rattle.std.specs.Prelude.{◌≡◌, ◌+◌, ◌≤◌, ◌<◌, ◌⊎◌, ◌++◌, ◌∷◌, [], true, take, get_or, length, OnOk, OnErr, IfOk, IfErr, IsOkUnless, IsTrue, MatchResult, ◌↔◌, option_map, alloc_error};
-ghost use Rattle.nest_build.specs.Words.{FailFirst, Memory, Overflow, Pass, RisesFrom, Spells, SpellsBits, ValidityFits, end_from, items_told, largest_length, largest_offset, moved, offsets_from, row_bits, rows_of_lengths, rows_told, told_row, told_rows_checks};
+ghost use Rattle.std.specs.Prelude.{◌≡◌, ◌+◌, ◌≤◌, ◌<◌, ◌⊎◌, ◌++◌, ◌∷◌, [], true, take, get_or, length, IsNone, OnOk, OnErr, IfOk, IfErr, IsOkUnless, IsTrue, MatchResult, None, ◌↔◌, option_map, alloc_error};
+ghost use Rattle.nest_build.specs.Words.{EndsPast, FailFirst, Memory, Pass, RisesFrom, Spells, SpellsBits, ValidityFits, WithinLimits, end_from, items_told, largest_length, largest_offset, moved, offsets_from, row_bits, rows_of_lengths, rows_told, told_row, told_rows_checks};
 
 use nest_flat::growth::validity;
 use nest_memory::bitmap::immutable::Bitmap;
@@ -12,7 +12,7 @@ use std::alloc::Global;
 use std::marker::Model;
 
 /// Rows by where their items end, and whether they are valid: the Variable-size List Layout of the Arrow format,
-/// without the items. The first offset is 0. A validity is made at the first null row.
+/// without the items. The first offset is 0. A validity is made at the first null row, and there is none without a row.
 ///
 /// A call that answers `Err` changes no row, but for `freeze`.
 #[derive(Drop)]
@@ -26,14 +26,13 @@ impl<O: Offset> Model for ListRows<O> {
     ghost use Rattle.std.specs.Prelude.{List};
     ghost use Rattle.nest_model.specs.BuilderRow.{Row};
     ghost use Rattle.nest_model.specs.Part.{count_rows};
-    ghost use Rattle.nest_model.specs.Fits.{ValidityFits};
-    ghost use Rattle.nest_build.specs.Rows.{rows_told};
+    ghost use Rattle.nest_build.specs.Rows.{IsOfRows, rows_told};
 
     ghost Value = { List Row };
 
     ghost view = { λ a. rows_told a.offsets a.validity };
 
-    ghost invariant = { λ a. ValidityFits a.validity (count_rows a.offsets) };
+    ghost invariant = { λ a. IsOfRows a.validity (count_rows a.offsets) };
 }
 
 impl<O: Offset> ListRows<O> {
@@ -69,9 +68,10 @@ impl<O: Offset> ListRows<O> {
         if !has_bits(&validity, offsets.len_proxy()) {
             return Err(Error::OutOfSpec(Spec::ValidityLength));
         }
+        let rows = offsets.len_proxy();
         Ok(ListRows {
             offsets,
-            validity,
+            validity: of_rows(validity, rows),
             alloc,
         })
     }
@@ -94,7 +94,8 @@ impl<O: Offset> ListRows<O> {
 
     /// Which rows are valid, a bit a row; without it all are.
     pub fn validity(&self) -> Option<&MutableBitmap>
-        ensures { SpellsBits (option_map (λ b. b.now) result) (row_bits self.now) }
+        ensures bits { SpellsBits (option_map (λ b. b.now) result) (row_bits self.now) }
+        ensures none { self.now ≡ [] → IsNone result }
     {
         self.offsets.known();
         self.validity.as_ref()
@@ -129,9 +130,9 @@ impl<O: Offset> ListRows<O> {
     pub fn push(&mut self, valid: bool, end: usize) -> Result<(), Error>
         requires { end_from 0 self.old ≤ end }
         ensures ok { OnOk result (self.new ≡ self.old ++ told_row valid end ∷ []) }
-        ensures within { OnOk result ((length self.old + 1 ≤ largest_length) × (end ≤ largest_offset O.IS_LARGE)) }
+        ensures within { OnOk result (WithinLimits O.IS_LARGE (length self.old + 1) end) }
         ensures err { OnErr result (self.new ≡ self.old) }
-        ensures cause { IfErr result (λ e. (e ≡ Memory alloc_error) ⊎ ((e ≡ Overflow) × (largest_offset O.IS_LARGE < end))) }
+        ensures cause { IfErr result (EndsPast O.IS_LARGE end) }
     {
         self.offsets.known();
         let last = self.offsets.last();
@@ -150,7 +151,7 @@ impl<O: Offset> ListRows<O> {
         ensures ok { OnOk result (self.new ≡ self.old ++ rows_of_lengths (end_from 0 self.old) (items ∷ [])) }
         ensures within { OnOk result (end_from 0 self.old + items_told (items ∷ []) ≤ largest_offset O.IS_LARGE) }
         ensures err { OnErr result (self.new ≡ self.old) }
-        ensures cause { IfErr result (λ e. (e ≡ Memory alloc_error) ⊎ ((e ≡ Overflow) × (largest_offset O.IS_LARGE < end_from 0 self.old + items_told (items ∷ [])))) }
+        ensures cause { IfErr result (EndsPast O.IS_LARGE (end_from 0 self.old + items_told (items ∷ []))) }
     {
         let last = self.last();
         match items {
@@ -168,9 +169,9 @@ impl<O: Offset> ListRows<O> {
     /// `Overflow` where the last of them ends past the largest offset, `Memory`.
     pub fn extend_from_lengths(&mut self, lengths: &[Option<usize>]) -> Result<(), Error>
         ensures ok { OnOk result (self.new ≡ self.old ++ rows_of_lengths (end_from 0 self.old) lengths.now) }
-        ensures within { OnOk result ((length self.old + length lengths.now ≤ largest_length) × (end_from 0 self.old + items_told lengths.now ≤ largest_offset O.IS_LARGE)) }
+        ensures within { OnOk result (WithinLimits O.IS_LARGE (length self.old + length lengths.now) (end_from 0 self.old + items_told lengths.now)) }
         ensures err { OnErr result (self.new ≡ self.old) }
-        ensures cause { IfErr result (λ e. (e ≡ Memory alloc_error) ⊎ ((e ≡ Overflow) × (largest_offset O.IS_LARGE < end_from 0 self.old + items_told lengths.now))) }
+        ensures cause { IfErr result (EndsPast O.IS_LARGE (end_from 0 self.old + items_told lengths.now)) }
     {
         let len = self.len();
         let _fits = self.last();
@@ -190,9 +191,9 @@ impl<O: Offset> ListRows<O> {
     /// `Overflow` where the last of them ends past the largest offset, `Memory`.
     pub fn append(&mut self, other: &ListRows<O>) -> Result<(), Error>
         ensures ok { OnOk result (self.new ≡ self.old ++ moved (end_from 0 self.old) other.now) }
-        ensures within { OnOk result ((length self.old + length other.now ≤ largest_length) × (end_from 0 self.old + end_from 0 other.now ≤ largest_offset O.IS_LARGE)) }
+        ensures within { OnOk result (WithinLimits O.IS_LARGE (length self.old + length other.now) (end_from 0 self.old + end_from 0 other.now)) }
         ensures err { OnErr result (self.new ≡ self.old) }
-        ensures cause { IfErr result (λ e. (e ≡ Memory alloc_error) ⊎ ((e ≡ Overflow) × (largest_offset O.IS_LARGE < end_from 0 self.old + end_from 0 other.now))) }
+        ensures cause { IfErr result (EndsPast O.IS_LARGE (end_from 0 self.old + end_from 0 other.now)) }
     {
         self.offsets.known();
         other.offsets.known();
@@ -220,6 +221,9 @@ impl<O: Offset> ListRows<O> {
         requires { n ≤ length self.old }
         ensures { self.new ≡ take n self.old }
     {
+        if n == 0 {
+            return self.clear();
+        }
         let _len = self.len();
         self.offsets.known();
         validity::truncate(&mut self.validity, n);
@@ -268,6 +272,19 @@ impl<O: Offset> ListRows<O> {
         let offsets = self.offsets.freeze();
         let validity = validity::freeze(&mut self.validity);
         Ok((offsets?, validity?))
+    }
+}
+
+/// The validity of so many rows; none where there is no row.
+pub fn of_rows(validity: Option<MutableBitmap>, rows: usize) -> Option<MutableBitmap>
+    ensures some { 0 < rows → result ≡ validity }
+    ensures none { rows ≡ 0 → result ≡ None }
+{
+    if rows == 0 {
+        drop(validity);
+        None
+    } else {
+        validity
     }
 }
 

@@ -24,9 +24,9 @@ impl<O: ListWidth, M: FlatBuilder> MutableListArray<O, M> {
     where
         M: TakesValue<A>,
         requires { IsWhole (⟦<MutableListArray<O, M> as MutableArray>⟧.model self.old) }
-        ensures accepted { OnOk result (Accepted (row_item A.value (option_copied row.entry)) (⟦<MutableListArray<O, M> as MutableArray>⟧.model self.old) (⟦<MutableListArray<O, M> as MutableArray>⟧.model self.new)) }
+        ensures accepted { let tree = ⟦<MutableListArray<O, M> as MutableArray>⟧.model in OnOk result (Accepted (row_item A.value (option_copied row.entry)) (tree self.old) (tree self.new)) }
         ensures unrefused { OnOk result (item_refusal (row_item A.value (option_copied row.entry)) (⟦<MutableListArray<O, M> as MutableArray>⟧.model self.old) ≡ None) }
-        ensures err { OnErr result (⟦<MutableListArray<O, M> as MutableArray>⟧.model self.new ≡ ⟦<MutableListArray<O, M> as MutableArray>⟧.model self.old) }
+        ensures err { let tree = ⟦<MutableListArray<O, M> as MutableArray>⟧.model in OnErr result (tree self.new ≡ tree self.old) }
         ensures cause { IfErr result (λ e. (e ≡ Memory alloc_error) ⊎ (item_refusal (row_item A.value (option_copied row.entry)) (⟦<MutableListArray<O, M> as MutableArray>⟧.model self.old) ≡ Some e)) }
     {
         match row {

@@ -1,8 +1,8 @@
 //! What builders of lists ask of their rows, by either width of offsets.
-ghost use Rattle.std.specs.Prelude.{◌≡◌, ◌+◌, ◌≤◌, ◌<◌, ◌⊎◌, ◌++◌, ◌∷◌, [], Bool, ℕ, List as Seq, true, Some, MatchResult, take, get_or, length, OnOk, OnErr, IfOk, IfErr, IsOkUnless, option_map, alloc_error};
+ghost use Rattle.std.specs.Prelude.{◌≡◌, ◌+◌, ◌≤◌, ◌<◌, ◌⊎◌, ◌++◌, ◌∷◌, [], Bool, ℕ, List as Seq, true, Some, IsNone, MatchResult, take, get_or, length, OnOk, OnErr, IfOk, IfErr, IsOkUnless, option_map, alloc_error};
 ghost use Rattle.nest_memory.specs.Physical.{list_of_width};
 ghost use Rattle.nest_model.specs.BuilderRow.{Row};
-ghost use Rattle.nest_build.specs.Words.{FailFirst, Memory, Overflow, Pass, RisesFrom, SpellsBits, end_from, item_type, items_told, largest_length, largest_offset, layout_of, layout_type, len, moved, offsets_from, physical_type, row_bits, rows_of_items, rows_of_lengths, rows_told, slots_of, told_row, told_rows_checks, type_of};
+ghost use Rattle.nest_build.specs.Words.{EndsPast, FailFirst, Memory, Pass, RisesFrom, SpellsBits, WithinLimits, end_from, item_type, items_told, largest_length, largest_offset, layout_of, layout_type, len, moved, offsets_from, physical_type, row_bits, rows_of_items, rows_of_lengths, rows_told, slots_of, told_row, told_rows_checks, type_of};
 
 use crate::list::rows::ListRows;
 use nest_array::array::Variant;
@@ -33,7 +33,8 @@ pub trait ToldRows: Drop {
 
     /// Which rows are valid.
     fn validity(&self) -> Option<&MutableBitmap>
-        ensures { SpellsBits (option_map (λ b. b.now) result) (row_bits (told self.now)) };
+        ensures bits { SpellsBits (option_map (λ b. b.now) result) (row_bits (told self.now)) }
+        ensures none { told self.now ≡ [] → IsNone result };
 
     /// Whether row i is valid.
     fn is_valid(&self, i: usize) -> bool
@@ -50,23 +51,23 @@ pub trait ToldRows: Drop {
     fn push(&mut self, valid: bool, end: usize) -> Result<(), Error>
         requires { end_from 0 (told self.old) ≤ end }
         ensures ok { OnOk result (told self.new ≡ told self.old ++ told_row valid end ∷ []) }
-        ensures within { OnOk result ((length (told self.old) + 1 ≤ largest_length) × (end ≤ largest_offset large)) }
+        ensures within { OnOk result (WithinLimits large (length (told self.old) + 1) end) }
         ensures err { OnErr result (told self.new ≡ told self.old) }
-        ensures cause { IfErr result (λ e. (e ≡ Memory alloc_error) ⊎ ((e ≡ Overflow) × (largest_offset large < end))) };
+        ensures cause { IfErr result (EndsPast large end) };
 
     /// Adds rows by their lengths.
     fn extend_from_lengths(&mut self, lengths: &[Option<usize>]) -> Result<(), Error>
         ensures ok { OnOk result (told self.new ≡ told self.old ++ rows_of_lengths (end_from 0 (told self.old)) lengths.now) }
-        ensures within { OnOk result ((length (told self.old) + length lengths.now ≤ largest_length) × (end_from 0 (told self.old) + items_told lengths.now ≤ largest_offset large)) }
+        ensures within { OnOk result (WithinLimits large (length (told self.old) + length lengths.now) (end_from 0 (told self.old) + items_told lengths.now)) }
         ensures err { OnErr result (told self.new ≡ told self.old) }
-        ensures cause { IfErr result (λ e. (e ≡ Memory alloc_error) ⊎ ((e ≡ Overflow) × (largest_offset large < end_from 0 (told self.old) + items_told lengths.now))) };
+        ensures cause { IfErr result (EndsPast large (end_from 0 (told self.old) + items_told lengths.now)) };
 
     /// Adds another's rows.
     fn append(&mut self, other: &Self) -> Result<(), Error>
         ensures ok { OnOk result (told self.new ≡ told self.old ++ moved (end_from 0 (told self.old)) (told other.now)) }
-        ensures within { OnOk result ((length (told self.old) + length (told other.now) ≤ largest_length) × (end_from 0 (told self.old) + end_from 0 (told other.now) ≤ largest_offset large)) }
+        ensures within { OnOk result (WithinLimits large (length (told self.old) + length (told other.now)) (end_from 0 (told self.old) + end_from 0 (told other.now))) }
         ensures err { OnErr result (told self.new ≡ told self.old) }
-        ensures cause { IfErr result (λ e. (e ≡ Memory alloc_error) ⊎ ((e ≡ Overflow) × (largest_offset large < end_from 0 (told self.old) + end_from 0 (told other.now)))) };
+        ensures cause { IfErr result (EndsPast large (end_from 0 (told self.old) + end_from 0 (told other.now))) };
 
     /// Keeps the first n rows.
     fn truncate(&mut self, n: usize)

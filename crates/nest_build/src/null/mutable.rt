@@ -1,5 +1,5 @@
 //! The builder of arrays of nulls.
-ghost use Rattle.std.specs.Prelude.{◌≡◌, ◌+◌, ◌^◌, ◌≤◌, ◌<◌, None, Some, OnOk, OnErr, IfOk, IfErr, IsOkUnless, alloc_error};
+ghost use Rattle.std.specs.Prelude.{◌≡◌, ◌+◌, ◌^◌, ◌≤◌, ◌<◌, ⊤, None, Some, OnOk, OnErr, IfOk, IfErr, IsOkUnless, alloc_error};
 ghost use Rattle.nest_model.specs.BuilderItem.{null as null_item};
 ghost use Rattle.nest_memory.specs.declared.datatypes.physical_type.PhysicalType.TheVariants as physical;
 ghost use Rattle.nest_model.specs.Layout as layouts;
@@ -135,6 +135,8 @@ impl MutableNullArray {
 
 impl MutableArray for MutableNullArray {
     ghost model = { flat_tree };
+
+    ghost bare = { λ _. ⊤ };
 
     fn data_type(&self) -> &DataType {
         self.data_type()

@@ -28,7 +28,7 @@ fn whole(builder: AnyMutableArray) -> Result<AnyMutableArray, Error> {
     Ok(builder)
 }
 
-fn keyed_texts(alloc: Global) -> Result<AnyMutableArray, Error> {
+pub(crate) fn keyed_texts(alloc: Global) -> Result<AnyMutableArray, Error> {
     let data_type = keyed_type(alloc, DataType::Utf8)?;
     match texts(alloc) {
         Ok(texts) => nested(alloc, data_type, texts),

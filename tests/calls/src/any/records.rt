@@ -417,11 +417,14 @@ fn a_refused_null_changes_no_level(rt: HostRuntime) {
     assert!(rt; have_rows(&records, 0));
 }
 
-/// Records of no row with a validity of no bit.
+/// A record with a validity without nulls.
 fn masked(alloc: Global) -> Result<MutableStructArray, Error> {
     let data_type = records_of(alloc, DataType::Int64)?;
-    let validity = Some(MutableBitmap::new(alloc));
-    over(alloc, data_type, vec![in alloc; numbers(alloc)], validity)
+    let mut validity = MutableBitmap::new(alloc);
+    validity.push(true)?;
+    let mut child = numbers(alloc);
+    push(&mut child, Plain::Native(AnyNative::Int64(1)))?;
+    over(alloc, data_type, vec![in alloc; child], Some(validity))
 }
 
 /// Whether records are frozen without a validity.

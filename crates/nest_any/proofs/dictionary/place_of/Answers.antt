@@ -9,5 +9,5 @@ returns-in-Some g c =
     let m = ap (option_map (λ key. whole (g.K.NativeType.numbers key))) c.in-Some.is in
     λ k.
     let i = index-of (whole (g.K.NativeType.numbers c.in-Some.key)) _ k c.to_index.ensures in
-    let h = c.key_of.ensures k in
+    let h = c.key_of.ensures.place k in
     (λ e. h.0 (m ∙ i.0 e), λ s. i.1 (sym m ∙ h.1 s))

@@ -2,7 +2,7 @@ use Rattle.std.specs.Prelude.{option_map}
 use Rattle.nest_build.proofs.Dictionaries.{rows_told}
 use Rattle.nest_build.proofs.dictionary.mutable.MutableDictionaryArrayMutableArray.validity.Goals as goal
 
-pub returns : goal.returns
-returns g c =
+pub returns-clause-tells : goal.returns-clause-tells
+returns-clause-tells g c =
     let old = c.args.self.now in
-    rows_told g.K.DictionaryKey.KEY_TYPE old.data_type old.rows (g.M.MutableArray.model old.values.values) (option_map (λ b. b.now) c.validity.result) old.values.keyed.3 old.covered c.validity.ensures
+    rows_told g.K.DictionaryKey.KEY_TYPE old.data_type old.rows (g.M.MutableArray.model old.values.values) (option_map (λ b. b.now) c.validity.result) old.values.keyed.3 old.covered c.validity.ensures.bits

@@ -2,7 +2,7 @@ use Rattle.std.proofs.Common.{◌∙◌, ap, take, arith}
 use Rattle.nest_model.specs.BuilderRow.{values_needed}
 use Rattle.nest_model.specs.BuilderRowLaws.{values_needed-front}
 use Rattle.nest_build.specs.Keys.{keys_told}
-use Rattle.nest_build.proofs.Keys.{told_take, raw_take}
+use Rattle.nest_build.proofs.Keys.{told_take, raw_take, rows_left}
 use Rattle.nest_build.proofs.dictionary.rows.DictionaryRows.truncate.Goals as goal
 
 pub needed_by-self-inside-requires-clause-raw : goal.needed_by-self-inside-requires-clause-raw
@@ -23,7 +23,8 @@ invariant_of-self g c =
     record {
       raw = raw_take a c.truncate.new.self _ _ _ _ c.args.n c.known.ensures.kind c.self.invariant.raw c.truncate.ensures.parts (told_take a c.truncate.new.self c.args.n c.truncate.ensures.slots);
       count = c.needed_by-self-inside.ensures;
+      bare = λ z. absurd (let l = rows_left a c.truncate.new.self c.args.n (told_take a c.truncate.new.self c.args.n c.truncate.ensures.slots) (omega arith) (omega arith) in omega arith);
     }
 
-pub returns-then-n-len : goal.returns-then-n-len
-returns-then-n-len g c = told_take c.self.inside.keys c.truncate.new.self c.args.n c.truncate.ensures.slots ∙ ap (take c.args.n) c.self.view_is
+pub returns : goal.returns
+returns g c = told_take c.self.inside.keys c.truncate.new.self c.args.n c.truncate.ensures.slots ∙ ap (take c.args.n) c.self.view_is

@@ -10,11 +10,11 @@ use Rattle.nest_build.proofs.list.rows.ListRows.is_valid.Goals as goal
 pub is_valid-requires : goal.is_valid-requires
 is_valid-requires g c =
     let a = c.self.inside in
-    let e = told-count a.offsets a.validity c.args.self.now c.self.view_is c.self.invariant in
-    covers a.validity (count_rows a.offsets) (c.args.i + 1) c.self.invariant (omega (arith, e, c.requires))
+    let e = told-count a.offsets a.validity c.args.self.now c.self.view_is c.self.invariant.fits in
+    covers a.validity (count_rows a.offsets) (c.args.i + 1) c.self.invariant.fits (omega (arith, e, c.requires))
 
 pub returns : goal.returns
 returns g c =
     let a = c.self.inside in
-    let bits = told-bits a.offsets a.validity c.args.self.now c.self.view_is c.self.invariant in
+    let bits = told-bits a.offsets a.validity c.args.self.now c.self.view_is c.self.invariant.fits in
     c.is_valid.ensures ∙ valid-bits a.validity (row_bits c.args.self.now) c.args.i bits (omega (arith, c.requires, length-map c.args.self.now (λ (r : Row). r.valid)))

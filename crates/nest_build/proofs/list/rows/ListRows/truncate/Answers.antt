@@ -6,14 +6,14 @@ use Rattle.nest_build.proofs.list.rows.ListRows.truncate.Goals as goal
 pub truncate-requires : goal.truncate-requires
 truncate-requires g c =
     let a = c.self.inside in
-    let e = told-count a.offsets a.validity c.args.self.now c.self.view_is c.self.invariant in
+    let e = told-count a.offsets a.validity c.args.self.now c.self.view_is c.self.invariant.fits in
     let l = c.requires in
-    covers a.validity (count_rows a.offsets) c.args.n c.self.invariant (omega arith)
+    covers a.validity (count_rows a.offsets) c.args.n c.self.invariant.fits (omega arith)
 
 pub truncate-requires-2 : goal.truncate-requires-2
 truncate-requires-2 g c =
     let a = c.self.inside in
-    let e = told-count a.offsets a.validity c.args.self.now c.self.view_is c.self.invariant in
+    let e = told-count a.offsets a.validity c.args.self.now c.self.view_is c.self.invariant.fits in
     let l = c.requires in
     let s = c.known.ensures.some in
     omega arith
