@@ -1,0 +1,5 @@
+-- What contracts cite.
+pub mod Batches
+pub mod BatchBytes
+pub mod BatchLaws
+pub mod Examples

@@ -1,0 +1,12 @@
+//! The metadata of record batches of the Arrow IPC format: read and written.
+#![tactic(auto)]
+
+mod batch;
+pub mod laws;
+mod reading;
+mod regions;
+mod writing;
+
+pub use batch::BatchMetadata;
+pub use reading::read_batch;
+pub use writing::write_batch;

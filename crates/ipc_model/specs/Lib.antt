@@ -1,0 +1,2 @@
+-- What contracts of the readers cite.
+pub mod Reading

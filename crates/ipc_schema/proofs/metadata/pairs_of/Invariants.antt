@@ -1,0 +1,12 @@
+use Rattle.std.proofs.Common.{◌≡◌, [], List}
+use Rattle.nest_memory.specs.TypeOf.{entries_of}
+use Rattle.nest_memory.specs.TypeTree.{Letters}
+use Rattle.ipc_words.specs.Words.{tables_at}
+use Rattle.ipc_words.specs.Rows.{with_front, rest_at}
+use Rattle.ipc_schema.specs.Schemas.{pair_at, with_pairs}
+use Rattle.ipc_schema.proofs.metadata.pairs_of.Given as goal
+
+-- the pairs so far make the map
+abbrev pub invariant-loop-i : goal.invariant-loop-i
+invariant-loop-i l =
+    (front : List (Letters × Letters)) × (with_pairs [] front ≡ entries_of l.metadata.entries) × (with_front front (rest_at (pair_at l.bytes) l.bytes l.items.count l.items.first l.i l.rest) ≡ tables_at (pair_at l.bytes) l.bytes l.items.count l.items.first l.left)

@@ -1,0 +1,88 @@
+-- A schema that is written is read back.
+use Rattle.std.proofs.Common.{◌≡◌, ℕ, ◌+◌, ◌-◌, ◌*◌, ◌^◌, ◌<◌, ◌≤◌, List, [], ◌++◌, map, length, Some, None, Ok, refl, append_assoc, arith}
+use Rattle.std.proofs.lemmas.List.{length-append}
+use Rattle.ipc_words.specs.Words.{offset_at, field_place, visit_table, items_at}
+use Rattle.ipc_words.specs.Bytes.{u32_bytes}
+use Rattle.ipc_words.specs.Laws.{From, From-length, From_next}
+use Rattle.ipc_words.specs.PartLaws.{From_at, offset_in, table_in, visit_in, field_in, field_out}
+use Rattle.ipc_words.specs.RowLaws.{row_again, row_is_long}
+use Rattle.ipc_message.specs.Messages.{message_at}
+use Rattle.ipc_message.specs.MessageBytes.{root_bytes, message_bytes, framed_bytes, padding}
+use Rattle.ipc_message.specs.MessageLaws.{padded, padded_long, padding_long, framed_long, root_long, written_parts, message_again, written_part}
+use Rattle.ipc_message.specs.declared.message.Kind.TheVariants as kinds
+use Rattle.ipc_schema.specs.Schemas.{SchemaTree, metadata_at, field_at, schema_at, stream_schema_at}
+use Rattle.ipc_schema.specs.Forms.{fields_form}
+use Rattle.ipc_schema.specs.SchemaBytes.{field_bytes, fields_bytes, entries_bytes, schema_bytes, schema_message}
+use Rattle.ipc_schema.specs.MetadataLaws.{AreTexts, IsRising, entries_cost, entries_pay, metadata_again}
+use Rattle.ipc_schema.specs.FieldLaws.{AllFit, fields_cost, fields_again, fields_pay}
+
+-- what a schema of the code has, and that it is written
+pub record SchemaFits (s : SchemaTree) : Type 0 where
+  pub form : fields_form s.fields ≡ Ok tt
+  pub fields : AllFit s.fields
+  pub texts : AreTexts s.metadata
+  pub rising : IsRising s.metadata
+
+-- what reading the rows takes of the budget
+abbrev pub row_cost : SchemaTree → ℕ
+row_cost s = 4 + length (map field_bytes s.fields) * 4 + fields_cost s.fields
+
+unfoldable pub schema_cost : SchemaTree → ℕ
+schema_cost s = 8 + row_cost s + entries_cost s.metadata
+
+abbrev pub part_of : SchemaTree → List ℕ
+part_of s = schema_bytes (fields_bytes s.fields) (entries_bytes s.metadata)
+
+pub part_long : (s : SchemaTree) → length (part_of s) ≡ 32 + length (fields_bytes s.fields) + length (entries_bytes s.metadata)
+unfolding schema_bytes u32_bytes
+part_long s = omega (arith, length-append (fields_bytes s.fields) (entries_bytes s.metadata))
+
+-- a message is longer than its part
+pub message_long : (s : SchemaTree) → 56 + length (part_of s) ≤ length (schema_message s)
+unfolding schema_message
+message_long s =
+    let metadata : List ℕ = root_bytes kinds.Schema 0 16 (part_of s) in
+    let framed : length (message_bytes kinds.Schema 0 16 (part_of s)) ≡ length (framed_bytes metadata) = unfold message_bytes in refl in
+    omega (arith, framed, framed_long metadata, root_long kinds.Schema 0 16 (part_of s))
+
+schema_pays : (s : SchemaTree) → SchemaFits s → schema_cost s ≤ length (part_of s)
+unfolding schema_cost
+schema_pays s fits = omega (arith, part_long s, fields_pay s.fields fits.form, row_is_long 24 (map field_bytes s.fields), entries_pay s.metadata)
+
+schema_again : (s : SchemaTree) (whole : List ℕ) (p q left : ℕ) (after : List ℕ) → SchemaFits s → From whole p (part_of s ++ after) → length whole < 2 ^ 32 → q ≡ p + 16 → schema_cost s ≤ left → schema_at whole q left ≡ Ok (s, left - schema_cost s)
+unfolding schema_at schema_bytes u32_bytes items_at schema_cost
+schema_again s whole p q left after fits h small at le =
+    let row : List ℕ = fields_bytes s.fields in
+    let metadata : List ℕ = entries_bytes s.metadata in
+    let part : List ℕ = part_of s ++ after in
+    let n : ℕ = length (map field_bytes s.fields) in
+    let ends = From-length whole p part h in
+    let long : 32 + length row + length metadata ≤ length part = omega (arith, length-append (row ++ metadata) after, length-append row metadata) in
+    let v : visit_table whole (p + 16) left ≡ Ok (table_in p 16 10, left - 8) = visit_in whole p part 16 10 left h (omega arith) (omega arith) (omega arith) (omega arith) refl refl refl (omega arith) in
+    let f0 : field_place whole (table_in p 16 10) 0 ≡ Ok None = field_out whole p part 16 10 0 h (omega arith) (omega arith) refl in
+    let f1 : field_place whole (table_in p 16 10) 1 ≡ Ok (Some (p + 16 + 4)) = field_in whole p part 16 10 1 4 h (omega arith) (omega arith) (omega arith) refl in
+    let f2 : field_place whole (table_in p 16 10) 2 ≡ Ok (Some (p + 16 + 8)) = field_in whole p part 16 10 2 8 h (omega arith) (omega arith) (omega arith) refl in
+    let o1 : offset_at whole (p + 16 + 4) ≡ Ok (p + 16 + 4 + 12) = offset_in whole p part 20 (p + 16 + 4) 12 h (omega arith) (omega arith) (omega arith) refl in
+    let o2 : offset_at whole (p + 16 + 8) ≡ Ok (p + 16 + 8 + (8 + length row)) = offset_in whole p part 24 (p + 16 + 8) (8 + length row) h (omega arith) (omega arith) (omega arith) refl in
+    let first : From whole (p + 16 + 4 + 12) (row ++ (metadata ++ after)) = From_at whole p (p + 16 + 4 + 12) 32 part (row ++ (metadata ++ after)) h (omega arith) (omega arith) (append_assoc row metadata after) in
+    let second : From whole (p + 16 + 4 + 12 + length row) (metadata ++ after) = From_next whole (p + 16 + 4 + 12) row (metadata ++ after) first in
+    let there : p + 16 + 8 + (8 + length row) ≡ p + 16 + 4 + 12 + length row = omega arith in
+    let r = row_again field_at 24 (map field_bytes s.fields) s.fields (fields_cost s.fields) whole (p + 16 + 4 + 12) (left - 8) (metadata ++ after) (fields_again s.fields fits.form fits.fields) first small (omega arith) in
+    let rest : ℕ = left - 8 - (4 + n * 4) - fields_cost s.fields in
+    let m : metadata_at whole (Some (p + 16 + 4 + 12 + length row)) rest ≡ Ok (s.metadata, rest - entries_cost s.metadata) = metadata_again s.metadata whole (p + 16 + 4 + 12 + length row) rest after fits.texts fits.rising second small (omega arith) in
+    let spent : rest - entries_cost s.metadata ≡ left - (8 + row_cost s + entries_cost s.metadata) = omega arith in
+    rw (at, v, f0, f1, o1, r.vector, r.tables, f2, o2, there, m, spent) refl
+
+-- the message of a schema is read, and what stands behind it is left
+pub stream_again : (s : SchemaTree) (rest : List ℕ) → SchemaFits s → length (schema_message s) < 2 ^ 31 → stream_schema_at (schema_message s ++ rest) ≡ Ok (s, rest)
+unfolding stream_schema_at schema_message
+stream_again s rest fits small =
+    let metadata : List ℕ = root_bytes kinds.Schema 0 16 (part_of s) in
+    let whole : List ℕ = padded metadata in
+    let framed : length (message_bytes kinds.Schema 0 16 (part_of s)) ≡ length (framed_bytes metadata) = unfold message_bytes in refl in
+    let m : message_at (message_bytes kinds.Schema 0 16 (part_of s) ++ rest) ≡ Ok (Some (written_parts kinds.Schema 16 (part_of s) []), rest) = message_again kinds.Schema 16 (part_of s) [] rest (omega arith) (omega arith) small in
+    let short : length whole < 2 ^ 31 = omega (arith, framed, framed_long metadata, padding_long (length metadata), padded_long metadata) in
+    let h : From whole 48 (part_of s ++ padding (length metadata)) = written_part kinds.Schema 0 16 (part_of s) in
+    let enough : schema_cost s ≤ 64 * length whole - 8 = omega (arith, schema_pays s fits, root_long kinds.Schema 0 16 (part_of s), padded_long metadata) in
+    let r : schema_at whole 64 (64 * length whole - 8) ≡ Ok (s, 64 * length whole - 8 - schema_cost s) = schema_again s whole 48 64 (64 * length whole - 8) (padding (length metadata)) fits h (omega arith) (omega arith) enough in
+    rw (m, r) refl

@@ -1,0 +1,147 @@
+-- The schema that metadata spells: `Schema`, `Field`, `Int` and `KeyValue` of `Schema.fbs` of the Arrow format, in the order of reading.
+use Rattle.std.specs.Prelude.{ℕ, pos, Bool, true, false, ◌&&◌, not, List, [], ◌∷◌, map, codes, Option, Some, None, is_some, Result, Ok, Err, nat_lt, ◌==◌, if◌then◌else◌}
+use Rattle.std.specs.Map.{lookup}
+use Rattle.std.specs.BTreeMap.{insert_entry}
+use Rattle.std.specs.Cmp.Lexicographic.{slice_cmp}
+use Rattle.std.specs.Ordering.{nat_cmp, int_eq}
+use Rattle.std.specs.Int.{w8, w16, w32}
+use Rattle.std.specs.Str.{bytes_eq}
+use Rattle.nest_memory.specs.Physical.{integer_tree}
+use Rattle.nest_memory.specs.TypeOf.{entries_of, field_of}
+use Rattle.nest_memory.specs.TypeTree.{Letters, Entries, FieldTree, field}
+use Rattle.nest_memory.specs.declared.datatypes.IntegerType.{IntegerType}
+use Rattle.nest_memory.specs.declared.datatypes.IntegerType.TheVariants.{Int8, Int16, Int32, Int64, UInt8, UInt16, UInt32, UInt64}
+use Rattle.ipc_model.specs.Reading.{◌>>=◌, check}
+use Rattle.ipc_model.specs.declared.fault.Fault.{Fault}
+use Rattle.ipc_model.specs.declared.fault.Fault.TheVariants.{NoSchema, BodyLength, Endianness, NoType, UnknownType, UnsupportedType, TypeRange, ChildCount, Metadata}
+use Rattle.ipc_words.specs.Words as words
+use Rattle.ipc_words.specs.Words.{natural, number_at, signed_at, offset_field, visit_table, text_at, items_at, tables_at}
+use Rattle.ipc_message.specs.Messages.{Parts, message_at}
+use Rattle.ipc_message.specs.declared.message.Kind.{Kind}
+use Rattle.ipc_message.specs.declared.message.Kind.TheVariants as kinds
+use Rattle.ipc_schema.specs.declared.schema.Schema.{Schema}
+
+-- ---- metadata of users
+
+-- both a key and a value
+unfoldable pub pair_at : List ℕ → ℕ → ℕ → Result ((Letters × Letters) × ℕ) Fault
+pair_at bytes place left = do
+  table ← visit_table bytes place left
+  to ← offset_field bytes table.0 0
+  key ← text_at bytes to table.1
+  to' ← offset_field bytes table.0 1
+  value ← text_at bytes to' key.1
+  both ← check (is_some to && is_some to') Metadata
+  Ok ((key.0, value.0), value.1)
+
+-- the pairs by rising keys; of equal keys the last one counts
+abbrev pub with_pairs : Entries → List (Letters × Letters) → Entries
+with_pairs entries [] = entries
+with_pairs entries (pair ∷ pairs) = with_pairs (insert_entry (slice_cmp nat_cmp) entries pair.0 pair.1) pairs
+
+abbrev pub with_all : Result (List (Letters × Letters) × ℕ) Fault → Result (Entries × ℕ) Fault
+with_all read = read >>= λ pairs. Ok (with_pairs [] pairs.0, pairs.1)
+
+unfoldable pub metadata_at : List ℕ → Option ℕ → ℕ → Result (Entries × ℕ) Fault
+metadata_at bytes place left = do
+  items ← items_at 4 bytes place left
+  with_all (tables_at (pair_at bytes) bytes items.0.count items.0.first items.1)
+
+-- ---- types
+
+-- where the type's table stands: a field has a type, of those that are read here
+abbrev pub type_place : ℕ → Option ℕ → Result ℕ Fault
+type_place tag None = Err NoType
+type_place tag (Some place) =
+    if tag == 0 then Err NoType
+    else (if nat_lt 26 tag then Err UnknownType else (if tag == 2 then Ok place else Err UnsupportedType))
+
+-- the whole numbers of so many bits
+abbrev pub integer_of : ℕ → Bool → Result IntegerType Fault
+integer_of bits signed =
+    if bits == 8 then Ok (if signed then Int8 else UInt8)
+    else (if bits == 16 then Ok (if signed then Int16 else UInt16) else (if bits == 32 then Ok (if signed then Int32 else UInt32) else (if bits == 64 then Ok (if signed then Int64 else UInt64) else Err TypeRange)))
+
+-- `Int`
+unfoldable pub integer_at : List ℕ → ℕ → ℕ → Result (IntegerType × ℕ) Fault
+integer_at bytes place left = do
+  table ← visit_table bytes place left
+  width ← words.field (signed_at w32 bytes) (pos 0) bytes table.0 0
+  sign ← words.field (number_at w8 bytes) 0 bytes table.0 1
+  bits ← natural TypeRange width
+  type ← integer_of bits (nat_lt 0 sign)
+  Ok (type, table.1)
+
+-- ---- fields
+
+-- the key by which a field spells an extension
+abbrev pub extension_name : Letters
+extension_name = codes "ARROW:extension:name"
+
+abbrev pub has_key : Letters → Entries → Bool
+has_key key entries = is_some (lookup (λ other. bytes_eq key other) entries)
+
+-- a type of whole numbers is not by a dictionary, and has no children
+abbrev pub plain : Option ℕ → ℕ → Result (Unit {0}) Fault
+plain (Some dictionary) children = Err UnsupportedType
+plain None children = check (children == 0) ChildCount
+
+unfoldable pub field_at : List ℕ → ℕ → ℕ → Result (FieldTree × ℕ) Fault
+field_at bytes place left = do
+  table ← visit_table bytes place left
+  to ← offset_field bytes table.0 0
+  name ← text_at bytes to table.1
+  nullable ← words.field (number_at w8 bytes) 0 bytes table.0 1
+  tag ← words.field (number_at w8 bytes) 0 bytes table.0 2
+  to ← offset_field bytes table.0 3
+  place ← type_place tag to
+  to ← offset_field bytes table.0 5
+  children ← items_at 4 bytes to name.1
+  integer ← integer_at bytes place children.1
+  dictionary ← offset_field bytes table.0 4
+  alone ← plain dictionary children.0.count
+  to ← offset_field bytes table.0 6
+  metadata ← metadata_at bytes to integer.1
+  own ← check (not (has_key extension_name metadata.0)) UnsupportedType
+  Ok (field name.0 (integer_tree integer.0) (nat_lt 0 nullable) metadata.0, metadata.1)
+
+-- ---- schemas
+
+-- a schema without where it lies in memory
+pub record SchemaTree : Type 0 where
+  pub fields : List FieldTree
+  pub metadata : Entries
+
+unfoldable pub schema_at : List ℕ → ℕ → ℕ → Result (SchemaTree × ℕ) Fault
+schema_at bytes place left = do
+  table ← visit_table bytes place left
+  endianness ← words.field (signed_at w16 bytes) (pos 0) bytes table.0 0
+  little ← check (int_eq endianness (pos 0)) Endianness
+  to ← offset_field bytes table.0 1
+  items ← items_at 4 bytes to table.1
+  fields ← tables_at (field_at bytes) bytes items.0.count items.0.first items.1
+  to ← offset_field bytes table.0 2
+  metadata ← metadata_at bytes to fields.1
+  Ok (record { fields = fields.0; metadata = metadata.0 }, metadata.1)
+
+-- a schema's message, which has no body
+abbrev pub is_schema : Kind → Bool
+is_schema kinds.Schema = true
+is_schema kinds.DictionaryBatch = false
+is_schema kinds.RecordBatch = false
+
+abbrev pub schema_parts : Option Parts → Result Parts Fault
+schema_parts None = Err NoSchema
+schema_parts (Some parts) = if is_schema parts.root.kind then (if parts.root.body_length == 0 then Ok parts else Err BodyLength) else Err NoSchema
+
+-- the schema that a stream begins with, and what stands behind its message
+unfoldable pub stream_schema_at : List ℕ → Result (SchemaTree × List ℕ) Fault
+stream_schema_at bytes = do
+  first ← message_at bytes
+  parts ← schema_parts first.0
+  schema ← schema_at parts.metadata parts.root.header parts.root.left
+  Ok (schema.0, first.1)
+
+-- a schema of the code
+abbrev pub schema_of : Schema → SchemaTree
+schema_of s = record { fields = map field_of s.fields.items; metadata = entries_of s.metadata.entries }

@@ -1,0 +1,244 @@
+//! Writes the message of a schema.
+ghost use Rattle.std.specs.Prelude.{◌≡◌, ◌<◌, ◌≤◌, ◌^◌, ◌+◌, ◌++◌, ◌⊎◌, List, ℕ, map, true, length, IfOk, OnOk, IfErr, Ok, Err, string_bytes};
+ghost use Rattle.std.specs.BTreeMap.{IsOrdered};
+ghost use Rattle.std.specs.Str.{is_utf8};
+ghost use Rattle.std.specs.String.{string_cmp};
+ghost use Rattle.nest_memory.specs.TypeOf.{field_of, entries_of};
+ghost use Rattle.ipc_words.specs.Bytes.{string_bytes as string_part, together, parts_of};
+ghost use Rattle.ipc_words.specs.Writes.{IsTooLong};
+ghost use Rattle.ipc_schema.specs.Schemas.{schema_of, stream_schema_at};
+ghost use Rattle.ipc_schema.specs.Forms.{field_form as field_form_lem, fields_form, IsUnwritten};
+ghost use Rattle.ipc_schema.specs.SchemaBytes.{field_head, integer_bytes, no_tables, entries_bytes, field_bytes, field_parts, schema_bytes, schema_message};
+ghost use Rattle.ipc_schema.specs.MetadataLaws.{AreTexts};
+ghost use Rattle.ipc_schema.specs.FieldLaws.{FieldFits, AllFit, name_of, nullable_of, own_entries};
+ghost use Rattle.ipc_schema.specs.SchemaLaws.{SchemaFits};
+
+use crate::metadata::{has_key, put_metadata};
+use crate::schema::Schema;
+use crate::types::{put_integer, type_form};
+use ipc_message::{Kind, put_message};
+use ipc_model::NoForm;
+use ipc_words::{put_offset, put_row, put_string};
+use nest_memory::datatypes::{Field, IntegerType, Metadata};
+use std::alloc::Global;
+
+// The type that a field is written with.
+#[tactic(auto, unfolding(crate::specs::Forms::field_form))]
+fn field_form(field: &Field) -> Result<IntegerType, NoForm>
+    ensures { result ≡ field_form_lem (field_of field.now) }
+{
+    if has_key(&field.metadata, "ARROW:extension:name") {
+        return Err(NoForm::Extension);
+    }
+    type_form(&field.data_type)
+}
+
+// The first reason why fields are not written.
+fn check_fields(fields: &[Field]) -> Result<(), NoForm>
+    ensures { result ≡ fields_form (map field_of fields.now) }
+{
+    for field in fields {
+        field_form(field)?;
+    }
+    Ok(())
+}
+
+// How far the parts of a field reach: its type, its children, its name.
+#[derive(Clone, Copy)]
+struct Ends {
+    type_end: usize,
+    children_end: usize,
+    name_end: usize,
+}
+
+// A field's table, before its parts.
+#[tactic(auto, unfolding(crate::specs::SchemaBytes::field_head))]
+fn put_head(
+    out: &mut Vec<u8>,
+    is_nullable: bool,
+    tag: u8,
+    head: u8,
+    ends: Ends,
+) -> Result<(), NoForm>
+    requires rising { (ends.type_end ≤ ends.name_end) × (ends.children_end ≤ ends.name_end) }
+    requires small { ends.name_end < 2 ^ 63 }
+    ensures ok { OnOk result (out.new.items ≡ out.old.items ++ field_head is_nullable tag head ends.type_end ends.children_end ends.name_end) }
+    ensures size { IfErr result (λ why. IsTooLong why (48 + ends.name_end)) }
+{
+    out.extend_from_slice(&[
+        18, 0, 24, 0, 4, 0, 20, 0, 21, 0, 8, 0, 0, 0, 12, 0, 16, 0, 0, 0, 0, 0, 0, 0, 24, 0, 0, 0,
+    ])?;
+    put_offset(out, 20 + ends.children_end, 0)?;
+    put_offset(out, 16, head)?;
+    put_offset(out, 12 + ends.type_end, 0)?;
+    put_offset(out, 8 + ends.name_end, 0)?;
+    out.extend_from_slice(&[is_nullable as u8, tag, 0, 0])?;
+    Ok(())
+}
+
+// A field's table and its parts; the type's table stands `head` bytes into its part.
+#[tactic(auto, unfolding(crate::specs::SchemaBytes::field_parts))]
+fn put_field(
+    out: &mut Vec<u8>,
+    is_nullable: bool,
+    tag: u8,
+    head: u8,
+    data_type: &[u8],
+    children: &[u8],
+    name: &[u8],
+    metadata: &[u8],
+) -> Result<(), NoForm>
+    ensures ok { OnOk result (out.new.items ≡ out.old.items ++ field_parts is_nullable tag head data_type.now children.now name.now metadata.now) }
+    ensures size { IfErr result (λ why. IsTooLong why (length (field_parts is_nullable tag head data_type.now children.now name.now metadata.now))) }
+{
+    if data_type.len() >= 1 << 31 || children.len() >= 1 << 31 || name.len() >= 1 << 31 {
+        return Err(NoForm::Size);
+    }
+    let type_end = data_type.len();
+    let children_end = type_end + children.len();
+    let name_end = children_end + name.len();
+    let ends = Ends {
+        type_end,
+        children_end,
+        name_end,
+    };
+    put_head(out, is_nullable, tag, head, ends)?;
+    out.extend_from_slice(data_type)?;
+    out.extend_from_slice(children)?;
+    out.extend_from_slice(name)?;
+    out.extend_from_slice(metadata)?;
+    Ok(())
+}
+
+// A field as a table, with what it names.
+fn parts_together(
+    alloc: Global,
+    name: &String,
+    is_nullable: bool,
+    integer: IntegerType,
+    own: &Metadata,
+) -> Result<Vec<u8>, NoForm>
+    ensures ok { IfOk result (λ part. part.items ≡ field_parts is_nullable 2 8 (integer_bytes integer) no_tables (string_part (string_bytes name.now)) (entries_bytes (entries_of own.now.entries))) }
+    ensures fits { OnOk result ((is_utf8 (string_bytes name.now) ≡ true) × AreTexts (entries_of own.now.entries)) }
+    ensures rising { IsOrdered string_cmp own.now }
+    ensures size { IfErr result (λ why. IsTooLong why (length (field_parts is_nullable 2 8 (integer_bytes integer) no_tables (string_part (string_bytes name.now)) (entries_bytes (entries_of own.now.entries))))) }
+{
+    let _len = own.len();
+    let mut data_type = Vec::new(alloc);
+    put_integer(&mut data_type, integer)?;
+    let mut text = Vec::new(alloc);
+    put_string(&mut text, name.as_str())?;
+    let mut metadata = Vec::new(alloc);
+    put_metadata(alloc, &mut metadata, own)?;
+    let children = [0u8, 0, 0, 0, 0, 0, 0, 0];
+    let mut out = Vec::new(alloc);
+    put_field(
+        &mut out,
+        is_nullable,
+        2,
+        8,
+        &data_type,
+        &children,
+        &text,
+        &metadata,
+    )?;
+    Ok(out)
+}
+
+fn field_name(field: &Field) -> &String
+    ensures { string_bytes result.now ≡ name_of (field_of field.now) }
+{
+    &field.name
+}
+
+fn is_nullable(field: &Field) -> bool
+    ensures { result ≡ nullable_of (field_of field.now) }
+{
+    field.is_nullable
+}
+
+fn own_metadata(field: &Field) -> &Metadata
+    ensures { entries_of result.now.entries ≡ own_entries (field_of field.now) }
+{
+    &field.metadata
+}
+
+// The same of a field that is written with this type.
+fn field_part(alloc: Global, field: &Field, integer: IntegerType) -> Result<Vec<u8>, NoForm>
+    requires { field_form_lem (field_of field.now) ≡ Ok integer }
+    ensures ok { IfOk result (λ part. part.items ≡ field_bytes (field_of field.now)) }
+    ensures fits { OnOk result (FieldFits (field_of field.now)) }
+    ensures size { IfErr result (λ why. IsTooLong why (length (field_bytes (field_of field.now)))) }
+{
+    parts_together(
+        alloc,
+        field_name(field),
+        is_nullable(field),
+        integer,
+        own_metadata(field),
+    )
+}
+
+// Each field as a table.
+fn field_parts_of(alloc: Global, fields: &[Field]) -> Result<Vec<Vec<u8>>, NoForm>
+    ensures ok { IfOk result (λ parts. parts_of parts.items ≡ map field_bytes (map field_of fields.now)) }
+    ensures fits { OnOk result (AllFit (map field_of fields.now)) }
+    ensures err { IfErr result (λ why. (fields_form (map field_of fields.now) ≡ Err why) ⊎ IsTooLong why (length (together (map field_bytes (map field_of fields.now))))) }
+{
+    let mut parts = Vec::new(alloc);
+    for field in fields {
+        let integer = field_form(field)?;
+        let part = field_part(alloc, field, integer)?;
+        parts.push(part)?;
+    }
+    Ok(parts)
+}
+
+// The table of a schema, with what it names.
+#[tactic(auto, unfolding(crate::specs::SchemaBytes::schema_bytes))]
+fn put_schema(out: &mut Vec<u8>, fields: &[u8], metadata: &[u8]) -> Result<(), NoForm>
+    ensures ok { OnOk result (out.new.items ≡ out.old.items ++ schema_bytes fields.now metadata.now) }
+    ensures size { IfErr result (λ why. IsTooLong why (length (schema_bytes fields.now metadata.now))) }
+{
+    out.extend_from_slice(&[
+        10, 0, 12, 0, 0, 0, 4, 0, 8, 0, 0, 0, 0, 0, 0, 0, 16, 0, 0, 0, 12, 0, 0, 0,
+    ])?;
+    put_offset(out, 8 + fields.len(), 0)?;
+    out.extend_from_slice(&[0, 0, 0, 0])?;
+    out.extend_from_slice(fields)?;
+    out.extend_from_slice(metadata)?;
+    Ok(())
+}
+
+// The message of a schema whose fields are written.
+fn schema_bytes_of(alloc: Global, schema: &Schema) -> Result<Vec<u8>, NoForm>
+    requires { fields_form (schema_of schema.now).fields ≡ Ok tt }
+    ensures ok { IfOk result (λ out. out.items ≡ schema_message (schema_of schema.now)) }
+    ensures fits { OnOk result (SchemaFits (schema_of schema.now)) }
+    ensures size { IfErr result (λ why. IsTooLong why (length (schema_message (schema_of schema.now)))) }
+{
+    let mut fields = Vec::new(alloc);
+    let parts = field_parts_of(alloc, &schema.fields)?;
+    put_row(&mut fields, 24, &parts)?;
+    let mut metadata = Vec::new(alloc);
+    put_metadata(alloc, &mut metadata, &schema.metadata)?;
+    let mut part = Vec::new(alloc);
+    put_schema(&mut part, &fields, &metadata)?;
+    let mut out = Vec::new(alloc);
+    put_message(alloc, &mut out, Kind::Schema, 0, 16, &part)?;
+    Ok(out)
+}
+
+/// The message of a schema: whatever stands behind it, reading gives the schema back. Refused with the first reason in the order of writing.
+pub fn write_schema(alloc: Global, schema: &Schema) -> Result<Vec<u8>, NoForm>
+    ensures again { IfOk result (λ out. (rest : List ℕ) → stream_schema_at (out.items ++ rest) ≡ Ok (schema_of schema.now, rest)) }
+    ensures form { OnOk result (fields_form (schema_of schema.now).fields ≡ Ok tt) }
+    ensures err { IfErr result (IsUnwritten (schema_of schema.now).fields (length (schema_message (schema_of schema.now)))) }
+{
+    check_fields(&schema.fields)?;
+    let out = schema_bytes_of(alloc, schema)?;
+    if out.len() >= 1 << 31 {
+        return Err(NoForm::Size);
+    }
+    Ok(out)
+}
