@@ -1,0 +1,4 @@
+-- What contracts cite.
+pub mod Stored
+pub mod Columns
+pub mod Examples

@@ -1,0 +1,74 @@
+//! Nodes and buffers, taken one after the other.
+ghost use Rattle.std.specs.Prelude.{◌≡◌};
+ghost use Rattle.ipc_model.specs.Reading.{Spells};
+ghost use Rattle.ipc_layout.specs.Columns.{counts_of as counts_of_lem, bytes_of as bytes_of_lem, next_counts as next_counts_lem, next_bytes as next_bytes_lem};
+
+use ipc_model::{Fault, Node, Region};
+
+/// The nodes and buffers of a batch that no array has taken yet.
+#[derive(Clone, Copy)]
+pub struct Left<'a> {
+    pub nodes: &'a [Node],
+    pub regions: &'a [Region],
+}
+
+/// How many slots an array has, and how many of them are null.
+#[derive(Clone, Copy, Debug, PartialEq, Eq)]
+pub struct Counts {
+    pub slots: usize,
+    pub nulls: usize,
+}
+
+fn counts_of(node: Node) -> Result<Counts, Fault>
+    ensures { result ≡ counts_of_lem node.length node.null_count }
+{
+    if node.length < 0 || node.null_count < 0 || node.null_count > node.length {
+        return Err(Fault::NodeRange);
+    }
+    Ok(Counts {
+        slots: node.length as usize,
+        nulls: node.null_count as usize,
+    })
+}
+
+/// The numbers of the next array, and the nodes behind.
+#[tactic(auto, unfolding(crate::specs::Columns::next_counts))]
+pub(crate) fn next_counts(nodes: &[Node]) -> Result<(Counts, &[Node]), Fault>
+    ensures { Spells (λ x. (x.0, x.1.now)) result (next_counts_lem nodes.now) }
+{
+    match nodes {
+        [] => Err(Fault::NodeCount),
+        [node, rest @ ..] => Ok((counts_of(*node)?, rest)),
+    }
+}
+
+#[tactic(auto, unfolding(crate::specs::Columns::bytes_of))]
+fn bytes_of(body: &[u8], region: Region) -> Result<&[u8], Fault>
+    ensures { Spells (λ x. x.now) result (bytes_of_lem body.now region.offset region.length) }
+{
+    if region.offset < 0 || region.length < 0 {
+        return Err(Fault::BufferRange);
+    }
+    let offset = region.offset as usize;
+    let size = region.length as usize;
+    if offset > body.len() || size > body.len() - offset {
+        return Err(Fault::BufferRange);
+    }
+    let (_, from) = body.split_at(offset);
+    let (bytes, _) = from.split_at(size);
+    Ok(bytes)
+}
+
+/// The bytes of the next buffer, and the buffers behind.
+#[tactic(auto, unfolding(crate::specs::Columns::next_bytes))]
+pub(crate) fn next_bytes<'a>(
+    body: &'a [u8],
+    regions: &'a [Region],
+) -> Result<(&'a [u8], &'a [Region]), Fault>
+    ensures { Spells (λ x. (x.0.now, x.1.now)) result (next_bytes_lem body.now regions.now) }
+{
+    match regions {
+        [] => Err(Fault::BufferCount),
+        [region, rest @ ..] => Ok((bytes_of(body, *region)?, rest)),
+    }
+}
