@@ -1,0 +1,104 @@
+//! Columns of whole numbers, from nodes, buffers and a body.
+use ipc_layout::{Left, read_column};
+use ipc_model::{Fault, Node, Region};
+use nest_flat::any_native::AnyNative;
+use nest_flat::any_primitive::AnyPrimitive;
+use nest_memory::datatypes::DataType;
+use std::alloc::Global;
+
+/// The body of 7 and a null, of 32 bits.
+const BODY: [u8; 16] = [1, 0, 0, 0, 0, 0, 0, 0, 7, 0, 0, 0, 0, 0, 0, 0];
+
+fn read(
+    alloc: Global,
+    data_type: DataType,
+    numbers: (i64, i64),
+    bits: (i64, i64),
+    values: (i64, i64),
+) -> Result<AnyPrimitive, Fault> {
+    let nodes = [Node {
+        length: numbers.0,
+        null_count: numbers.1,
+    }];
+    let regions = [
+        Region {
+            offset: bits.0,
+            length: bits.1,
+        },
+        Region {
+            offset: values.0,
+            length: values.1,
+        },
+    ];
+    let left = Left {
+        nodes: &nodes,
+        regions: &regions,
+    };
+    match read_column(alloc, &data_type, 2, &BODY, left) {
+        Ok((array, _left)) => Ok(array),
+        Err(fault) => Err(fault),
+    }
+}
+
+#[test]
+fn seven_and_null(rt: HostRuntime) {
+    let array = read(rt.alloc(), DataType::Int32, (2, 1), (0, 1), (8, 8)).expect(&rt, "a column");
+    assert!(rt; array.len() == 2);
+    assert!(rt; *array.data_type() == DataType::Int32);
+    assert!(rt; array.value(0) == AnyNative::Int32(7));
+    assert!(rt; array.is_null(1));
+}
+
+#[test]
+fn without_nulls(rt: HostRuntime) {
+    let array = read(rt.alloc(), DataType::UInt16, (2, 0), (0, 0), (7, 4)).expect(&rt, "a column");
+    assert!(rt; array.null_count() == 0);
+    assert!(rt; array.value(0) == AnyNative::UInt16(1792));
+    assert!(rt; array.value(1) == AnyNative::UInt16(0));
+}
+
+#[test]
+fn each_fault(rt: HostRuntime) {
+    for (numbers, bits, values, want) in [
+        ((-1, 0), (0, 1), (8, 8), Fault::NodeRange),
+        ((2, -1), (0, 1), (8, 8), Fault::NodeRange),
+        ((2, 3), (0, 1), (8, 8), Fault::NodeRange),
+        ((3, 1), (0, 1), (8, 8), Fault::RowCount),
+        ((2, 1), (0, 17), (8, 8), Fault::BufferRange),
+        ((2, 1), (0, 0), (8, 8), Fault::BufferShort),
+        ((2, 2), (0, 1), (8, 8), Fault::NullCount),
+        ((2, 0), (0, 1), (8, 8), Fault::NullCount),
+        ((2, 1), (0, 1), (8, 7), Fault::BufferShort),
+    ] {
+        match read(rt.alloc(), DataType::Int32, numbers, bits, values) {
+            Ok(_array) => assert!(rt; false),
+            Err(fault) => assert!(rt; fault == want),
+        }
+    }
+}
+
+// The fault where nothing is read of so much.
+fn fault_of(alloc: Global, left: Left<'_>) -> Option<Fault> {
+    match read_column(alloc, &DataType::Int32, 2, &BODY, left) {
+        Ok((_array, _left)) => None,
+        Err(fault) => Some(fault),
+    }
+}
+
+#[test]
+fn nothing_left(rt: HostRuntime) {
+    let nodes = [Node {
+        length: 2,
+        null_count: 0,
+    }];
+    let none = Left {
+        nodes: &[],
+        regions: &[],
+    };
+    assert!(rt; fault_of(rt.alloc(), none) == Some(Fault::NodeCount));
+    let one = Left {
+        nodes: &nodes,
+        regions: &[],
+    };
+    assert!(rt; fault_of(rt.alloc(), one) == Some(Fault::BufferCount));
+}

@@ -1,0 +1,135 @@
+//! What is written is read back.
+use ipc_batch::{BatchMetadata, read_batch, write_batch};
+use ipc_message::next_message;
+use ipc_model::{NoForm, Node, Region};
+use ipc_schema::{Schema, read_schema, write_schema};
+use nest_memory::datatypes::{DataType, Field, Metadata};
+use std::alloc::Global;
+use std::collections::BTreeMap;
+
+fn of_one(
+    alloc: Global,
+    name: &str,
+    data_type: DataType,
+    is_nullable: bool,
+) -> Result<Field, NoForm> {
+    Field::new(alloc, name, data_type, is_nullable).map_err(|_| NoForm::Memory)
+}
+
+fn metadata_of(alloc: Global, pairs: &[(&str, &str)]) -> Result<Metadata, NoForm> {
+    let mut metadata = BTreeMap::new(alloc);
+    for (key, value) in pairs {
+        let key = String::from_str(alloc, key)?;
+        let value = String::from_str(alloc, value)?;
+        metadata.insert(key, value)?;
+    }
+    Ok(metadata)
+}
+
+fn schema_of(alloc: Global) -> Result<Schema, NoForm> {
+    let mut fields = Vec::new(alloc);
+    fields.push(of_one(alloc, "a", DataType::Int32, true)?)?;
+    fields.push(of_one(alloc, "", DataType::UInt64, false)?)?;
+    let mut third = of_one(alloc, "third\u{e9}", DataType::Int8, true)?;
+    third.metadata = metadata_of(
+        alloc,
+        &[
+            ("k", "v"),
+            ("", "long value of a key that has no letter"),
+            ("b", ""),
+        ],
+    )?;
+    fields.push(third)?;
+    Ok(Schema {
+        fields,
+        metadata: metadata_of(alloc, &[("who", "me"), ("what", "")])?,
+    })
+}
+
+#[test]
+fn a_schema(rt: HostRuntime) {
+    let alloc = rt.alloc();
+    let schema = schema_of(alloc).expect(&rt, "no schema");
+    let mut bytes = write_schema(alloc, &schema).expect(&rt, "no bytes");
+    assert!(rt; bytes.len() % 8 == 0);
+    assert!(rt; bytes.extend_from_slice(&[1, 2, 3]).is_ok());
+    let (read, rest) = read_schema(alloc, &bytes).expect(&rt, "not read");
+    assert!(rt; rest.len() == 3);
+    assert!(rt; read.fields == schema.fields);
+    assert!(rt; read.metadata == schema.metadata);
+}
+
+#[test]
+fn refused_schemas(rt: HostRuntime) {
+    let alloc = rt.alloc();
+    for (data_type, want) in [
+        (DataType::Float32, NoForm::Float),
+        (DataType::Utf8, NoForm::Type),
+    ] {
+        let mut schema = schema_of(alloc).expect(&rt, "no schema");
+        let field = of_one(alloc, "f", data_type, true).expect(&rt, "no field");
+        assert!(rt; schema.fields.push(field).is_ok());
+        assert!(rt; write_schema(alloc, &schema).err() == Some(want));
+    }
+    let mut schema = schema_of(alloc).expect(&rt, "no schema");
+    schema.fields[1].metadata = metadata_of(alloc, &[("ARROW:extension:name", "x")]).expect(
+        &rt,
+        "no metadata",
+    );
+    assert!(rt; write_schema(alloc, &schema).err() == Some(NoForm::Extension));
+}
+
+#[test]
+fn a_batch(rt: HostRuntime) {
+    let alloc = rt.alloc();
+    let mut nodes = Vec::new(alloc);
+    assert!(rt;
+        nodes
+            .push(Node {
+                length: 3,
+                null_count: 1
+            })
+            .is_ok()
+    );
+    let mut regions = Vec::new(alloc);
+    assert!(rt;
+        regions
+            .push(Region {
+                offset: 8,
+                length: 8
+            })
+            .is_ok()
+    );
+    assert!(rt;
+        regions
+            .push(Region {
+                offset: 0,
+                length: 1
+            })
+            .is_ok()
+    );
+    let batch = BatchMetadata {
+        rows: 3,
+        nodes,
+        regions,
+    };
+    let mut bytes = Vec::new(alloc);
+    assert!(rt; write_batch(alloc, &mut bytes, &batch, 16).is_ok());
+    assert!(rt; bytes.len() % 8 == 0);
+    assert!(rt; bytes.extend_from_slice(&[7; 16]).is_ok());
+    let (message, rest) = next_message(&bytes).expect(&rt, "no message");
+    let message = message.expect(&rt, "the end");
+    assert!(rt; rest.is_empty());
+    let root = message.root;
+    let read = read_batch(
+        alloc,
+        message.metadata,
+        root.header,
+        root.left,
+        root.body_length,
+    )
+    .expect(&rt, "no batch");
+    assert!(rt; read.rows == 3);
+    assert!(rt; read.nodes == batch.nodes);
+    assert!(rt; read.regions == batch.regions);
+}
