@@ -1,5 +1,5 @@
 //! Columns of whole numbers, from nodes, buffers and a body.
-use ipc_layout::{Left, read_column};
+use ipc_layout::{Left, read_column, read_columns};
 use ipc_model::{Fault, Node, Region};
 use nest_flat::any_native::AnyNative;
 use nest_flat::any_primitive::AnyPrimitive;
@@ -101,4 +101,48 @@ fn nothing_left(rt: HostRuntime) {
         regions: &[],
     };
     assert!(rt; fault_of(rt.alloc(), one) == Some(Fault::BufferCount));
+}
+
+/// The body as two columns of numbers of 32 and of 64 bits, by these nodes and buffers.
+fn both(alloc: Global, nodes: &[Node], regions: &[Region]) -> Result<Vec<AnyPrimitive>, Fault> {
+    let types = [DataType::Int32, DataType::UInt64];
+    read_columns(alloc, &types, 2, &BODY, Left { nodes, regions })
+}
+
+// The first fault, if there is one.
+fn both_fault(alloc: Global, nodes: &[Node], regions: &[Region]) -> Option<Fault> {
+    match both(alloc, nodes, regions) {
+        Ok(_columns) => None,
+        Err(fault) => Some(fault),
+    }
+}
+
+fn region(offset: i64, length: i64) -> Region {
+    Region { offset, length }
+}
+
+#[test]
+fn two_columns_use_all_nodes_and_buffers(rt: HostRuntime) {
+    let alloc = rt.alloc();
+    let nulls = Node {
+        length: 2,
+        null_count: 1,
+    };
+    let full = Node {
+        length: 2,
+        null_count: 0,
+    };
+    let regions = [region(0, 1), region(8, 8), region(3, 0), region(0, 16), region(0, 0)];
+    let columns = both(alloc, &[nulls, full], &regions[..4]).expect(&rt, "two columns");
+    assert!(rt; columns.len() == 2);
+    assert!(rt; columns[0].value(0) == AnyNative::Int32(7) && columns[0].is_null(1));
+    assert!(rt; columns[1].null_count() == 0);
+    assert!(rt; columns[1].value(0) == AnyNative::UInt64(1));
+    assert!(rt; columns[1].value(1) == AnyNative::UInt64(7));
+    let short = both_fault(alloc, &[nulls], &regions[..4]);
+    assert!(rt; short == Some(Fault::NodeCount));
+    let node_left = both_fault(alloc, &[nulls, full, full], &regions);
+    assert!(rt; node_left == Some(Fault::NodeCount));
+    let buffer_left = both_fault(alloc, &[nulls, full], &regions);
+    assert!(rt; buffer_left == Some(Fault::BufferCount));
 }
