@@ -12,14 +12,16 @@ use Rattle.nest_memory.specs.declared.datatypes.physical_type.PhysicalType.TheVa
 use Rattle.nest_memory.specs.declared.error.Argument.TheVariants as argument
 use Rattle.nest_memory.specs.declared.error.Error.TheVariants.{OutOfSpec, InvalidArgumentError, Overflow}
 use Rattle.nest_memory.specs.declared.error.Spec.TheVariants as spec
-use Rattle.nest_model.specs.Checks.{refuse_if, is_past}
+use Rattle.nest_model.specs.declared.fill.Fill.{Fill}
+use Rattle.nest_model.specs.declared.fill.Fill.TheVariants.{Nothing}
+use Rattle.nest_model.specs.Checks.{refuse_if, is_past, most_fields, most_picks}
 use Rattle.nest_model.specs.Decide.{refuse-none, first-none}
 use Rattle.nest_model.specs.Fits.{is_dictionary}
 use Rattle.nest_model.specs.MadeNullLaws.{not-past}
 use Rattle.nest_model.specs.NullKinds.{type_weight, field_weight, fields_weight, field-weight, list-fault, sized-fault, map-fault, struct-fault, dictionary-fault}
 use Rattle.nest_model.specs.NullLaws.{not-above}
 use Rattle.nest_model.specs.NullLayout.{null_array, null_item, null_children}
-use Rattle.nest_model.specs.Nulls.{ids_count_differs, has_bad_id, fault_of, field_fault, fields_fault}
+use Rattle.nest_model.specs.Nulls.{values_below, ids_count_differs, has_bad_id, fault_of, field_fault, fields_fault}
 use Rattle.nest_array.specs.declared.any.AnyArray.{AnyArray}
 use Rattle.nest_array.specs.Seen.{layout_of, layouts_of}
 
@@ -31,14 +33,14 @@ list-item large (types.extension x t m) h = list-item large t h
 list-item false t h = cc
 list-item true t h = cc
 
-pub list-long : (large : Bool) (t : TypeTree) (n d : ℕ) → physical_type t ≡ list_of_width large → fault_of t n d ≡ None → n + 1 < 2 ^ 64
+pub list-long : (large : Bool) (t : TypeTree) (n : ℕ) (d : Fill) → physical_type t ≡ list_of_width large → fault_of t n d ≡ None → n + 1 < 2 ^ 64
 list-long false (types.list f) n d h e = not-past (n + 1) _ e
 list-long true (types.large_list f) n d h e = not-past (n + 1) _ e
 list-long large (types.extension x t m) n d h e = list-long large t n d h e
 list-long false t n d h e = cc
 list-long true t n d h e = cc
 
-pub list-below : (large : Bool) (t u : TypeTree) (n d : ℕ) → physical_type t ≡ list_of_width large → item_type t ≡ Some u → fault_of t n d ≡ None → fault_of u 0 0 ≡ None
+pub list-below : (large : Bool) (t u : TypeTree) (n : ℕ) (d : Fill) → physical_type t ≡ list_of_width large → item_type t ≡ Some u → fault_of t n d ≡ None → fault_of u 0 Nothing ≡ None
 list-below large t u n d h i e = (refuse-none _ _ _ (sym (list-fault large t u n d h i) ∙ e)).1
 
 -- maps
@@ -47,16 +49,16 @@ map-item (types.map f b) h = refl
 map-item (types.extension x t m) h = map-item t h
 map-item t h = cc
 
-pub map-long : (t : TypeTree) (n d : ℕ) → physical_type t ≡ physical.Map → fault_of t n d ≡ None → n + 1 < 2 ^ 64
+pub map-long : (t : TypeTree) (n : ℕ) (d : Fill) → physical_type t ≡ physical.Map → fault_of t n d ≡ None → n + 1 < 2 ^ 64
 map-long (types.map f b) n d h e = let r = refuse-none (not (is_pair (field_type f))) _ _ e in not-past (n + 1) _ r.1
 map-long (types.extension x t m) n d h e = map-long t n d h e
 map-long t n d h e = cc
 
-pub map-below : (t u : TypeTree) (n d : ℕ) → physical_type t ≡ physical.Map → item_type t ≡ Some u → fault_of t n d ≡ None → fault_of u 0 0 ≡ None
+pub map-below : (t u : TypeTree) (n : ℕ) (d : Fill) → physical_type t ≡ physical.Map → item_type t ≡ Some u → fault_of t n d ≡ None → fault_of u 0 Nothing ≡ None
 map-below t u n d h i e =
-    let own = refuse_if (is_past (n + 1)) Overflow (fault_of u 0 0) in
+    let own = refuse_if (is_past (n + 1)) Overflow (fault_of u 0 Nothing) in
     let r = refuse-none (not (has_pairs t)) (InvalidArgumentError argument.MapInner) own (sym (map-fault t u n d h i) ∙ e) in
-    (refuse-none (is_past (n + 1)) Overflow (fault_of u 0 0) r.1).1
+    (refuse-none (is_past (n + 1)) Overflow (fault_of u 0 Nothing) r.1).1
 
 -- lists of one size
 pub sized-item : (t : TypeTree) → physical_type t ≡ physical.FixedSizeList → IsSome (item_type t)
@@ -64,32 +66,25 @@ sized-item (types.fixed_size_list f s) h = refl
 sized-item (types.extension x t m) h = sized-item t h
 sized-item t h = cc
 
-pub sized-long : (t : TypeTree) (n d : ℕ) → physical_type t ≡ physical.FixedSizeList → fault_of t n d ≡ None → n * size_of t < 2 ^ 64
+pub sized-long : (t : TypeTree) (n : ℕ) (d : Fill) → physical_type t ≡ physical.FixedSizeList → fault_of t n d ≡ None → n * size_of t < 2 ^ 64
 sized-long (types.fixed_size_list f s) n d h e = let r = refuse-none (nat_eq s 0) _ _ e in not-past (n * s) _ r.1
 sized-long (types.extension x t m) n d h e = sized-long t n d h e
 sized-long t n d h e = cc
 
-pub sized-below : (t u : TypeTree) (n d : ℕ) → physical_type t ≡ physical.FixedSizeList → item_type t ≡ Some u → fault_of t n d ≡ None → fault_of u (n * size_of t) d ≡ None
+pub sized-below : (t u : TypeTree) (n : ℕ) (d : Fill) → physical_type t ≡ physical.FixedSizeList → item_type t ≡ Some u → fault_of t n d ≡ None → fault_of u (n * size_of t) d ≡ None
 sized-below t u n d h i e =
     let own = refuse_if (is_past (n * size_of t)) Overflow (fault_of u (n * size_of t) d) in
     let r = refuse-none (nat_eq (size_of t) 0) (OutOfSpec spec.ZeroSize) own (sym (sized-fault t u n d h i) ∙ e) in
     (refuse-none (is_past (n * size_of t)) Overflow (fault_of u (n * size_of t) d) r.1).1
 
-product-some : (n s : ℕ) → 0 < n * s → 0 < n
-product-some zero s h = absurd (let e : 0 * s ≡ 0 = omega arith in omega arith)
-product-some (suc n) s h = omega arith
-
-pub sized-valid : (n s d : ℕ) → (0 < n → 0 < d) → 0 < n * s → 0 < d
-sized-valid n s d p h = p (product-some n s h)
-
 -- byte strings of one size
-pub bytes-long : (t : TypeTree) (n d : ℕ) → physical_type t ≡ physical.FixedSizeBinary → fault_of t n d ≡ None → n * size_of t < 2 ^ 64
+pub bytes-long : (t : TypeTree) (n : ℕ) (d : Fill) → physical_type t ≡ physical.FixedSizeBinary → fault_of t n d ≡ None → n * size_of t < 2 ^ 64
 bytes-long (types.fixed_size_binary s) n d h e = let r = refuse-none (nat_eq s 0) _ _ e in not-past (n * s) _ r.1
 bytes-long (types.extension x t m) n d h e = bytes-long t n d h e
 bytes-long t n d h e = cc
 
 -- records
-pub struct-below : (t : TypeTree) (n d : ℕ) → physical_type t ≡ physical.Struct → fault_of t n d ≡ None → fields_fault (fields_of t) n d ≡ None
+pub struct-below : (t : TypeTree) (n : ℕ) (d : Fill) → physical_type t ≡ physical.Struct → fault_of t n d ≡ None → fields_fault (fields_of t) n d ≡ None
 struct-below t n d h e = (refuse-none _ _ _ (sym (struct-fault t n d h) ∙ e)).1
 
 -- unions
@@ -98,21 +93,21 @@ union-mode (types.union fs ids mode) h = (mode, refl)
 union-mode (types.extension x t m) h = union-mode t h
 union-mode t h = cc
 
-pub union-ids : (t : TypeTree) (n d : ℕ) → physical_type t ≡ physical.Union → fault_of t n d ≡ None → has_bad_id (ids_of t) ≡ false
+pub union-ids : (t : TypeTree) (n : ℕ) (d : Fill) → physical_type t ≡ physical.Union → fault_of t n d ≡ None → has_bad_id (ids_of t) ≡ false
 union-ids (types.union fs ids mode) n d h e =
-    let a = refuse-none (nat_lt 127 (count_fields fs)) _ _ e in
+    let a = refuse-none (nat_lt most_fields (count_fields fs)) _ _ e in
     let b = refuse-none (ids_count_differs ids (count_fields fs)) _ _ a.1 in
     (refuse-none (has_bad_id ids) _ _ b.1).0
 union-ids (types.extension x t m) n d h e = union-ids t n d h e
 union-ids t n d h e = cc
 
-dense-short : (b : Bool) (n : ℕ) → (b && nat_lt (2 ^ 31) n) ≡ false → b ≡ true → n ≤ 2 ^ 31
-dense-short true n h e = not-above (2 ^ 31) n h
+dense-short : (b : Bool) (n : ℕ) → (b && nat_lt most_picks n) ≡ false → b ≡ true → n ≤ most_picks
+dense-short true n h e = not-above most_picks n h
 dense-short false n h e = cc
 
-pub union-short : (t : TypeTree) (n d : ℕ) → physical_type t ≡ physical.Union → fault_of t n d ≡ None → is_dense t ≡ true → n ≤ 2 ^ 31
+pub union-short : (t : TypeTree) (n : ℕ) (d : Fill) → physical_type t ≡ physical.Union → fault_of t n d ≡ None → is_dense t ≡ true → n ≤ most_picks
 union-short (types.union fs ids mode) n d h e k =
-    let a = refuse-none (nat_lt 127 (count_fields fs)) _ _ e in
+    let a = refuse-none (nat_lt most_fields (count_fields fs)) _ _ e in
     let b = refuse-none (ids_count_differs ids (count_fields fs)) _ _ a.1 in
     let c = refuse-none (has_bad_id ids) _ _ b.1 in
     let f = refuse-none (nat_eq (count_fields fs) 0 && nat_lt 0 n) _ _ c.1 in
@@ -120,9 +115,9 @@ union-short (types.union fs ids mode) n d h e k =
 union-short (types.extension x t m) n d h e k = union-short t n d h e k
 union-short t n d h e k = cc
 
-pub union-below : (t : TypeTree) (n d : ℕ) → physical_type t ≡ physical.Union → fault_of t n d ≡ None → fields_fault (fields_of t) n d ≡ None
+pub union-below : (t : TypeTree) (n : ℕ) (d : Fill) → physical_type t ≡ physical.Union → fault_of t n d ≡ None → fields_fault (fields_of t) n d ≡ None
 union-below (types.union fs ids mode) n d h e =
-    let a = refuse-none (nat_lt 127 (count_fields fs)) _ _ e in
+    let a = refuse-none (nat_lt most_fields (count_fields fs)) _ _ e in
     let b = refuse-none (ids_count_differs ids (count_fields fs)) _ _ a.1 in
     let c = refuse-none (has_bad_id ids) _ _ b.1 in
     let f = refuse-none (nat_eq (count_fields fs) 0 && nat_lt 0 n) _ _ c.1 in
@@ -146,7 +141,7 @@ dictionary-value (types.dictionary j v b) h = refl
 dictionary-value (types.extension x t m) h = dictionary-value t h
 dictionary-value t h = cc
 
-pub dictionary-below : (t u : TypeTree) (n d : ℕ) → value_type t ≡ Some u → fault_of t n d ≡ None → fault_of u d d ≡ None
+pub dictionary-below : (t u : TypeTree) (n : ℕ) (d : Fill) → value_type t ≡ Some u → fault_of t n d ≡ None → fault_of u (values_below d) d ≡ None
 dictionary-below t u n d h e = sym (dictionary-fault t u n d h) ∙ e
 
 -- fields one by one
@@ -158,18 +153,18 @@ field-lighter (g ∷ gs) (suc i) f h = omega (arith, field-lighter gs i f (omega
 pub weight-of : (f : FieldTree) (t : TypeTree) → t ≡ field_type f → type_weight t ≡ field_weight f
 weight-of f t e = ap type_weight e ∙ field-weight f
 
-pub fault-of : (f : FieldTree) (t : TypeTree) (n d : ℕ) → t ≡ field_type f → fault_of t n d ≡ field_fault f n d
+pub fault-of : (f : FieldTree) (t : TypeTree) (n : ℕ) (d : Fill) → t ≡ field_type f → fault_of t n d ≡ field_fault f n d
 fault-of (field x v b es) t n d e = ap (λ u. fault_of u n d) e
 
-item-of : (f : FieldTree) (n d : ℕ) → null_array (field_type f) n d ≡ null_item f n d
+item-of : (f : FieldTree) (n : ℕ) (d : Fill) → null_array (field_type f) n d ≡ null_item f n d
 item-of (field x v b es) n d = refl
 
-pub field-below : (fs : List Field) (i n d : ℕ) (f : Field) → i < length fs → fields_fault (field_list_of fs) n d ≡ None → field_fault (field_of (get_or fs i f)) n d ≡ None
+pub field-below : (fs : List Field) (i n : ℕ) (d : Fill) (f : Field) → i < length fs → fields_fault (field_list_of fs) n d ≡ None → field_fault (field_of (get_or fs i f)) n d ≡ None
 field-below [] i n d f h e = absurd (omega arith)
 field-below (g ∷ gs) zero n d f h e = (first-none _ _ e).0
 field-below (g ∷ gs) (suc i) n d f h e = field-below gs i n d f (omega arith) (first-none _ _ e).1
 
-pub all-nulls : (xs : Seq AnyArray) (fs : List Field) (n v : ℕ) → length xs ≡ length fs → ((k : ℕ) (d : AnyArray) (f : Field) → k < length fs → layout_of (get_or xs k d) ≡ null_array (field_type (field_of (get_or fs k f))) n v)
+pub all-nulls : (xs : Seq AnyArray) (fs : List Field) (n : ℕ) (v : Fill) → length xs ≡ length fs → ((k : ℕ) (d : AnyArray) (f : Field) → k < length fs → layout_of (get_or xs k d) ≡ null_array (field_type (field_of (get_or fs k f))) n v)
     → layouts_of xs ≡ null_children (field_list_of fs) n v
 all-nulls [] [] n v e h = refl
 all-nulls [] (f ∷ fs) n v e h = absurd (omega arith)

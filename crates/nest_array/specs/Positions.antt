@@ -2,7 +2,7 @@
 use Rattle.std.specs.Prelude.{◌≡◌, ℕ, ◌≤◌, ◌<◌, ℤ, pos, negsuc, List, Option, Some, None, length, get_or}
 use Rattle.nest_memory.specs.declared.error.Error.TheVariants.{OutOfSpec}
 use Rattle.nest_memory.specs.declared.error.Spec.TheVariants as spec
-use Rattle.nest_model.specs.Checks.{Checks, done, check}
+use Rattle.nest_model.specs.Checks.{Checks, done, check, type_count}
 use Rattle.nest_model.specs.Fits.{EachCovers, EachMeansField, IdsCount, IdsInRange, Names, SlotsThere, child_len}
 use Rattle.nest_model.specs.Layout.{Layouts, count_layouts}
 use Rattle.nest_model.specs.Part.{field_named}
@@ -14,7 +14,7 @@ position (Some f) = f
 
 -- at the place of each type that is not negative stands the position of the field that it means
 abbrev pub IsTable : List ℕ → Option (List ℤ) → Type 0
-IsTable table ids = (length table ≡ 128) × ((k : ℕ) → k < 128 → get_or table k 127 ≡ position (field_named ids (pos k)))
+IsTable table ids = (length table ≡ type_count) × ((k : ℕ) → k < type_count → get_or table k 127 ≡ position (field_named ids (pos k)))
 
 -- a type that means a field is the position of that field
 abbrev pub ArePositions : Option (List ℤ) → Type 0

@@ -19,7 +19,7 @@ use Rattle.nest_model.specs.BuilderJoinLaws.{fixed_size_list_joined}
 use Rattle.nest_model.specs.BuilderToldLaws.{fixed_size_list_told}
 use Rattle.nest_model.specs.BuilderRefusals.{item_refusal, nulls_pass}
 use Rattle.nest_model.specs.BuilderRefusalLaws.{within, fixed_none, fixed_size, null_past}
-use Rattle.nest_model.specs.BuilderReading.{Read, begun, ReadsList, Took, Refused, TookAll, RefusedSome}
+use Rattle.nest_model.specs.BuilderReading.{begun, ReadsList, Reading, Took, Refused, TookAll, RefusedSome}
 use Rattle.nest_model.specs.Checks.{Pass, FailFirst, is_past, largest_length}
 use Rattle.nest_model.specs.BuilderLevels.{own_slots, rows_of_size}
 use Rattle.nest_model.specs.BuilderLevelLaws.{own-length, len-grown}
@@ -35,10 +35,10 @@ use Rattle.nest_model.specs.BuilderFreeze.{SpellsBits}
 use Rattle.nest_model.specs.BuilderFreezeLaws.{fixed_size_list-frozen}
 use Rattle.nest_build.proofs.Lists.{row_refused, fails-below, joined_type}
 
-pub item_refused : {U T A : Type 0} (becomes : U → T → Type 0) (steps : T → Option A → T → Type 0) (reads : A → Read → Type 0) (item : Option U) (u : U) (k : TypeTree) (bits : List Bool) (c : BuilderTree) (e : Error)
-    → item ≡ Some u → RefusedSome becomes steps reads u c e → Refused (ReadsList becomes steps reads) item (fixed_size_list k bits c) e
-item_refused becomes steps reads item u k bits c e h (inl m) = inl m
-item_refused becomes steps reads item u k bits c e h (inr q) = rw h (inr (begun q.0 q.1, inr (q.0, q.1, q.2, refl), q.3))
+pub item_refused : {U T A : Type 0} (how : Reading U T A) (item : Option U) (u : U) (k : TypeTree) (bits : List Bool) (c : BuilderTree) (e : Error)
+    → item ≡ Some u → RefusedSome how u c e → Refused (ReadsList how) item (fixed_size_list k bits c) e
+item_refused how item u k bits c e h (inl m) = inl m
+item_refused how item u k bits c e h (inr q) = rw h (inr (begun q.0 q.1, inr (q.0, q.1, q.2, refl), q.3))
 
 -- as many items as a row has
 pub counted : (c d : BuilderTree) (m n : ℕ) (xs : List Item) → AcceptedAll xs c d → m ≡ builder_len c → n ≡ builder_len d → n - m ≡ length xs
@@ -51,15 +51,15 @@ filled k bits c d xs n a l e t v =
     let more = add-mul (length bits) 1 (size_of k) in
     omega (arith, more, g, v.2, e, t, l)
 
-pub other_size : {U T A : Type 0} (becomes : U → T → Type 0) (steps : T → Option A → T → Type 0) (reads : A → Read → Type 0) (item : Option U) (u : U) (k : TypeTree) (bits : List Bool) (c d : BuilderTree) (m n size : ℕ)
-    → item ≡ Some u → TookAll becomes steps reads u c d → m ≡ builder_len c → n ≡ builder_len d → size ≡ size_of k → (n - m ≢ size) → Refused (ReadsList becomes steps reads) item (fixed_size_list k bits c) (InvalidArgumentError ItemSize)
-other_size becomes steps reads item u k bits c d m n size h q e f z w =
-    row_refused becomes steps reads item u (fixed_size_list k bits c) c d (InvalidArgumentError ItemSize) h q (fixed_size k bits c q.0 q.3 (λ p. w (counted c d m n q.0 q.2 e f ∙ p ∙ sym z)))
+pub other_size : {U T A : Type 0} (how : Reading U T A) (item : Option U) (u : U) (k : TypeTree) (bits : List Bool) (c d : BuilderTree) (m n size : ℕ)
+    → item ≡ Some u → TookAll how u c d → m ≡ builder_len c → n ≡ builder_len d → size ≡ size_of k → (n - m ≢ size) → Refused (ReadsList how) item (fixed_size_list k bits c) (InvalidArgumentError ItemSize)
+other_size how item u k bits c d m n size h q e f z w =
+    row_refused how item u (fixed_size_list k bits c) c d (InvalidArgumentError ItemSize) h q (fixed_size k bits c q.0 q.3 (λ p. w (counted c d m n q.0 q.2 e f ∙ p ∙ sym z)))
 
-pub row_took : {U T A : Type 0} (becomes : U → T → Type 0) (steps : T → Option A → T → Type 0) (reads : A → Read → Type 0) (item : Option U) (u : U) (k : TypeTree) (bits new : List Bool) (c d : BuilderTree) (m n size : ℕ)
-    → item ≡ Some u → TookAll becomes steps reads u c d → m ≡ builder_len c → n ≡ builder_len d → size ≡ size_of k → n - m ≡ size → new ≡ bits ++ true ∷ [] → length bits + 1 ≤ largest_length → n ≤ largest_length → IsWhole (fixed_size_list k bits c)
-    → Took (ReadsList becomes steps reads) item (fixed_size_list k bits c) (fixed_size_list k new d)
-row_took becomes steps reads item u k bits new c d m n size h q e f z w x l t v =
+pub row_took : {U T A : Type 0} (how : Reading U T A) (item : Option U) (u : U) (k : TypeTree) (bits new : List Bool) (c d : BuilderTree) (m n size : ℕ)
+    → item ≡ Some u → TookAll how u c d → m ≡ builder_len c → n ≡ builder_len d → size ≡ size_of k → n - m ≡ size → new ≡ bits ++ true ∷ [] → length bits + 1 ≤ largest_length → n ≤ largest_length → IsWhole (fixed_size_list k bits c)
+    → Took (ReadsList how) item (fixed_size_list k bits c) (fixed_size_list k new d)
+row_took how item u k bits new c d m n size h q e f z w x l t v =
     let count : length q.0 ≡ size_of k = sym (counted c d m n q.0 q.2 e f) ∙ w ∙ z in
     rw h (items.list_of (seal_items q.0), inl (q.0, q.1, refl), fixed_size_list_took k bits new c d q.0 count x v q.2, fixed_none k bits c q.0 q.3 count l (filled k bits c d q.0 n q.2 count f t v))
 

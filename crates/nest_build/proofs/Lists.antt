@@ -1,6 +1,6 @@
 -- What the calls of a builder of lists come to.
 use Rattle.std.specs.Prelude.{◌⊎◌, ltb, ◌||◌, Option, Some, None, alloc_error}
-use Rattle.std.proofs.Common.{◌≡◌, ℕ, suc, ◌+◌, ◌-◌, ◌<◌, ◌≤◌, Bool, true, false, List, [], ◌∷◌, ◌++◌, length, get_or, take, refl, sym, ap, ◌∙◌, inl, inr, arith}
+use Rattle.std.proofs.Common.{◌≡◌, ℕ, suc, ◌+◌, ◌<◌, ◌≤◌, Bool, true, false, List, [], ◌∷◌, ◌++◌, length, get_or, take, refl, sym, ap, ◌∙◌, inl, inr, arith}
 use Rattle.std.specs.Option.{unwrap_or}
 use Rattle.std.proofs.lemmas.Bool.{lt-ltb}
 use Rattle.std.proofs.lemmas.List.{take_more}
@@ -29,44 +29,44 @@ use Rattle.nest_model.specs.BuilderJoinLaws.{list_joined}
 use Rattle.nest_model.specs.BuilderToldLaws.{list_told, list_told_lengths}
 use Rattle.nest_model.specs.BuilderRefusals.{item_refusal}
 use Rattle.nest_model.specs.BuilderRefusalLaws.{within, below, list_none, list_past}
-use Rattle.nest_model.specs.BuilderReading.{Read, whole, begun, ReadsList, Took, Refused, TookAll, RefusedSome}
+use Rattle.nest_model.specs.BuilderReading.{whole, begun, ReadsList, Reading, Took, Refused, TookAll, RefusedSome}
 use Rattle.nest_model.specs.Checks.{Pass, FailFirst, FailsOr, check, done, is_past, largest_length}
 
 -- a null in place of a list
-pub none_refused : {U T A : Type 0} (becomes : U → T → Type 0) (steps : T → Option A → T → Type 0) (reads : A → Read → Type 0) (item : Option U) (t : BuilderTree) (e : Error)
-    → item ≡ None → (e ≡ Memory alloc_error) ⊎ (item_refusal items.null t ≡ Some e) → Refused (ReadsList becomes steps reads) item t e
-none_refused becomes steps reads item t e h (inl m) = inl m
-none_refused becomes steps reads item t e h (inr k) = rw h (inr (whole items.null, refl, k))
+pub none_refused : {U T A : Type 0} (how : Reading U T A) (item : Option U) (t : BuilderTree) (e : Error)
+    → item ≡ None → (e ≡ Memory alloc_error) ⊎ (item_refusal items.null t ≡ Some e) → Refused (ReadsList how) item t e
+none_refused how item t e h (inl m) = inl m
+none_refused how item t e h (inr k) = rw h (inr (whole items.null, refl, k))
 
-pub none_took : {U T A : Type 0} (becomes : U → T → Type 0) (steps : T → Option A → T → Type 0) (reads : A → Read → Type 0) (item : Option U) (t u : BuilderTree)
-    → item ≡ None → Accepted items.null t u → item_refusal items.null t ≡ None → Took (ReadsList becomes steps reads) item t u
-none_took becomes steps reads item t u h a k = rw h (items.null, refl, a, k)
+pub none_took : {U T A : Type 0} (how : Reading U T A) (item : Option U) (t u : BuilderTree)
+    → item ≡ None → Accepted items.null t u → item_refusal items.null t ≡ None → Took (ReadsList how) item t u
+none_took how item t u h a k = rw h (items.null, refl, a, k)
 
 -- the whole list was read, and is refused
-pub row_refused : {U T A : Type 0} (becomes : U → T → Type 0) (steps : T → Option A → T → Type 0) (reads : A → Read → Type 0) (item : Option U) (u : U) (t c d : BuilderTree) (e : Error)
-    → item ≡ Some u → (q : TookAll becomes steps reads u c d) → item_refusal (items.list_of (seal_items q.0)) t ≡ Some e → Refused (ReadsList becomes steps reads) item t e
-row_refused becomes steps reads item u t c d e h q k = rw h (inr (whole (items.list_of (seal_items q.0)), inl (q.0, q.1, refl), k))
+pub row_refused : {U T A : Type 0} (how : Reading U T A) (item : Option U) (u : U) (t c d : BuilderTree) (e : Error)
+    → item ≡ Some u → (q : TookAll how u c d) → item_refusal (items.list_of (seal_items q.0)) t ≡ Some e → Refused (ReadsList how) item t e
+row_refused how item u t c d e h q k = rw h (inr (whole (items.list_of (seal_items q.0)), inl (q.0, q.1, refl), k))
 
 -- an item of it is refused by the child
-pub item_refused : {U T A : Type 0} (becomes : U → T → Type 0) (steps : T → Option A → T → Type 0) (reads : A → Read → Type 0) (item : Option U) (u : U) (large : Bool) (k : TypeTree) (rows : List Row) (c : BuilderTree) (e : Error)
-    → item ≡ Some u → RefusedSome becomes steps reads u c e → Refused (ReadsList becomes steps reads) item (list large k rows c) e
-item_refused becomes steps reads item u large k rows c e h (inl m) = inl m
-item_refused becomes steps reads item u large k rows c e h (inr q) = rw h (inr (begun q.0 q.1, inr (q.0, q.1, q.2, refl), q.3))
+pub item_refused : {U T A : Type 0} (how : Reading U T A) (item : Option U) (u : U) (large : Bool) (k : TypeTree) (rows : List Row) (c : BuilderTree) (e : Error)
+    → item ≡ Some u → RefusedSome how u c e → Refused (ReadsList how) item (list large k rows c) e
+item_refused how item u large k rows c e h (inl m) = inl m
+item_refused how item u large k rows c e h (inr q) = rw h (inr (begun q.0 q.1, inr (q.0, q.1, q.2, refl), q.3))
 
 -- its row passes a limit
-pub place_refused : {U T A : Type 0} (becomes : U → T → Type 0) (steps : T → Option A → T → Type 0) (reads : A → Read → Type 0) (item : Option U) (u : U) (large wide : Bool) (k : TypeTree) (rows : List Row) (c d : BuilderTree) (e : Error) (end : ℕ)
-    → item ≡ Some u → TookAll becomes steps reads u c d → end ≡ builder_len d → wide ≡ large → (e ≡ Memory alloc_error) ⊎ ((e ≡ Overflow) × (largest_offset wide < end))
-    → Refused (ReadsList becomes steps reads) item (list large k rows c) e
-place_refused becomes steps reads item u large wide k rows c d e end h q n m (inl p) = inl p
-place_refused becomes steps reads item u large wide k rows c d e end h q n m (inr p) =
-    row_refused becomes steps reads item u (list large k rows c) c d e h q
+pub place_refused : {U T A : Type 0} (how : Reading U T A) (item : Option U) (u : U) (large wide : Bool) (k : TypeTree) (rows : List Row) (c d : BuilderTree) (e : Error) (end : ℕ)
+    → item ≡ Some u → TookAll how u c d → end ≡ builder_len d → wide ≡ large → (e ≡ Memory alloc_error) ⊎ ((e ≡ Overflow) × (largest_offset wide < end))
+    → Refused (ReadsList how) item (list large k rows c) e
+place_refused how item u large wide k rows c d e end h q n m (inl p) = inl p
+place_refused how item u large wide k rows c d e end h q n m (inr p) =
+    row_refused how item u (list large k rows c) c d e h q
     (list_past large k rows c d q.0 q.3 q.2 (omega (arith, n, ap largest_offset m, p.1)) ∙ ap Some (sym p.0))
 
 -- the whole list was accepted
-pub row_took : {U T A : Type 0} (becomes : U → T → Type 0) (steps : T → Option A → T → Type 0) (reads : A → Read → Type 0) (item : Option U) (u : U) (large wide : Bool) (k : TypeTree) (rows new : List Row) (c d : BuilderTree) (end : ℕ)
-    → item ≡ Some u → TookAll becomes steps reads u c d → end ≡ builder_len d → wide ≡ large → new ≡ rows ++ told_row true end ∷ [] → (length rows + 1 ≤ largest_length) × (end ≤ largest_offset wide) → IsWhole (list large k rows c)
-    → Took (ReadsList becomes steps reads) item (list large k rows c) (list large k new d)
-row_took becomes steps reads item u large wide k rows new c d end h q n m f l w =
+pub row_took : {U T A : Type 0} (how : Reading U T A) (item : Option U) (u : U) (large wide : Bool) (k : TypeTree) (rows new : List Row) (c d : BuilderTree) (end : ℕ)
+    → item ≡ Some u → TookAll how u c d → end ≡ builder_len d → wide ≡ large → new ≡ rows ++ told_row true end ∷ [] → (length rows + 1 ≤ largest_length) × (end ≤ largest_offset wide) → IsWhole (list large k rows c)
+    → Took (ReadsList how) item (list large k rows c) (list large k new d)
+row_took how item u large wide k rows new c d end h q n m f l w =
     rw h (items.list_of (seal_items q.0), inl (q.0, q.1, refl), list_took large k rows new c d q.0 end n f w q.2, list_none large k rows c d q.0 q.3 q.2 l.0 (omega (arith, n, ap largest_offset m, l.1)))
 
 -- a null row

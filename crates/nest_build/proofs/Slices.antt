@@ -39,14 +39,14 @@ values_read value (a ∷ given) [] h = absurd h
 values_read value (a ∷ given) (y ∷ ys) h = let e = ap item_of h.0 in let t = values_read value given ys h.1 in λ i. e i ∷ t i
 
 module _ {T A : Type 0} (steps : T → Option (Option A) → T → Type 0) (value : A → PlainValue) (u : T) (all : List (Option A)) (road : YieldsList steps (λ x. x) u all) where
-  pub slice_took : (old new : BuilderTree) → Took (ReadsList (λ v it. it ≡ v) steps (ReadsValue value)) (Some u) old new → Accepted (row_item value (Some all)) old new × (item_refusal (row_item value (Some all)) old ≡ None)
+  pub slice_took : (old new : BuilderTree) → Took (ReadsList (record { becomes = λ v it. it ≡ v; steps = steps; reads = ReadsValue value })) (Some u) old new → Accepted (row_item value (Some all)) old new × (item_refusal (row_item value (Some all)) old ≡ None)
   slice_took old new (x, inl (ys, (given, (it, b, d), z), e), a, n) =
       let same : given ≡ all = sym (map-id given) ∙ items_from_drains {steps = steps} {v = λ x. x} {s = it} given (d.1.0, d.1.1, λ _. (d.0, d.1.2)) (YieldsList-at b road) in
       let is : x ≡ row_item value (Some all) = ap item_of e ∙ ap (λ l. items.list_of (seal_items l)) (values_read value given ys z ∙ ap (map (value_item value)) same) in
       subst (λ y. Accepted y old new × (item_refusal y old ≡ None)) is (a, n)
   slice_took old new (x, inr (ys, s, r, e), a, n) = cc
 
-  pub slice_refused : (old : BuilderTree) (e : Error) → Refused (ReadsList (λ v it. it ≡ v) steps (ReadsValue value)) (Some u) old e → (e ≡ Memory alloc_error) ⊎ (item_refusal (row_item value (Some all)) old ≡ Some e)
+  pub slice_refused : (old : BuilderTree) (e : Error) → Refused (ReadsList (record { becomes = λ v it. it ≡ v; steps = steps; reads = ReadsValue value })) (Some u) old e → (e ≡ Memory alloc_error) ⊎ (item_refusal (row_item value (Some all)) old ≡ Some e)
   slice_refused old e (inl m) = inl m
   slice_refused old e (inr (r, inl (ys, (given, (it, b, d), z), k), h)) =
       let same : given ≡ all = sym (map-id given) ∙ items_from_drains {steps = steps} {v = λ x. x} {s = it} given (d.1.0, d.1.1, λ _. (d.0, d.1.2)) (YieldsList-at b road) in

@@ -42,9 +42,13 @@ pub trait TryExtend<A>: MutableArray {
     fn try_extend<I: IntoIterator<Item = A>>(&mut self, items: I) -> Result<(), Error>
         requires whole { IsWhole (Self.model self.old) }
         requires can { CanRead I.into_iter_gives I.IntoIter.can_next I.IntoIter.remaining I.IntoIter.next_gives can_extend items }
-        ensures ok { OnOk result (TookAll I.into_iter_gives I.IntoIter.next_gives reads_each items (Self.model self.old) (Self.model self.new)) }
+        ensures ok { OnOk result (TookAll
+            (record { becomes = I.into_iter_gives; steps = I.IntoIter.next_gives; reads = reads_each }) items
+            (Self.model self.old) (Self.model self.new)) }
         ensures err { OnErr result (Self.model self.new ≡ Self.model self.old) }
-        ensures cause { IfErr result (λ e. RefusedSome I.into_iter_gives I.IntoIter.next_gives reads_each items (Self.model self.old) e) };
+        ensures cause { IfErr result (λ e. RefusedSome
+            (record { becomes = I.into_iter_gives; steps = I.IntoIter.next_gives; reads = reads_each }) items
+            (Self.model self.old) e) };
 }
 
 /// A builder that takes all rows of another one of its type, or none.
@@ -69,9 +73,13 @@ pub fn extend_by_push<A, B: TryPush<A>, I: IntoIterator<Item = A>>(
 ) -> Result<(), Error>
     requires whole { IsWhole (B.model builder.old) }
     requires can { CanRead I.into_iter_gives I.IntoIter.can_next I.IntoIter.remaining I.IntoIter.next_gives B.can_push items }
-    ensures ok { OnOk result (TookAll I.into_iter_gives I.IntoIter.next_gives B.reads items (B.model builder.old) (B.model builder.new)) }
+    ensures ok { OnOk result (TookAll
+        (record { becomes = I.into_iter_gives; steps = I.IntoIter.next_gives; reads = B.reads }) items
+        (B.model builder.old) (B.model builder.new)) }
     ensures err { OnErr result (B.model builder.new ≡ B.model builder.old) }
-    ensures cause { IfErr result (λ e. RefusedSome I.into_iter_gives I.IntoIter.next_gives B.reads items (B.model builder.old) e) }
+    ensures cause { IfErr result (λ e. RefusedSome
+        (record { becomes = I.into_iter_gives; steps = I.IntoIter.next_gives; reads = B.reads }) items
+        (B.model builder.old) e) }
 {
     let len = builder.len();
     for item in items {

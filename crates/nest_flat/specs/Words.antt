@@ -26,7 +26,7 @@ pub use Rattle.nest_model.specs.MadeNulls.{AcceptsKind, HasNone, HasNulls, Refus
 pub use Rattle.nest_model.specs.Meaning.{len, run, slot, slots_of, where_valid}
 pub use Rattle.nest_model.specs.Nullness.{is_null_at, null_count}
 pub use Rattle.nest_model.specs.NullLayout.{none_valid, null_array}
-pub use Rattle.nest_model.specs.Nulls.{empty_fault, fault_of, type_fault}
+pub use Rattle.nest_model.specs.Nulls.{Fills, empty_fault, fault_of, type_fault}
 pub use Rattle.nest_model.specs.Part.{begin, count_rows, cut_validity, extent, valid_at}
 pub use Rattle.nest_model.specs.SameArray.{IsSameArray, same_array}
 pub use Rattle.nest_model.specs.Slot.{Slot}

@@ -8,6 +8,7 @@ use nest_memory::bitmap::immutable::Bitmap;
 use nest_memory::datatypes::DataType;
 use nest_memory::datatypes::physical_type::PhysicalType;
 use nest_memory::error::{Error, Spec};
+use nest_model::fill::Fill;
 use std::alloc::Global;
 
 /// Whether it has a bit for each of n slots.
@@ -75,15 +76,15 @@ pub fn clone(validity: &Option<Bitmap>) -> Result<Option<Bitmap>, Error>
     }
 }
 
-/// Of a null array: none of n slots is valid. An empty array, below whose dictionaries lie no values, has no validity.
-pub fn none_valid(alloc: Global, n: usize, values: usize) -> Result<Option<Bitmap>, Error>
-    ensures ok { IfOk result (λ v. v ≡ none_valid values n) }
+/// Of an array filled with nulls: none of its n slots is valid. One of nothing has no validity.
+pub fn none_valid(alloc: Global, n: usize, fill: Fill) -> Result<Option<Bitmap>, Error>
+    ensures ok { IfOk result (λ v. v ≡ none_valid fill n) }
     ensures err { IsOkUnless result (Memory alloc_error) }
 {
-    if values == 0 {
-        return Ok(None);
+    match fill {
+        Fill::Nulls => Ok(Some(Bitmap::new_zeroed(alloc, n)?)),
+        Fill::Nothing => Ok(None),
     }
-    Ok(Some(Bitmap::new_zeroed(alloc, n)?))
 }
 
 /// The first check that fails of a flat array of n slots, of those that every kind ends with: a bit

@@ -15,6 +15,7 @@ use Rattle.nest_model.specs.BuilderItem as items
 use Rattle.nest_model.specs.BuilderItem.{Item, seal_items}
 use Rattle.nest_model.specs.BuilderTold.{told}
 use Rattle.nest_model.specs.BuilderAppend.{appended, all_appended}
+use Rattle.nest_model.specs.BuilderReading.{ReadsValue, Reading}
 
 -- items
 abbrev pub an_int : ℕ → Item
@@ -143,6 +144,9 @@ IsIterator given rest = given ≡ rest
 abbrev pub StepsOf : Texts → Option (Option (List ℕ)) → Texts → Type 0
 StepsOf [] given rest = (given ≡ None) × (rest ≡ [])
 StepsOf (x ∷ xs) given rest = (given ≡ Some x) × (rest ≡ xs)
+
+abbrev pub texts_given : Reading Texts Texts (Option (List ℕ))
+texts_given = record { becomes = IsIterator; steps = StepsOf; reads = ReadsValue items.text }
 
 -- rows of a list of nulls, of which no item is there
 abbrev pub rows_over_nothing : Bool → List Row → BuilderTree

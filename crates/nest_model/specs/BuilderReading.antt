@@ -35,21 +35,27 @@ ReadOf (begun xs r) x = (y : Item) × (ys : List Item) × (x ≡ items.list_of (
 abbrev pub ReadsValue : {T : Type 0} → (T → PlainValue) → Option T → Read → Type 0
 ReadsValue value given r = r ≡ whole (value_item value given)
 
+-- How what is given is read, item by item: the iterator that it becomes, what each step of that gives, and what is read of it.
+pub record Reading (U T A : Type 0) : Type 1 where
+  pub becomes : U → T → Type 0
+  pub steps : T → Option A → T → Type 0
+  pub reads : A → Read → Type 0
+
 -- all that u gives was read, and is the items xs
-abbrev pub ReadsAll : {U T A : Type 0} → (U → T → Type 0) → (T → Option A → T → Type 0) → (A → Read → Type 0) → U → List Item → Type 0
-ReadsAll {U} {T} {A} becomes steps reads u xs = (given : List A) × Gives becomes steps u given × AllZip (λ a x. reads a (whole x)) given xs
+abbrev pub ReadsAll : {U T A : Type 0} → Reading U T A → U → List Item → Type 0
+ReadsAll {U} {T} {A} how u xs = (given : List A) × Gives how.becomes how.steps u given × AllZip (λ a x. how.reads a (whole x)) given xs
 
 -- a beginning of what u gives was read: the items xs, and r of the next one
-abbrev pub ReadsSome : {U T A : Type 0} → (U → T → Type 0) → (T → Option A → T → Type 0) → (A → Read → Type 0) → U → List Item → Read → Type 0
-ReadsSome {U} {T} {A} becomes steps reads u xs r =
-    (front : List A) × (next : A) × Begins becomes steps u (front ++ next ∷ []) × AllZip (λ a x. reads a (whole x)) front xs × reads next r
+abbrev pub ReadsSome : {U T A : Type 0} → Reading U T A → U → List Item → Read → Type 0
+ReadsSome {U} {T} {A} how u xs r =
+    (front : List A) × (next : A) × Begins how.becomes how.steps u (front ++ next ∷ []) × AllZip (λ a x. how.reads a (whole x)) front xs × how.reads next r
 
 -- None is null, and an iterator is the list of the items that it gives
-abbrev pub ReadsList : {U T A : Type 0} → (U → T → Type 0) → (T → Option A → T → Type 0) → (A → Read → Type 0) → Option U → Read → Type 0
-ReadsList becomes steps reads None r = r ≡ whole items.null
-ReadsList becomes steps reads (Some u) r =
-    ((xs : List Item) × ReadsAll becomes steps reads u xs × (r ≡ whole (items.list_of (seal_items xs))))
-    ⊎ ((xs : List Item) × (s : Read) × ReadsSome becomes steps reads u xs s × (r ≡ begun xs s))
+abbrev pub ReadsList : {U T A : Type 0} → Reading U T A → Option U → Read → Type 0
+ReadsList how None r = r ≡ whole items.null
+ReadsList how (Some u) r =
+    ((xs : List Item) × ReadsAll how u xs × (r ≡ whole (items.list_of (seal_items xs))))
+    ⊎ ((xs : List Item) × (s : Read) × ReadsSome how u xs s × (r ≡ begun xs s))
 
 -- the item was accepted, and nothing refuses it
 abbrev pub Took : {A : Type 0} → (A → Read → Type 0) → A → BuilderTree → BuilderTree → Type 0
@@ -63,9 +69,9 @@ Refused reads a old e = (e ≡ Memory alloc_error) ⊎ ((r : Read) × reads a r 
 abbrev pub TookEach : {A : Type 0} → (A → Read → Type 0) → List A → BuilderTree → BuilderTree → Type 0
 TookEach {A} reads given old new = (xs : List Item) × AllZip (λ a x. reads a (whole x)) given xs × AcceptedAll xs old new × (items_refusal (seal_items xs) old ≡ None)
 
-abbrev pub TookAll : {U T A : Type 0} → (U → T → Type 0) → (T → Option A → T → Type 0) → (A → Read → Type 0) → U → BuilderTree → BuilderTree → Type 0
-TookAll becomes steps reads u old new = (xs : List Item) × ReadsAll becomes steps reads u xs × AcceptedAll xs old new × (items_refusal (seal_items xs) old ≡ None)
+abbrev pub TookAll : {U T A : Type 0} → Reading U T A → U → BuilderTree → BuilderTree → Type 0
+TookAll how u old new = (xs : List Item) × ReadsAll how u xs × AcceptedAll xs old new × (items_refusal (seal_items xs) old ≡ None)
 
-abbrev pub RefusedSome : {U T A : Type 0} → (U → T → Type 0) → (T → Option A → T → Type 0) → (A → Read → Type 0) → U → BuilderTree → Error → Type 0
-RefusedSome becomes steps reads u old e =
-    (e ≡ Memory alloc_error) ⊎ ((xs : List Item) × (r : Read) × ReadsSome becomes steps reads u xs r × (first_of (items_refusal (seal_items xs) old) (read_refusal r (all_appended xs old)) ≡ Some e))
+abbrev pub RefusedSome : {U T A : Type 0} → Reading U T A → U → BuilderTree → Error → Type 0
+RefusedSome how u old e =
+    (e ≡ Memory alloc_error) ⊎ ((xs : List Item) × (r : Read) × ReadsSome how u xs r × (first_of (items_refusal (seal_items xs) old) (read_refusal r (all_appended xs old)) ≡ Some e))

@@ -16,7 +16,7 @@ use Rattle.nest_model.specs.BuilderSpellsLaws.{AllZip-push, where_true-push, whe
 use Rattle.nest_model.specs.BuilderAppendLaws.{accepted_none, accepted_more}
 use Rattle.nest_model.specs.Checks.{first_of}
 use Rattle.nest_model.specs.BuilderRefusals.{item_refusal, items_refusal}
-use Rattle.nest_model.specs.BuilderReading.{Read, whole, begun, read_refusal, ReadOf, ReadsValue, Took, Refused, TookEach, TookAll, RefusedSome}
+use Rattle.nest_model.specs.BuilderReading.{Read, whole, begun, read_refusal, ReadOf, ReadsValue, Reading, Took, Refused, TookEach, TookAll, RefusedSome}
 use Rattle.nest_model.specs.BuilderRefusalLaws.{none-more, items-both}
 
 pub took_none : {A : Type 0} (reads : A → Read → Type 0) (t : BuilderTree) → IsWhole t → TookEach reads [] t t
@@ -26,10 +26,10 @@ pub took_more : {A : Type 0} (reads : A → Read → Type 0) (given : List A) (a
 took_more reads given a s t u h k =
     (h.0 ++ k.0 ∷ [], AllZip-push (λ b x. reads b (whole x)) given h.0 a k.0 h.1 k.1, accepted_more h.0 k.0 s t u h.2 k.2, none-more h.0 k.0 s h.3 (ap (item_refusal k.0) (sym h.2.exact) ∙ k.3))
 
-pub refused_some : {U T A : Type 0} (becomes : U → T → Type 0) (steps : T → Option A → T → Type 0) (reads : A → Read → Type 0) (u : U) (given : List A) (a : A) (e : Error) (s t : BuilderTree)
-    → Begins becomes steps u (given ++ a ∷ []) → TookEach reads given s t → Refused reads a t e → RefusedSome becomes steps reads u s e
-refused_some becomes steps reads u given a e s t b h (inl m) = inl m
-refused_some becomes steps reads u given a e s t b h (inr k) =
+pub refused_some : {U T A : Type 0} (how : Reading U T A) (u : U) (given : List A) (a : A) (e : Error) (s t : BuilderTree)
+    → Begins how.becomes how.steps u (given ++ a ∷ []) → TookEach how.reads given s t → Refused how.reads a t e → RefusedSome how u s e
+refused_some how u given a e s t b h (inl m) = inl m
+refused_some how u given a e s t b h (inr k) =
     inr (h.0, k.0, (given, a, b, h.1, k.1), rw h.3 (ap (read_refusal k.0) (sym h.2.exact) ∙ k.2))
 
 -- one value tried: its mark says whether it was accepted
@@ -81,12 +81,12 @@ took-texts given old new h =
     (h.2.exact ∙ ap (λ ys. all_appended ys old) e, sym (ap (λ ys. items_refusal (seal_items ys) old) e) ∙ h.3)
 
 -- what was taken of an iterator is what it gives
-pub took-given : {U T A : Type 0} (becomes : U → T → Type 0) (steps : T → Option A → T → Type 0) (reads : A → Read → Type 0) (u : U) (old new : BuilderTree) → TookAll becomes steps reads u old new
-    → (given : List A) × Gives becomes steps u given × TookEach reads given old new
-took-given becomes steps reads u old new h = (h.1.0, h.1.1, (h.0, h.1.2, h.2, h.3))
+pub took-given : {U T A : Type 0} (how : Reading U T A) (u : U) (old new : BuilderTree) → TookAll how u old new
+    → (given : List A) × Gives how.becomes how.steps u given × TookEach how.reads given old new
+took-given how u old new h = (h.1.0, h.1.1, (h.0, h.1.2, h.2, h.3))
 
 -- what is refused of texts that an iterator gives is the beginning of them
-pub refused-texts : {U T : Type 0} (becomes : U → T → Type 0) (steps : T → Option (Option (List ℕ)) → T → Type 0) (u : U) (old : BuilderTree) (e : Error) → RefusedSome becomes steps (ReadsValue items.text) u old e
+pub refused-texts : {U T : Type 0} (becomes : U → T → Type 0) (steps : T → Option (Option (List ℕ)) → T → Type 0) (u : U) (old : BuilderTree) (e : Error) → RefusedSome (record { becomes = becomes; steps = steps; reads = ReadsValue items.text }) u old e
     → (e ≡ Memory alloc_error) ⊎ ((front : List (Option (List ℕ))) × (next : Option (List ℕ)) × Begins becomes steps u (front ++ next ∷ [])
     × (items_refusal (seal_items (map (value_item items.text) (front ++ next ∷ []))) old ≡ Some e))
 refused-texts becomes steps u old e (inl m) = inl m

@@ -9,9 +9,11 @@ use Rattle.nest_memory.specs.declared.datatypes.physical_type.PrimitiveType.TheV
 use Rattle.nest_memory.specs.Native.{parts_of}
 use Rattle.nest_memory.specs.declared.error.Error.{Error}
 use Rattle.nest_memory.specs.declared.error.Error.TheVariants.{Overflow}
+use Rattle.nest_model.specs.declared.fill.Fill.{Fill}
+use Rattle.nest_model.specs.declared.fill.Fill.TheVariants.{Nulls, Nothing}
 use Rattle.nest_model.specs.Layout.{Layout, layout_type}
 use Rattle.nest_model.specs.Meaning.{slots_of}
-use Rattle.nest_model.specs.Nulls.{fault_of, type_fault, empty_fault, float_fault}
+use Rattle.nest_model.specs.Nulls.{Fills, fault_of, type_fault, empty_fault, float_fault}
 use Rattle.nest_model.specs.Array.{TopFits}
 use Rattle.nest_model.specs.Checks.{refuse_if, is_past}
 use Rattle.nest_model.specs.Decide.{refuse-none}
@@ -35,14 +37,14 @@ pub has-none : (t : TypeTree) (a : Layout) → empty_fault t ≡ None → a ≡ 
 has-none t a h e = as-none t a (empty-layout t h) e
 
 -- native values, which have no fault but that of floats
-native-array : (k : PrimitiveType) (t : TypeTree) (n d : ℕ) → (0 < n → 0 < d) → physical_type t ≡ physical.Primitive k → IsNullArray t n (null_array t n d)
+native-array : (k : PrimitiveType) (t : TypeTree) (n : ℕ) (d : Fill) → Fills d n → physical_type t ≡ physical.Primitive k → IsNullArray t n (null_array t n d)
 native-array k t n d p h = subst (IsNullArray t n) (sym (native-parts k t n d h)) (native-null k t n d p h (native-slot k t h))
 
 pub native-nulls : (k : PrimitiveType) (t : TypeTree) (n : ℕ) (a : Layout) → physical_type t ≡ physical.Primitive k → a ≡ null_layout t n → HasNulls t n a
-native-nulls k t n a h e = as-nulls t n a (native-array k t n 1 (λ z. omega arith) h) e
+native-nulls k t n a h e = as-nulls t n a (native-array k t n Nulls tt h) e
 
 pub native-none : (k : PrimitiveType) (t : TypeTree) (a : Layout) → physical_type t ≡ physical.Primitive k → a ≡ empty_layout t → HasNone t a
-native-none k t a h e = as-none t a (native-array k t 0 0 (λ z. z) h) e
+native-none k t a h e = as-none t a (native-array k t 0 Nothing refl h) e
 
 zero-numbers : (k : PrimitiveType) → replicate (parts_of k) (pos 0) ≡ zero_value k
 zero-numbers primitives.Int256 = refl
@@ -50,7 +52,7 @@ zero-numbers primitives.DaysMs = refl
 zero-numbers primitives.MonthDayNano = refl
 zero-numbers k = refl
 
-pub native-zeros : {A : Type 0} (v : A → List ℤ) (k : PrimitiveType) (t : TypeTree) (n d : ℕ) (z : A) → physical_type t ≡ physical.Primitive k → v z ≡ replicate (parts_of k) (pos 0)
+pub native-zeros : {A : Type 0} (v : A → List ℤ) (k : PrimitiveType) (t : TypeTree) (n : ℕ) (d : Fill) (z : A) → physical_type t ≡ physical.Primitive k → v z ≡ replicate (parts_of k) (pos 0)
     → layouts.primitive k t (map v (replicate n z)) (none_valid d n) ≡ null_array t n d
 native-zeros v k t n d z h e = ap (λ vs. layouts.primitive k t vs (none_valid d n)) (repeated n ∙ ap (replicate n) (e ∙ zero-numbers k)) ∙ sym (native-parts k t n d h)
   where
@@ -58,11 +60,11 @@ native-zeros v k t n d z h e = ap (λ vs. layouts.primitive k t vs (none_valid d
     repeated zero = refl
     repeated (suc n) = ap (λ vs. v z ∷ vs) (repeated n)
 
-pub no-float : (t : TypeTree) (k : PrimitiveType) (n d : ℕ) → physical_type t ≡ physical.Primitive k → fault_of t n d ≡ None → float_fault (physical.Primitive k) ≡ None
+pub no-float : (t : TypeTree) (k : PrimitiveType) (n : ℕ) (d : Fill) → physical_type t ≡ physical.Primitive k → fault_of t n d ≡ None → float_fault (physical.Primitive k) ≡ None
 no-float t k n d h e = ap float_fault (sym h) ∙ sym (plain-fault t n d (ap is_plain h)) ∙ e
 
 -- booleans have no fault
-pub boolean-fault : (t : TypeTree) (n d : ℕ) → physical_type t ≡ physical.Boolean → fault_of t n d ≡ None
+pub boolean-fault : (t : TypeTree) (n : ℕ) (d : Fill) → physical_type t ≡ physical.Boolean → fault_of t n d ≡ None
 boolean-fault t n d h = plain-fault t n d (ap is_plain h) ∙ ap float_fault h
 
 -- n slots over no byte or item: there is one offset more
@@ -79,8 +81,8 @@ pub accepted-not-past : (n : ℕ) (rest : Option Error) → n < 2 ^ 64 → refus
 accepted-not-past n rest h = ap (λ b. refuse_if b Overflow rest) (let e : is_past n ≡ false = grind (arith) in e)
 
 -- an array that is one of nulls fits at its top level
-pub top-fits : (t : TypeTree) (n d : ℕ) (a : Layout) → (0 < n → 0 < d) → fault_of t n d ≡ None → a ≡ null_array t n d → TopFits a
+pub top-fits : (t : TypeTree) (n : ℕ) (d : Fill) (a : Layout) → Fills d n → fault_of t n d ≡ None → a ≡ null_array t n d → TopFits a
 top-fits t n d a p h e = subst TopFits (sym e) (is-array t n (null_array t n d) (null-array t n d p h)).0
 
-pub fits : (t : TypeTree) (n d : ℕ) (a : Layout) → (0 < n → 0 < d) → fault_of t n d ≡ None → a ≡ null_array t n d → Fits a
+pub fits : (t : TypeTree) (n : ℕ) (d : Fill) (a : Layout) → Fills d n → fault_of t n d ≡ None → a ≡ null_array t n d → Fits a
 fits t n d a p h e = let r = null-array t n d p h in subst Fits (sym e) r.fits

@@ -14,11 +14,13 @@ use Rattle.nest_memory.specs.declared.error.Argument.TheVariants as argument
 use Rattle.nest_memory.specs.Physical.{physical_type, list_of_width, binary_of_width, text_of_width}
 use Rattle.nest_memory.specs.TypeTree as types
 use Rattle.nest_memory.specs.TypeTree.{TypeTree, FieldTree, field, FieldTrees, no_fields, more_fields, field_type, count_fields, item_type, size_of, fields_of, ids_of, mode_of, is_dense_mode, has_pairs, is_pair, key_type, value_type}
+use Rattle.nest_model.specs.declared.fill.Fill.{Fill}
+use Rattle.nest_model.specs.declared.fill.Fill.TheVariants.{Nothing}
 use Rattle.nest_model.specs.Checks.{refuse_if, first_of, is_past, most_fields, most_picks}
 use Rattle.nest_model.specs.Layout as layouts
 use Rattle.nest_model.specs.Accessors.{with_type}
 use Rattle.nest_model.specs.Slot as slots
-use Rattle.nest_model.specs.Nulls.{null_slot, ids_count_differs, has_bad_id, fault_of, fields_fault, float_fault, union_fault}
+use Rattle.nest_model.specs.Nulls.{null_slot, values_below, ids_count_differs, has_bad_id, fault_of, fields_fault, float_fault, union_fault}
 use Rattle.nest_model.specs.NullLayout.{none_valid, native_of_key, type_of_key, native_nulls, flat_nulls, null_type, null_offsets, null_array, null_children}
 
 -- how many types a data type is made of
@@ -64,17 +66,17 @@ fields-lighter (types.extension x t m) = let l = fields-lighter t in omega arith
 fields-lighter t = omega arith
 
 -- parts
-pub null-parts : (t : TypeTree) (n d : ℕ) → physical_type t ≡ physical.Null → null_array t n d ≡ layouts.null t n
+pub null-parts : (t : TypeTree) (n : ℕ) (d : Fill) → physical_type t ≡ physical.Null → null_array t n d ≡ layouts.null t n
 null-parts types.null n d h = refl
 null-parts (types.extension x t m) n d h = ap (λ a. with_type a (types.extension x t m)) (null-parts t n d h)
 null-parts t n d h = cc
 
-pub boolean-parts : (t : TypeTree) (n d : ℕ) → physical_type t ≡ physical.Boolean → null_array t n d ≡ layouts.boolean t (replicate n false) (none_valid d n)
+pub boolean-parts : (t : TypeTree) (n : ℕ) (d : Fill) → physical_type t ≡ physical.Boolean → null_array t n d ≡ layouts.boolean t (replicate n false) (none_valid d n)
 boolean-parts types.boolean n d h = refl
 boolean-parts (types.extension x t m) n d h = ap (λ a. with_type a (types.extension x t m)) (boolean-parts t n d h)
 boolean-parts t n d h = cc
 
-pub native-parts : (k : PrimitiveType) (t : TypeTree) (n d : ℕ) → physical_type t ≡ physical.Primitive k → null_array t n d ≡ native_nulls k t n d
+pub native-parts : (k : PrimitiveType) (t : TypeTree) (n : ℕ) (d : Fill) → physical_type t ≡ physical.Primitive k → null_array t n d ≡ native_nulls k t n d
 native-parts k types.binary n d h = cc
 native-parts k types.large_binary n d h = cc
 native-parts k types.utf8 n d h = cc
@@ -90,58 +92,58 @@ native-parts k (types.dictionary j t b) n d h = cc
 native-parts k (types.extension x t m) n d h = ap (λ a. with_type a (types.extension x t m)) (native-parts k t n d h)
 native-parts k t n d h = ap (λ p. flat_nulls p t n d) h
 
-pub binary-parts : (large : Bool) (t : TypeTree) (n d : ℕ) → physical_type t ≡ binary_of_width large → null_array t n d ≡ layouts.binary large t (replicate (suc n) 0) [] (none_valid d n)
+pub binary-parts : (large : Bool) (t : TypeTree) (n : ℕ) (d : Fill) → physical_type t ≡ binary_of_width large → null_array t n d ≡ layouts.binary large t (replicate (suc n) 0) [] (none_valid d n)
 binary-parts false types.binary n d h = refl
 binary-parts true types.large_binary n d h = refl
 binary-parts large (types.extension x t m) n d h = ap (λ a. with_type a (types.extension x t m)) (binary-parts large t n d h)
 binary-parts false t n d h = cc
 binary-parts true t n d h = cc
 
-pub text-parts : (large : Bool) (t : TypeTree) (n d : ℕ) → physical_type t ≡ text_of_width large → null_array t n d ≡ layouts.text large t (replicate (suc n) 0) [] (none_valid d n)
+pub text-parts : (large : Bool) (t : TypeTree) (n : ℕ) (d : Fill) → physical_type t ≡ text_of_width large → null_array t n d ≡ layouts.text large t (replicate (suc n) 0) [] (none_valid d n)
 text-parts false types.utf8 n d h = refl
 text-parts true types.large_utf8 n d h = refl
 text-parts large (types.extension x t m) n d h = ap (λ a. with_type a (types.extension x t m)) (text-parts large t n d h)
 text-parts false t n d h = cc
 text-parts true t n d h = cc
 
-pub bytes-parts : (t : TypeTree) (n d : ℕ) → physical_type t ≡ physical.FixedSizeBinary → null_array t n d ≡ layouts.fixed_size_binary t (replicate (n * size_of t) 0) (none_valid d n)
+pub bytes-parts : (t : TypeTree) (n : ℕ) (d : Fill) → physical_type t ≡ physical.FixedSizeBinary → null_array t n d ≡ layouts.fixed_size_binary t (replicate (n * size_of t) 0) (none_valid d n)
 bytes-parts (types.fixed_size_binary s) n d h = refl
 bytes-parts (types.extension x t m) n d h = ap (λ a. with_type a (types.extension x t m)) (bytes-parts t n d h)
 bytes-parts t n d h = cc
 
-pub list-parts : (large : Bool) (t u : TypeTree) (n d : ℕ) → physical_type t ≡ list_of_width large → item_type t ≡ Some u → null_array t n d ≡ layouts.list large t (replicate (suc n) 0) (null_array u 0 0) (none_valid d n)
-list-parts false (types.list (field x v b es)) u n d h e = let q : v ≡ u = cc in ap (λ w. layouts.list false (types.list (field x v b es)) (replicate (suc n) 0) (null_array w 0 0) (none_valid d n)) q
-list-parts true (types.large_list (field x v b es)) u n d h e = let q : v ≡ u = cc in ap (λ w. layouts.list true (types.large_list (field x v b es)) (replicate (suc n) 0) (null_array w 0 0) (none_valid d n)) q
+pub list-parts : (large : Bool) (t u : TypeTree) (n : ℕ) (d : Fill) → physical_type t ≡ list_of_width large → item_type t ≡ Some u → null_array t n d ≡ layouts.list large t (replicate (suc n) 0) (null_array u 0 Nothing) (none_valid d n)
+list-parts false (types.list (field x v b es)) u n d h e = let q : v ≡ u = cc in ap (λ w. layouts.list false (types.list (field x v b es)) (replicate (suc n) 0) (null_array w 0 Nothing) (none_valid d n)) q
+list-parts true (types.large_list (field x v b es)) u n d h e = let q : v ≡ u = cc in ap (λ w. layouts.list true (types.large_list (field x v b es)) (replicate (suc n) 0) (null_array w 0 Nothing) (none_valid d n)) q
 list-parts large (types.extension x t m) u n d h e = ap (λ a. with_type a (types.extension x t m)) (list-parts large t u n d h e)
 list-parts false t u n d h e = cc
 list-parts true t u n d h e = cc
 
-pub sized-parts : (t u : TypeTree) (n d : ℕ) → physical_type t ≡ physical.FixedSizeList → item_type t ≡ Some u → null_array t n d ≡ layouts.fixed_size_list t (null_array u (n * size_of t) d) (none_valid d n)
+pub sized-parts : (t u : TypeTree) (n : ℕ) (d : Fill) → physical_type t ≡ physical.FixedSizeList → item_type t ≡ Some u → null_array t n d ≡ layouts.fixed_size_list t (null_array u (n * size_of t) d) (none_valid d n)
 sized-parts (types.fixed_size_list (field x v b es) s) u n d h e = let q : v ≡ u = cc in ap (λ w. layouts.fixed_size_list (types.fixed_size_list (field x v b es) s) (null_array w (n * s) d) (none_valid d n)) q
 sized-parts (types.extension x t m) u n d h e = ap (λ a. with_type a (types.extension x t m)) (sized-parts t u n d h e)
 sized-parts t u n d h e = cc
 
-pub map-parts : (t u : TypeTree) (n d : ℕ) → physical_type t ≡ physical.Map → item_type t ≡ Some u → null_array t n d ≡ layouts.map t (replicate (suc n) 0) (null_array u 0 0) (none_valid d n)
-map-parts (types.map (field x v b es) s) u n d h e = let q : v ≡ u = cc in ap (λ w. layouts.map (types.map (field x v b es) s) (replicate (suc n) 0) (null_array w 0 0) (none_valid d n)) q
+pub map-parts : (t u : TypeTree) (n : ℕ) (d : Fill) → physical_type t ≡ physical.Map → item_type t ≡ Some u → null_array t n d ≡ layouts.map t (replicate (suc n) 0) (null_array u 0 Nothing) (none_valid d n)
+map-parts (types.map (field x v b es) s) u n d h e = let q : v ≡ u = cc in ap (λ w. layouts.map (types.map (field x v b es) s) (replicate (suc n) 0) (null_array w 0 Nothing) (none_valid d n)) q
 map-parts (types.extension x t m) u n d h e = ap (λ a. with_type a (types.extension x t m)) (map-parts t u n d h e)
 map-parts t u n d h e = cc
 
-pub struct-parts : (t : TypeTree) (n d : ℕ) → physical_type t ≡ physical.Struct → null_array t n d ≡ layouts.struct t (null_children (fields_of t) n d) (none_valid d n)
+pub struct-parts : (t : TypeTree) (n : ℕ) (d : Fill) → physical_type t ≡ physical.Struct → null_array t n d ≡ layouts.struct t (null_children (fields_of t) n d) (none_valid d n)
 struct-parts (types.struct fs) n d h = refl
 struct-parts (types.extension x t m) n d h = ap (λ a. with_type a (types.extension x t m)) (struct-parts t n d h)
 struct-parts t n d h = cc
 
-pub union-parts : (t : TypeTree) (mode : UnionMode) (n d : ℕ) → mode_of t ≡ Some mode → null_array t n d ≡ layouts.union t (replicate n (null_type (ids_of t))) (null_children (fields_of t) n d) (null_offsets mode n) 0
+pub union-parts : (t : TypeTree) (mode : UnionMode) (n : ℕ) (d : Fill) → mode_of t ≡ Some mode → null_array t n d ≡ layouts.union t (replicate n (null_type (ids_of t))) (null_children (fields_of t) n d) (null_offsets mode n) 0
 union-parts (types.union fs ids m) mode n d e = let q : m ≡ mode = cc in ap (λ o. layouts.union (types.union fs ids m) (replicate n (null_type ids)) (null_children fs n d) (null_offsets o n) 0) q
 union-parts (types.extension x t m) mode n d e = ap (λ a. with_type a (types.extension x t m)) (union-parts t mode n d e)
 union-parts t mode n d e = cc
 
-pub dictionary-parts : (t u : TypeTree) (k : IntegerType) (n d : ℕ) → key_type t ≡ Some k → value_type t ≡ Some u
-    → null_array t n d ≡ layouts.dictionary t (native_nulls (native_of_key k) (type_of_key k) n d) (null_array u d d)
+pub dictionary-parts : (t u : TypeTree) (k : IntegerType) (n : ℕ) (d : Fill) → key_type t ≡ Some k → value_type t ≡ Some u
+    → null_array t n d ≡ layouts.dictionary t (native_nulls (native_of_key k) (type_of_key k) n d) (null_array u (values_below d) d)
 dictionary-parts (types.dictionary j v b) u k n d h e =
     let p : j ≡ k = cc in
     let q : v ≡ u = cc in
-    λ i. layouts.dictionary (types.dictionary j v b) (native_nulls (native_of_key (p i)) (type_of_key (p i)) n d) (null_array (q i) d d)
+    λ i. layouts.dictionary (types.dictionary j v b) (native_nulls (native_of_key (p i)) (type_of_key (p i)) n d) (null_array (q i) (values_below d) d)
 dictionary-parts (types.extension x t m) u k n d h e = ap (λ a. with_type a (types.extension x t m)) (dictionary-parts t u k n d h e)
 dictionary-parts t u k n d h e = cc
 
@@ -152,7 +154,7 @@ is_plain physical.Boolean = true
 is_plain (physical.Primitive k) = true
 is_plain p = false
 
-pub plain-fault : (t : TypeTree) (n d : ℕ) → is_plain (physical_type t) ≡ true → fault_of t n d ≡ float_fault (physical_type t)
+pub plain-fault : (t : TypeTree) (n : ℕ) (d : Fill) → is_plain (physical_type t) ≡ true → fault_of t n d ≡ float_fault (physical_type t)
 plain-fault (types.interval YearMonth) n d h = refl
 plain-fault (types.interval DayTime) n d h = refl
 plain-fault (types.interval MonthDayNano) n d h = refl
@@ -171,57 +173,57 @@ plain-fault (types.dictionary j t b) n d h = cc
 plain-fault (types.extension x t m) n d h = plain-fault t n d h
 plain-fault t n d h = refl
 
-pub binary-fault : (large : Bool) (t : TypeTree) (n d : ℕ) → physical_type t ≡ binary_of_width large → fault_of t n d ≡ refuse_if (is_past (n + 1)) Overflow None
+pub binary-fault : (large : Bool) (t : TypeTree) (n : ℕ) (d : Fill) → physical_type t ≡ binary_of_width large → fault_of t n d ≡ refuse_if (is_past (n + 1)) Overflow None
 binary-fault false types.binary n d h = refl
 binary-fault true types.large_binary n d h = refl
 binary-fault large (types.extension x t m) n d h = binary-fault large t n d h
 binary-fault false t n d h = cc
 binary-fault true t n d h = cc
 
-pub text-fault : (large : Bool) (t : TypeTree) (n d : ℕ) → physical_type t ≡ text_of_width large → fault_of t n d ≡ refuse_if (is_past (n + 1)) Overflow None
+pub text-fault : (large : Bool) (t : TypeTree) (n : ℕ) (d : Fill) → physical_type t ≡ text_of_width large → fault_of t n d ≡ refuse_if (is_past (n + 1)) Overflow None
 text-fault false types.utf8 n d h = refl
 text-fault true types.large_utf8 n d h = refl
 text-fault large (types.extension x t m) n d h = text-fault large t n d h
 text-fault false t n d h = cc
 text-fault true t n d h = cc
 
-pub bytes-fault : (t : TypeTree) (n d : ℕ) → physical_type t ≡ physical.FixedSizeBinary → fault_of t n d ≡ refuse_if (nat_eq (size_of t) 0) (OutOfSpec spec.ZeroSize) (refuse_if (is_past (n * size_of t)) Overflow None)
+pub bytes-fault : (t : TypeTree) (n : ℕ) (d : Fill) → physical_type t ≡ physical.FixedSizeBinary → fault_of t n d ≡ refuse_if (nat_eq (size_of t) 0) (OutOfSpec spec.ZeroSize) (refuse_if (is_past (n * size_of t)) Overflow None)
 bytes-fault (types.fixed_size_binary s) n d h = refl
 bytes-fault (types.extension x t m) n d h = bytes-fault t n d h
 bytes-fault t n d h = cc
 
-pub list-fault : (large : Bool) (t u : TypeTree) (n d : ℕ) → physical_type t ≡ list_of_width large → item_type t ≡ Some u → fault_of t n d ≡ refuse_if (is_past (n + 1)) Overflow (fault_of u 0 0)
-list-fault false (types.list (field x v b es)) u n d h e = let q : v ≡ u = cc in ap (λ w. refuse_if (is_past (n + 1)) Overflow (fault_of w 0 0)) q
-list-fault true (types.large_list (field x v b es)) u n d h e = let q : v ≡ u = cc in ap (λ w. refuse_if (is_past (n + 1)) Overflow (fault_of w 0 0)) q
+pub list-fault : (large : Bool) (t u : TypeTree) (n : ℕ) (d : Fill) → physical_type t ≡ list_of_width large → item_type t ≡ Some u → fault_of t n d ≡ refuse_if (is_past (n + 1)) Overflow (fault_of u 0 Nothing)
+list-fault false (types.list (field x v b es)) u n d h e = let q : v ≡ u = cc in ap (λ w. refuse_if (is_past (n + 1)) Overflow (fault_of w 0 Nothing)) q
+list-fault true (types.large_list (field x v b es)) u n d h e = let q : v ≡ u = cc in ap (λ w. refuse_if (is_past (n + 1)) Overflow (fault_of w 0 Nothing)) q
 list-fault large (types.extension x t m) u n d h e = list-fault large t u n d h e
 list-fault false t u n d h e = cc
 list-fault true t u n d h e = cc
 
-pub sized-fault : (t u : TypeTree) (n d : ℕ) → physical_type t ≡ physical.FixedSizeList → item_type t ≡ Some u
+pub sized-fault : (t u : TypeTree) (n : ℕ) (d : Fill) → physical_type t ≡ physical.FixedSizeList → item_type t ≡ Some u
     → fault_of t n d ≡ refuse_if (nat_eq (size_of t) 0) (OutOfSpec spec.ZeroSize) (refuse_if (is_past (n * size_of t)) Overflow (fault_of u (n * size_of t) d))
 sized-fault (types.fixed_size_list (field x v b es) s) u n d h e =
     let q : v ≡ u = cc in ap (λ w. refuse_if (nat_eq s 0) (OutOfSpec spec.ZeroSize) (refuse_if (is_past (n * s)) Overflow (fault_of w (n * s) d))) q
 sized-fault (types.extension x t m) u n d h e = sized-fault t u n d h e
 sized-fault t u n d h e = cc
 
-pub map-fault : (t u : TypeTree) (n d : ℕ) → physical_type t ≡ physical.Map → item_type t ≡ Some u
-    → fault_of t n d ≡ refuse_if (not (has_pairs t)) (InvalidArgumentError argument.MapInner) (refuse_if (is_past (n + 1)) Overflow (fault_of u 0 0))
+pub map-fault : (t u : TypeTree) (n : ℕ) (d : Fill) → physical_type t ≡ physical.Map → item_type t ≡ Some u
+    → fault_of t n d ≡ refuse_if (not (has_pairs t)) (InvalidArgumentError argument.MapInner) (refuse_if (is_past (n + 1)) Overflow (fault_of u 0 Nothing))
 map-fault (types.map (field x v b es) s) u n d h e =
-    let q : v ≡ u = cc in ap (λ w. refuse_if (not (is_pair v)) (InvalidArgumentError argument.MapInner) (refuse_if (is_past (n + 1)) Overflow (fault_of w 0 0))) q
+    let q : v ≡ u = cc in ap (λ w. refuse_if (not (is_pair v)) (InvalidArgumentError argument.MapInner) (refuse_if (is_past (n + 1)) Overflow (fault_of w 0 Nothing))) q
 map-fault (types.extension x t m) u n d h e = map-fault t u n d h e
 map-fault t u n d h e = cc
 
-pub struct-fault : (t : TypeTree) (n d : ℕ) → physical_type t ≡ physical.Struct → fault_of t n d ≡ refuse_if (nat_eq (count_fields (fields_of t)) 0) (OutOfSpec spec.NoFields) (fields_fault (fields_of t) n d)
+pub struct-fault : (t : TypeTree) (n : ℕ) (d : Fill) → physical_type t ≡ physical.Struct → fault_of t n d ≡ refuse_if (nat_eq (count_fields (fields_of t)) 0) (OutOfSpec spec.NoFields) (fields_fault (fields_of t) n d)
 struct-fault (types.struct fs) n d h = refl
 struct-fault (types.extension x t m) n d h = struct-fault t n d h
 struct-fault t n d h = cc
 
-pub dictionary-fault : (t u : TypeTree) (n d : ℕ) → value_type t ≡ Some u → fault_of t n d ≡ fault_of u d d
-dictionary-fault (types.dictionary j v b) u n d e = let q : v ≡ u = cc in ap (λ w. fault_of w d d) q
+pub dictionary-fault : (t u : TypeTree) (n : ℕ) (d : Fill) → value_type t ≡ Some u → fault_of t n d ≡ fault_of u (values_below d) d
+dictionary-fault (types.dictionary j v b) u n d e = let q : v ≡ u = cc in ap (λ w. fault_of w (values_below d) d) q
 dictionary-fault (types.extension x t m) u n d e = dictionary-fault t u n d e
 dictionary-fault t u n d e = cc
 
-pub union-fault : (t : TypeTree) (mode : UnionMode) (n d : ℕ) → mode_of t ≡ Some mode → fault_of t n d ≡ union_fault (count_fields (fields_of t)) (ids_of t) mode n (fields_fault (fields_of t) n d)
+pub union-fault : (t : TypeTree) (mode : UnionMode) (n : ℕ) (d : Fill) → mode_of t ≡ Some mode → fault_of t n d ≡ union_fault (count_fields (fields_of t)) (ids_of t) mode n (fields_fault (fields_of t) n d)
 union-fault (types.union fs ids m) mode n d e = let q : m ≡ mode = cc in ap (λ o. union_fault (count_fields fs) ids o n (fields_fault fs n d)) q
 union-fault (types.extension x t m) mode n d e = union-fault t mode n d e
 union-fault t mode n d e = cc

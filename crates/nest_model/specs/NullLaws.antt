@@ -22,6 +22,8 @@ use Rattle.nest_memory.specs.TypeTree.{Letters, Entries, TypeTree, FieldTree, fi
 use Rattle.nest_memory.specs.Physical.{physical_type, list_of_width, binary_of_width, text_of_width}
 use Rattle.nest_memory.specs.Cut.{cut}
 use Rattle.nest_memory.specs.Rising.{last_of}
+use Rattle.nest_model.specs.declared.fill.Fill.{Fill}
+use Rattle.nest_model.specs.declared.fill.Fill.TheVariants.{Nulls, Nothing}
 use Rattle.nest_model.specs.Part.{valid_at, begin, extent, count_rows, place, last_place, field_named}
 use Rattle.nest_model.specs.Slot as slots
 use Rattle.nest_model.specs.Slot.{Slot}
@@ -34,7 +36,7 @@ use Rattle.nest_model.specs.Fits.{Fits, ValidityFits, EachType, EachLen, EachCov
 use Rattle.nest_model.specs.FitsLaws.{fits-keeps}
 use Rattle.nest_model.specs.Array.{AreOffsets, AreKeys, PartsHold, ChildrenFit, AreArrays, IsArray}
 use Rattle.nest_model.specs.Decide.{refuse-none, first-none, not-false}
-use Rattle.nest_model.specs.Nulls.{null_field, null_slot, null_pick, null_slots, is_id, are_ids, ids_count_differs, has_bad_id, fault_of, field_fault, fields_fault, type_fault, empty_fault}
+use Rattle.nest_model.specs.Nulls.{values_below, Fills, null_field, null_slot, null_pick, null_slots, is_id, are_ids, ids_count_differs, has_bad_id, fault_of, field_fault, fields_fault, type_fault, empty_fault}
 use Rattle.nest_model.specs.NullLayout.{zero_value, native_of_key, type_of_key, none_valid, native_nulls, null_type, null_offsets, null_array, null_item, null_children, null_layout, empty_layout}
 use Rattle.nest_model.specs.Checks.{most_fields, type_count}
 
@@ -73,15 +75,15 @@ below : (m n : ℕ) → nat_lt m n ≡ true → m < n
 below m n h = grind (arith)
 
 -- no place is valid
-null-valid : (d n i : ℕ) → (0 < n → 0 < d) → i < n → valid_at (none_valid d n) i ≡ false
-null-valid zero n i h k = absurd (let z = h (omega arith) in omega arith)
-null-valid (suc d) n i h k = get_or-replicate n i false true k
+null-valid : (d : Fill) (n i : ℕ) → Fills d n → i < n → valid_at (none_valid d n) i ≡ false
+null-valid Nulls n i h k = get_or-replicate n i false true k
+null-valid Nothing n i h k = absurd (omega arith)
 
-null-bits : (d n : ℕ) → ValidityFits (none_valid d n) n
-null-bits zero n = tt
-null-bits (suc d) n = length-replicate n false
+null-bits : (d : Fill) (n : ℕ) → ValidityFits (none_valid d n) n
+null-bits Nulls n = length-replicate n false
+null-bits Nothing n = tt
 
-null-bits-at : (d n m : ℕ) → m ≡ n → ValidityFits (none_valid d n) m
+null-bits-at : (d : Fill) (n m : ℕ) → m ≡ n → ValidityFits (none_valid d n) m
 null-bits-at d n m e = subst (ValidityFits (none_valid d n)) (sym e) (null-bits d n)
 
 otherwise : (b : Bool) (s r : Slot) → b ≡ false → (if b then s else r) ≡ r
@@ -107,7 +109,7 @@ zero-last : (n m : ℕ) → last_of (replicate (suc n) 0) ≤ m
 zero-last n m = let e = zero-at (suc n) (length {A = ℕ} (replicate (suc n) 0) - 1) in omega arith
 
 -- flat arrays
-pub native-null : (k : PrimitiveType) (t : TypeTree) (n d : ℕ) → (0 < n → 0 < d) → physical_type t ≡ physical.Primitive k → null_slot t ≡ slots.null → IsNullArray t n (native_nulls k t n d)
+pub native-null : (k : PrimitiveType) (t : TypeTree) (n : ℕ) (d : Fill) → Fills d n → physical_type t ≡ physical.Primitive k → null_slot t ≡ slots.null → IsNullArray t n (native_nulls k t n d)
 native-null k t n d h p e =
     let l = length-replicate n (zero_value k) in
     record {
@@ -119,7 +121,7 @@ native-null k t n d h p e =
       children = tt;
     }
 
-binary-null : (large : Bool) (t : TypeTree) (n d : ℕ) → (0 < n → 0 < d) → physical_type t ≡ binary_of_width large → null_slot t ≡ slots.null → IsNullArray t n (binary large t (replicate (suc n) 0) [] (none_valid d n))
+binary-null : (large : Bool) (t : TypeTree) (n : ℕ) (d : Fill) → Fills d n → physical_type t ≡ binary_of_width large → null_slot t ≡ slots.null → IsNullArray t n (binary large t (replicate (suc n) 0) [] (none_valid d n))
 binary-null large t n d h p e =
     record {
       typed = refl;
@@ -130,7 +132,7 @@ binary-null large t n d h p e =
       children = tt;
     }
 
-text-null : (large : Bool) (t : TypeTree) (n d : ℕ) → (0 < n → 0 < d) → physical_type t ≡ text_of_width large → null_slot t ≡ slots.null → IsNullArray t n (text large t (replicate (suc n) 0) [] (none_valid d n))
+text-null : (large : Bool) (t : TypeTree) (n : ℕ) (d : Fill) → Fills d n → physical_type t ≡ text_of_width large → null_slot t ≡ slots.null → IsNullArray t n (text large t (replicate (suc n) 0) [] (none_valid d n))
 text-null large t n d h p e =
     record {
       typed = refl;
@@ -147,7 +149,7 @@ text-null large t n d h p e =
     no-bytes : (i : ℕ) → IsUtf8 (cut [] (begin (replicate (suc n) 0) i) (extent (replicate (suc n) 0) i))
     no-bytes i = subst IsUtf8 (empty-cut (begin (replicate (suc n) 0) i) (extent (replicate (suc n) 0) i)) IsUtf8-nil
 
-fixed-null : (s n d : ℕ) → (0 < n → 0 < d) → 0 < s → IsNullArray (types.fixed_size_binary s) n (fixed_size_binary (types.fixed_size_binary s) (replicate (n * s) 0) (none_valid d n))
+fixed-null : (s n : ℕ) (d : Fill) → Fills d n → 0 < s → IsNullArray (types.fixed_size_binary s) n (fixed_size_binary (types.fixed_size_binary s) (replicate (n * s) 0) (none_valid d n))
 fixed-null s n d h z =
     let l = length-replicate {A = ℕ} (n * s) 0 in
     let q : length (replicate (n * s) 0) / s ≡ n = ap (λ m. m / s) l ∙ mul-div_cancel n z in
@@ -161,7 +163,7 @@ fixed-null s n d h z =
     }
 
 -- lists of nothing
-list-null : (large : Bool) (t u : TypeTree) (n d : ℕ) (c : Layout) → (0 < n → 0 < d) → physical_type t ≡ list_of_width large → item_type t ≡ Some u → null_slot t ≡ slots.null → IsNullArray u 0 c
+list-null : (large : Bool) (t u : TypeTree) (n : ℕ) (d : Fill) (c : Layout) → Fills d n → physical_type t ≡ list_of_width large → item_type t ≡ Some u → null_slot t ≡ slots.null → IsNullArray u 0 c
     → IsNullArray t n (list large t (replicate (suc n) 0) c (none_valid d n))
 list-null large t u n d c h p q e r =
     record {
@@ -173,7 +175,7 @@ list-null large t u n d c h p q e r =
       children = is-array u 0 c r;
     }
 
-map-null : (f : FieldTree) (b : Bool) (n d : ℕ) (c : Layout) → (0 < n → 0 < d) → is_pair (field_type f) ≡ true → IsNullArray (field_type f) 0 c
+map-null : (f : FieldTree) (b : Bool) (n : ℕ) (d : Fill) (c : Layout) → Fills d n → is_pair (field_type f) ≡ true → IsNullArray (field_type f) 0 c
     → IsNullArray (types.map f b) n (layouts.map (types.map f b) (replicate (suc n) 0) c (none_valid d n))
 map-null f b n d c h p r =
     record {
@@ -185,7 +187,7 @@ map-null f b n d c h p r =
       children = is-array (field_type f) 0 c r;
     }
 
-sized-null : (f : FieldTree) (s n d : ℕ) (c : Layout) → (0 < n → 0 < d) → 0 < s → IsNullArray (field_type f) (n * s) c
+sized-null : (f : FieldTree) (s n : ℕ) (d : Fill) (c : Layout) → Fills d n → 0 < s → IsNullArray (field_type f) (n * s) c
     → IsNullArray (types.fixed_size_list f s) n (fixed_size_list (types.fixed_size_list f s) c (none_valid d n))
 sized-null f s n d c h z r =
     let q : len c / s ≡ n = ap (λ m. m / s) r.long ∙ mul-div_cancel n z in
@@ -198,7 +200,7 @@ sized-null f s n d c h z r =
       children = is-array (field_type f) (n * s) c r;
     }
 
-struct-null : (fs : FieldTrees) (n d : ℕ) (cs : Layouts) → (0 < n → 0 < d) → 0 < count_fields fs → AreNullArrays fs n cs
+struct-null : (fs : FieldTrees) (n : ℕ) (d : Fill) (cs : Layouts) → Fills d n → 0 < count_fields fs → AreNullArrays fs n cs
     → IsNullArray (types.struct fs) n (struct (types.struct fs) cs (none_valid d n))
 struct-null fs n d cs h z r =
     let l = r.first_long z in
@@ -212,15 +214,15 @@ struct-null fs n d cs h z r =
     }
 
 -- dictionaries of null keys
-key-fits : (k : IntegerType) (n d : ℕ) → AreKeys (native_nulls (native_of_key k) (type_of_key k) n d)
+key-fits : (k : IntegerType) (n : ℕ) (d : Fill) → AreKeys (native_nulls (native_of_key k) (type_of_key k) n d)
 key-fits integers.Int8 n d = (refl, (null-bits-at d n (length (replicate n (pos 0 ∷ []))) (length-replicate n (pos 0 ∷ [])), (refl, tt)))
 key-fits k n d = (refl, (null-bits-at d n (length (replicate n (pos 0 ∷ []))) (length-replicate n (pos 0 ∷ [])), (refl, tt)))
 
-key-typed : (k : IntegerType) (n d : ℕ) → Some k ≡ key_type_of (native_nulls (native_of_key k) (type_of_key k) n d)
+key-typed : (k : IntegerType) (n : ℕ) (d : Fill) → Some k ≡ key_type_of (native_nulls (native_of_key k) (type_of_key k) n d)
 key-typed integers.Int8 n d = refl
 key-typed k n d = refl
 
-dictionary-null : (k : IntegerType) (t : TypeTree) (b : Bool) (n d : ℕ) (c : Layout) → (0 < n → 0 < d) → IsNullArray t d c
+dictionary-null : (k : IntegerType) (t : TypeTree) (b : Bool) (n : ℕ) (d : Fill) (c : Layout) → Fills d n → IsNullArray t (values_below d) c
     → IsNullArray (types.dictionary k t b) n (dictionary (types.dictionary k t b) (native_nulls (native_of_key k) (type_of_key k) n d) c)
 dictionary-null k t b n d c h r =
     let l = length-replicate n (zero_value (native_of_key k)) in
@@ -239,7 +241,7 @@ dictionary-null k t b n d c h r =
           ),
         ),
       );
-      children = is-array t d c r;
+      children = is-array t (values_below d) c r;
     }
 
 -- the last place of a number
@@ -435,9 +437,14 @@ extension-null x t m n a r =
       children = extended-children a x t m (subst ChildrenFit (sym e) r.children);
     }
 
-product-positive : (n s : ℕ) → 0 < n * s → 0 < n
-product-positive zero s h = absurd (let e : 0 * s ≡ 0 = omega arith in omega arith)
-product-positive (suc n) s h = omega arith
+-- what lies below a list of a size, and below a dictionary, is filled as they are
+pub fills-product : (d : Fill) (n s : ℕ) → Fills d n → Fills d (n * s)
+fills-product Nulls n s h = tt
+fills-product Nothing n s h = let e : 0 * s ≡ 0 = omega arith in ap (λ m. m * s) h ∙ e
+
+pub fills-below : (d : Fill) → Fills d (values_below d)
+fills-below Nulls = tt
+fills-below Nothing = refl
 
 more-null : (f : FieldTree) (fs : FieldTrees) (n : ℕ) (c : Layout) (cs : Layouts) → IsNullArray (field_type f) n c → AreNullArrays fs n cs → AreNullArrays (more_fields f fs) n (more_layouts c cs)
 more-null (field x t b es) fs n c cs r rs =
@@ -456,7 +463,7 @@ more-null (field x t b es) fs n c cs r rs =
     more-picks x t b es fs n c cs r rs f (suc k) i j l = rs.picks f k i (omega arith) l
 
 mutual
-  pub null-array : (t : TypeTree) (n d : ℕ) → (0 < n → 0 < d) → fault_of t n d ≡ None → IsNullArray t n (null_array t n d)
+  pub null-array : (t : TypeTree) (n : ℕ) (d : Fill) → Fills d n → fault_of t n d ≡ None → IsNullArray t n (null_array t n d)
   null-array types.null n d p h = record { typed = refl; long = refl; nulls = λ i j. refl; parts = tt; fits = (refl, tt); children = tt }
   null-array types.boolean n d p h =
       let l = length-replicate n false in
@@ -473,16 +480,16 @@ mutual
   null-array types.utf8 n d p h = text-null false types.utf8 n d p refl refl
   null-array types.large_utf8 n d p h = text-null true types.large_utf8 n d p refl refl
   null-array (types.fixed_size_binary s) n d p h = fixed-null s n d p (positive s (refuse-none _ _ _ h).0)
-  null-array (types.list f) n d p h = list-null false (types.list f) (field_type f) n d (null_item f 0 0) p refl refl refl (null-item f 0 0 (λ z. z) (refuse-none _ _ _ h).1)
-  null-array (types.large_list f) n d p h = list-null true (types.large_list f) (field_type f) n d (null_item f 0 0) p refl refl refl (null-item f 0 0 (λ z. z) (refuse-none _ _ _ h).1)
+  null-array (types.list f) n d p h = list-null false (types.list f) (field_type f) n d (null_item f 0 Nothing) p refl refl refl (null-item f 0 Nothing refl (refuse-none _ _ _ h).1)
+  null-array (types.large_list f) n d p h = list-null true (types.large_list f) (field_type f) n d (null_item f 0 Nothing) p refl refl refl (null-item f 0 Nothing refl (refuse-none _ _ _ h).1)
   null-array (types.fixed_size_list f s) n d p h =
       let a = refuse-none (nat_eq s 0) _ _ h in
       let b = refuse-none _ _ _ a.1 in
-      sized-null f s n d (null_item f (n * s) d) p (positive s a.0) (null-item f (n * s) d (λ z. p (product-positive n s z)) b.1)
+      sized-null f s n d (null_item f (n * s) d) p (positive s a.0) (null-item f (n * s) d (fills-product d n s p) b.1)
   null-array (types.map f b) n d p h =
       let a = refuse-none (not (is_pair (field_type f))) _ _ h in
       let c = refuse-none _ _ _ a.1 in
-      map-null f b n d (null_item f 0 0) p (not-false (is_pair (field_type f)) a.0) (null-item f 0 0 (λ z. z) c.1)
+      map-null f b n d (null_item f 0 Nothing) p (not-false (is_pair (field_type f)) a.0) (null-item f 0 Nothing refl c.1)
   null-array (types.struct fs) n d p h =
       let a = refuse-none (nat_eq (count_fields fs) 0) _ _ h in
       struct-null fs n d (null_children fs n d) p (positive (count_fields fs) a.0) (null-children fs n d p a.1)
@@ -493,14 +500,14 @@ mutual
       let e = refuse-none (nat_eq (count_fields fs) 0 && nat_lt 0 n) _ _ c.1 in
       let g = refuse-none _ _ _ e.1 in
       union-null fs ids mode n (null_children fs n d) a.0 b.0 c.0 e.0 (null-children fs n d p g.1)
-  null-array (types.dictionary k t b) n d p h = dictionary-null k t b n d (null_array t d d) p (null-array t d d (λ z. z) h)
+  null-array (types.dictionary k t b) n d p h = dictionary-null k t b n d (null_array t (values_below d) d) p (null-array t (values_below d) d (fills-below d) h)
   null-array (types.extension x t m) n d p h = extension-null x t m n (null_array t n d) (null-array t n d p h)
   null-array t n d p h = native-null _ t n d p refl refl
 
-  null-item : (f : FieldTree) (n d : ℕ) → (0 < n → 0 < d) → field_fault f n d ≡ None → IsNullArray (field_type f) n (null_item f n d)
+  null-item : (f : FieldTree) (n : ℕ) (d : Fill) → Fills d n → field_fault f n d ≡ None → IsNullArray (field_type f) n (null_item f n d)
   null-item (field x t b es) n d p h = null-array t n d p h
 
-  null-children : (fs : FieldTrees) (n d : ℕ) → (0 < n → 0 < d) → fields_fault fs n d ≡ None → AreNullArrays fs n (null_children fs n d)
+  null-children : (fs : FieldTrees) (n : ℕ) (d : Fill) → Fills d n → fields_fault fs n d ≡ None → AreNullArrays fs n (null_children fs n d)
   null-children no_fields n d p h =
       record {
         typed = tt;
@@ -516,10 +523,10 @@ mutual
 
 -- an array of n null slots that fits, where the type and the length are not refused
 pub null-layout : (t : TypeTree) (n : ℕ) → type_fault t n ≡ None → IsNullArray t n (null_layout t n)
-null-layout t n h = null-array t n 1 (λ z. omega arith) h
+null-layout t n h = null-array t n Nulls tt h
 
 pub empty-layout : (t : TypeTree) → empty_fault t ≡ None → IsNullArray t 0 (empty_layout t)
-empty-layout t h = null-array t 0 0 (λ z. z) h
+empty-layout t h = null-array t 0 Nothing refl h
 
 run-nulls : (f : ℕ → Slot) (s : Slot) (o n : ℕ) → ((i : ℕ) → i < n → f (o + i) ≡ s) → run f o n ≡ replicate n s
 run-nulls f s o zero h = refl

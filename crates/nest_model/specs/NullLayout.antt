@@ -1,5 +1,5 @@
 -- The array of n null slots of a data type, and the empty one, part by part (of this project).
-use Rattle.std.specs.Prelude.{ℕ, zero, suc, ◌*◌, ℤ, pos, true, false, List, [], ◌∷◌, map, replicate, Option, Some, None}
+use Rattle.std.specs.Prelude.{ℕ, suc, ◌*◌, ℤ, pos, true, false, List, [], ◌∷◌, map, replicate, Option, Some, None}
 use Rattle.std.specs.List.{range_with_len}
 use Rattle.nest_memory.specs.declared.datatypes.IntegerType.{IntegerType}
 use Rattle.nest_memory.specs.declared.datatypes.IntegerType.TheVariants as integers
@@ -12,10 +12,13 @@ use Rattle.nest_memory.specs.declared.datatypes.physical_type.PrimitiveType.TheV
 use Rattle.nest_memory.specs.TypeTree as types
 use Rattle.nest_memory.specs.TypeTree.{TypeTree, FieldTree, field, FieldTrees, no_fields, more_fields}
 use Rattle.nest_memory.specs.Physical.{physical_type}
+use Rattle.nest_model.specs.declared.fill.Fill.{Fill}
+use Rattle.nest_model.specs.declared.fill.Fill.TheVariants.{Nulls, Nothing}
 use Rattle.nest_model.specs.Part.{Validity}
 use Rattle.nest_model.specs.Layout as layouts
 use Rattle.nest_model.specs.Layout.{Layout, Layouts, no_layouts, more_layouts}
 use Rattle.nest_model.specs.Accessors.{with_type}
+use Rattle.nest_model.specs.Nulls.{values_below}
 
 -- the native value of this kind whose whole numbers are zeros
 abbrev pub zero_value : PrimitiveType → List ℤ
@@ -45,19 +48,19 @@ type_of_key integers.UInt16 = types.uint16
 type_of_key integers.UInt32 = types.uint32
 type_of_key integers.UInt64 = types.uint64
 
--- no place of n is valid; an empty array, below whose dictionaries lie no values, has no validity
-abbrev pub none_valid : ℕ → ℕ → Validity
-none_valid zero n = None
-none_valid (suc d) n = Some (replicate n false)
+-- no place of n is valid; an empty array has no validity
+abbrev pub none_valid : Fill → ℕ → Validity
+none_valid Nulls n = Some (replicate n false)
+none_valid Nothing n = None
 
 -- n nulls of a primitive type
-abbrev pub native_nulls : PrimitiveType → TypeTree → ℕ → ℕ → Layout
-native_nulls k t n d = layouts.primitive k t (replicate n (zero_value k)) (none_valid d n)
+abbrev pub native_nulls : PrimitiveType → TypeTree → ℕ → Fill → Layout
+native_nulls k t n fill = layouts.primitive k t (replicate n (zero_value k)) (none_valid fill n)
 
-abbrev pub flat_nulls : PhysicalType → TypeTree → ℕ → ℕ → Layout
-flat_nulls physical.Boolean t n d = layouts.boolean t (replicate n false) (none_valid d n)
-flat_nulls (physical.Primitive k) t n d = native_nulls k t n d
-flat_nulls p t n d = layouts.null t n
+abbrev pub flat_nulls : PhysicalType → TypeTree → ℕ → Fill → Layout
+flat_nulls physical.Boolean t n fill = layouts.boolean t (replicate n false) (none_valid fill n)
+flat_nulls (physical.Primitive k) t n fill = native_nulls k t n fill
+flat_nulls p t n fill = layouts.null t n
 
 -- the type of each slot of a union: its first id, without ids that of the first field
 abbrev pub null_type : Option (List ℤ) → ℤ
@@ -70,34 +73,34 @@ abbrev pub null_offsets : UnionMode → ℕ → Option (List ℤ)
 null_offsets modes.Dense n = Some (map (λ i. pos i) (range_with_len 0 n))
 null_offsets modes.Sparse n = None
 
--- n null slots. Below a dictionary lie d values: one in a null array, none in an empty one. Below a list or a map lies an empty array.
+-- n null slots. Below a list or a map lies an empty array.
 abbrev mutual
-  pub null_array : TypeTree → ℕ → ℕ → Layout
-  null_array types.binary n d = layouts.binary false types.binary (replicate (suc n) 0) [] (none_valid d n)
-  null_array types.large_binary n d = layouts.binary true types.large_binary (replicate (suc n) 0) [] (none_valid d n)
-  null_array types.utf8 n d = layouts.text false types.utf8 (replicate (suc n) 0) [] (none_valid d n)
-  null_array types.large_utf8 n d = layouts.text true types.large_utf8 (replicate (suc n) 0) [] (none_valid d n)
-  null_array (types.fixed_size_binary s) n d = layouts.fixed_size_binary (types.fixed_size_binary s) (replicate (n * s) 0) (none_valid d n)
-  null_array (types.list f) n d = layouts.list false (types.list f) (replicate (suc n) 0) (null_item f 0 0) (none_valid d n)
-  null_array (types.large_list f) n d = layouts.list true (types.large_list f) (replicate (suc n) 0) (null_item f 0 0) (none_valid d n)
-  null_array (types.fixed_size_list f s) n d = layouts.fixed_size_list (types.fixed_size_list f s) (null_item f (n * s) d) (none_valid d n)
-  null_array (types.map f b) n d = layouts.map (types.map f b) (replicate (suc n) 0) (null_item f 0 0) (none_valid d n)
-  null_array (types.struct fs) n d = layouts.struct (types.struct fs) (null_children fs n d) (none_valid d n)
-  null_array (types.union fs ids mode) n d = layouts.union (types.union fs ids mode) (replicate n (null_type ids)) (null_children fs n d) (null_offsets mode n) 0
-  null_array (types.dictionary k t b) n d = layouts.dictionary (types.dictionary k t b) (native_nulls (native_of_key k) (type_of_key k) n d) (null_array t d d)
-  null_array (types.extension x t m) n d = with_type (null_array t n d) (types.extension x t m)
-  null_array t n d = flat_nulls (physical_type t) t n d
+  pub null_array : TypeTree → ℕ → Fill → Layout
+  null_array types.binary n fill = layouts.binary false types.binary (replicate (suc n) 0) [] (none_valid fill n)
+  null_array types.large_binary n fill = layouts.binary true types.large_binary (replicate (suc n) 0) [] (none_valid fill n)
+  null_array types.utf8 n fill = layouts.text false types.utf8 (replicate (suc n) 0) [] (none_valid fill n)
+  null_array types.large_utf8 n fill = layouts.text true types.large_utf8 (replicate (suc n) 0) [] (none_valid fill n)
+  null_array (types.fixed_size_binary s) n fill = layouts.fixed_size_binary (types.fixed_size_binary s) (replicate (n * s) 0) (none_valid fill n)
+  null_array (types.list f) n fill = layouts.list false (types.list f) (replicate (suc n) 0) (null_item f 0 Nothing) (none_valid fill n)
+  null_array (types.large_list f) n fill = layouts.list true (types.large_list f) (replicate (suc n) 0) (null_item f 0 Nothing) (none_valid fill n)
+  null_array (types.fixed_size_list f s) n fill = layouts.fixed_size_list (types.fixed_size_list f s) (null_item f (n * s) fill) (none_valid fill n)
+  null_array (types.map f b) n fill = layouts.map (types.map f b) (replicate (suc n) 0) (null_item f 0 Nothing) (none_valid fill n)
+  null_array (types.struct fs) n fill = layouts.struct (types.struct fs) (null_children fs n fill) (none_valid fill n)
+  null_array (types.union fs ids mode) n fill = layouts.union (types.union fs ids mode) (replicate n (null_type ids)) (null_children fs n fill) (null_offsets mode n) 0
+  null_array (types.dictionary k t b) n fill = layouts.dictionary (types.dictionary k t b) (native_nulls (native_of_key k) (type_of_key k) n fill) (null_array t (values_below fill) fill)
+  null_array (types.extension x t m) n fill = with_type (null_array t n fill) (types.extension x t m)
+  null_array t n fill = flat_nulls (physical_type t) t n fill
 
-  pub null_item : FieldTree → ℕ → ℕ → Layout
-  null_item (field x t b es) n d = null_array t n d
+  pub null_item : FieldTree → ℕ → Fill → Layout
+  null_item (field x t b es) n fill = null_array t n fill
 
-  pub null_children : FieldTrees → ℕ → ℕ → Layouts
-  null_children no_fields n d = no_layouts
-  null_children (more_fields f fs) n d = more_layouts (null_item f n d) (null_children fs n d)
+  pub null_children : FieldTrees → ℕ → Fill → Layouts
+  null_children no_fields n fill = no_layouts
+  null_children (more_fields f fs) n fill = more_layouts (null_item f n fill) (null_children fs n fill)
 
 -- the array of n null slots, and the empty array
 abbrev pub null_layout : TypeTree → ℕ → Layout
-null_layout t n = null_array t n 1
+null_layout t n = null_array t n Nulls
 
 abbrev pub empty_layout : TypeTree → Layout
-empty_layout t = null_array t 0 0
+empty_layout t = null_array t 0 Nothing

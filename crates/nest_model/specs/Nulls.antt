@@ -1,7 +1,9 @@
--- Null and empty arrays of a data type: their slots, and the first fault that a type and a length have (of this project).
-use Rattle.std.specs.Prelude.{ℕ, zero, suc, ◌+◌, ◌*◌, ℤ, pos, negsuc, Bool, true, false, not, ◌&&◌, nat_eq, nat_lt, List, [], ◌∷◌, length, replicate, Option, Some, None}
+-- Null and empty arrays of a data type: their slots, and why a type and a length have none (of this project).
+use Rattle.std.specs.Prelude.{◌≡◌, ℕ, zero, suc, ◌+◌, ◌*◌, ℤ, pos, negsuc, Bool, true, false, not, ◌&&◌, nat_eq, nat_lt, List, [], ◌∷◌, length, replicate, Option, Some, None}
 use Rattle.nest_memory.specs.TypeTree as types
 use Rattle.nest_memory.specs.TypeTree.{TypeTree, FieldTree, field, FieldTrees, no_fields, more_fields, field_type, count_fields, is_dense_mode, is_pair}
+use Rattle.nest_model.specs.declared.fill.Fill.{Fill}
+use Rattle.nest_model.specs.declared.fill.Fill.TheVariants.{Nulls, Nothing}
 use Rattle.nest_model.specs.Part.{last_place}
 use Rattle.nest_model.specs.Slot as slots
 use Rattle.nest_model.specs.Slot.{Slot}
@@ -75,38 +77,48 @@ union_fault count ids mode n rest =
     (refuse_if (is_dense_mode mode && nat_lt most_picks n) Overflow
     rest))))
 
+-- the values below a dictionary: one null in an array of nulls, none in an empty one
+abbrev pub values_below : Fill → ℕ
+values_below Nulls = 1
+values_below Nothing = 0
+
+-- an array of so many slots is filled so: one of nothing has no slot
+abbrev pub Fills : Fill → ℕ → Type 0
+Fills Nulls n = Unit {0}
+Fills Nothing n = n ≡ 0
+
 -- The first fault of an array of n null slots, in the order node, product, children from the left.
--- Below a dictionary lie d values: one in a null array, none in an empty one. Below a list or a map lies an empty array.
+-- Below a list or a map lies an empty array.
 abbrev mutual
-  pub fault_of : TypeTree → ℕ → ℕ → Option Error
-  fault_of types.float16 n d = Some NotYetImplemented
-  fault_of types.float32 n d = Some NotYetImplemented
-  fault_of types.float64 n d = Some NotYetImplemented
-  fault_of types.binary n d = refuse_if (is_past (n + 1)) Overflow None
-  fault_of types.large_binary n d = refuse_if (is_past (n + 1)) Overflow None
-  fault_of types.utf8 n d = refuse_if (is_past (n + 1)) Overflow None
-  fault_of types.large_utf8 n d = refuse_if (is_past (n + 1)) Overflow None
-  fault_of (types.fixed_size_binary s) n d = refuse_if (nat_eq s 0) (OutOfSpec spec.ZeroSize) (refuse_if (is_past (n * s)) Overflow None)
-  fault_of (types.list f) n d = refuse_if (is_past (n + 1)) Overflow (field_fault f 0 0)
-  fault_of (types.large_list f) n d = refuse_if (is_past (n + 1)) Overflow (field_fault f 0 0)
-  fault_of (types.fixed_size_list f s) n d = refuse_if (nat_eq s 0) (OutOfSpec spec.ZeroSize) (refuse_if (is_past (n * s)) Overflow (field_fault f (n * s) d))
-  fault_of (types.map f b) n d = refuse_if (not (is_pair (field_type f))) (InvalidArgumentError argument.MapInner) (refuse_if (is_past (n + 1)) Overflow (field_fault f 0 0))
-  fault_of (types.struct fs) n d = refuse_if (nat_eq (count_fields fs) 0) (OutOfSpec spec.NoFields) (fields_fault fs n d)
-  fault_of (types.union fs ids mode) n d = union_fault (count_fields fs) ids mode n (fields_fault fs n d)
-  fault_of (types.dictionary k t b) n d = fault_of t d d
-  fault_of (types.extension x t m) n d = fault_of t n d
-  fault_of t n d = None
+  pub fault_of : TypeTree → ℕ → Fill → Option Error
+  fault_of types.float16 n fill = Some NotYetImplemented
+  fault_of types.float32 n fill = Some NotYetImplemented
+  fault_of types.float64 n fill = Some NotYetImplemented
+  fault_of types.binary n fill = refuse_if (is_past (n + 1)) Overflow None
+  fault_of types.large_binary n fill = refuse_if (is_past (n + 1)) Overflow None
+  fault_of types.utf8 n fill = refuse_if (is_past (n + 1)) Overflow None
+  fault_of types.large_utf8 n fill = refuse_if (is_past (n + 1)) Overflow None
+  fault_of (types.fixed_size_binary s) n fill = refuse_if (nat_eq s 0) (OutOfSpec spec.ZeroSize) (refuse_if (is_past (n * s)) Overflow None)
+  fault_of (types.list f) n fill = refuse_if (is_past (n + 1)) Overflow (field_fault f 0 Nothing)
+  fault_of (types.large_list f) n fill = refuse_if (is_past (n + 1)) Overflow (field_fault f 0 Nothing)
+  fault_of (types.fixed_size_list f s) n fill = refuse_if (nat_eq s 0) (OutOfSpec spec.ZeroSize) (refuse_if (is_past (n * s)) Overflow (field_fault f (n * s) fill))
+  fault_of (types.map f b) n fill = refuse_if (not (is_pair (field_type f))) (InvalidArgumentError argument.MapInner) (refuse_if (is_past (n + 1)) Overflow (field_fault f 0 Nothing))
+  fault_of (types.struct fs) n fill = refuse_if (nat_eq (count_fields fs) 0) (OutOfSpec spec.NoFields) (fields_fault fs n fill)
+  fault_of (types.union fs ids mode) n fill = union_fault (count_fields fs) ids mode n (fields_fault fs n fill)
+  fault_of (types.dictionary k t b) n fill = fault_of t (values_below fill) fill
+  fault_of (types.extension x t m) n fill = fault_of t n fill
+  fault_of t n fill = None
 
-  pub field_fault : FieldTree → ℕ → ℕ → Option Error
-  field_fault (field x t b es) n d = fault_of t n d
+  pub field_fault : FieldTree → ℕ → Fill → Option Error
+  field_fault (field x t b es) n fill = fault_of t n fill
 
-  pub fields_fault : FieldTrees → ℕ → ℕ → Option Error
-  fields_fault no_fields n d = None
-  fields_fault (more_fields f fs) n d = first_of (field_fault f n d) (fields_fault fs n d)
+  pub fields_fault : FieldTrees → ℕ → Fill → Option Error
+  fields_fault no_fields n fill = None
+  fields_fault (more_fields f fs) n fill = first_of (field_fault f n fill) (fields_fault fs n fill)
 
 -- the first fault of an array of n null slots, and of an empty one
 abbrev pub type_fault : TypeTree → ℕ → Option Error
-type_fault t n = fault_of t n 1
+type_fault t n = fault_of t n Nulls
 
 abbrev pub empty_fault : TypeTree → Option Error
-empty_fault t = fault_of t 0 0
+empty_fault t = fault_of t 0 Nothing

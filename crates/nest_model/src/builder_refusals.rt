@@ -11,7 +11,7 @@ ghost use Rattle.nest_model.specs.BuilderItem as items;
 ghost use Rattle.nest_model.specs.BuilderItem.{PlainValue, Item, seal_items, Stands};
 ghost use Rattle.nest_model.specs.BuilderAppend.{appended, all_appended, nulls_appended, Accepted};
 ghost use Rattle.nest_model.specs.BuilderTold.{IsReady, HasWholeChildren, AreReady, FitsLimits, row_checks, lengths_checks};
-ghost use Rattle.nest_model.specs.BuilderExamples.{Texts, IsIterator, StepsOf};
+ghost use Rattle.nest_model.specs.BuilderExamples.{Texts, IsIterator, StepsOf, texts_given};
 ghost use Rattle.nest_model.specs.BuilderJoin.{CanJoin, joined_builder, join_checks};
 ghost use Rattle.nest_model.specs.BuilderRefusals.{nulls_pass, is_known, item_refusal, items_refusal, value_refusal, plain_refusal, over_limits};
 ghost use Rattle.nest_model.specs.BuilderReading.{Read, ReadOf, ReadsValue, read_refusal, Refused, Took, TookEach, TookAll, RefusedSome, ReadsList, whole};
@@ -61,12 +61,12 @@ pub fn texts_read()
     ensures cause { (given : Option (List ℕ)) (t : BuilderTree) (e f : Error) → item_refusal (value_item items.text given) t ≡ Some f → Refused (ReadsValue items.text) given t e → (e ≡ f) ⊎ (e ≡ Memory alloc_error) }
     ensures several { (given : List (Option (List ℕ))) (old new : BuilderTree) → TookEach (ReadsValue items.text) given old new
         → (new ≡ all_appended (map (value_item items.text) given) old) × (items_refusal (seal_items (map (value_item items.text) given)) old ≡ None) }
-    ensures all { (u : Texts) (old new : BuilderTree) → TookAll IsIterator StepsOf (ReadsValue items.text) u old new
+    ensures all { (u : Texts) (old new : BuilderTree) → TookAll texts_given u old new
         → (given : Texts) × Gives IsIterator StepsOf u given × TookEach (ReadsValue items.text) given old new }
-    ensures refused_some { (u : Texts) (old : BuilderTree) (e : Error) → RefusedSome IsIterator StepsOf (ReadsValue items.text) u old e
+    ensures refused_some { (u : Texts) (old : BuilderTree) (e : Error) → RefusedSome texts_given u old e
         → (e ≡ Memory alloc_error) ⊎ ((front : Texts) × (next : Option (List ℕ)) × Begins IsIterator StepsOf u (front ++ next ∷ [])
         × (items_refusal (seal_items (map (value_item items.text) (front ++ next ∷ []))) old ≡ Some e)) }
-    ensures no_list { (r : Read) → ReadsList IsIterator StepsOf (ReadsValue items.text) None r → r ≡ whole items.null }
+    ensures no_list { (r : Read) → ReadsList texts_given None r → r ≡ whole items.null }
     ensures taken { (given : Option (List ℕ)) (old new : BuilderTree) → Took (ReadsValue items.text) given old new → (new ≡ appended (value_item items.text given) old) × (item_refusal (value_item items.text given) old ≡ None) }
 {}
 

@@ -118,9 +118,13 @@ pub fn push_items<A, B: TryExtend<A>, I: IntoIterator<Item = A>>(
 ) -> Result<(), Error>
     requires whole { IsWhole (B.model builder.old) }
     requires can { CanRead I.into_iter_gives I.IntoIter.can_next I.IntoIter.remaining I.IntoIter.next_gives B.can_extend items }
-    ensures taken { OnOk result (TookAll I.into_iter_gives I.IntoIter.next_gives B.reads_each items (B.model builder.old) (B.model builder.new)) }
+    ensures taken { OnOk result (TookAll
+        (record { becomes = I.into_iter_gives; steps = I.IntoIter.next_gives; reads = B.reads_each }) items
+        (B.model builder.old) (B.model builder.new)) }
     ensures err { OnErr result (B.model builder.new ≡ B.model builder.old) }
-    ensures refused { IfErr result (λ e. RefusedSome I.into_iter_gives I.IntoIter.next_gives B.reads_each items (B.model builder.old) e) }
+    ensures refused { IfErr result (λ e. RefusedSome
+        (record { becomes = I.into_iter_gives; steps = I.IntoIter.next_gives; reads = B.reads_each }) items
+        (B.model builder.old) e) }
 {
     builder.try_extend(items)
 }

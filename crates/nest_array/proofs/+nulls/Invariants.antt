@@ -39,5 +39,5 @@ abbrev pub invariant-nulls::null_fields-loop-i : goal.invariant-nulls::null_fiel
 invariant-nulls::null_fields-loop-i l =
     record {
       same_length : length l.children.items ≡ l.i;
-      done : (k : ℕ) (d : AnyArray) (f : Field) → k < l.i → layout_of (get_or l.children.items k d) ≡ null_array (field_type (field_of (get_or l.fields k f))) l.length l.values;
+      done : (k : ℕ) (d : AnyArray) (f : Field) → k < l.i → layout_of (get_or l.children.items k d) ≡ null_array (field_type (field_of (get_or l.fields k f))) l.length l.fill;
     }

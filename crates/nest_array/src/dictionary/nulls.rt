@@ -1,38 +1,39 @@
 //! Arrays of dictionaries whose keys are null, and such arrays without a slot.
-ghost use Rattle.std.specs.Prelude.{◌≡◌, ◌<◌, IfOk, IsOkUnless, MatchResult, None, Some, alloc_error, true};
+ghost use Rattle.std.specs.Prelude.{◌≡◌, IfOk, IsOkUnless, MatchResult, None, Some, alloc_error, true};
 ghost use Rattle.nest_memory.specs.TypeTree.{key_type};
 ghost use Rattle.nest_memory.specs.declared.datatypes.IntegerType.{IntegerType};
 ghost use Rattle.nest_model.specs.Fits.{is_dictionary};
 ghost use Rattle.nest_model.specs.NullLayout.{native_nulls, native_of_key, null_array as nulls_of, type_of_key};
-ghost use Rattle.nest_model.specs.Nulls.{empty_fault, fault_of, type_fault};
+ghost use Rattle.nest_model.specs.Nulls.{Fills, empty_fault, fault_of, type_fault};
 ghost use Rattle.nest_array.specs.Keys.{RefusesDictionary};
 ghost use Rattle.nest_array.specs.SeenKeys.{keys_layout};
 ghost use Rattle.nest_array.specs.Words.{HasNone, HasNulls, Memory, type_of};
 
 use crate::dictionary::DictionaryArray;
 use crate::dictionary::keys::{AnyKeys, wrapped};
-use crate::nulls::{dictionary_fault, null_array};
+use crate::nulls::{dictionary_fault, null_array, values_below};
 use crate::types::value_type;
 use nest_flat::primitive::PrimitiveArray;
 use nest_memory::datatypes::{DataType, IntegerType};
 use nest_memory::error::Error;
+use nest_model::fill::Fill;
 use std::alloc::Global;
 
 impl AnyKeys {
-    /// `length` null keys of this type; without `values` there is no validity.
+    /// `length` null keys of this type: of nulls none is valid, of nothing there is no validity.
     pub(crate) fn nulls(
         alloc: Global,
         key: IntegerType,
         length: usize,
-        values: usize,
+        fill: Fill,
     ) -> Result<AnyKeys, Error>
-        ensures ok { IfOk result (λ ks. keys_layout ks ≡ native_nulls (native_of_key key) (type_of_key key) length values) }
+        ensures ok { IfOk result (λ ks. keys_layout ks ≡ native_nulls (native_of_key key) (type_of_key key) length fill) }
         ensures err { IsOkUnless result (Memory alloc_error) }
     {
         let data_type = DataType::from(key);
         macro_rules! nulls {
             ($key:ty) => {
-                wrapped::<$key>(PrimitiveArray::of_nulls(alloc, &data_type, length, values))
+                wrapped::<$key>(PrimitiveArray::of_nulls(alloc, &data_type, length, fill))
             };
         }
         let keys = match key {
@@ -60,7 +61,7 @@ impl DictionaryArray {
             (λ a. (is_dictionary t ≡ true) × (empty_fault t ≡ None) × HasNone t a)
             (λ e. RefusesDictionary e t (empty_fault t)) }
     {
-        DictionaryArray::checked(alloc, data_type, 0, 0)
+        DictionaryArray::checked(alloc, data_type, 0, Fill::Nothing)
     }
 
     /// The array of `length` null keys over one null value.
@@ -76,47 +77,47 @@ impl DictionaryArray {
             (λ a. (is_dictionary t ≡ true) × (type_fault t length ≡ None) × HasNulls t length a)
             (λ e. RefusesDictionary e t (type_fault t length)) }
     {
-        DictionaryArray::checked(alloc, data_type, length, 1)
+        DictionaryArray::checked(alloc, data_type, length, Fill::Nulls)
     }
 
     fn checked(
         alloc: Global,
         data_type: DataType,
         length: usize,
-        values: usize,
+        fill: Fill,
     ) -> Result<DictionaryArray, Error>
-        requires { 0 < length → 0 < values }
+        requires { Fills fill length }
         ensures { let t = type_of data_type in MatchResult result
-            (λ a. (is_dictionary t ≡ true) × (fault_of t length values ≡ None) × (a ≡ nulls_of t length values))
-            (λ e. RefusesDictionary e t (fault_of t length values)) }
+            (λ a. (is_dictionary t ≡ true) × (fault_of t length fill ≡ None) × (a ≡ nulls_of t length fill))
+            (λ e. RefusesDictionary e t (fault_of t length fill)) }
     {
-        let array = match dictionary_fault(&data_type, length, values) {
+        let array = match dictionary_fault(&data_type, length, fill) {
             Some(error) => Err(error),
-            None => DictionaryArray::nulls(alloc, &data_type, length, values),
+            None => DictionaryArray::nulls(alloc, &data_type, length, fill),
         };
         drop(data_type);
         array
     }
 
-    /// `length` nulls of a type that was looked at, over `values` nulls.
+    /// `length` nulls of a type that was looked at.
     #[cycle(nulls)]
     pub(crate) fn nulls(
         alloc: Global,
         data_type: &DataType,
         length: usize,
-        values: usize,
+        fill: Fill,
     ) -> Result<DictionaryArray, Error>
         requires kind { is_dictionary (type_of data_type.now) ≡ true }
-        requires unrefused { fault_of (type_of data_type.now) length values ≡ None }
-        requires valid { 0 < length → 0 < values }
-        ensures ok { IfOk result (λ a. a ≡ nulls_of (type_of data_type.now) length values) }
+        requires unrefused { fault_of (type_of data_type.now) length fill ≡ None }
+        requires valid { Fills fill length }
+        ensures ok { IfOk result (λ a. a ≡ nulls_of (type_of data_type.now) length fill) }
         ensures err { IsOkUnless result (Memory alloc_error) }
     {
         let Some(key) = data_type.key_type() else {
             unreachable!()
         };
-        let keys = AnyKeys::nulls(alloc, key, length, values)?;
-        let named = match null_array(alloc, value_type(data_type), values, values) {
+        let keys = AnyKeys::nulls(alloc, key, length, fill)?;
+        let named = match null_array(alloc, value_type(data_type), values_below(fill), fill) {
             Ok(named) => named,
             Err(error) => {
                 drop(keys);

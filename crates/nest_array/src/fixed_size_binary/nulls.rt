@@ -1,7 +1,7 @@
 //! Arrays of byte strings of one size that are null, and such arrays without a slot.
-ghost use Rattle.std.specs.Prelude.{◌≡◌, ◌<◌, IfOk, IsOkUnless, MatchResult, None, alloc_error};
+ghost use Rattle.std.specs.Prelude.{◌≡◌, IfOk, IsOkUnless, MatchResult, None, alloc_error};
 ghost use Rattle.nest_memory.specs.declared.datatypes.physical_type.PhysicalType.TheVariants as physical;
-ghost use Rattle.nest_model.specs.Nulls.{empty_fault, fault_of, type_fault};
+ghost use Rattle.nest_model.specs.Nulls.{Fills, empty_fault, fault_of, type_fault};
 ghost use Rattle.nest_model.specs.NullLayout.{null_array as nulls_of};
 ghost use Rattle.nest_array.specs.Words.{AcceptsKind, HasNone, HasNulls, Memory, RefusesKind, physical_type, type_of};
 
@@ -12,6 +12,7 @@ use nest_memory::buffer::Buffer;
 use nest_memory::datatypes::DataType;
 use nest_memory::datatypes::physical_type::PhysicalType;
 use nest_memory::error::Error;
+use nest_model::fill::Fill;
 use std::alloc::Global;
 
 impl FixedSizeBinaryArray {
@@ -43,20 +44,20 @@ impl FixedSizeBinaryArray {
         nulls::null(alloc, data_type, length)
     }
 
-    /// `length` nulls of a type that was looked at; below a dictionary lie `values`.
+    /// `length` nulls of a type that was looked at.
     pub(crate) fn nulls(
         alloc: Global,
         data_type: &DataType,
         length: usize,
-        values: usize,
+        fill: Fill,
     ) -> Result<FixedSizeBinaryArray, Error>
         requires kind { physical_type (type_of data_type.now) ≡ physical.FixedSizeBinary }
-        requires unrefused { fault_of (type_of data_type.now) length values ≡ None }
-        requires valid { 0 < length → 0 < values }
-        ensures ok { IfOk result (λ a. a ≡ nulls_of (type_of data_type.now) length values) }
+        requires unrefused { fault_of (type_of data_type.now) length fill ≡ None }
+        requires valid { Fills fill length }
+        ensures ok { IfOk result (λ a. a ≡ nulls_of (type_of data_type.now) length fill) }
         ensures err { IsOkUnless result (Memory alloc_error) }
     {
-        let validity = validity::none_valid(alloc, length, values)?;
+        let validity = validity::none_valid(alloc, length, fill)?;
         let count = length * data_type.size().unwrap_or(0);
         let bytes = Buffer::filled(alloc, 0, count)?;
         let data_type = data_type.clone(alloc)?;
@@ -75,8 +76,8 @@ impl Nulls for FixedSizeBinaryArray {
         alloc: Global,
         data_type: &DataType,
         length: usize,
-        values: usize,
+        fill: Fill,
     ) -> Result<FixedSizeBinaryArray, Error> {
-        FixedSizeBinaryArray::nulls(alloc, data_type, length, values)
+        FixedSizeBinaryArray::nulls(alloc, data_type, length, fill)
     }
 }

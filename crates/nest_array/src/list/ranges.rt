@@ -18,6 +18,7 @@ use nest_memory::datatypes::physical_type::PhysicalType;
 use nest_memory::error::{Error, Spec};
 use nest_memory::offset::Offset;
 use nest_memory::offsets::{Offsets, OffsetsBuffer};
+use nest_model::fill::Fill;
 use std::alloc::Global;
 
 /// The offsets of some lists and their validity.
@@ -28,13 +29,13 @@ pub(crate) struct Ranges<O: Offset> {
 }
 
 impl<O: Offset> Ranges<O> {
-    /// Of `length` lists without an item, none of which is valid; without `values` there is no validity.
-    pub(crate) fn nulls(alloc: Global, length: usize, values: usize) -> Result<Ranges<O>, Error>
+    /// Of `length` lists without an item: of nulls none is valid, of nothing there is no validity.
+    pub(crate) fn nulls(alloc: Global, length: usize, fill: Fill) -> Result<Ranges<O>, Error>
         requires { length + 1 < 2 ^ 64 }
-        ensures ok { IfOk result (λ r. (r.offsets ≡ replicate (suc length) 0) × (r.validity ≡ none_valid values length)) }
+        ensures ok { IfOk result (λ r. (r.offsets ≡ replicate (suc length) 0) × (r.validity ≡ none_valid fill length)) }
         ensures err { IsOkUnless result (Memory alloc_error) }
     {
-        let validity = validity::none_valid(alloc, length, values)?;
+        let validity = validity::none_valid(alloc, length, fill)?;
         let mut offsets = Offsets::new_zeroed(alloc, length)?;
         Ok(Ranges {
             offsets: offsets.freeze()?,

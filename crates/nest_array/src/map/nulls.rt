@@ -1,7 +1,7 @@
 //! Arrays of maps that are null, and such arrays without a slot.
-ghost use Rattle.std.specs.Prelude.{◌≡◌, ◌<◌, IfOk, IsOkUnless, MatchResult, None, alloc_error};
+ghost use Rattle.std.specs.Prelude.{◌≡◌, IfOk, IsOkUnless, MatchResult, None, alloc_error};
 ghost use Rattle.nest_memory.specs.declared.datatypes.physical_type.PhysicalType.TheVariants as physical;
-ghost use Rattle.nest_model.specs.Nulls.{empty_fault, fault_of, type_fault};
+ghost use Rattle.nest_model.specs.Nulls.{Fills, empty_fault, fault_of, type_fault};
 ghost use Rattle.nest_model.specs.NullLayout.{null_array as nulls_of};
 ghost use Rattle.nest_array.specs.Words.{AcceptsKind, HasNone, HasNulls, Memory, RefusesKind, physical_type, type_of};
 
@@ -12,6 +12,7 @@ use crate::types::item_type;
 use nest_memory::datatypes::DataType;
 use nest_memory::datatypes::physical_type::PhysicalType;
 use nest_memory::error::Error;
+use nest_model::fill::Fill;
 use std::alloc::Global;
 
 impl MapArray {
@@ -39,22 +40,22 @@ impl MapArray {
         nulls::null(alloc, data_type, length)
     }
 
-    /// `length` nulls of a type that was looked at; below a dictionary lie `values`.
+    /// `length` nulls of a type that was looked at.
     #[cycle(nulls)]
     pub(crate) fn nulls(
         alloc: Global,
         data_type: &DataType,
         length: usize,
-        values: usize,
+        fill: Fill,
     ) -> Result<MapArray, Error>
         requires kind { physical_type (type_of data_type.now) ≡ physical.Map }
-        requires unrefused { fault_of (type_of data_type.now) length values ≡ None }
-        requires valid { 0 < length → 0 < values }
-        ensures ok { IfOk result (λ a. a ≡ nulls_of (type_of data_type.now) length values) }
+        requires unrefused { fault_of (type_of data_type.now) length fill ≡ None }
+        requires valid { Fills fill length }
+        ensures ok { IfOk result (λ a. a ≡ nulls_of (type_of data_type.now) length fill) }
         ensures err { IsOkUnless result (Memory alloc_error) }
     {
-        let ranges = Ranges::nulls(alloc, length, values)?;
-        let items = null_array(alloc, item_type(data_type), 0, 0)?;
+        let ranges = Ranges::nulls(alloc, length, fill)?;
+        let items = null_array(alloc, item_type(data_type), 0, Fill::Nothing)?;
         match data_type.clone(alloc) {
             Ok(data_type) => MapArray::of(alloc, data_type, ranges, items),
             Err(error) => {
@@ -77,8 +78,8 @@ impl Nulls for MapArray {
         alloc: Global,
         data_type: &DataType,
         length: usize,
-        values: usize,
+        fill: Fill,
     ) -> Result<MapArray, Error> {
-        MapArray::nulls(alloc, data_type, length, values)
+        MapArray::nulls(alloc, data_type, length, fill)
     }
 }

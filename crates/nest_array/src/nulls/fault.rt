@@ -1,27 +1,30 @@
 //! Which data types and lengths have no array of nulls: looked at on the type alone, before anything is made.
-ghost use Rattle.std.specs.Prelude.{◌≡◌, ◌&&◌, ◌+◌, ◌^◌, MatchOption, None, nat_eq, nat_lt, option_map, true};
+ghost use Rattle.std.specs.Prelude.{◌≡◌, ◌&&◌, ◌+◌, MatchOption, None, nat_eq, nat_lt, option_map, true};
 ghost use Rattle.nest_memory.specs.TypeOf.{field_list_of, field_of};
 ghost use Rattle.nest_memory.specs.TypeTree as types;
 ghost use Rattle.nest_memory.specs.TypeTree.{is_dense_mode};
 ghost use Rattle.nest_memory.specs.declared.error.Error.TheVariants.{OutOfSpec, Overflow};
 ghost use Rattle.nest_memory.specs.declared.error.Spec.TheVariants.{WrongType};
-ghost use Rattle.nest_model.specs.Checks.{is_past, refuse_if};
+ghost use Rattle.nest_model.specs.Checks.{is_past, most_picks, refuse_if};
 ghost use Rattle.nest_model.specs.Nulls.{union_fault as own_fault_of, are_ids, fault_of, field_fault, fields_fault, has_bad_id, ids_count_differs, is_id};
 ghost use Rattle.nest_model.specs.Fits.{is_dictionary};
+ghost use Rattle.nest_model.specs.declared.fill.Fill.TheVariants.{Nothing};
 ghost use Rattle.nest_array.specs.Keys.{RefusesDictionary};
 ghost use Rattle.nest_array.specs.Words.{AcceptsKind, RefusesKind, physical_type, type_of};
 
+use crate::nulls::values_below;
 use crate::types::is_dictionary;
 use nest_memory::datatypes::field::Field;
 use nest_memory::datatypes::physical_type::PhysicalType;
 use nest_memory::datatypes::{DataType, UnionMode};
 use nest_memory::error::{Argument, Error, Spec};
+use nest_model::fill::Fill;
 
-/// Why there is no array of `length` nulls of this type, `values` below each dictionary: the first fault, a type before its
+/// Why there is no array of `length` slots of this type, filled so: the first fault, a type before its
 /// product, the product before its children, these from the left.
 #[cycle(fault)]
-pub(crate) fn fault(data_type: &DataType, length: usize, values: usize) -> Option<Error>
-    ensures { result ≡ fault_of (type_of data_type.now) length values }
+pub(crate) fn fault(data_type: &DataType, length: usize, fill: Fill) -> Option<Error>
+    ensures { result ≡ fault_of (type_of data_type.now) length fill }
 {
     match data_type {
         DataType::Float16 | DataType::Float32 | DataType::Float64 => Some(Error::NotYetImplemented),
@@ -30,17 +33,17 @@ pub(crate) fn fault(data_type: &DataType, length: usize, values: usize) -> Optio
         }
         DataType::FixedSizeBinary(size) => bytes_fault(*size, length),
         DataType::List(field) | DataType::LargeList(field) => list_fault(field, length),
-        DataType::FixedSizeList(field, size) => sized_fault(field, *size, length, values),
+        DataType::FixedSizeList(field, size) => sized_fault(field, *size, length, fill),
         DataType::Map(entries, _sorted) => {
             if !data_type.has_pairs() {
                 return Some(Error::InvalidArgumentError(Argument::MapInner));
             }
             list_fault(entries, length)
         }
-        DataType::Struct(fields) => struct_fault(fields, length, values),
-        DataType::Union(fields, ids, mode) => union_fault(fields, ids, *mode, length, values),
-        DataType::Dictionary(_key, inner, _ordered) => fault(inner, values, values),
-        DataType::Extension(_name, inner, _metadata) => fault(inner, length, values),
+        DataType::Struct(fields) => struct_fault(fields, length, fill),
+        DataType::Union(fields, ids, mode) => union_fault(fields, ids, *mode, length, fill),
+        DataType::Dictionary(_key, inner, _ordered) => fault(inner, values_below(fill), fill),
+        DataType::Extension(_name, inner, _metadata) => fault(inner, length, fill),
         _ => None,
     }
 }
@@ -50,14 +53,14 @@ pub(crate) fn kind_fault(
     data_type: &DataType,
     kind: PhysicalType,
     length: usize,
-    values: usize,
+    fill: Fill,
 ) -> Option<Error>
-    ensures { let first = fault_of (type_of data_type.now) length values in
+    ensures { let first = fault_of (type_of data_type.now) length fill in
         MatchOption result (AcceptsKind kind (type_of data_type.now) first) (λ e. RefusesKind e kind (type_of data_type.now) first) }
 {
     match kind_refusal(data_type, kind) {
         Some(error) => Some(error),
-        None => fault(data_type, length, values),
+        None => fault(data_type, length, fill),
     }
 }
 
@@ -74,14 +77,14 @@ fn kind_refusal(data_type: &DataType, kind: PhysicalType) -> Option<Error>
 }
 
 /// The same, where the type has to be one of dictionaries first, whatever its keys.
-pub(crate) fn dictionary_fault(data_type: &DataType, length: usize, values: usize) -> Option<Error>
-    ensures { let first = fault_of (type_of data_type.now) length values in
+pub(crate) fn dictionary_fault(data_type: &DataType, length: usize, fill: Fill) -> Option<Error>
+    ensures { let first = fault_of (type_of data_type.now) length fill in
         MatchOption result ((is_dictionary (type_of data_type.now) ≡ true) × (first ≡ None)) (λ e. RefusesDictionary e (type_of data_type.now) first) }
 {
     if !is_dictionary(data_type) {
         return Some(Error::OutOfSpec(Spec::WrongType));
     }
-    fault(data_type, length, values)
+    fault(data_type, length, fill)
 }
 
 // There is one offset more than slots.
@@ -95,7 +98,7 @@ fn offsets_fault(length: usize) -> Option<Error>
 }
 
 fn bytes_fault(size: usize, length: usize) -> Option<Error>
-    ensures { result ≡ fault_of (types.fixed_size_binary size) length 0 }
+    ensures { result ≡ fault_of (types.fixed_size_binary size) length Nothing }
 {
     if size == 0 {
         return Some(Error::OutOfSpec(Spec::ZeroSize));
@@ -108,35 +111,35 @@ fn bytes_fault(size: usize, length: usize) -> Option<Error>
 
 #[cycle(fault)]
 fn list_fault(field: &Field, length: usize) -> Option<Error>
-    ensures { result ≡ fault_of (types.list (field_of field.now)) length 0 }
+    ensures { result ≡ fault_of (types.list (field_of field.now)) length Nothing }
 {
     match offsets_fault(length) {
         Some(error) => Some(error),
-        None => item_fault(field, 0, 0),
+        None => item_fault(field, 0, Fill::Nothing),
     }
 }
 
 #[cycle(fault)]
-fn sized_fault(field: &Field, size: usize, length: usize, values: usize) -> Option<Error>
-    ensures { result ≡ fault_of (types.fixed_size_list (field_of field.now) size) length values }
+fn sized_fault(field: &Field, size: usize, length: usize, fill: Fill) -> Option<Error>
+    ensures { result ≡ fault_of (types.fixed_size_list (field_of field.now) size) length fill }
 {
     if size == 0 {
         return Some(Error::OutOfSpec(Spec::ZeroSize));
     }
     match length.checked_mul(size) {
-        Some(items) => item_fault(field, items, values),
+        Some(items) => item_fault(field, items, fill),
         None => Some(Error::Overflow),
     }
 }
 
 #[cycle(fault)]
-fn struct_fault(fields: &Vec<Field>, length: usize, values: usize) -> Option<Error>
-    ensures { result ≡ fault_of (types.struct (field_list_of fields.now.items)) length values }
+fn struct_fault(fields: &Vec<Field>, length: usize, fill: Fill) -> Option<Error>
+    ensures { result ≡ fault_of (types.struct (field_list_of fields.now.items)) length fill }
 {
     if fields.is_empty() {
         return Some(Error::OutOfSpec(Spec::NoFields));
     }
-    each_fault(fields, length, values)
+    each_fault(fields, length, fill)
 }
 
 #[cycle(fault)]
@@ -145,13 +148,13 @@ fn union_fault(
     ids: &Option<Vec<i32>>,
     mode: UnionMode,
     length: usize,
-    values: usize,
+    fill: Fill,
 ) -> Option<Error>
-    ensures { result ≡ fault_of (types.union (field_list_of fields.now.items) (option_map (λ v. v.items) ids.now) mode) length values }
+    ensures { result ≡ fault_of (types.union (field_list_of fields.now.items) (option_map (λ v. v.items) ids.now) mode) length fill }
 {
     match own_fault(fields.len(), ids, mode, length) {
         Some(error) => Some(error),
-        None => each_fault(fields, length, values),
+        None => each_fault(fields, length, fill),
     }
 }
 
@@ -186,7 +189,7 @@ fn names_nothing(count: usize, length: usize) -> bool
 
 // Whether the offsets of a dense union would pass 32 bits.
 fn is_too_long(mode: UnionMode, length: usize) -> bool
-    ensures { result ≡ (is_dense_mode mode && nat_lt (2 ^ 31) length) }
+    ensures { result ≡ (is_dense_mode mode && nat_lt most_picks length) }
 {
     match mode {
         UnionMode::Dense => length > 2147483648,
@@ -232,11 +235,11 @@ fn is_type(id: i32) -> bool
 
 // The first fault of children of one length.
 #[cycle(fault)]
-fn each_fault(fields: &Vec<Field>, length: usize, values: usize) -> Option<Error>
-    ensures { result ≡ fields_fault (field_list_of fields.now.items) length values }
+fn each_fault(fields: &Vec<Field>, length: usize, fill: Fill) -> Option<Error>
+    ensures { result ≡ fields_fault (field_list_of fields.now.items) length fill }
 {
     for field in fields {
-        let first = item_fault(field, length, values);
+        let first = item_fault(field, length, fill);
         if first.is_some() {
             return first;
         }
@@ -245,8 +248,8 @@ fn each_fault(fields: &Vec<Field>, length: usize, values: usize) -> Option<Error
 }
 
 #[cycle(fault)]
-fn item_fault(field: &Field, length: usize, values: usize) -> Option<Error>
-    ensures { result ≡ field_fault (field_of field.now) length values }
+fn item_fault(field: &Field, length: usize, fill: Fill) -> Option<Error>
+    ensures { result ≡ field_fault (field_of field.now) length fill }
 {
-    fault(&field.data_type, length, values)
+    fault(&field.data_type, length, fill)
 }

@@ -2,10 +2,10 @@
 mod fault;
 mod none;
 
-ghost use Rattle.std.specs.Prelude.{◌≡◌, ◌<◌, IfOk, IsOkUnless, MatchResult, None, IsErrOf, alloc_error};
+ghost use Rattle.std.specs.Prelude.{◌≡◌, IfOk, IsOkUnless, MatchResult, None, IsErrOf, alloc_error};
 ghost use Rattle.nest_memory.specs.TypeOf.{field_list_of};
 ghost use Rattle.nest_memory.specs.declared.datatypes.physical_type.PhysicalType.{PhysicalType as Physical};
-ghost use Rattle.nest_model.specs.Nulls.{empty_fault, fault_of, fields_fault, type_fault};
+ghost use Rattle.nest_model.specs.Nulls.{Fills, values_below, empty_fault, fault_of, fields_fault, type_fault};
 ghost use Rattle.nest_model.specs.NullLayout.{null_array as nulls_of, null_children};
 ghost use Rattle.nest_flat.specs.AnyPrimitive.{primitive_layout};
 ghost use Rattle.nest_array.specs.Words.{AcceptsKind, HasNone, HasNulls, Memory, RefusesKind, RefusesType, layout_of, layouts_of, physical_type, type_of};
@@ -31,6 +31,7 @@ use nest_memory::datatypes::DataType;
 use nest_memory::datatypes::field::Field;
 use nest_memory::datatypes::physical_type::PhysicalType;
 use nest_memory::error::Error;
+use nest_model::fill::Fill;
 use std::alloc::Global;
 
 /// The array of this type without a slot, whose children have none either. There is no validity in it.
@@ -43,7 +44,7 @@ pub fn new_empty_array(alloc: Global, data_type: DataType) -> Result<AnyArray, E
         (λ a. (empty_fault t ≡ None) × HasNone t (layout_of a))
         (λ e. RefusesType e (empty_fault t)) }
 {
-    checked(alloc, data_type, 0, 0)
+    checked(alloc, data_type, 0, Fill::Nothing)
 }
 
 /// The array of `length` null slots of this type. A union's slots pick a null of the field of its first id, without ids of its
@@ -57,23 +58,28 @@ pub fn new_null_array(alloc: Global, data_type: DataType, length: usize) -> Resu
         (λ a. (type_fault t length ≡ None) × HasNulls t length (layout_of a))
         (λ e. RefusesType e (type_fault t length)) }
 {
-    checked(alloc, data_type, length, 1)
+    checked(alloc, data_type, length, Fill::Nulls)
 }
 
-fn checked(
-    alloc: Global,
-    data_type: DataType,
-    length: usize,
-    values: usize,
-) -> Result<AnyArray, Error>
-    requires { 0 < length → 0 < values }
-    ensures { let t = type_of data_type in MatchResult result
-        (λ a. (fault_of t length values ≡ None) × (layout_of a ≡ nulls_of t length values))
-        (λ e. RefusesType e (fault_of t length values)) }
+// How many values lie below a dictionary.
+pub(crate) fn values_below(fill: Fill) -> usize
+    ensures { result ≡ values_below fill }
 {
-    let array = match fault(&data_type, length, values) {
+    match fill {
+        Fill::Nulls => 1,
+        Fill::Nothing => 0,
+    }
+}
+
+fn checked(alloc: Global, data_type: DataType, length: usize, fill: Fill) -> Result<AnyArray, Error>
+    requires { Fills fill length }
+    ensures { let t = type_of data_type in MatchResult result
+        (λ a. (fault_of t length fill ≡ None) × (layout_of a ≡ nulls_of t length fill))
+        (λ e. RefusesType e (fault_of t length fill)) }
+{
+    let array = match fault(&data_type, length, fill) {
         Some(error) => Err(error),
-        None => null_array(alloc, &data_type, length, values),
+        None => null_array(alloc, &data_type, length, fill),
     };
     drop(data_type);
     array
@@ -85,17 +91,17 @@ pub(crate) trait Nulls: Slotted {
 
     const KIND: PhysicalType;
 
-    /// `length` nulls of a type of this kind without a fault; below a dictionary lie `values`.
+    /// `length` nulls of a type of this kind without a fault.
     fn of_nulls(
         alloc: Global,
         data_type: &DataType,
         length: usize,
-        values: usize,
+        fill: Fill,
     ) -> Result<Self, Error>
         requires kind { physical_type (type_of data_type.now) ≡ KIND }
-        requires unrefused { fault_of (type_of data_type.now) length values ≡ None }
-        requires valid { 0 < length → 0 < values }
-        ensures ok { IfOk result (λ a. Self.Slotted.parts a ≡ nulls_of (type_of data_type.now) length values) }
+        requires unrefused { fault_of (type_of data_type.now) length fill ≡ None }
+        requires valid { Fills fill length }
+        ensures ok { IfOk result (λ a. Self.Slotted.parts a ≡ nulls_of (type_of data_type.now) length fill) }
         ensures err { IsOkUnless result (Memory alloc_error) };
 }
 
@@ -105,7 +111,7 @@ pub(crate) fn empty<A: Nulls>(alloc: Global, data_type: DataType) -> Result<A, E
         (λ a. AcceptsKind A.KIND t (empty_fault t) × HasNone t (A.Slotted.parts a))
         (λ e. RefusesKind e A.KIND t (empty_fault t)) }
 {
-    checked_kind(alloc, data_type, 0, 0)
+    checked_kind(alloc, data_type, 0, Fill::Nothing)
 }
 
 /// `new_null` of each kind.
@@ -114,23 +120,23 @@ pub(crate) fn null<A: Nulls>(alloc: Global, data_type: DataType, length: usize) 
         (λ a. AcceptsKind A.KIND t (type_fault t length) × HasNulls t length (A.Slotted.parts a))
         (λ e. RefusesKind e A.KIND t (type_fault t length)) }
 {
-    checked_kind(alloc, data_type, length, 1)
+    checked_kind(alloc, data_type, length, Fill::Nulls)
 }
 
 fn checked_kind<A: Nulls>(
     alloc: Global,
     data_type: DataType,
     length: usize,
-    values: usize,
+    fill: Fill,
 ) -> Result<A, Error>
-    requires { 0 < length → 0 < values }
+    requires { Fills fill length }
     ensures { let t = type_of data_type in MatchResult result
-        (λ a. AcceptsKind A.KIND t (fault_of t length values) × (A.Slotted.parts a ≡ nulls_of t length values))
-        (λ e. RefusesKind e A.KIND t (fault_of t length values)) }
+        (λ a. AcceptsKind A.KIND t (fault_of t length fill) × (A.Slotted.parts a ≡ nulls_of t length fill))
+        (λ e. RefusesKind e A.KIND t (fault_of t length fill)) }
 {
-    let array = match kind_fault(&data_type, A::KIND, length, values) {
+    let array = match kind_fault(&data_type, A::KIND, length, fill) {
         Some(error) => Err(error),
-        None => A::of_nulls(alloc, &data_type, length, values),
+        None => A::of_nulls(alloc, &data_type, length, fill),
     };
     drop(data_type);
     array
@@ -159,48 +165,48 @@ fn boxed_primitive(made: Result<AnyPrimitive, Error>) -> Result<AnyArray, Error>
     }
 }
 
-/// `length` nulls of a type without a fault; below a dictionary lie `values`.
+/// `length` nulls of a type without a fault.
 #[cycle(nulls)]
 pub(crate) fn null_array(
     alloc: Global,
     data_type: &DataType,
     length: usize,
-    values: usize,
+    fill: Fill,
 ) -> Result<AnyArray, Error>
-    requires unrefused { fault_of (type_of data_type.now) length values ≡ None }
-    requires valid { 0 < length → 0 < values }
-    ensures ok { IfOk result (λ a. layout_of a ≡ nulls_of (type_of data_type.now) length values) }
+    requires unrefused { fault_of (type_of data_type.now) length fill ≡ None }
+    requires valid { Fills fill length }
+    ensures ok { IfOk result (λ a. layout_of a ≡ nulls_of (type_of data_type.now) length fill) }
     ensures err { IsOkUnless result (Memory alloc_error) }
 {
     match data_type.to_physical_type() {
-        PhysicalType::Null => boxed(NullArray::nulls(alloc, data_type, length, values)),
-        PhysicalType::Boolean => { boxed(BooleanArray::of_nulls(alloc, data_type, length, values)) }
+        PhysicalType::Null => boxed(NullArray::nulls(alloc, data_type, length, fill)),
+        PhysicalType::Boolean => { boxed(BooleanArray::of_nulls(alloc, data_type, length, fill)) }
         PhysicalType::Primitive(kind) => {
-            boxed_primitive(AnyPrimitive::of_nulls(alloc, kind, data_type, length, values))
+            boxed_primitive(AnyPrimitive::of_nulls(alloc, kind, data_type, length, fill))
         }
         PhysicalType::Binary => {
-            boxed(BinaryArray::<i32>::of_nulls(alloc, data_type, length, values))
+            boxed(BinaryArray::<i32>::of_nulls(alloc, data_type, length, fill))
         }
         PhysicalType::LargeBinary => {
-            boxed(BinaryArray::<i64>::of_nulls(alloc, data_type, length, values))
+            boxed(BinaryArray::<i64>::of_nulls(alloc, data_type, length, fill))
         }
-        PhysicalType::Utf8 => boxed(Utf8Array::<i32>::of_nulls(alloc, data_type, length, values)),
+        PhysicalType::Utf8 => boxed(Utf8Array::<i32>::of_nulls(alloc, data_type, length, fill)),
         PhysicalType::LargeUtf8 => {
-            boxed(Utf8Array::<i64>::of_nulls(alloc, data_type, length, values))
+            boxed(Utf8Array::<i64>::of_nulls(alloc, data_type, length, fill))
         }
         PhysicalType::FixedSizeBinary => {
-            boxed(FixedSizeBinaryArray::nulls(alloc, data_type, length, values))
+            boxed(FixedSizeBinaryArray::nulls(alloc, data_type, length, fill))
         }
         PhysicalType::FixedSizeList => {
-            boxed(FixedSizeListArray::nulls(alloc, data_type, length, values))
+            boxed(FixedSizeListArray::nulls(alloc, data_type, length, fill))
         }
-        PhysicalType::List => boxed(ListArray::nulls(alloc, data_type, length, values)),
-        PhysicalType::LargeList => boxed(LargeListArray::nulls(alloc, data_type, length, values)),
-        PhysicalType::Struct => boxed(StructArray::nulls(alloc, data_type, length, values)),
-        PhysicalType::Map => boxed(MapArray::nulls(alloc, data_type, length, values)),
-        PhysicalType::Union => boxed(UnionArray::nulls(alloc, data_type, length, values)),
+        PhysicalType::List => boxed(ListArray::nulls(alloc, data_type, length, fill)),
+        PhysicalType::LargeList => boxed(LargeListArray::nulls(alloc, data_type, length, fill)),
+        PhysicalType::Struct => boxed(StructArray::nulls(alloc, data_type, length, fill)),
+        PhysicalType::Map => boxed(MapArray::nulls(alloc, data_type, length, fill)),
+        PhysicalType::Union => boxed(UnionArray::nulls(alloc, data_type, length, fill)),
         PhysicalType::Dictionary(_key) => {
-            boxed(DictionaryArray::nulls(alloc, data_type, length, values))
+            boxed(DictionaryArray::nulls(alloc, data_type, length, fill))
         }
     }
 }
@@ -211,16 +217,16 @@ pub(crate) fn null_fields(
     alloc: Global,
     fields: &[Field],
     length: usize,
-    values: usize,
+    fill: Fill,
 ) -> Result<Vec<AnyArray>, Error>
-    requires unrefused { fields_fault (field_list_of fields.now) length values ≡ None }
-    requires valid { 0 < length → 0 < values }
-    ensures ok { IfOk result (λ v. layouts_of v.items ≡ null_children (field_list_of fields.now) length values) }
+    requires unrefused { fields_fault (field_list_of fields.now) length fill ≡ None }
+    requires valid { Fills fill length }
+    ensures ok { IfOk result (λ v. layouts_of v.items ≡ null_children (field_list_of fields.now) length fill) }
     ensures err { IsOkUnless result (Memory alloc_error) }
 {
     let mut children = Vec::with_capacity(alloc, fields.len())?;
     for i in 0..fields.len() {
-        children.push(null_array(alloc, fields[i].data_type(), length, values)?)?;
+        children.push(null_array(alloc, fields[i].data_type(), length, fill)?)?;
     }
     Ok(children)
 }

@@ -1,7 +1,7 @@
 //! Arrays of nulls that are null, and such arrays without a slot.
-ghost use Rattle.std.specs.Prelude.{◌≡◌, ◌<◌, IfOk, IsOkUnless, MatchResult, None, alloc_error};
+ghost use Rattle.std.specs.Prelude.{◌≡◌, IfOk, IsOkUnless, MatchResult, None, alloc_error};
 ghost use Rattle.nest_memory.specs.declared.datatypes.physical_type.PhysicalType.TheVariants as physical;
-ghost use Rattle.nest_model.specs.Nulls.{empty_fault, fault_of, type_fault};
+ghost use Rattle.nest_model.specs.Nulls.{Fills, empty_fault, fault_of, type_fault};
 ghost use Rattle.nest_model.specs.NullLayout.{null_array as nulls_of};
 ghost use Rattle.nest_array.specs.Words.{AcceptsKind, HasNone, HasNulls, Memory, RefusesKind, physical_type, type_of};
 
@@ -10,6 +10,7 @@ use crate::nulls::{self, Nulls};
 use nest_memory::datatypes::DataType;
 use nest_memory::datatypes::physical_type::PhysicalType;
 use nest_memory::error::Error;
+use nest_model::fill::Fill;
 use std::alloc::Global;
 
 impl NullArray {
@@ -37,20 +38,20 @@ impl NullArray {
         nulls::null(alloc, data_type, length)
     }
 
-    /// `length` nulls of a type that was looked at; below a dictionary lie `values`.
+    /// `length` nulls of a type that was looked at.
     pub(crate) fn nulls(
         alloc: Global,
         data_type: &DataType,
         length: usize,
-        values: usize,
+        fill: Fill,
     ) -> Result<NullArray, Error>
         requires kind { physical_type (type_of data_type.now) ≡ physical.Null }
-        requires unrefused { fault_of (type_of data_type.now) length values ≡ None }
-        requires valid { 0 < length → 0 < values }
-        ensures ok { IfOk result (λ a. a ≡ nulls_of (type_of data_type.now) length values) }
+        requires unrefused { fault_of (type_of data_type.now) length fill ≡ None }
+        requires valid { Fills fill length }
+        ensures ok { IfOk result (λ a. a ≡ nulls_of (type_of data_type.now) length fill) }
         ensures err { IsOkUnless result (Memory alloc_error) }
     {
-        let _values = values;
+        let _fill = fill;
         Ok(NullArray::new(data_type.clone(alloc)?, length))
     }
 }
@@ -66,8 +67,8 @@ impl Nulls for NullArray {
         alloc: Global,
         data_type: &DataType,
         length: usize,
-        values: usize,
+        fill: Fill,
     ) -> Result<NullArray, Error> {
-        NullArray::nulls(alloc, data_type, length, values)
+        NullArray::nulls(alloc, data_type, length, fill)
     }
 }

@@ -2,7 +2,7 @@
 ghost use Rattle.std.specs.Prelude.{◌≡◌, ◌↔◌, ◌≤◌, IsTrue, MatchOption, length};
 ghost use Rattle.std.specs.List.{All};
 ghost use Rattle.nest_memory.specs.TypeTree.{ids_of, is_dense};
-ghost use Rattle.nest_model.specs.Checks.{FailFirst, Pass};
+ghost use Rattle.nest_model.specs.Checks.{FailFirst, Pass, most_fields, type_count};
 ghost use Rattle.nest_model.specs.Fits.{EachCovers, IdsCount, IdsInRange, MeansField, Names, OffsetsByMode, OffsetsCount, child_len};
 ghost use Rattle.nest_model.specs.Layout as layouts;
 ghost use Rattle.nest_array.specs.Positions.{EachNamed, SlotsMeant, id_checks, meant};
@@ -55,7 +55,7 @@ fn fault_by_ids(
     fields: &[AnyArray],
     offsets: &Option<Buffer<i32>>,
 ) -> Option<Error>
-    requires few { length fields.now ≤ 127 }
+    requires few { length fields.now ≤ most_fields }
     requires each_offset { OffsetsCount offsets.now (length types.now) }
     ensures { let checks = id_checks (ids_of (type_of data_type.now)) types.now (layouts_of fields.now) offsets.now in
         MatchOption result (Pass checks) (λ e. FailFirst e checks) }
@@ -117,7 +117,7 @@ fn has_ids_in_range(data_type: &DataType) -> bool
 }
 
 fn are_in_range(ids: &[i32]) -> bool
-    ensures { IsTrue result ↔ All (λ z. Names z 128) ids.now }
+    ensures { IsTrue result ↔ All (λ z. Names z type_count) ids.now }
 {
     for i in 0..ids.len() {
         if ids[i] < 0 || 127 < ids[i] {
@@ -129,7 +129,7 @@ fn are_in_range(ids: &[i32]) -> bool
 
 /// Whether each type means one of n fields.
 fn mean_fields(table: &[u8; 128], types: &[i8], n: usize) -> bool
-    requires { length table.now ≡ 128 }
+    requires { length table.now ≡ type_count }
     ensures { IsTrue result ↔ All (λ k. MeansField (meant table.now k) n) types.now }
 {
     for i in 0..types.len() {
@@ -147,7 +147,7 @@ fn has_slots(
     fields: &[AnyArray],
     offsets: &Option<Buffer<i32>>,
 ) -> bool
-    requires sized { length table.now ≡ 128 }
+    requires sized { length table.now ≡ type_count }
     requires each_offset { OffsetsCount offsets.now (length types.now) }
     ensures { IsTrue result ↔ SlotsMeant table.now types.now (layouts_of fields.now) offsets.now }
 {
@@ -171,7 +171,7 @@ fn cover(fields: &[AnyArray], n: usize) -> bool
 
 /// Whether each offset names a slot of the field that its type means.
 fn name_slots(table: &[u8; 128], types: &[i8], fields: &[AnyArray], offsets: &[i32]) -> bool
-    requires sized { length table.now ≡ 128 }
+    requires sized { length table.now ≡ type_count }
     requires each_offset { length offsets.now ≡ length types.now }
     ensures { IsTrue result ↔ EachNamed table.now types.now (layouts_of fields.now) offsets.now }
 {

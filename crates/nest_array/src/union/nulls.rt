@@ -1,10 +1,11 @@
 //! Arrays of unions that are null, and such arrays without a slot.
-ghost use Rattle.std.specs.Prelude.{◌≡◌, ◌<◌, ◌≤◌, ◌^◌, IfOk, IsOkUnless, MatchResult, None, Some, alloc_error, false, map, pos, replicate, true};
+ghost use Rattle.std.specs.Prelude.{◌≡◌, ◌≤◌, IfOk, IsOkUnless, MatchResult, None, Some, alloc_error, false, map, pos, replicate, true};
 ghost use Rattle.nest_memory.specs.declared.datatypes.physical_type.PhysicalType.TheVariants as physical;
 ghost use Rattle.std.specs.List.{range_with_len};
 ghost use Rattle.nest_memory.specs.TypeTree.{ids_of, is_dense, mode_of};
 ghost use Rattle.nest_memory.specs.declared.datatypes.UnionMode.{UnionMode};
-ghost use Rattle.nest_model.specs.Nulls.{empty_fault, fault_of, has_bad_id, type_fault};
+ghost use Rattle.nest_model.specs.Checks.{most_picks};
+ghost use Rattle.nest_model.specs.Nulls.{Fills, empty_fault, fault_of, has_bad_id, type_fault};
 ghost use Rattle.nest_model.specs.NullLayout.{null_array as nulls_of, null_offsets, null_type};
 ghost use Rattle.nest_array.specs.Words.{AcceptsKind, HasNone, HasNulls, Memory, RefusesKind, physical_type, type_of};
 
@@ -14,6 +15,7 @@ use nest_memory::buffer::Buffer;
 use nest_memory::datatypes::physical_type::PhysicalType;
 use nest_memory::datatypes::{DataType, UnionMode};
 use nest_memory::error::Error;
+use nest_model::fill::Fill;
 use std::alloc::Global;
 
 impl UnionArray {
@@ -41,23 +43,23 @@ impl UnionArray {
         nulls::null(alloc, data_type, length)
     }
 
-    /// `length` nulls of a type that was looked at; below a dictionary lie `values`.
+    /// `length` nulls of a type that was looked at.
     #[cycle(nulls)]
     pub(crate) fn nulls(
         alloc: Global,
         data_type: &DataType,
         length: usize,
-        values: usize,
+        fill: Fill,
     ) -> Result<UnionArray, Error>
         requires kind { physical_type (type_of data_type.now) ≡ physical.Union }
-        requires unrefused { fault_of (type_of data_type.now) length values ≡ None }
-        requires valid { 0 < length → 0 < values }
-        ensures ok { IfOk result (λ a. a ≡ nulls_of (type_of data_type.now) length values) }
+        requires unrefused { fault_of (type_of data_type.now) length fill ≡ None }
+        requires valid { Fills fill length }
+        ensures ok { IfOk result (λ a. a ≡ nulls_of (type_of data_type.now) length fill) }
         ensures err { IsOkUnless result (Memory alloc_error) }
     {
         let types = null_types(alloc, data_type, length)?;
         let offsets = places(alloc, data_type, length)?;
-        let fields = null_fields(alloc, data_type.fields(), length, values)?;
+        let fields = null_fields(alloc, data_type.fields(), length, fill)?;
         match data_type.clone(alloc) {
             Ok(data_type) => Ok(UnionArray::new(data_type, types, fields, offsets)),
             Err(error) => {
@@ -81,9 +83,9 @@ impl Nulls for UnionArray {
         alloc: Global,
         data_type: &DataType,
         length: usize,
-        values: usize,
+        fill: Fill,
     ) -> Result<UnionArray, Error> {
-        UnionArray::nulls(alloc, data_type, length, values)
+        UnionArray::nulls(alloc, data_type, length, fill)
     }
 }
 
@@ -110,7 +112,7 @@ fn first_type(data_type: &DataType) -> i8
 
 // The offsets of a dense union's slots, which lie one after another.
 fn places(alloc: Global, data_type: &DataType, length: usize) -> Result<Option<Buffer<i32>>, Error>
-    requires { is_dense (type_of data_type.now) ≡ true → length ≤ 2 ^ 31 }
+    requires { is_dense (type_of data_type.now) ≡ true → length ≤ most_picks }
     ensures ok { IfOk result (λ b. (m : UnionMode) → mode_of (type_of data_type.now) ≡ Some m → b ≡ null_offsets m length) }
     ensures err { IsOkUnless result (Memory alloc_error) }
 {
@@ -122,7 +124,7 @@ fn places(alloc: Global, data_type: &DataType, length: usize) -> Result<Option<B
 
 // The numbers below one of at most 2^31.
 fn counted(alloc: Global, length: usize) -> Result<Buffer<i32>, Error>
-    requires { length ≤ 2 ^ 31 }
+    requires { length ≤ most_picks }
     ensures ok { IfOk result (λ b. b ≡ map (λ i. pos i) (range_with_len 0 length)) }
     ensures err { IsOkUnless result (Memory alloc_error) }
 {

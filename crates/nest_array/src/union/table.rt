@@ -2,6 +2,7 @@
 //! or by the ids.
 ghost use Rattle.std.specs.Prelude.{◌≡◌, ◌≢◌, ◌≤◌, ◌↔◌, IsTrue, Some, None, length};
 ghost use Rattle.nest_memory.specs.TypeTree.{ids_of};
+ghost use Rattle.nest_model.specs.Checks.{most_fields, type_count};
 ghost use Rattle.nest_model.specs.Fits.{EachNames, IdsCount, IdsInRange, MeansField};
 ghost use Rattle.nest_model.specs.Part as part;
 ghost use Rattle.nest_array.specs.Positions.{ArePositions, IsTable, meant};
@@ -14,7 +15,7 @@ const NO_FIELD: u8 = 127;
 
 /// The table of a union of n fields.
 pub(crate) fn positions(data_type: &DataType, n: usize) -> [u8; 128]
-    requires few { n ≤ 127 }
+    requires few { n ≤ most_fields }
     requires count { IdsCount (ids_of (type_of data_type.now)) n }
     requires range { IdsInRange (ids_of (type_of data_type.now)) }
     ensures { IsTable result (ids_of (type_of data_type.now)) }
@@ -38,8 +39,8 @@ fn by_places() -> [u8; 128]
 
 /// Each type means the last field whose id it is.
 fn by_ids(ids: &[i32]) -> [u8; 128]
-    requires few { length ids.now ≤ 127 }
-    requires range { EachNames ids.now 128 }
+    requires few { length ids.now ≤ most_fields }
+    requires range { EachNames ids.now type_count }
     ensures { IsTable result (Some ids.now) }
 {
     let mut table = [NO_FIELD; 128];
@@ -51,7 +52,7 @@ fn by_ids(ids: &[i32]) -> [u8; 128]
 
 /// The position that the table has for a type.
 pub(crate) fn position(table: &[u8; 128], kind: i8) -> Option<usize>
-    requires { length table.now ≡ 128 }
+    requires { length table.now ≡ type_count }
     ensures { result ≡ meant table.now kind }
 {
     if kind < 0 {
@@ -62,7 +63,7 @@ pub(crate) fn position(table: &[u8; 128], kind: i8) -> Option<usize>
 
 /// Whether the table has one of n fields for a type.
 pub(crate) fn means_field(table: &[u8; 128], kind: i8, n: usize) -> bool
-    requires { length table.now ≡ 128 }
+    requires { length table.now ≡ type_count }
     ensures { IsTrue result ↔ MeansField (meant table.now kind) n }
 {
     match position(table, kind) {

@@ -413,7 +413,7 @@ impl<O: ListWidth, M: TryExtend<Option<T>>, I: IntoIterator<Item = Option<T>>, T
     for MutableListArray<O, M> {
     ghost can_push = { CanReadList I.into_iter_gives I.IntoIter.can_next I.IntoIter.remaining I.IntoIter.next_gives M.can_extend };
 
-    ghost reads = { ReadsList I.into_iter_gives I.IntoIter.next_gives M.reads_each };
+    ghost reads = { ReadsList (record { becomes = I.into_iter_gives; steps = I.IntoIter.next_gives; reads = M.reads_each }) };
 
     fn try_push(&mut self, item: Option<I>) -> Result<(), Error> {
         match item {
@@ -441,7 +441,7 @@ impl<O: ListWidth, M: TryExtend<Option<T>>, I: IntoIterator<Item = Option<T>>, T
 > for MutableListArray<O, M> {
     ghost can_extend = { CanReadList I.into_iter_gives I.IntoIter.can_next I.IntoIter.remaining I.IntoIter.next_gives M.can_extend };
 
-    ghost reads_each = { ReadsList I.into_iter_gives I.IntoIter.next_gives M.reads_each };
+    ghost reads_each = { ReadsList (record { becomes = I.into_iter_gives; steps = I.IntoIter.next_gives; reads = M.reads_each }) };
 
     fn try_extend<U: IntoIterator<Item = Option<I>>>(&mut self, items: U) -> Result<(), Error> {
         extend_by_push(self, items)

@@ -9,26 +9,27 @@ use nest_memory::datatypes::DataType;
 use nest_memory::datatypes::physical_type::PrimitiveType;
 use nest_memory::error::Error;
 use nest_memory::types::{days_ms, i256, months_days_ns};
+use nest_model::fill::Fill;
 use std::alloc::Global;
 
 impl AnyPrimitive {
     /// What `new_empty` and `new_null` of the array of each kind share, of a type of that kind, which has no fault: `length`
-    /// raw zeros. Without `values`, which are those below a dictionary, there is no validity; else no slot is valid.
+    /// raw zeros. Of nulls no slot is valid; of nothing there is no validity.
     pub fn of_nulls(
         alloc: Global,
         kind: PrimitiveType,
         data_type: &DataType,
         length: usize,
-        values: usize,
+        fill: Fill,
     ) -> Result<AnyPrimitive, Error>
         requires kind { physical_type (type_of data_type.now) ≡ physical.Primitive kind }
-        requires unrefused { fault_of (type_of data_type.now) length values ≡ None }
-        ensures ok { IfOk result (λ a. primitive_layout a ≡ null_array (type_of data_type.now) length values) }
+        requires unrefused { fault_of (type_of data_type.now) length fill ≡ None }
+        ensures ok { IfOk result (λ a. primitive_layout a ≡ null_array (type_of data_type.now) length fill) }
         ensures err { IsOkUnless result (Memory alloc_error) }
     {
         macro_rules! nulls {
             ($native:ty) => {
-                wrapped::<$native>(PrimitiveArray::of_nulls(alloc, data_type, length, values))
+                wrapped::<$native>(PrimitiveArray::of_nulls(alloc, data_type, length, fill))
             };
         }
         match kind {

@@ -9,6 +9,7 @@ use nest_memory::bitmap::immutable::Bitmap;
 use nest_memory::datatypes::DataType;
 use nest_memory::datatypes::physical_type::PhysicalType;
 use nest_memory::error::{Error, Spec};
+use nest_model::fill::Fill;
 use std::alloc::Global;
 
 impl BooleanArray {
@@ -18,7 +19,7 @@ impl BooleanArray {
             (λ a. AcceptsKind physical.Boolean t None × HasNone t a)
             (λ e. RefusesKind e physical.Boolean t None) }
     {
-        BooleanArray::checked(alloc, data_type, 0, 0)
+        BooleanArray::checked(alloc, data_type, 0, Fill::Nothing)
     }
 
     /// The array of `length` nulls, whose raw values are false. `WrongType` where the data type is none of booleans.
@@ -31,7 +32,7 @@ impl BooleanArray {
             (λ a. AcceptsKind physical.Boolean t None × HasNulls t length a)
             (λ e. RefusesKind e physical.Boolean t None) }
     {
-        BooleanArray::checked(alloc, data_type, length, 1)
+        BooleanArray::checked(alloc, data_type, length, Fill::Nulls)
     }
 
     // The same as `of_nulls`, once the type is known to be one of booleans.
@@ -39,34 +40,34 @@ impl BooleanArray {
         alloc: Global,
         data_type: DataType,
         length: usize,
-        values: usize,
+        fill: Fill,
     ) -> Result<BooleanArray, Error>
         ensures { let t = type_of data_type in MatchResult result
-            (λ a. (physical_type t ≡ physical.Boolean) × (a ≡ null_array t length values))
+            (λ a. (physical_type t ≡ physical.Boolean) × (a ≡ null_array t length fill))
             (λ e. RefusesKind e physical.Boolean t None) }
     {
         if data_type.to_physical_type() != PhysicalType::Boolean {
             drop(data_type);
             return Err(Error::OutOfSpec(Spec::WrongType));
         }
-        let array = BooleanArray::of_nulls(alloc, &data_type, length, values);
+        let array = BooleanArray::of_nulls(alloc, &data_type, length, fill);
         drop(data_type);
         array
     }
 
-    /// What `new_empty` and `new_null` share, of a type of booleans: `length` times false. Without `values`, which are those
-    /// below a dictionary, there is no validity; else no slot is valid.
+    /// What `new_empty` and `new_null` share, of a type of booleans: `length` times false.
+    /// Of nulls none is valid; of nothing there is no validity.
     pub fn of_nulls(
         alloc: Global,
         data_type: &DataType,
         length: usize,
-        values: usize,
+        fill: Fill,
     ) -> Result<BooleanArray, Error>
         requires { physical_type (type_of data_type.now) ≡ physical.Boolean }
-        ensures ok { IfOk result (λ a. a ≡ null_array (type_of data_type.now) length values) }
+        ensures ok { IfOk result (λ a. a ≡ null_array (type_of data_type.now) length fill) }
         ensures err { IsOkUnless result (Memory alloc_error) }
     {
-        let validity = validity::none_valid(alloc, length, values)?;
+        let validity = validity::none_valid(alloc, length, fill)?;
         let bits = Bitmap::new_zeroed(alloc, length)?;
         Ok(BooleanArray {
             data_type: data_type.clone(alloc)?,

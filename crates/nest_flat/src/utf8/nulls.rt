@@ -1,12 +1,13 @@
 //! Arrays of texts that are null, and such arrays without a slot.
-ghost use Rattle.std.specs.Prelude.{◌≡◌, ◌<◌, IfOk, IsOkUnless, MatchResult, None, alloc_error};
-ghost use Rattle.nest_flat.specs.Words.{AcceptsKind, HasNone, HasNulls, Memory, RefusesKind, text_of_width, empty_fault, fault_of, null_array, physical_type, type_fault, type_of};
+ghost use Rattle.std.specs.Prelude.{◌≡◌, IfOk, IsOkUnless, MatchResult, None, alloc_error};
+ghost use Rattle.nest_flat.specs.Words.{AcceptsKind, Fills, HasNone, HasNulls, Memory, RefusesKind, text_of_width, empty_fault, fault_of, null_array, physical_type, type_fault, type_of};
 
 use crate::utf8::{Utf8Array, physical};
 use crate::{spans, validity};
 use nest_memory::datatypes::DataType;
 use nest_memory::error::{Error, Spec};
 use nest_memory::offset::Offset;
+use nest_model::fill::Fill;
 use std::alloc::Global;
 
 impl<O: Offset> Utf8Array<O> {
@@ -16,7 +17,7 @@ impl<O: Offset> Utf8Array<O> {
             (λ a. AcceptsKind (text_of_width O.IS_LARGE) t (empty_fault t) × HasNone t a)
             (λ e. RefusesKind e (text_of_width O.IS_LARGE) t (empty_fault t)) }
     {
-        Utf8Array::checked(alloc, data_type, 0, 0)
+        Utf8Array::checked(alloc, data_type, 0, Fill::Nothing)
     }
 
     /// The array of `length` nulls, over no byte. `WrongType` where the data type is none of texts with such offsets, then
@@ -30,7 +31,7 @@ impl<O: Offset> Utf8Array<O> {
             (λ a. AcceptsKind (text_of_width O.IS_LARGE) t (type_fault t length) × HasNulls t length a)
             (λ e. RefusesKind e (text_of_width O.IS_LARGE) t (type_fault t length)) }
     {
-        Utf8Array::checked(alloc, data_type, length, 1)
+        Utf8Array::checked(alloc, data_type, length, Fill::Nulls)
     }
 
     // The same as `of_nulls`, once the type and the length are known to fit.
@@ -38,12 +39,12 @@ impl<O: Offset> Utf8Array<O> {
         alloc: Global,
         data_type: DataType,
         length: usize,
-        values: usize,
+        fill: Fill,
     ) -> Result<Utf8Array<O>, Error>
-        requires { 0 < length → 0 < values }
+        requires { Fills fill length }
         ensures { let t = type_of data_type in MatchResult result
-            (λ a. AcceptsKind (text_of_width O.IS_LARGE) t (fault_of t length values) × (a ≡ null_array t length values))
-            (λ e. RefusesKind e (text_of_width O.IS_LARGE) t (fault_of t length values)) }
+            (λ a. AcceptsKind (text_of_width O.IS_LARGE) t (fault_of t length fill) × (a ≡ null_array t length fill))
+            (λ e. RefusesKind e (text_of_width O.IS_LARGE) t (fault_of t length fill)) }
     {
         if data_type.to_physical_type() != physical::<O>() {
             drop(data_type);
@@ -53,26 +54,26 @@ impl<O: Offset> Utf8Array<O> {
             drop(data_type);
             return Err(Error::Overflow);
         }
-        let array = Utf8Array::of_nulls(alloc, &data_type, length, values);
+        let array = Utf8Array::of_nulls(alloc, &data_type, length, fill);
         drop(data_type);
         array
     }
 
-    /// What `new_empty` and `new_null` share, of a type of texts: `length` slots over no byte. Without `values`, which are
-    /// those below a dictionary, there is no validity; else no slot is valid.
+    /// What `new_empty` and `new_null` share, of a type of texts: `length` slots over no byte.
+    /// Of nulls none is valid; of nothing there is no validity.
     pub fn of_nulls(
         alloc: Global,
         data_type: &DataType,
         length: usize,
-        values: usize,
+        fill: Fill,
     ) -> Result<Utf8Array<O>, Error>
         requires kind { physical_type (type_of data_type.now) ≡ text_of_width O.IS_LARGE }
-        requires unrefused { fault_of (type_of data_type.now) length values ≡ None }
-        requires valid { 0 < length → 0 < values }
-        ensures ok { IfOk result (λ a. a ≡ null_array (type_of data_type.now) length values) }
+        requires unrefused { fault_of (type_of data_type.now) length fill ≡ None }
+        requires valid { Fills fill length }
+        ensures ok { IfOk result (λ a. a ≡ null_array (type_of data_type.now) length fill) }
         ensures err { IsOkUnless result (Memory alloc_error) }
     {
-        let validity = validity::none_valid(alloc, length, values)?;
+        let validity = validity::none_valid(alloc, length, fill)?;
         let (offsets, bytes) = spans::no_bytes(alloc, length)?;
         Ok(Utf8Array {
             data_type: data_type.clone(alloc)?,

@@ -17,17 +17,18 @@ use nest_memory::bitmap::mutable::MutableBitmap;
 use nest_memory::datatypes::DataType;
 use nest_memory::datatypes::physical_type::PrimitiveType;
 use nest_memory::error::Error;
+use nest_model::fill::Fill;
 use std::alloc::Global;
 
 #[test]
 fn a_validity_is_made_and_shared(rt: HostRuntime) {
-    let nulls = validity::none_valid(rt.alloc(), 3, 1).expect(&rt, "none valid");
+    let nulls = validity::none_valid(rt.alloc(), 3, Fill::Nulls).expect(&rt, "none valid");
     let shared = validity::clone(&nulls).expect(&rt, "a copy");
     assert!(rt; validity::null_count(&nulls) == 3);
     assert!(rt; validity::null_count(&shared) == 3);
     assert!(rt; validity::fits(&shared, 3));
     assert!(rt;
-        validity::none_valid(rt.alloc(), 3, 0)
+        validity::none_valid(rt.alloc(), 3, Fill::Nothing)
             .expect(&rt, "none valid")
             .is_none()
     );
@@ -147,25 +148,25 @@ fn nulls_of_numbers_and_truths(rt: HostRuntime) {
         rt.alloc(),
         &DataType::Int32,
         2,
-        1,
+        Fill::Nulls,
     ).expect(&rt, "nulls");
     let nulls = numbers.null_count();
     assert!(rt; nulls == 2);
-    let any = AnyPrimitive::of_nulls(rt.alloc(), PrimitiveType::Int32, &DataType::Int32, 2, 1);
+    let any = AnyPrimitive::of_nulls(rt.alloc(), PrimitiveType::Int32, &DataType::Int32, 2, Fill::Nulls);
     assert!(rt; counted(any) == Ok((2, 2)));
-    let truths = BooleanArray::of_nulls(rt.alloc(), &DataType::Boolean, 2, 1).expect(&rt, "nulls");
+    let truths = BooleanArray::of_nulls(rt.alloc(), &DataType::Boolean, 2, Fill::Nulls).expect(&rt, "nulls");
     let nulls = truths.null_count();
     assert!(rt; nulls == 2);
 }
 
 #[test]
 fn nulls_of_bytes_and_texts(rt: HostRuntime) {
-    let bytes: BinaryArray<i32> = BinaryArray::of_nulls(rt.alloc(), &DataType::Binary, 2, 1).expect(
+    let bytes: BinaryArray<i32> = BinaryArray::of_nulls(rt.alloc(), &DataType::Binary, 2, Fill::Nulls).expect(
         &rt, "nulls",
     );
     let nulls = bytes.null_count();
     assert!(rt; nulls == 2);
-    let texts: Utf8Array<i32> = Utf8Array::of_nulls(rt.alloc(), &DataType::Utf8, 2, 1).expect(
+    let texts: Utf8Array<i32> = Utf8Array::of_nulls(rt.alloc(), &DataType::Utf8, 2, Fill::Nulls).expect(
         &rt, "nulls",
     );
     let nulls = texts.null_count();

@@ -48,4 +48,5 @@ returns-in-Err-clause-cause g c =
     let xs = c.loop-item.yielded in
     let x = c.in-Some.item in
     let more = Yields-more g.I.IntoIter.Iterator.next_gives it.result xs c.loop-item.item-iterator x c.next.new.self c.loop-item.yielded_by c.in-Some.ensures.steps in
-    refused_some g.I.IntoIterator.into_iter_gives g.I.IntoIter.Iterator.next_gives g.B.TryPush.reads _ xs x _ _ _ (it.result, c.next.new.self, it.ensures.into_iter_gives, more) c.loop-item.invariant.2 c.in-Err.ensures.cause
+    refused_some
+    (record { becomes = g.I.IntoIterator.into_iter_gives; steps = g.I.IntoIter.Iterator.next_gives; reads = g.B.TryPush.reads }) _ xs x _ _ _ (it.result, c.next.new.self, it.ensures.into_iter_gives, more) c.loop-item.invariant.2 c.in-Err.ensures.cause

@@ -1,6 +1,4 @@
-use Rattle.nest_model.specs.BuilderItem as items
-use Rattle.nest_model.specs.BuilderReading.{ReadsValue}
-use Rattle.nest_model.specs.BuilderExamples.{IsIterator, StepsOf}
+use Rattle.nest_model.specs.BuilderExamples.{IsIterator, StepsOf, texts_given}
 use Rattle.nest_model.specs.BuilderReadingLaws.{took-texts, took-given, refused-texts}
 use Rattle.nest_model.proofs.builder_refusals.texts_read.Goals as goal
 
@@ -8,7 +6,7 @@ pub returns-clause-several : goal.returns-clause-several
 returns-clause-several c = took-texts
 
 pub returns-clause-all : goal.returns-clause-all
-returns-clause-all c = took-given IsIterator StepsOf (ReadsValue items.text)
+returns-clause-all c = took-given texts_given
 
 pub returns-clause-refused_some : goal.returns-clause-refused_some
 returns-clause-refused_some c = refused-texts IsIterator StepsOf

@@ -15,13 +15,13 @@ struct_fault-returns t c =
 pub union_fault-returns-in-Some : goal.union_fault-returns-in-Some
 union_fault-returns-in-Some t c =
     let fs = c.args.fields.now.items in
-    let rest = fields_fault (field_list_of fs) c.args.length c.args.values in
+    let rest = fields_fault (field_list_of fs) c.args.length c.args.fill in
     let v : c.len.result ≡ length fs = omega arith in
     ap (λ o. first_of o rest) (sym c.in-Some.is) ∙ union-told fs c.len.result _ c.args.mode c.args.length c.own_fault.result rest v c.own_fault.ensures
 
 pub union_fault-returns-in-None : goal.union_fault-returns-in-None
 union_fault-returns-in-None t c =
     let fs = c.args.fields.now.items in
-    let rest = fields_fault (field_list_of fs) c.args.length c.args.values in
+    let rest = fields_fault (field_list_of fs) c.args.length c.args.fill in
     let v : c.len.result ≡ length fs = omega arith in
     c.each_fault.ensures ∙ ap (λ o. first_of o rest) (sym c.in-None.is) ∙ union-told fs c.len.result _ c.args.mode c.args.length c.own_fault.result rest v c.own_fault.ensures

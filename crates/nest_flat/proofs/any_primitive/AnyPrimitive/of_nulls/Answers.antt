@@ -14,7 +14,7 @@ at-kind k f h e = ap (λ x. float_fault (physical.Primitive x)) (sym h) ∙ e
 
 pub unreachable-requires : goal.unreachable-requires
 unreachable-requires c =
-    let e = no-float (type_of c.args.data_type.now) c.args.kind c.args.length c.args.values c.requires.kind c.requires.unrefused in
+    let e = no-float (type_of c.args.data_type.now) c.args.kind c.args.length c.args.fill c.requires.kind c.requires.unrefused in
     elim c.in-Float16.is [
       | inl h ↦ let q : Some NotYetImplemented ≡ None = at-kind c.args.kind primitives.Float16 h e in absurd cc
       | inr r ↦ elim r [

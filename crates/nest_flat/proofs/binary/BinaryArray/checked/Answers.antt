@@ -13,20 +13,20 @@ returns-then-length-eq18446744073709551615 g c =
     let t = type_of c.args.data_type in
     let k : physical_type t ≡ binary_of_width g.O.Offset.IS_LARGE = search rules in
     let p : 2 ^ 64 ≤ c.args.length + 1 = omega arith in
-    inr (k, inl (binary-fault g.O.Offset.IS_LARGE t c.args.length c.args.values k ∙ refused-past (c.args.length + 1) None p))
+    inr (k, inl (binary-fault g.O.Offset.IS_LARGE t c.args.length c.args.fill k ∙ refused-past (c.args.length + 1) None p))
 
 pub of_nulls-array-requires-clause-unrefused : goal.of_nulls-array-requires-clause-unrefused
 of_nulls-array-requires-clause-unrefused g c =
     let t = type_of c.args.data_type in
     let k : physical_type t ≡ binary_of_width g.O.Offset.IS_LARGE = search rules in
     let p : c.args.length + 1 < 2 ^ 64 = omega arith in
-    binary-fault g.O.Offset.IS_LARGE t c.args.length c.args.values k ∙ accepted-not-past (c.args.length + 1) None p
+    binary-fault g.O.Offset.IS_LARGE t c.args.length c.args.fill k ∙ accepted-not-past (c.args.length + 1) None p
 
 pub returns : goal.returns
 returns g c =
     let t = type_of c.args.data_type in
     let k : physical_type t ≡ binary_of_width g.O.Offset.IS_LARGE = search rules in
     let p : c.args.length + 1 < 2 ^ 64 = omega arith in
-    let n : fault_of t c.args.length c.args.values ≡ None = binary-fault g.O.Offset.IS_LARGE t c.args.length c.args.values k ∙ accepted-not-past (c.args.length + 1) None p in
+    let n : fault_of t c.args.length c.args.fill ≡ None = binary-fault g.O.Offset.IS_LARGE t c.args.length c.args.fill k ∙ accepted-not-past (c.args.length + 1) None p in
     let r = c.of_nulls-array.result in
     MatchResult-from_both r _ _ (IfOk-weaker r _ _ (λ a h. ((k, n), h)) c.of_nulls-array.ensures.ok) (IfErr-weaker r _ _ (λ e h. inr (k, inr (h, n))) c.of_nulls-array.ensures.err)

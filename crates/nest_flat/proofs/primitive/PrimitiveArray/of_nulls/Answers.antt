@@ -10,4 +10,4 @@ returns-clause-ok g c =
     let k = g.T.NativeType.PRIMITIVE in
     let v = g.T.NativeType.numbers in
     (λ i. layouts.primitive k (c.in_ok-clone.ensures.ok i) (map v (c.in_ok-zeros.ensures.ok i)) (c.in_ok-validity.ensures.ok i))
-    ∙ native-zeros v k (type_of c.args.data_type.now) c.args.length c.args.values c.zero.result c.requires c.zero.ensures
+    ∙ native-zeros v k (type_of c.args.data_type.now) c.args.length c.args.fill c.zero.result c.requires c.zero.ensures

@@ -7,19 +7,19 @@ use Rattle.nest_build.proofs.fixed_size_list.mutable.MutableFixedSizeListArrayTr
 
 pub returns-in-None-clause-ok : goal.returns-in-None-clause-ok
 returns-in-None-clause-ok g c =
-    on_ok_both c.push_null.result (λ a u. none_took g.I.IntoIterator.into_iter_gives g.I.IntoIter.Iterator.next_gives g.M.TryExtend.reads_each _ _ _ c.in-None.is a u) c.push_null.ensures.accepted c.push_null.ensures.unrefused
+    on_ok_both c.push_null.result (λ a u. none_took (record { becomes = g.I.IntoIterator.into_iter_gives; steps = g.I.IntoIter.Iterator.next_gives; reads = g.M.TryExtend.reads_each }) _ _ _ c.in-None.is a u) c.push_null.ensures.accepted c.push_null.ensures.unrefused
 
 pub returns-in-None-clause-cause : goal.returns-in-None-clause-cause
 returns-in-None-clause-cause g c =
-    IfErr-weaker c.push_null.result _ _ (λ e h. none_refused g.I.IntoIterator.into_iter_gives g.I.IntoIter.Iterator.next_gives g.M.TryExtend.reads_each _ _ e c.in-None.is h) c.push_null.ensures.cause
+    IfErr-weaker c.push_null.result _ _ (λ e h. none_refused (record { becomes = g.I.IntoIterator.into_iter_gives; steps = g.I.IntoIter.Iterator.next_gives; reads = g.M.TryExtend.reads_each }) _ _ e c.in-None.is h) c.push_null.ensures.cause
 
 pub returns-then-end-len-clause-cause : goal.returns-then-end-len-clause-cause
 returns-then-end-len-clause-cause g c =
-    other_size g.I.IntoIterator.into_iter_gives g.I.IntoIter.Iterator.next_gives g.M.TryExtend.reads_each _ _ _ _ _ _ c.len-len.result c.len-end.result c.size-size.result c.in-Some.is c.in_default.ensures.ok c.len-len.ensures c.len-end.ensures c.size-size.ensures.value c.if-end-len.true
+    other_size (record { becomes = g.I.IntoIterator.into_iter_gives; steps = g.I.IntoIter.Iterator.next_gives; reads = g.M.TryExtend.reads_each }) _ _ _ _ _ _ c.len-len.result c.len-end.result c.size-size.result c.in-Some.is c.in_default.ensures.ok c.len-len.ensures c.len-end.ensures c.size-size.ensures.value c.if-end-len.true
 
 pub returns-in-Ok-clause-ok : goal.returns-in-Ok-clause-ok
 returns-in-Ok-clause-ok g c =
-    row_took g.I.IntoIterator.into_iter_gives g.I.IntoIter.Iterator.next_gives g.M.TryExtend.reads_each _ _ _ _ _ _ _ c.len-len.result c.len-end.result c.size-size.result c.in-Some.is c.in_default.ensures.ok c.len-len.ensures c.len-end.ensures c.size-size.ensures.value c.if-end-len.false c.in-Ok.ensures.ok c.in-Ok.ensures.within (omega (arith, c.len-end.type_inv)) c.requires.whole
+    row_took (record { becomes = g.I.IntoIterator.into_iter_gives; steps = g.I.IntoIter.Iterator.next_gives; reads = g.M.TryExtend.reads_each }) _ _ _ _ _ _ _ c.len-len.result c.len-end.result c.size-size.result c.in-Some.is c.in_default.ensures.ok c.len-len.ensures c.len-end.ensures c.size-size.ensures.value c.if-end-len.false c.in-Ok.ensures.ok c.in-Ok.ensures.within (omega (arith, c.len-end.type_inv)) c.requires.whole
 
 pub returns-in-Err-push-clause-cause : goal.returns-in-Err-push-clause-cause
 returns-in-Err-push-clause-cause g c =
@@ -29,4 +29,4 @@ returns-in-Err-push-clause-cause g c =
 
 pub returns-in-Err-clause-cause : goal.returns-in-Err-clause-cause
 returns-in-Err-clause-cause g c =
-    item_refused g.I.IntoIterator.into_iter_gives g.I.IntoIter.Iterator.next_gives g.M.TryExtend.reads_each _ _ _ _ _ _ c.in-Some.is c.in-Err.ensures.cause
+    item_refused (record { becomes = g.I.IntoIterator.into_iter_gives; steps = g.I.IntoIter.Iterator.next_gives; reads = g.M.TryExtend.reads_each }) _ _ _ _ _ _ c.in-Some.is c.in-Err.ensures.cause

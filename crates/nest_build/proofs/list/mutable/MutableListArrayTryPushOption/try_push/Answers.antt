@@ -5,20 +5,20 @@ use Rattle.nest_build.proofs.list.mutable.MutableListArrayTryPushOption.try_push
 
 pub returns-in-None-clause-ok : goal.returns-in-None-clause-ok
 returns-in-None-clause-ok g c =
-    on_ok_both c.push_null.result (λ a u. none_took g.I.IntoIterator.into_iter_gives g.I.IntoIter.Iterator.next_gives g.M.TryExtend.reads_each _ _ _ c.in-None.is a u) c.push_null.ensures.accepted c.push_null.ensures.unrefused
+    on_ok_both c.push_null.result (λ a u. none_took (record { becomes = g.I.IntoIterator.into_iter_gives; steps = g.I.IntoIter.Iterator.next_gives; reads = g.M.TryExtend.reads_each }) _ _ _ c.in-None.is a u) c.push_null.ensures.accepted c.push_null.ensures.unrefused
 
 pub returns-in-None-clause-cause : goal.returns-in-None-clause-cause
 returns-in-None-clause-cause g c =
-    IfErr-weaker c.push_null.result _ _ (λ e h. none_refused g.I.IntoIterator.into_iter_gives g.I.IntoIter.Iterator.next_gives g.M.TryExtend.reads_each _ _ e c.in-None.is h) c.push_null.ensures.cause
+    IfErr-weaker c.push_null.result _ _ (λ e h. none_refused (record { becomes = g.I.IntoIterator.into_iter_gives; steps = g.I.IntoIter.Iterator.next_gives; reads = g.M.TryExtend.reads_each }) _ _ e c.in-None.is h) c.push_null.ensures.cause
 
 pub returns-in-Ok-clause-ok : goal.returns-in-Ok-clause-ok
 returns-in-Ok-clause-ok g c =
-    row_took g.I.IntoIterator.into_iter_gives g.I.IntoIter.Iterator.next_gives g.M.TryExtend.reads_each _ _ _ g.O.Rows.ToldRows.large _ _ _ _ _ c.len-end.result c.in-Some.is c.in_default.ensures.ok c.len-end.ensures g.met.O.ListWidth.same_width c.in-Ok.ensures.ok c.in-Ok.ensures.within c.requires.whole
+    row_took (record { becomes = g.I.IntoIterator.into_iter_gives; steps = g.I.IntoIter.Iterator.next_gives; reads = g.M.TryExtend.reads_each }) _ _ _ g.O.Rows.ToldRows.large _ _ _ _ _ c.len-end.result c.in-Some.is c.in_default.ensures.ok c.len-end.ensures g.met.O.ListWidth.same_width c.in-Ok.ensures.ok c.in-Ok.ensures.within c.requires.whole
 
 pub returns-in-Err-push-clause-cause : goal.returns-in-Err-push-clause-cause
 returns-in-Err-push-clause-cause g c =
-    place_refused g.I.IntoIterator.into_iter_gives g.I.IntoIter.Iterator.next_gives g.M.TryExtend.reads_each _ _ _ g.O.Rows.ToldRows.large _ _ _ _ _ c.len-end.result c.in-Some.is c.in_default.ensures.ok c.len-end.ensures g.met.O.ListWidth.same_width c.in-Err-push.ensures.cause
+    place_refused (record { becomes = g.I.IntoIterator.into_iter_gives; steps = g.I.IntoIter.Iterator.next_gives; reads = g.M.TryExtend.reads_each }) _ _ _ g.O.Rows.ToldRows.large _ _ _ _ _ c.len-end.result c.in-Some.is c.in_default.ensures.ok c.len-end.ensures g.met.O.ListWidth.same_width c.in-Err-push.ensures.cause
 
 pub returns-in-Err-clause-cause : goal.returns-in-Err-clause-cause
 returns-in-Err-clause-cause g c =
-    item_refused g.I.IntoIterator.into_iter_gives g.I.IntoIter.Iterator.next_gives g.M.TryExtend.reads_each _ _ _ _ _ _ _ c.in-Some.is c.in-Err.ensures.cause
+    item_refused (record { becomes = g.I.IntoIterator.into_iter_gives; steps = g.I.IntoIter.Iterator.next_gives; reads = g.M.TryExtend.reads_each }) _ _ _ _ _ _ _ c.in-Some.is c.in-Err.ensures.cause
