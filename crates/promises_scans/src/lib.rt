@@ -134,9 +134,13 @@ pub fn values_of_fixed_lists(
 /// The last of them: as many items as the size.
 pub fn last_fixed_list(lists: &mut FixedSizeListValuesIter<'_>) -> Option<Result<AnyArray, Error>>
     requires { 0 < lists.old.count }
-    ensures { let i = lists.old.front + (lists.old.count - 1) in let size = size_of (layout_type lists.old.array) in
+    ensures parts { let i = lists.old.front + (lists.old.count - 1) in let size = size_of (layout_type lists.old.array) in
         MatchOption result ⊥ (λ r. MatchResult r
         (λ a. layout_of a ≡ cut_layout (child_of lists.old.array) (i * size) size)
+        (λ e. e ≡ Memory alloc_error)) }
+    ensures slot { let i = lists.old.front + (lists.old.count - 1) in
+        MatchOption result ⊥ (λ r. MatchResult r
+        (λ a. slot lists.old.array i ≡ where_valid (validity_of lists.old.array) i (slots.list (seal (slots_of (layout_of a)))))
         (λ e. e ≡ Memory alloc_error)) }
 {
     lists.next_back()
@@ -206,7 +210,8 @@ pub fn values_of_byte_rows(
 /// The next of them.
 pub fn next_byte_row<'a>(rows: &mut FixedSizeBinaryValuesIter<'a>) -> Option<&'a [u8]>
     requires { 0 < rows.old.count }
-    ensures { MatchOption result ⊥ (λ x. x.now ≡ cut (bytes_of rows.old.array) (rows.old.front * size_of (layout_type rows.old.array)) (size_of (layout_type rows.old.array))) }
+    ensures raw { MatchOption result ⊥ (λ x. x.now ≡ cut (bytes_of rows.old.array) (rows.old.front * size_of (layout_type rows.old.array)) (size_of (layout_type rows.old.array))) }
+    ensures slot { MatchOption result ⊥ (λ x. slot rows.old.array rows.old.front ≡ where_valid (validity_of rows.old.array) rows.old.front (slots.bytes x.now)) }
 {
     rows.next()
 }
@@ -216,6 +221,15 @@ pub fn slots_of_byte_rows(rows: &FixedSizeBinaryArray, alloc: Global) -> FixedSi
     ensures { result ≡ all_places rows.now }
 {
     rows.iter(alloc)
+}
+
+/// The next of them: `None` exactly where the place is null, else the bytes that the slot is.
+pub fn next_byte_slot<'a>(rows: &mut FixedSizeBinaryIter<'a>) -> Option<Option<&'a [u8]>>
+    requires { 0 < rows.old.count }
+    ensures { MatchOption result ⊥ (λ item. MatchOption item (is_null_at rows.old.array rows.old.front ≡ true)
+        (λ x. (is_null_at rows.old.array rows.old.front ≡ false) × (slot rows.old.array rows.old.front ≡ where_valid (validity_of rows.old.array) rows.old.front (slots.bytes x.now)))) }
+{
+    rows.next()
 }
 
 /// What the raw keys of a dictionary name, also under nulls.
