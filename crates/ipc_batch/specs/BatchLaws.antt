@@ -16,7 +16,7 @@ use Rattle.ipc_words.specs.Laws.{From, From-length, From_next, field_is_past}
 use Rattle.ipc_words.specs.PartLaws.{From_at, i64_in, offset_in, table_in, visit_in, field_in}
 use Rattle.ipc_words.specs.RowLaws.{IsStruct, vector_again}
 use Rattle.ipc_message.specs.Messages.{Parts, message_at}
-use Rattle.ipc_message.specs.MessageBytes.{root_bytes, message_bytes, framed_bytes, padding}
+use Rattle.ipc_message.specs.MessageBytes.{root_bytes, message_bytes, metadata_size, framed_bytes, padding}
 use Rattle.ipc_message.specs.MessageLaws.{padded, padded_long, padding_long, framed_long, root_long, written_parts, message_again, written_part}
 use Rattle.ipc_message.specs.declared.message.Kind.TheVariants.{RecordBatch}
 use Rattle.ipc_batch.specs.Batches.{BatchTree, node_at, region_at, all_within, batch_at}
@@ -137,11 +137,15 @@ batch_again b whole p q left body after fits inside h at small le =
 abbrev pub batch_in : Parts → Result BatchTree Fault
 batch_in parts = batch_at parts.metadata parts.root.header parts.root.left parts.root.body_length
 
--- the message is read, with its body behind it, and what stands behind that is left
-abbrev pub IsReadBack : BatchTree → List ℕ → List ℕ → Type 0
-IsReadBack b message body = (parts : Parts) × ((rest : List ℕ) → message_at (message ++ (body ++ rest)) ≡ Ok (Some parts, rest)) × (parts.body ≡ body) × (batch_in parts ≡ Ok b)
+-- the message is read as a record batch, with its body behind it, and what stands behind that is left
+pub record IsReadBack (b : BatchTree) (message body : List ℕ) : Type 0 where
+  pub parts : Parts
+  pub again : (rest : List ℕ) → message_at (message ++ (body ++ rest)) ≡ Ok (Some parts, rest)
+  pub kind : parts.root.kind ≡ RecordBatch
+  pub same_body : parts.body ≡ body
+  pub same_batch : batch_in parts ≡ Ok b
 
-pub written_again : (b : BatchTree) (body : List ℕ) → BatchFits b → length body < 2 ^ 63 → all_within (length body) b.regions ≡ Ok tt → length (batch_message b (length body)) < 2 ^ 31 → IsReadBack b (batch_message b (length body)) body
+pub written_again : (b : BatchTree) (body : List ℕ) → BatchFits b → length body < 2 ^ 63 → all_within (length body) b.regions ≡ Ok tt → metadata_size (batch_message b (length body)) < 2 ^ 31 → IsReadBack b (batch_message b (length body)) body
 unfolding batch_message
 written_again b body fits short inside small =
     let part : List ℕ = batch_bytes b in
@@ -152,13 +156,19 @@ written_again b body fits short inside small =
     let h : From whole 48 (part ++ padding (length metadata)) = written_part RecordBatch (length body) 16 part in
     let enough : 16 + 16 * length b.nodes + 16 * length b.regions ≤ 64 * length whole - 8 = omega (arith, batch_long b, root_long RecordBatch (length body) 16 part, padded_long metadata) in
     let r : batch_at whole 64 (64 * length whole - 8) (length body) ≡ Ok b = batch_again b whole 48 64 (64 * length whole - 8) (length body) (padding (length metadata)) fits inside h (omega arith) (omega arith) enough in
-    (written_parts RecordBatch 16 part body, λ rest. message_again RecordBatch 16 part body rest short (omega arith) small, refl, r)
+    record {
+      parts = written_parts RecordBatch 16 part body;
+      again = λ rest. message_again RecordBatch 16 part body rest short (omega arith) small;
+      kind = refl;
+      same_body = refl;
+      same_batch = r;
+    }
 
 -- with every body of so many bytes in which all buffers lie
 abbrev pub IsReadWith : BatchTree → ℕ → Type 0
-IsReadWith b long = (body : List ℕ) → length body ≡ long → all_within long b.regions ≡ Ok tt → length (batch_message b long) < 2 ^ 31 → IsReadBack b (batch_message b long) body
+IsReadWith b long = (body : List ℕ) → length body ≡ long → all_within long b.regions ≡ Ok tt → metadata_size (batch_message b long) < 2 ^ 31 → IsReadBack b (batch_message b long) body
 
 pub read_with : (b : BatchTree) (long : ℕ) → BatchFits b → long < 2 ^ 63 → IsReadWith b long
 read_with b long fits short = λ body e inside small.
     subst (λ (n : ℕ). IsReadBack b (batch_message b n) body) e
-    (written_again b body fits (omega (arith, e, short)) (subst (λ (n : ℕ). all_within n b.regions ≡ Ok tt) (sym e) inside) (subst (λ (n : ℕ). length (batch_message b n) < 2 ^ 31) (sym e) small))
+    (written_again b body fits (omega (arith, e, short)) (subst (λ (n : ℕ). all_within n b.regions ≡ Ok tt) (sym e) inside) (subst (λ (n : ℕ). metadata_size (batch_message b n) < 2 ^ 31) (sym e) small))

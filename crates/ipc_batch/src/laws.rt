@@ -1,6 +1,7 @@
 //! Laws and examples of what is read, as functions with empty bodies.
 ghost use Rattle.std.specs.Prelude.{◌≡◌, ◌<◌, ◌^◌, ◌++◌, List, ℕ, [], length, Some, Ok};
 ghost use Rattle.ipc_message.specs.Messages.{message_at};
+ghost use Rattle.ipc_message.specs.MessageBytes.{metadata_size};
 ghost use Rattle.ipc_batch.specs.Batches.{BatchTree, all_within, batch_at};
 ghost use Rattle.ipc_batch.specs.BatchBytes.{batch_message};
 ghost use Rattle.ipc_batch.specs.Examples.{worked_message, worked_body, worked_of, worked_tree};
@@ -8,7 +9,7 @@ ghost use Rattle.ipc_batch.specs.BatchLaws.{BatchFits, IsReadBack};
 
 /// The message of a batch whose buffers lie in its body is read back, with the body behind it and anything behind that.
 pub fn batches_are_read_back()
-    ensures { (b : BatchTree) (body : List ℕ) → BatchFits b → length body < 2 ^ 63 → all_within (length body) b.regions ≡ Ok tt → length (batch_message b (length body)) < 2 ^ 31 → IsReadBack b (batch_message b (length body)) body }
+    ensures { (b : BatchTree) (body : List ℕ) → BatchFits b → length body < 2 ^ 63 → all_within (length body) b.regions ≡ Ok tt → metadata_size (batch_message b (length body)) < 2 ^ 31 → IsReadBack b (batch_message b (length body)) body }
 {}
 
 /// The message of another writer, byte by byte, spells a batch of two rows.

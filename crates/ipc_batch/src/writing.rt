@@ -2,6 +2,7 @@
 ghost use Rattle.std.specs.Prelude.{◌≡◌, ◌<◌, ◌≤◌, ◌^◌, ◌+◌, ◌*◌, ◌++◌, List, ℕ, length, OnOk, IfErr, Ok};
 ghost use Rattle.std.specs.List.{flat_map, AllByRecursion};
 ghost use Rattle.ipc_words.specs.Writes.{IsTooLong};
+ghost use Rattle.ipc_message.specs.MessageBytes.{metadata_size};
 ghost use Rattle.ipc_batch.specs.Batches.{batch_of};
 ghost use Rattle.ipc_batch.specs.BatchBytes.{node_bytes, region_bytes, batch_head, batch_bytes, batch_message, IsUnwritten};
 ghost use Rattle.ipc_batch.specs.BatchLaws.{NodeFits, RegionFits, BatchFits, IsReadWith};
@@ -94,8 +95,10 @@ pub fn write_batch(
 ) -> Result<(), NoForm>
     requires { body_length < 2 ^ 63 }
     ensures ok { OnOk result (out.new.items ≡ out.old.items ++ batch_message (batch_of batch.now) body_length) }
+    ensures rows { OnOk result (batch.now.rows < 2 ^ 63) }
+    ensures small { OnOk result (metadata_size (batch_message (batch_of batch.now) body_length) < 2 ^ 31) }
     ensures again { OnOk result (IsReadWith (batch_of batch.now) body_length) }
-    ensures size { IfErr result (IsUnwritten (batch_of batch.now) (length (batch_message (batch_of batch.now) body_length))) }
+    ensures size { IfErr result (IsUnwritten (batch_of batch.now) (metadata_size (batch_message (batch_of batch.now) body_length))) }
 {
     let few = 1 << 27;
     if batch.rows >= 1 << 63 || batch.nodes.len() >= few || batch.regions.len() >= few {

@@ -24,6 +24,14 @@ padding n = zeros ((8 - n % 8) % 8)
 unfoldable pub framed_bytes : List ℕ → List ℕ
 framed_bytes metadata = (255 ∷ 255 ∷ 255 ∷ 255 ∷ []) ++ (u32_bytes (length metadata + length (padding (length metadata))) ++ (metadata ++ padding (length metadata)))
 
+-- how many bytes the metadata of a message has, padding included: 8 stand before it
+abbrev pub metadata_size : List ℕ → ℕ
+metadata_size message = length message - 8
+
+-- the end of a stream: the continuation, and 0 in the place of a length
+abbrev pub end_mark : List ℕ
+end_mark = 255 ∷ 255 ∷ 255 ∷ 255 ∷ 0 ∷ 0 ∷ 0 ∷ 0 ∷ []
+
 -- a message, whose body is to stand behind it
 unfoldable pub message_bytes : Kind → ℕ → ℕ → List ℕ → List ℕ
 message_bytes kind body_length head part = framed_bytes (root_bytes kind body_length head part)

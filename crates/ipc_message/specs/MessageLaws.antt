@@ -1,5 +1,5 @@
 -- What is written of a message spells it.
-use Rattle.std.proofs.Common.{true, false, leb, eqb, ◌≡◌, ℕ, ◌+◌, ◌-◌, ◌*◌, ◌%◌, ◌^◌, ◌<◌, ◌≤◌, List, [], ◌∷◌, ◌++◌, length, drop, Some, Ok, refl, sym, append_assoc, arith}
+use Rattle.std.proofs.Common.{true, false, leb, eqb, ◌≡◌, ℕ, ◌+◌, ◌-◌, ◌*◌, ◌%◌, ◌^◌, ◌<◌, ◌≤◌, List, [], ◌∷◌, ◌++◌, length, drop, Some, None, Ok, refl, sym, append_assoc, arith}
 use Rattle.std.specs.Prelude.{pos}
 use Rattle.std.specs.Int.{w8, w16, w32, w64, from_le_bytes, cast_signed}
 use Rattle.std.proofs.lemmas.Bool.{le-leb, ne_eqb}
@@ -15,7 +15,7 @@ use Rattle.ipc_message.specs.declared.message.Kind.TheVariants.{Schema, Dictiona
 use Rattle.ipc_message.specs.declared.message.Version.TheVariants.{V5}
 use Rattle.ipc_message.specs.declared.message.Root.{Root}
 use Rattle.ipc_message.specs.Messages.{Parts, root_at, kind_of, front, behind_mark, sized_at, parts_at, message_at}
-use Rattle.ipc_message.specs.MessageBytes.{tag_of, root_bytes, padding, framed_bytes, message_bytes}
+use Rattle.ipc_message.specs.MessageBytes.{tag_of, root_bytes, padding, framed_bytes, metadata_size, end_mark, message_bytes}
 
 kind_back : (kind : Kind) → kind_of (tag_of kind) ≡ Ok kind
 kind_back Schema = refl
@@ -105,7 +105,7 @@ unfolding parts_at
 parts_is n metadata body rest root size is long = rw (size, front_is metadata (body ++ rest), is, long, front_is body rest) refl
 
 -- metadata in its frame is read, where it has a root, with the body behind it
-pub framed_again : (metadata body rest : List ℕ) (root : Root) → 0 < length metadata → length (framed_bytes metadata) < 2 ^ 31 → root_at (padded metadata) ≡ Ok root → root.body_length ≡ length body
+pub framed_again : (metadata body rest : List ℕ) (root : Root) → 0 < length metadata → metadata_size (framed_bytes metadata) < 2 ^ 31 → root_at (padded metadata) ≡ Ok root → root.body_length ≡ length body
     → message_at (framed_bytes metadata ++ (body ++ rest)) ≡ Ok (Some (record { root = root; metadata = padded metadata; body = body }), rest)
 unfolding message_at framed_bytes
 framed_again metadata body rest root some small is long =
@@ -119,10 +119,18 @@ framed_again metadata body rest root some small is long =
     let some_bytes : eqb (length all) 0 ≡ false = ne_eqb (length all) 0 (λ e. omega (arith, e)) in
     rw (regrouped, some_bytes, mark_is (u32_bytes n ++ behind), sized) refl
 
+-- a stream ends at its mark
+pub end_again : (rest : List ℕ) → message_at (end_mark ++ rest) ≡ Ok (None, rest)
+unfolding message_at sized_at
+end_again rest =
+    let bytes : List ℕ = (0 ∷ 0 ∷ 0 ∷ 0 ∷ []) ++ rest in
+    let some_bytes : eqb (length (end_mark ++ rest)) 0 ≡ false = ne_eqb (length (end_mark ++ rest)) 0 (λ e. omega (arith, e)) in
+    rw (some_bytes, mark_is bytes, front_is (0 ∷ 0 ∷ 0 ∷ 0 ∷ []) rest) refl
+
 -- ---- what is written
 
 -- a message and its body are read, and what stands behind them is left
-pub message_again : (kind : Kind) (head : ℕ) (part body rest : List ℕ) → length body < 2 ^ 63 → head < 2 ^ 31 → length (message_bytes kind (length body) head part) < 2 ^ 31
+pub message_again : (kind : Kind) (head : ℕ) (part body rest : List ℕ) → length body < 2 ^ 63 → head < 2 ^ 31 → metadata_size (message_bytes kind (length body) head part) < 2 ^ 31
     → message_at (message_bytes kind (length body) head part ++ (body ++ rest)) ≡ Ok (Some (written_parts kind head part body), rest)
 unfolding message_bytes
 message_again kind head part body rest fits near small =

@@ -1,7 +1,7 @@
 //! Writes messages without their bodies.
-ghost use Rattle.std.specs.Prelude.{◌≡◌, ◌<◌, ◌^◌, ◌++◌, length, OnOk, IfErr};
+ghost use Rattle.std.specs.Prelude.{◌≡◌, ◌<◌, ◌^◌, ◌++◌, OnOk, IfErr};
 ghost use Rattle.ipc_words.specs.Writes.{IsTooLong};
-ghost use Rattle.ipc_message.specs.MessageBytes.{tag_of as tag_of_lem, root_bytes, framed_bytes, message_bytes};
+ghost use Rattle.ipc_message.specs.MessageBytes.{tag_of as tag_of_lem, root_bytes, framed_bytes, metadata_size, message_bytes};
 
 use crate::message::Kind;
 use ipc_model::NoForm;
@@ -40,7 +40,7 @@ pub fn put_root(
     Ok(())
 }
 
-/// Appends a message without its body.
+/// Appends a message without its body. Refused where its metadata, padding included, is longer than 2^31 - 1 bytes, or for want of memory.
 #[tactic(auto, unfolding(crate::specs::MessageBytes::message_bytes, crate::specs::MessageBytes::framed_bytes))]
 pub fn put_message(
     alloc: Global,
@@ -52,12 +52,13 @@ pub fn put_message(
 ) -> Result<(), NoForm>
     requires { body_length < 2 ^ 63 }
     ensures ok { OnOk result (out.new.items ≡ out.old.items ++ message_bytes kind body_length head part.now) }
-    ensures size { IfErr result (λ why. IsTooLong why (length (message_bytes kind body_length head part.now))) }
+    ensures small { OnOk result (metadata_size (message_bytes kind body_length head part.now) < 2 ^ 31) }
+    ensures size { IfErr result (λ why. IsTooLong why (metadata_size (message_bytes kind body_length head part.now))) }
 {
     let mut metadata = Vec::new(alloc);
     put_root(&mut metadata, kind, body_length, head, part)?;
     let pad = (8 - metadata.len() % 8) % 8;
-    if metadata.len() >= (1 << 31) - 8 {
+    if metadata.len() > (1 << 31) - 8 {
         return Err(NoForm::Size);
     }
     out.extend_from_slice(&[255, 255, 255, 255])?;

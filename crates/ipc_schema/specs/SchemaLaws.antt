@@ -7,7 +7,7 @@ use Rattle.ipc_words.specs.Laws.{From, From-length, From_next}
 use Rattle.ipc_words.specs.PartLaws.{From_at, offset_in, table_in, visit_in, field_in, field_out}
 use Rattle.ipc_words.specs.RowLaws.{row_again, row_is_long}
 use Rattle.ipc_message.specs.Messages.{message_at}
-use Rattle.ipc_message.specs.MessageBytes.{root_bytes, message_bytes, framed_bytes, padding}
+use Rattle.ipc_message.specs.MessageBytes.{root_bytes, message_bytes, metadata_size, framed_bytes, padding}
 use Rattle.ipc_message.specs.MessageLaws.{padded, padded_long, padding_long, framed_long, root_long, written_parts, message_again, written_part}
 use Rattle.ipc_message.specs.declared.message.Kind.TheVariants as kinds
 use Rattle.ipc_schema.specs.Schemas.{SchemaTree, metadata_at, field_at, schema_at, stream_schema_at}
@@ -74,7 +74,7 @@ schema_again s whole p q left after fits h small at le =
     rw (at, v, f0, f1, o1, r.vector, r.tables, f2, o2, there, m, spent) refl
 
 -- the message of a schema is read, and what stands behind it is left
-pub stream_again : (s : SchemaTree) (rest : List ℕ) → SchemaFits s → length (schema_message s) < 2 ^ 31 → stream_schema_at (schema_message s ++ rest) ≡ Ok (s, rest)
+pub stream_again : (s : SchemaTree) (rest : List ℕ) → SchemaFits s → metadata_size (schema_message s) < 2 ^ 31 → stream_schema_at (schema_message s ++ rest) ≡ Ok (s, rest)
 unfolding stream_schema_at schema_message
 stream_again s rest fits small =
     let metadata : List ℕ = root_bytes kinds.Schema 0 16 (part_of s) in

@@ -1,5 +1,6 @@
 //! Laws and examples of what is read, as functions with empty bodies.
-ghost use Rattle.std.specs.Prelude.{◌≡◌, ◌<◌, ◌^◌, ◌++◌, List, ℕ, [], length, Ok};
+ghost use Rattle.std.specs.Prelude.{◌≡◌, ◌<◌, ◌^◌, ◌++◌, List, ℕ, [], Ok};
+ghost use Rattle.ipc_message.specs.MessageBytes.{metadata_size};
 ghost use Rattle.ipc_schema.specs.Examples.{worked_message, worked_tree};
 ghost use Rattle.ipc_schema.specs.Schemas.{SchemaTree, stream_schema_at};
 ghost use Rattle.ipc_schema.specs.SchemaBytes.{schema_message};
@@ -12,5 +13,5 @@ pub fn a_message_is_read()
 
 /// The message of a schema that is written is read back, with anything behind it.
 pub fn schemas_are_read_back()
-    ensures { (s : SchemaTree) (rest : List ℕ) → SchemaFits s → length (schema_message s) < 2 ^ 31 → stream_schema_at (schema_message s ++ rest) ≡ Ok (s, rest) }
+    ensures { (s : SchemaTree) (rest : List ℕ) → SchemaFits s → metadata_size (schema_message s) < 2 ^ 31 → stream_schema_at (schema_message s ++ rest) ≡ Ok (s, rest) }
 {}

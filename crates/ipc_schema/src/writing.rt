@@ -6,6 +6,7 @@ ghost use Rattle.std.specs.String.{string_cmp};
 ghost use Rattle.nest_memory.specs.TypeOf.{field_of, entries_of};
 ghost use Rattle.ipc_words.specs.Bytes.{string_bytes as string_part, together, parts_of};
 ghost use Rattle.ipc_words.specs.Writes.{IsTooLong};
+ghost use Rattle.ipc_message.specs.MessageBytes.{metadata_size};
 ghost use Rattle.ipc_schema.specs.Schemas.{schema_of, stream_schema_at};
 ghost use Rattle.ipc_schema.specs.Forms.{field_form as field_form_lem, fields_form, IsUnwritten};
 ghost use Rattle.ipc_schema.specs.SchemaBytes.{field_head, integer_bytes, no_tables, entries_bytes, field_bytes, field_parts, schema_bytes, schema_message};
@@ -215,7 +216,8 @@ fn schema_bytes_of(alloc: Global, schema: &Schema) -> Result<Vec<u8>, NoForm>
     requires { fields_form (schema_of schema.now).fields ≡ Ok tt }
     ensures ok { IfOk result (λ out. out.items ≡ schema_message (schema_of schema.now)) }
     ensures fits { OnOk result (SchemaFits (schema_of schema.now)) }
-    ensures size { IfErr result (λ why. IsTooLong why (length (schema_message (schema_of schema.now)))) }
+    ensures small { OnOk result (metadata_size (schema_message (schema_of schema.now)) < 2 ^ 31) }
+    ensures size { IfErr result (λ why. IsTooLong why (metadata_size (schema_message (schema_of schema.now)))) }
 {
     let mut fields = Vec::new(alloc);
     let parts = field_parts_of(alloc, &schema.fields)?;
@@ -232,13 +234,12 @@ fn schema_bytes_of(alloc: Global, schema: &Schema) -> Result<Vec<u8>, NoForm>
 /// The message of a schema: whatever stands behind it, reading gives the schema back. Refused with the first reason in the order of writing.
 pub fn write_schema(alloc: Global, schema: &Schema) -> Result<Vec<u8>, NoForm>
     ensures again { IfOk result (λ out. (rest : List ℕ) → stream_schema_at (out.items ++ rest) ≡ Ok (schema_of schema.now, rest)) }
+    ensures bytes { IfOk result (λ out. out.items ≡ schema_message (schema_of schema.now)) }
     ensures form { OnOk result (fields_form (schema_of schema.now).fields ≡ Ok tt) }
-    ensures err { IfErr result (IsUnwritten (schema_of schema.now).fields (length (schema_message (schema_of schema.now)))) }
+    ensures small { OnOk result (metadata_size (schema_message (schema_of schema.now)) < 2 ^ 31) }
+    ensures err { IfErr result (IsUnwritten (schema_of schema.now).fields (metadata_size (schema_message (schema_of schema.now)))) }
 {
     check_fields(&schema.fields)?;
     let out = schema_bytes_of(alloc, schema)?;
-    if out.len() >= 1 << 31 {
-        return Err(NoForm::Size);
-    }
     Ok(out)
 }
