@@ -1,2 +1,5 @@
+pub mod Arrays
+pub mod Bodies
+pub mod Bytes
 pub mod Copies
 pub mod Orders

@@ -16,6 +16,7 @@ use nest_memory::bitmap::immutable::Bitmap;
 use nest_memory::buffer::Buffer;
 use nest_memory::datatypes::DataType;
 use nest_memory::datatypes::physical_type::{PhysicalType, PrimitiveType};
+use nest_memory::error::Error;
 use std::alloc::Global;
 
 fn bitmap_of(alloc: Global, bytes: Vec<u8>, slots: usize) -> Result<Bitmap, Fault>
@@ -24,19 +25,23 @@ fn bitmap_of(alloc: Global, bytes: Vec<u8>, slots: usize) -> Result<Bitmap, Faul
 {
     match Bitmap::try_new(alloc, bytes, slots) {
         Ok(bits) => Ok(bits),
-        Err(_) => Err(Fault::Memory),
+        Err(Error::Memory(_)) => Err(Fault::Memory),
+        Err(_) => unreachable!(),
     }
 }
 
+// The bytes that have the bits are copied, and none behind them.
 #[tactic(auto, unfolding(crate::specs::Columns::bits_in))]
 fn read_bits(alloc: Global, slots: usize, bytes: &[u8]) -> Result<Bitmap, Fault>
     ensures { Gives (λ b. b) result (bits_in slots bytes.now) }
 {
-    if slots.div_ceil(8) > bytes.len() {
+    let needed = slots.div_ceil(8);
+    if needed > bytes.len() {
         return Err(Fault::BufferShort);
     }
-    let mut copy = Vec::with_capacity(alloc, bytes.len())?;
-    copy.extend_from_slice(bytes)?;
+    let (first, _) = bytes.split_at(needed);
+    let mut copy = Vec::with_capacity(alloc, needed)?;
+    copy.extend_from_slice(first)?;
     bitmap_of(alloc, copy, slots)
 }
 
@@ -65,7 +70,8 @@ fn buffer_of<T: Stored>(alloc: Global, values: Vec<T>) -> Result<Buffer<T>, Faul
 {
     match Buffer::from_vec(alloc, values) {
         Ok(buffer) => Ok(buffer),
-        Err(_) => Err(Fault::Memory),
+        Err(Error::Memory(_)) => Err(Fault::Memory),
+        Err(_) => unreachable!(),
     }
 }
 

@@ -1,11 +1,12 @@
 //! Native values as they lie in a body.
-ghost use Rattle.std.specs.Prelude.{◌≡◌, ◌≤◌, length, map, IfOk, Some};
+ghost use Rattle.std.specs.Prelude.{◌≡◌, ◌≤◌, ◌++◌, length, map, IfOk, OnOk, Some};
 ghost use Rattle.nest_memory.specs.Native.{signed, unsigned};
 ghost use Rattle.nest_memory.specs.TypeOf.{type_of};
 ghost use Rattle.nest_memory.specs.declared.datatypes.physical_type.PrimitiveType.TheVariants as kinds;
 ghost use Rattle.nest_model.specs.Layout as layouts;
 ghost use Rattle.nest_flat.specs.AnyPrimitive.{primitive_layout};
 ghost use Rattle.ipc_layout.specs.Stored.{Form, form_of};
+ghost use Rattle.ipc_layout.specs.StoredLaws.{IsSpelled};
 
 use nest_flat::any_primitive::AnyPrimitive;
 use nest_flat::primitive::PrimitiveArray;
@@ -14,8 +15,9 @@ use nest_memory::buffer::Buffer;
 use nest_memory::datatypes::DataType;
 use nest_memory::error::Error;
 use nest_memory::types::NativeType;
+use std::alloc::AllocError;
 
-/// A native type whose values are read.
+/// A native type whose values are read and written.
 pub trait Stored: NativeType {
     ghost form: { Form };
 
@@ -27,6 +29,11 @@ pub trait Stored: NativeType {
     fn from_bytes(bytes: &[u8]) -> Self
         requires { form.size ≤ length bytes.now }
         ensures { Self.numbers result ≡ form.numbers bytes.now };
+
+    /// Appends the bytes of the value, which spell it.
+    fn put(self, out: &mut Vec<u8>) -> Result<(), AllocError>
+        ensures ok { OnOk result (out.new.items ≡ out.old.items ++ form.bytes (Self.numbers self)) }
+        ensures spelled { IsSpelled form (Self.numbers self) };
 
     /// The array of these parts in the variant of its kind.
     fn array(
@@ -53,6 +60,11 @@ impl Stored for i8 {
 
     fn from_bytes(bytes: &[u8]) -> i8 {
         i8::from_le_bytes([bytes[0]])
+    }
+
+    #[tactic(auto, using(crate::specs::StoredLaws::spelled_i8))]
+    fn put(self, out: &mut Vec<u8>) -> Result<(), AllocError> {
+        out.extend_from_slice(&self.to_le_bytes())
     }
 
     fn array(
@@ -86,6 +98,11 @@ impl Stored for i16 {
         i16::from_le_bytes([bytes[0], bytes[1]])
     }
 
+    #[tactic(auto, using(crate::specs::StoredLaws::spelled_i16))]
+    fn put(self, out: &mut Vec<u8>) -> Result<(), AllocError> {
+        out.extend_from_slice(&self.to_le_bytes())
+    }
+
     fn array(
         data_type: DataType,
         values: Buffer<i16>,
@@ -115,6 +132,11 @@ impl Stored for i32 {
 
     fn from_bytes(bytes: &[u8]) -> i32 {
         i32::from_le_bytes([bytes[0], bytes[1], bytes[2], bytes[3]])
+    }
+
+    #[tactic(auto, using(crate::specs::StoredLaws::spelled_i32))]
+    fn put(self, out: &mut Vec<u8>) -> Result<(), AllocError> {
+        out.extend_from_slice(&self.to_le_bytes())
     }
 
     fn array(
@@ -150,6 +172,11 @@ impl Stored for i64 {
         ])
     }
 
+    #[tactic(auto, using(crate::specs::StoredLaws::spelled_i64))]
+    fn put(self, out: &mut Vec<u8>) -> Result<(), AllocError> {
+        out.extend_from_slice(&self.to_le_bytes())
+    }
+
     fn array(
         data_type: DataType,
         values: Buffer<i64>,
@@ -179,6 +206,11 @@ impl Stored for u8 {
 
     fn from_bytes(bytes: &[u8]) -> u8 {
         u8::from_le_bytes([bytes[0]])
+    }
+
+    #[tactic(auto, using(crate::specs::StoredLaws::spelled_u8))]
+    fn put(self, out: &mut Vec<u8>) -> Result<(), AllocError> {
+        out.extend_from_slice(&self.to_le_bytes())
     }
 
     fn array(
@@ -212,6 +244,11 @@ impl Stored for u16 {
         u16::from_le_bytes([bytes[0], bytes[1]])
     }
 
+    #[tactic(auto, using(crate::specs::StoredLaws::spelled_u16))]
+    fn put(self, out: &mut Vec<u8>) -> Result<(), AllocError> {
+        out.extend_from_slice(&self.to_le_bytes())
+    }
+
     fn array(
         data_type: DataType,
         values: Buffer<u16>,
@@ -241,6 +278,11 @@ impl Stored for u32 {
 
     fn from_bytes(bytes: &[u8]) -> u32 {
         u32::from_le_bytes([bytes[0], bytes[1], bytes[2], bytes[3]])
+    }
+
+    #[tactic(auto, using(crate::specs::StoredLaws::spelled_u32))]
+    fn put(self, out: &mut Vec<u8>) -> Result<(), AllocError> {
+        out.extend_from_slice(&self.to_le_bytes())
     }
 
     fn array(
@@ -274,6 +316,11 @@ impl Stored for u64 {
         u64::from_le_bytes([
             bytes[0], bytes[1], bytes[2], bytes[3], bytes[4], bytes[5], bytes[6], bytes[7],
         ])
+    }
+
+    #[tactic(auto, using(crate::specs::StoredLaws::spelled_u64))]
+    fn put(self, out: &mut Vec<u8>) -> Result<(), AllocError> {
+        out.extend_from_slice(&self.to_le_bytes())
     }
 
     fn array(

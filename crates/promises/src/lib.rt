@@ -37,6 +37,9 @@
 //!
 //! Of every data type without a fault there are null and empty arrays: [`empties`].
 //!
+//! *What is read of bytes in the Arrow IPC format is what they spell, or the first fault, and what is written is read back*: `stream_of_bytes`,
+//! `bytes_of_stream`, `written_and_read` in [`streams`], so far of columns of whole numbers.
+//!
 //! # Below and above
 //!
 //! [`memory`] has what all this stands on: buffers, bitmaps and offsets are lists, and data types are trees. What follows from
@@ -56,6 +59,7 @@ pub use promises_builders as builders;
 pub use promises_empties as empties;
 pub use promises_equality as equality;
 pub use promises_flat as flat;
+pub use promises_ipc as streams;
 pub use promises_memory as memory;
 pub use promises_rows as rows;
 pub use promises_scans as scans;

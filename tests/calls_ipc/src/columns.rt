@@ -132,7 +132,13 @@ fn two_columns_use_all_nodes_and_buffers(rt: HostRuntime) {
         length: 2,
         null_count: 0,
     };
-    let regions = [region(0, 1), region(8, 8), region(3, 0), region(0, 16), region(0, 0)];
+    let regions = [
+        region(0, 1),
+        region(8, 8),
+        region(3, 0),
+        region(0, 16),
+        region(0, 0),
+    ];
     let columns = both(alloc, &[nulls, full], &regions[..4]).expect(&rt, "two columns");
     assert!(rt; columns.len() == 2);
     assert!(rt; columns[0].value(0) == AnyNative::Int32(7) && columns[0].is_null(1));

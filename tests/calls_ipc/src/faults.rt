@@ -30,6 +30,20 @@ fn one_byte_or_two_changed(rt: HostRuntime) {
         (247, 128, 247, 128, Fault::BufferRange),
         (255, 128, 255, 128, Fault::BufferRange),
         (248, 9, 248, 9, Fault::BufferSum),
+        (174, 1, 174, 1, Fault::HeaderType),
+        (174, 2, 174, 2, Fault::UnknownDictionary),
+        (168, 255, 174, 2, Fault::Flatbuffer),
+        (223, 128, 223, 128, Fault::NodeRange),
+        (224, 3, 224, 3, Fault::NodeRange),
+        (216, 3, 216, 3, Fault::RowCount),
+        (192, 3, 192, 3, Fault::RowCount),
+        (212, 0, 212, 0, Fault::NodeCount),
+        (212, 2, 212, 2, Fault::NodeCount),
+        (236, 1, 236, 1, Fault::BufferCount),
+        (248, 0, 248, 0, Fault::BufferShort),
+        (264, 7, 264, 7, Fault::BufferShort),
+        (224, 2, 224, 2, Fault::NullCount),
+        (224, 0, 224, 0, Fault::NullCount),
     ] {
         let mut stream = WORKED;
         stream[first] = a;

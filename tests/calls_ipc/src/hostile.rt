@@ -1,7 +1,11 @@
-//! Bytes that nobody wrote.
+//! Bytes that nobody wrote: each is answered, by `read_stream` and by a reader alike.
+use crate::samples::{READ, Sample};
+use crate::samples_read::bytes_of;
 use crate::streams::WORKED;
+use crate::texts::is_read;
 use crate::worked::count_batches;
 use ipc_model::Fault;
+use std::alloc::Global;
 
 #[test]
 fn each_beginning(rt: HostRuntime) {
@@ -19,17 +23,68 @@ fn each_beginning(rt: HostRuntime) {
     }
 }
 
-#[test]
-fn each_byte_changed(rt: HostRuntime) {
-    let mut read = 0;
-    for place in 0..WORKED.len() {
-        for new in [0, 255, WORKED[place].wrapping_add(1)] {
-            let mut stream = WORKED;
-            stream[place] = new;
-            if count_batches(rt.alloc(), &stream).is_ok() {
-                read += 1;
-            }
+/// Whether each beginning of a stream is answered alike.
+fn are_beginnings_read(alloc: Global, sample: &Sample) -> Result<bool, Fault> {
+    let bytes = bytes_of(alloc, sample)?;
+    for len in 0..bytes.len() + 1 {
+        if is_read(alloc, &bytes[..len]).is_none() {
+            return Ok(false);
         }
     }
-    assert!(rt; read > 296);
+    Ok(true)
+}
+
+#[test]
+fn each_beginning_of_ten_streams(rt: HostRuntime) {
+    assert!(rt; READ.len() == 10);
+    for sample in &READ {
+        let alike = are_beginnings_read(rt.alloc(), sample).expect(&rt, "no bytes");
+        assert!(rt; alike, "{}", sample.name);
+    }
+}
+
+/// How many streams are read that differ from one in a byte: it is 0, 255 or one more. Each is answered alike.
+fn count_read(alloc: Global, bytes: &mut [u8]) -> Option<usize> {
+    let mut count = 0;
+    for place in 0..bytes.len() {
+        let old = bytes[place];
+        for new in [0, 255, old.wrapping_add(1)] {
+            bytes[place] = new;
+            if is_read(alloc, bytes)? {
+                count += 1;
+            }
+        }
+        bytes[place] = old;
+    }
+    Some(count)
+}
+
+#[test]
+fn each_byte_changed(rt: HostRuntime) {
+    let mut stream = WORKED;
+    let count = count_read(rt.alloc(), &mut stream).expect(&rt, "other answers");
+    assert!(rt; count > 296);
+}
+
+/// The same of a sample.
+fn count_of(alloc: Global, name: &str) -> Option<usize> {
+    for sample in &READ {
+        if sample.name == name {
+            let mut bytes = bytes_of(alloc, sample).ok()?;
+            return count_read(alloc, &mut bytes);
+        }
+    }
+    None
+}
+
+#[test]
+fn each_byte_of_a_schema_changed(rt: HostRuntime) {
+    let count = count_of(rt.alloc(), "other_writer").expect(&rt, "other answers");
+    assert!(rt; count > 128);
+}
+
+#[test]
+fn each_byte_of_rows_without_columns_changed(rt: HostRuntime) {
+    let count = count_of(rt.alloc(), "no_columns").expect(&rt, "other answers");
+    assert!(rt; count > 152);
 }

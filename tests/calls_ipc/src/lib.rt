@@ -1,17 +1,22 @@
-//! Tests of `ipc_words`, `ipc_message`, `ipc_schema`, `ipc_batch` and `ipc_layout`: their public calls, as a crate above sees them. They are
-//! run, not proved.
+//! Tests of `ipc_words`, `ipc_message`, `ipc_schema`, `ipc_batch`, `ipc_layout` and `ipc`: their public calls, as a crate above sees them.
+//! They are run, not proved.
 //!
 //! | What the row shows | Test |
 //! |---|---|
-//! | Streams of other writers are read: one field and a batch, byte by byte; all kinds of whole numbers | `worked` |
+//! | Streams of other writers are read: one field and a batch, byte by byte, whole and batch by batch; all kinds of whole numbers | `worked` |
+//! | Streams of another program have their answers, or their faults | `samples_read` |
 //! | A schema that is written is read back, with its metadata, and so is a batch | `written` |
 //! | Each schema without a form is refused by its reason | `written::refused_schemas` |
 //! | Each word of flatbuffers once | `words` |
 //! | A column is read from a body, of each kind of whole numbers; each of its faults once | `columns` |
+//! | Columns that are written, byte by byte, of windows too, and read back; kinds that are not written | `bodies` |
+//! | Streams that are written, and read back: windows, nothing, streams of others, rows without columns; each reason not to | `streams_written` |
 //! | Each fault once | `faults` |
-//! | Each beginning of a stream, and each of its bytes changed, is answered | `hostile` |
+//! | Each beginning of ten streams, and each byte of three changed, is answered, by `read_stream` and by a reader alike | `hostile` |
 #![tactic(auto)]
 
+#[cfg(test)]
+mod bodies;
 #[cfg(test)]
 mod columns;
 #[cfg(test)]
@@ -19,7 +24,15 @@ mod faults;
 #[cfg(test)]
 mod hostile;
 #[cfg(test)]
+mod samples;
+#[cfg(test)]
+mod samples_read;
+#[cfg(test)]
 mod streams;
+#[cfg(test)]
+mod streams_written;
+#[cfg(test)]
+mod texts;
 #[cfg(test)]
 mod words;
 #[cfg(test)]

@@ -1,5 +1,6 @@
 //! Streams of other writers.
 use crate::streams::{INTEGERS, WORKED};
+use ipc::{StreamReader, read_stream};
 use ipc_batch::read_batch;
 use ipc_message::{Kind, Version, next_message};
 use ipc_model::{Fault, Node, Region};
@@ -7,32 +8,10 @@ use ipc_schema::read_schema;
 use nest_memory::datatypes::DataType;
 use std::alloc::Global;
 
-/// How many batches a stream of whole numbers has, of which the metadata alone is read.
+/// How many batches a stream has.
 pub fn count_batches(alloc: Global, bytes: &[u8]) -> Result<usize, Fault> {
-    let (_schema, mut rest) = read_schema(alloc, bytes)?;
-    let mut count = 0;
-    for _ in 0..bytes.len() {
-        let (message, behind) = next_message(rest)?;
-        rest = behind;
-        match message {
-            None => return Ok(count),
-            Some(message) => {
-                let root = message.root;
-                if root.kind != Kind::RecordBatch {
-                    return Err(Fault::HeaderType);
-                }
-                let _batch = read_batch(
-                    alloc,
-                    message.metadata,
-                    root.header,
-                    root.left,
-                    root.body_length,
-                )?;
-                count += 1;
-            }
-        }
-    }
-    Ok(count)
+    let stream = read_stream(alloc, bytes)?;
+    Ok(stream.batches.len())
 }
 
 #[test]
@@ -101,4 +80,48 @@ fn all_kinds(rt: HostRuntime) {
     assert!(rt; schema.fields[7].name.as_str() == "u8");
     assert!(rt; count_batches(alloc, &INTEGERS) == Ok(1));
     assert!(rt; count_batches(alloc, &WORKED) == Ok(1));
+}
+
+#[test]
+fn whole(rt: HostRuntime) {
+    let alloc = rt.alloc();
+    let stream = read_stream(alloc, &WORKED).expect(&rt, "no stream");
+    assert!(rt; stream.read == 296);
+    assert!(rt; stream.schema.fields[0].name.as_str() == "a");
+    assert!(rt; stream.batches.len() == 1);
+    let batch = &stream.batches[0];
+    assert!(rt; batch.rows == 2);
+    assert!(rt; batch.columns.len() == 1);
+    let column = &batch.columns[0];
+    assert!(rt; *column.data_type() == DataType::Int32);
+    assert!(rt; column.is_null(1));
+    let numbers = column.as_primitive::<i32>().expect(&rt, "another kind");
+    assert!(rt; numbers.value(0) == 7);
+}
+
+#[test]
+fn batch_by_batch(rt: HostRuntime) {
+    let alloc = rt.alloc();
+    let mut reader = StreamReader::new(alloc, &WORKED).expect(&rt, "no reader");
+    assert!(rt; reader.schema().fields.len() == 1);
+    let batch = reader.next_batch(alloc).expect(&rt, "a fault");
+    assert!(rt; batch.expect(&rt, "the end").rows == 2);
+    for _ in 0..3 {
+        assert!(rt; reader.next_batch(alloc).expect(&rt, "a fault").is_none());
+    }
+}
+
+#[test]
+fn nothing_behind_a_fault(rt: HostRuntime) {
+    let alloc = rt.alloc();
+    let mut stream = WORKED;
+    stream[174] = 1;
+    let mut reader = StreamReader::new(alloc, &stream).expect(&rt, "no reader");
+    assert!(rt; reader.next_batch(alloc).err() == Some(Fault::HeaderType));
+    assert!(rt;
+        reader
+            .next_batch(alloc)
+            .expect(&rt, "a second fault")
+            .is_none()
+    );
 }

@@ -7,7 +7,8 @@ use nest_memory::error::Error;
 use nest_parse::{ParseError, parse_type};
 use std::alloc::Global;
 
-const TEXT: &str = "struct<id: int64 not null, tags: list<item: dictionary<values=string, indices=int8, ordered=0>>, pick: dense_union<a: timestamp[s, tz=UTC]=0, b: map<string ('k'), extension<e, null>>=1>>";
+const TEXT: &str =
+    "struct<id: int64 not null, tags: list<item: dictionary<values=string, indices=int8, ordered=0>>, pick: dense_union<a: timestamp[s, tz=UTC]=0, b: map<string ('k'), extension<e, null>>=1>>";
 
 pub fn types(trial: &mut Trial, alloc: Global) -> Result<(), Wrong> {
     let first = trial.again(|| read(alloc))?;

@@ -1,7 +1,7 @@
 //! What is tried.
 
 use crate::trial::Trial;
-use crate::{arrays, builders, parsed, program, typed};
+use crate::{arrays, builders, parsed, program, streams, typed};
 use drawn_builders::wrong::Wrong;
 use std::alloc::Global;
 
@@ -23,6 +23,7 @@ pub enum Scenario {
     FortyValues,
     Listcut,
     ParsedTypes,
+    Streams,
 }
 
 impl Scenario {
@@ -44,6 +45,7 @@ impl Scenario {
             Scenario::FortyValues => typed::forty_values(trial, alloc),
             Scenario::Listcut => program::both_forms(trial, alloc),
             Scenario::ParsedTypes => parsed::types(trial, alloc),
+            Scenario::Streams => streams::both_ways(trial, alloc),
         }
     }
 }

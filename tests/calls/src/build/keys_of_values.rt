@@ -86,8 +86,7 @@ fn texts_by_keys_of_their_own(rt: HostRuntime) -> Result<(), Error> {
     let alloc = rt.alloc();
     let values: KeyedTexts<u8> = MutableDictionaryArray::new(alloc, MutableUtf8Array::new(alloc)?)?;
     let mut keyed: MutableDictionaryArray<i8, KeyedTexts<u8>> = MutableDictionaryArray::new(
-        alloc,
-        values,
+        alloc, values,
     )?;
     keyed.try_push(Some("A"))?;
     keyed.try_push(Some("B"))?;

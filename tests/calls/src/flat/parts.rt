@@ -152,23 +152,37 @@ fn nulls_of_numbers_and_truths(rt: HostRuntime) {
     ).expect(&rt, "nulls");
     let nulls = numbers.null_count();
     assert!(rt; nulls == 2);
-    let any = AnyPrimitive::of_nulls(rt.alloc(), PrimitiveType::Int32, &DataType::Int32, 2, Fill::Nulls);
+    let any = AnyPrimitive::of_nulls(
+        rt.alloc(),
+        PrimitiveType::Int32,
+        &DataType::Int32,
+        2,
+        Fill::Nulls,
+    );
     assert!(rt; counted(any) == Ok((2, 2)));
-    let truths = BooleanArray::of_nulls(rt.alloc(), &DataType::Boolean, 2, Fill::Nulls).expect(&rt, "nulls");
+    let truths = BooleanArray::of_nulls(rt.alloc(), &DataType::Boolean, 2, Fill::Nulls).expect(
+        &rt, "nulls",
+    );
     let nulls = truths.null_count();
     assert!(rt; nulls == 2);
 }
 
 #[test]
 fn nulls_of_bytes_and_texts(rt: HostRuntime) {
-    let bytes: BinaryArray<i32> = BinaryArray::of_nulls(rt.alloc(), &DataType::Binary, 2, Fill::Nulls).expect(
-        &rt, "nulls",
-    );
+    let bytes: BinaryArray<i32> = BinaryArray::of_nulls(
+        rt.alloc(),
+        &DataType::Binary,
+        2,
+        Fill::Nulls,
+    ).expect(&rt, "nulls");
     let nulls = bytes.null_count();
     assert!(rt; nulls == 2);
-    let texts: Utf8Array<i32> = Utf8Array::of_nulls(rt.alloc(), &DataType::Utf8, 2, Fill::Nulls).expect(
-        &rt, "nulls",
-    );
+    let texts: Utf8Array<i32> = Utf8Array::of_nulls(
+        rt.alloc(),
+        &DataType::Utf8,
+        2,
+        Fill::Nulls,
+    ).expect(&rt, "nulls");
     let nulls = texts.null_count();
     assert!(rt; nulls == 2);
 }

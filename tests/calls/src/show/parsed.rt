@@ -164,8 +164,13 @@ fn hidden_parts(rt: HostRuntime) -> Result<(), ParseError> {
     let list = DataType::List(boxed(alloc, "item", DataType::Utf8, true)?);
     assert!(rt; parse_type(alloc, "list<item: string>")? == list);
     let sized = DataType::FixedSizeList(boxed(alloc, "x: y", DataType::Null, false)?, 7);
-    assert!(rt; parse_type(alloc, "fixed_size_list<x: y: null not null>[7]") == Err(ParseError::Text(19)));
-    assert_eq!(rt; printed(alloc, &sized)?.as_str(), "fixed_size_list<x: y: null not null>[7]");
+    assert!(rt;
+        parse_type(alloc, "fixed_size_list<x: y: null not null>[7]") == Err(ParseError::Text(19))
+    );
+    assert_eq!(rt;
+        printed(alloc, &sized)?.as_str(),
+        "fixed_size_list<x: y: null not null>[7]"
+    );
     Ok(())
 }
 
@@ -176,7 +181,9 @@ fn boxed(
     data_type: DataType,
     is_nullable: bool,
 ) -> Result<Box<Field>, ParseError> {
-    let field = Field::new(alloc, name, data_type, is_nullable).map_err(|_| ParseError::Memory(AllocError))?;
+    let field = Field::new(alloc, name, data_type, is_nullable).map_err(|_| ParseError::Memory(
+        AllocError,
+    ))?;
     Box::new(alloc, field).map_err(|_| ParseError::Memory(AllocError))
 }
 
@@ -248,10 +255,15 @@ fn changed_bytes(rt: HostRuntime) -> Result<(), ParseError> {
                 let (Some(front), Some(back)) = (text.get(..at), text.get(at + 1..)) else {
                     continue;
                 };
-                let changed = format!(in alloc; "{front}{letter}{back}").map_err(ParseError::Memory)?;
+                let changed = format!(in alloc; "{front}{letter}{back}").map_err(
+                    ParseError::Memory,
+                )?;
                 match again(alloc, &changed) {
                     Ok(found) => assert_eq!(rt; found.as_str(), changed.as_str()),
-                    Err(ParseError::Text(stop)) => assert!(rt; stop <= changed.len(), "{changed}: {stop}"),
+                    Err(ParseError::Text(stop)) => assert!(rt;
+                        stop <= changed.len(),
+                        "{changed}: {stop}"
+                    ),
                     Err(refused) => return Err(refused),
                 }
                 count += 1;

@@ -1,0 +1,100 @@
+-- A stream that is written is read back.
+use Rattle.std.specs.Prelude.{◌≡◌, ℕ, ◌-◌, ◌^◌, ◌<◌, Bool, true, false, ◌&&◌, ◌==◌, List, [], ◌∷◌, ◌++◌, map, length, Some, None, Ok, refl}
+use Rattle.std.proofs.Common.{leb, sym, ap, ◌∙◌, append_assoc, arith}
+use Rattle.std.specs.List.{AllByRecursion, flat_map}
+use Rattle.std.proofs.lemmas.Bool.{lt-leb}
+use Rattle.std.proofs.lemmas.Bool.Decides.{Decides-eqb}
+use Rattle.std.proofs.lemmas.List.{length-append}
+use Rattle.std.proofs.lemmas.List.Concat.{flat_map-cons}
+use Rattle.nest_memory.specs.TypeTree.{TypeTree}
+use Rattle.nest_memory.specs.TypeEq.{same_type, same_type-decides}
+use Rattle.nest_model.specs.Layout.{Layout, layout_type}
+use Rattle.nest_model.specs.Meaning.{len}
+use Rattle.ipc_message.specs.MessageBytes.{metadata_size, end_mark}
+use Rattle.ipc_message.specs.MessageLaws.{end_again}
+use Rattle.ipc_schema.specs.Schemas.{SchemaTree, stream_schema_at}
+use Rattle.ipc_schema.specs.SchemaBytes.{schema_message}
+use Rattle.ipc_batch.specs.BatchLaws.{IsReadBack}
+use Rattle.ipc_layout.specs.Columns.{columns_in}
+use Rattle.ipc_layout.specs.Placed.{regions_from}
+use Rattle.ipc_layout.specs.Written.{column_node, buffers_of, columns_body, no_form, shown, AreReadBack}
+use Rattle.ipc.specs.Streams.{Arrays, record_batch_in, next_in, batches_in, types_of, stream_in}
+use Rattle.ipc.specs.StreamLaws.{one_by_one}
+use Rattle.ipc.specs.Written.{batch_tree, batch_head, batch_bytes, stream_bytes, is_column, are_columns, arrays_refusal, shown_arrays, shown_stream, IsReadAgain}
+
+first_is : (a b : Bool) → (a && b) ≡ true → a ≡ true
+first_is true b h = refl
+first_is false b h = h
+
+second_is : (a b : Bool) → (a && b) ≡ true → b ≡ true
+second_is true b h = h
+second_is false b h = cc
+
+-- columns that are those of types have just these types, and so many slots each
+pub types_are : (types : List TypeTree) (rows : ℕ) (columns : List Layout) → are_columns types rows columns ≡ true → types ≡ map layout_type columns
+types_are [] rows [] h = refl
+types_are [] rows (a ∷ columns) h = cc
+types_are (t ∷ types) rows [] h = cc
+types_are (t ∷ types) rows (a ∷ columns) h =
+    let one : t ≡ layout_type a = (same_type-decides t (layout_type a)).0 (first_is (same_type t (layout_type a)) (len a == rows) (first_is (is_column t rows a) (are_columns types rows columns) h)) in
+    let more : types ≡ map layout_type columns = types_are types rows columns (second_is (is_column t rows a) (are_columns types rows columns) h) in
+    ap (λ (x : TypeTree). x ∷ types) one ∙ ap (λ (xs : List TypeTree). layout_type a ∷ xs) more
+
+pub lengths_are : (types : List TypeTree) (rows : ℕ) (columns : List Layout) → are_columns types rows columns ≡ true → AllByRecursion (λ a. len a ≡ rows) columns
+lengths_are [] rows [] h = tt
+lengths_are [] rows (a ∷ columns) h = cc
+lengths_are (t ∷ types) rows [] h = cc
+lengths_are (t ∷ types) rows (a ∷ columns) h =
+    let long : (len a == rows) ≡ true = second_is (same_type t (layout_type a)) (len a == rows) (first_is (is_column t rows a) (are_columns types rows columns) h) in
+    ((Decides-eqb (len a) rows).0 long, lengths_are types rows columns (second_is (is_column t rows a) (are_columns types rows columns) h))
+
+-- ---- batches
+
+batch_read : (b : Arrays) → IsReadBack (batch_tree b) (batch_head b) (columns_body b.columns) → AreReadBack b.columns
+    → (types : List TypeTree) (rest : List ℕ) → are_columns types b.rows b.columns ≡ true → next_in types (batch_bytes b ++ rest) ≡ Ok (Some (shown_arrays b), rest)
+unfolding batch_bytes next_in record_batch_in
+batch_read b message body types rest h =
+    let columns : List Layout = b.columns in
+    let parts = message.parts in
+    let regrouped : batch_bytes b ++ rest ≡ batch_head b ++ (columns_body columns ++ rest) = append_assoc (batch_head b) (columns_body columns) rest in
+    let read : columns_in (λ t. t) (map layout_type columns) b.rows (columns_body columns) (record { nodes = map column_node columns; regions = regions_from 0 (buffers_of columns) }) ≡ Ok (map shown columns) =
+    body.read b.rows (lengths_are types b.rows columns h) in
+    rw (regrouped, message.again rest, message.kind, message.same_batch, message.same_body, types_are types b.rows columns h, read) refl
+
+pub batch_again : (b : Arrays) → IsReadBack (batch_tree b) (batch_head b) (columns_body b.columns) → AreReadBack b.columns → IsReadAgain b
+batch_again b message body = record { read = batch_read b message body; same = body.same }
+
+-- arrays that pass each limit are written
+pub none_refuses : (b : Arrays) → no_form b.columns ≡ None → b.rows < 2 ^ 63 → metadata_size (batch_head b) < 2 ^ 31 → arrays_refusal b ≡ None
+unfolding arrays_refusal
+none_refuses b form rows small =
+    let a : leb (2 ^ 63) b.rows ≡ false = lt-leb _ _ rows in
+    let c : leb (2 ^ 31) (metadata_size (batch_head b)) ≡ false = lt-leb _ _ small in
+    rw (form, a, c) refl
+
+end_read : (types : List TypeTree) (rest : List ℕ) → next_in types (end_mark ++ rest) ≡ Ok (None, rest)
+unfolding next_in
+end_read types rest = rw (end_again rest) refl
+
+-- batches are read back in their order, up to the end mark
+batches_again : (types : List TypeTree) (bs : List Arrays) (rest : List ℕ) → AllByRecursion IsReadAgain bs → AllByRecursion (λ b. are_columns types b.rows b.columns ≡ true) bs
+    → batches_in types (flat_map batch_bytes bs ++ (end_mark ++ rest)) ≡ Ok (map shown_arrays bs, rest)
+batches_again types [] rest ok are = rw (one_by_one types (end_mark ++ rest), end_read types rest) refl
+batches_again types (b ∷ bs) rest ok are =
+    let behind : List ℕ = flat_map batch_bytes bs ++ (end_mark ++ rest) in
+    let bytes : flat_map batch_bytes (b ∷ bs) ++ (end_mark ++ rest) ≡ batch_bytes b ++ behind =
+    ap (λ (x : List ℕ). x ++ (end_mark ++ rest)) (flat_map-cons batch_bytes b bs) ∙ append_assoc (batch_bytes b) (flat_map batch_bytes bs) (end_mark ++ rest) in
+    rw (bytes, one_by_one types (batch_bytes b ++ behind), ok.0.read types behind are.0, batches_again types bs rest ok.1 are.1) refl
+
+-- ---- streams
+
+pub stream_again : (s : SchemaTree) (bs : List Arrays) (rest : List ℕ) → ((after : List ℕ) → stream_schema_at (schema_message s ++ after) ≡ Ok (s, after)) → AllByRecursion IsReadAgain bs
+    → AllByRecursion (λ b. are_columns (types_of s) b.rows b.columns ≡ true) bs → stream_in (stream_bytes s bs ++ rest) ≡ Ok (shown_stream s bs (length (stream_bytes s bs)))
+unfolding stream_bytes stream_in
+stream_again s bs rest schema ok are =
+    let behind : List ℕ = flat_map batch_bytes bs ++ (end_mark ++ rest) in
+    let bytes : stream_bytes s bs ++ rest ≡ schema_message s ++ behind =
+    append_assoc (schema_message s) (flat_map batch_bytes bs ++ end_mark) rest ∙ ap (λ (x : List ℕ). schema_message s ++ x) (append_assoc (flat_map batch_bytes bs) end_mark rest) in
+    let size : length (stream_bytes s bs ++ rest) - length rest ≡ length (stream_bytes s bs) = omega (arith, length-append (stream_bytes s bs) rest) in
+    let again : length (schema_message s ++ behind) - length rest ≡ length (stream_bytes s bs) = ap (λ (x : List ℕ). length x - length rest) (sym bytes) ∙ size in
+    rw (bytes, schema behind, batches_again (types_of s) bs rest ok are, again) refl

@@ -1,0 +1,65 @@
+//! Arrow IPC. For every sequence of bytes the reader answers just the stream that the bytes spell, or the first fault in the order
+//! of reading, want of memory aside; what is written of a schema and batches spells them, so that reading gives them back; and
+//! nothing is written just where there is a reason, of which the first is told. So far of columns of whole numbers.
+#![tactic(auto)]
+
+ghost use Rattle.std.specs.Prelude.{◌≡◌, ◌++◌, List, ℕ, None, Ok, map, length, IfErr, IfOk, OnOk};
+ghost use Rattle.std.specs.List.{AllByRecursion};
+ghost use Rattle.std.specs.Option.{option_map};
+ghost use Rattle.ipc_model.specs.Reading.{Gives};
+ghost use Rattle.ipc_schema.specs.Schemas.{schema_of};
+ghost use Rattle.ipc.specs.Streams.{arrays_of, stream_in, stream_of};
+ghost use Rattle.ipc.specs.Readers.{next_of, reader_in, spent};
+ghost use Rattle.ipc.specs.Written.{IsRefused, IsSameBatch, shown_arrays, shown_stream, stream_bytes, stream_refusal};
+
+use ipc::{Batch, Stream, StreamReader, read_stream, write_stream};
+use ipc_model::{Fault, NoForm};
+use ipc_schema::Schema;
+use std::alloc::Global;
+
+/// The stream that bytes spell, or their first fault.
+pub fn stream_of_bytes(alloc: Global, bytes: &[u8]) -> Result<Stream, Fault>
+    ensures { Gives stream_of result (stream_in bytes.now) }
+{
+    read_stream(alloc, bytes)
+}
+
+/// A reader of the stream begins with its schema.
+pub fn reader_of_bytes(alloc: Global, bytes: &[u8]) -> Result<StreamReader<'_>, Fault>
+    ensures { Gives (λ r. r) result (reader_in bytes.now) }
+{
+    StreamReader::new(alloc, bytes)
+}
+
+/// It gives the next batch, or its first fault; nothing comes after a fault.
+pub fn next_of_reader(alloc: Global, reader: &mut StreamReader<'_>) -> Result<Option<Batch>, Fault>
+    ensures next { Gives (λ b. (option_map arrays_of b, reader.new)) result (next_of reader.old) }
+    ensures over { IfErr result (λ _. reader.new ≡ spent reader.old) }
+{
+    reader.next_batch(alloc)
+}
+
+/// What is written spells the schema and the batches, whatever stands behind it; nothing is written just where there is a reason.
+pub fn bytes_of_stream(alloc: Global, schema: &Schema, batches: &[Batch]) -> Result<Vec<u8>, NoForm>
+    ensures bytes { IfOk result (λ out. out.items ≡ stream_bytes (schema_of schema.now) (map arrays_of batches.now)) }
+    ensures again { IfOk result (λ out. (rest : List ℕ) → stream_in (out.items ++ rest) ≡ Ok (shown_stream (schema_of schema.now) (map arrays_of batches.now) (length out.items))) }
+    ensures same { OnOk result (AllByRecursion IsSameBatch (map arrays_of batches.now)) }
+    ensures form { OnOk result (stream_refusal (schema_of schema.now) (map arrays_of batches.now) ≡ None) }
+    ensures err { IfErr result (IsRefused (stream_refusal (schema_of schema.now) (map arrays_of batches.now))) }
+{
+    write_stream(alloc, schema, batches)
+}
+
+/// What is written is read back: an equal schema, as many batches, of each the same rows and the same arrays.
+pub fn written_and_read(alloc: Global, schema: &Schema, batches: &[Batch]) -> Result<Stream, NoForm>
+    ensures schema { IfOk result (λ r. schema_of r.schema ≡ schema_of schema.now) }
+    ensures batches { IfOk result (λ r. map arrays_of r.batches.items ≡ map shown_arrays (map arrays_of batches.now)) }
+    ensures same { OnOk result (AllByRecursion IsSameBatch (map arrays_of batches.now)) }
+    ensures err { IfErr result (IsRefused (stream_refusal (schema_of schema.now) (map arrays_of batches.now))) }
+{
+    let bytes = write_stream(alloc, schema, batches)?;
+    match read_stream(alloc, &bytes) {
+        Ok(stream) => Ok(stream),
+        Err(_) => Err(NoForm::Memory),
+    }
+}

@@ -1,0 +1,193 @@
+//! Columns that are written, byte by byte, and read back.
+use ipc_layout::{Left, Placed, Stored, place_columns, put_columns, read_columns};
+use ipc_model::NoForm;
+use nest_flat::any_primitive::AnyPrimitive;
+use nest_flat::primitive::PrimitiveArray;
+use nest_memory::bitmap::immutable::Bitmap;
+use nest_memory::buffer::Buffer;
+use nest_memory::datatypes::DataType;
+use nest_memory::error::Error;
+use nest_memory::types::NativeType;
+use std::alloc::Global;
+
+// Numbers, and whether each is there.
+fn array<T: NativeType>(
+    alloc: Global,
+    data_type: DataType,
+    numbers: &[T],
+    valid: &[bool],
+) -> Result<PrimitiveArray<T>, Error> {
+    let mut values = Vec::new(alloc);
+    for number in numbers {
+        values.push(*number)?;
+    }
+    let values = Buffer::from_vec(alloc, values)?;
+    let validity = Bitmap::from_bools(alloc, valid)?;
+    PrimitiveArray::try_new(data_type, values, Some(validity))
+}
+
+fn bytes_of(alloc: Global, columns: &[AnyPrimitive]) -> Result<(Placed, Vec<u8>), NoForm> {
+    let placed = place_columns(alloc, columns)?;
+    let mut out = Vec::new(alloc);
+    put_columns(&mut out, columns)?;
+    Ok((placed, out))
+}
+
+// The columns that are read of what was written of these.
+fn again(
+    alloc: Global,
+    rows: usize,
+    columns: &[AnyPrimitive],
+) -> Result<Option<Vec<AnyPrimitive>>, Error> {
+    let Ok((placed, body)) = bytes_of(alloc, columns) else {
+        return Ok(None);
+    };
+    let mut types = Vec::new(alloc);
+    for column in columns {
+        types.push(column.data_type().clone(alloc)?)?;
+    }
+    let left = Left {
+        nodes: &placed.nodes,
+        regions: &placed.regions,
+    };
+    Ok(read_columns(alloc, &types, rows, &body, left).ok())
+}
+
+#[test]
+fn seven_and_null(rt: HostRuntime) {
+    let alloc = rt.alloc();
+    let numbers = array(alloc, DataType::Int32, &[7i32, 0], &[true, false]).expect(&rt, "an array");
+    let columns = [AnyPrimitive::Int32(numbers)];
+    let (placed, body) = bytes_of(alloc, &columns).expect(&rt, "bytes");
+    assert!(rt; body.as_slice() == [1u8, 0, 0, 0, 0, 0, 0, 0, 7, 0, 0, 0, 0, 0, 0, 0].as_slice());
+    assert!(rt; placed.length == 16);
+    assert!(rt; placed.nodes[0].length == 2);
+    assert!(rt; placed.nodes[0].null_count == 1);
+    assert!(rt; placed.regions[0].offset == 0);
+    assert!(rt; placed.regions[0].length == 1);
+    assert!(rt; placed.regions[1].offset == 8);
+    assert!(rt; placed.regions[1].length == 8);
+}
+
+#[test]
+fn two_columns(rt: HostRuntime) {
+    let alloc = rt.alloc();
+    let first = array(
+        alloc,
+        DataType::Int16,
+        &[-2i16, 258, 5],
+        &[true, true, true],
+    )
+    .expect(&rt, "an array");
+    let second = array(
+        alloc,
+        DataType::UInt8,
+        &[1u8, 2, 255],
+        &[false, false, true],
+    )
+    .expect(&rt, "an array");
+    let columns = [AnyPrimitive::Int16(first), AnyPrimitive::UInt8(second)];
+    let (placed, body) = bytes_of(alloc, &columns).expect(&rt, "bytes");
+    // No validity where nothing is null, six bytes of values, then a validity and three bytes.
+    let want = [
+        254u8, 255, 2, 1, 5, 0, 0, 0, 4, 0, 0, 0, 0, 0, 0, 0, 1, 2, 255, 0, 0, 0, 0, 0,
+    ];
+    assert!(rt; body.as_slice() == want.as_slice());
+    assert!(rt; placed.length == 24);
+    assert!(rt; placed.nodes[1].null_count == 2);
+    assert!(rt; placed.regions[0].length == 0);
+    assert!(rt; placed.regions[1].offset == 0);
+    assert!(rt; placed.regions[1].length == 6);
+    assert!(rt; placed.regions[2].offset == 8);
+    assert!(rt; placed.regions[2].length == 1);
+    assert!(rt; placed.regions[3].offset == 16);
+    assert!(rt; placed.regions[3].length == 3);
+}
+
+#[test]
+fn bits_of_a_window_begin_at_bit_0(rt: HostRuntime) {
+    let alloc = rt.alloc();
+    let valid = [
+        true, false, true, true, false, true, true, true, false, true, false, false,
+    ];
+    let numbers = [1u8, 2, 3, 4, 5, 6, 7, 8, 9, 10, 11, 12];
+    for (start, count, bits) in [(1, 3, 6), (3, 9, 93), (8, 4, 2), (9, 3, 1)] {
+        let whole = array(alloc, DataType::UInt8, &numbers, &valid).expect(&rt, "an array");
+        let columns = [AnyPrimitive::UInt8(whole.sliced(start, count))];
+        let (placed, body) = bytes_of(alloc, &columns).expect(&rt, "bytes");
+        assert!(rt; body[0] == bits);
+        assert!(rt; body[1] == 0);
+        assert!(rt; body[8] == numbers[start]);
+        assert!(rt; placed.regions[0].length == (if count > 8 { 2 } else { 1 }));
+        let read = again(alloc, count, &columns)
+            .expect(&rt, "memory")
+            .expect(&rt, "columns");
+        assert!(rt; read[0] == columns[0]);
+    }
+}
+
+// Numbers that follow from a first one.
+fn next(state: u64) -> u64 {
+    state
+        .wrapping_mul(6364136223846793005)
+        .wrapping_add(1442695040888963407)
+}
+
+#[test]
+fn drawn_columns_are_read_back(rt: HostRuntime) {
+    let alloc = rt.alloc();
+    let mut state = 1;
+    for case in 0..60usize {
+        let mut values = Vec::new(alloc);
+        let mut valid = Vec::new(alloc);
+        for _ in 0..40 {
+            state = next(state);
+            assert!(rt; values.push(state.cast_signed()).is_ok());
+            assert!(rt; valid.push((state >> 40) % 5 != 0 || case % 7 == 0).is_ok());
+        }
+        let whole = array(alloc, DataType::Int64, &values, &valid).expect(&rt, "an array");
+        let start = case % 17;
+        let count = case % 23;
+        let columns = [AnyPrimitive::Int64(whole.sliced(start, count))];
+        let read = again(alloc, count, &columns)
+            .expect(&rt, "memory")
+            .expect(&rt, "columns");
+        assert!(rt; read[0] == columns[0]);
+        assert!(rt; read[0].null_count() == columns[0].null_count());
+    }
+}
+
+#[test]
+fn no_rows_and_no_columns(rt: HostRuntime) {
+    let alloc = rt.alloc();
+    let none = array::<u64>(alloc, DataType::UInt64, &[], &[]).expect(&rt, "an array");
+    let columns = [AnyPrimitive::UInt64(none)];
+    let (placed, body) = bytes_of(alloc, &columns).expect(&rt, "bytes");
+    assert!(rt; body.len() == 0);
+    assert!(rt; placed.regions.len() == 2);
+    let read = again(alloc, 0, &columns)
+        .expect(&rt, "memory")
+        .expect(&rt, "columns");
+    assert!(rt; read[0] == columns[0]);
+    let (placed, body) = bytes_of(alloc, &[]).expect(&rt, "bytes");
+    assert!(rt; body.len() == 0);
+    assert!(rt; placed.nodes.len() == 0);
+}
+
+#[test]
+fn other_kinds_are_not_written(rt: HostRuntime) {
+    let alloc = rt.alloc();
+    let wide = array(alloc, DataType::Decimal(3, 0), &[1i128], &[true]).expect(&rt, "an array");
+    let columns = [AnyPrimitive::Int128(wide)];
+    assert!(rt; place_columns(alloc, &columns).err() == Some(NoForm::Type));
+    let mut out = Vec::new(alloc);
+    assert!(rt; put_columns(&mut out, &columns) == Err(NoForm::Type));
+}
+
+#[test]
+fn values_are_little_endian(rt: HostRuntime) {
+    let mut out = Vec::new(rt.alloc());
+    assert!(rt; (-2i16).put(&mut out).is_ok());
+    assert!(rt; 258u32.put(&mut out).is_ok());
+    assert!(rt; out.as_slice() == [254u8, 255, 2, 1, 0, 0].as_slice());
+}

@@ -1,0 +1,170 @@
+//! What a reader answers, as the text that stands beside the samples.
+use ipc::{Batch, Stream, StreamReader, read_stream};
+use ipc_model::Fault;
+use nest_array::any::AnyArray;
+use nest_flat::any_native::AnyNative;
+use nest_flat::any_primitive::AnyPrimitive;
+use nest_memory::datatypes::{DataType, Field, Metadata};
+use std::alloc::Global;
+
+fn put_letters(text: &mut String, letters: &str) -> Result<(), Fault> {
+    text.push_str(" .")?;
+    for byte in letters.as_bytes() {
+        if *byte <= 32 || *byte == b'%' || *byte >= 127 {
+            write!(text, "%{byte:02x}")?;
+        } else {
+            text.push(*byte as char)?;
+        }
+    }
+    Ok(())
+}
+
+fn put_metadata(text: &mut String, metadata: &Metadata) -> Result<(), Fault> {
+    write!(text, " {}", metadata.len())?;
+    for (key, value) in metadata.iter() {
+        put_letters(text, key.as_str())?;
+        put_letters(text, value.as_str())?;
+    }
+    Ok(())
+}
+
+fn type_text(data_type: &DataType) -> &'static str {
+    match data_type {
+        DataType::Int8 => "i1",
+        DataType::Int16 => "i2",
+        DataType::Int32 => "i4",
+        DataType::Int64 => "i8",
+        DataType::UInt8 => "u1",
+        DataType::UInt16 => "u2",
+        DataType::UInt32 => "u4",
+        DataType::UInt64 => "u8",
+        _ => "another",
+    }
+}
+
+fn put_field(text: &mut String, field: &Field) -> Result<(), Fault> {
+    text.push_str("field")?;
+    put_letters(text, field.name.as_str())?;
+    text.push_str(if field.is_nullable { " 1" } else { " 0" })?;
+    put_metadata(text, &field.metadata)?;
+    text.push_str(" ")?;
+    text.push_str(type_text(&field.data_type))?;
+    text.push_str("\n")?;
+    Ok(())
+}
+
+fn put_value(text: &mut String, value: AnyNative) -> Result<(), Fault> {
+    match value {
+        AnyNative::Int8(number) => write!(text, " {number}")?,
+        AnyNative::Int16(number) => write!(text, " {number}")?,
+        AnyNative::Int32(number) => write!(text, " {number}")?,
+        AnyNative::Int64(number) => write!(text, " {number}")?,
+        AnyNative::UInt8(number) => write!(text, " {number}")?,
+        AnyNative::UInt16(number) => write!(text, " {number}")?,
+        AnyNative::UInt32(number) => write!(text, " {number}")?,
+        AnyNative::UInt64(number) => write!(text, " {number}")?,
+        _ => text.push_str(" another")?,
+    }
+    Ok(())
+}
+
+fn put_slot(text: &mut String, column: &AnyArray, i: usize) -> Result<(), Fault> {
+    match column {
+        AnyArray::Primitive(array) => {
+            if array.is_null(i) {
+                text.push_str(" N")?;
+            } else {
+                put_value(text, array.value(i))?;
+            }
+        }
+        _ => text.push_str(" another")?,
+    }
+    Ok(())
+}
+
+/// More rows are not looked at: a batch without columns may say any number.
+const ROWS: usize = 100;
+
+/// A batch and its rows, a line each.
+pub fn put_batch(text: &mut String, batch: &Batch) -> Result<(), Fault> {
+    write!(text, "batch {}\n", batch.rows)?;
+    for i in 0..batch.rows.min(ROWS) {
+        text.push_str("row")?;
+        for column in &batch.columns {
+            put_slot(text, column, i)?;
+        }
+        text.push_str("\n")?;
+    }
+    Ok(())
+}
+
+fn put_stream(text: &mut String, stream: &Stream) -> Result<(), Fault> {
+    text.push_str("metadata")?;
+    put_metadata(text, &stream.schema.metadata)?;
+    text.push_str("\n")?;
+    for field in &stream.schema.fields {
+        put_field(text, field)?;
+    }
+    for batch in &stream.batches {
+        put_batch(text, batch)?;
+    }
+    Ok(())
+}
+
+/// What a stream is, or its fault.
+pub fn answer(alloc: Global, bytes: &[u8]) -> Result<String, Fault> {
+    let mut text = String::new(alloc);
+    match read_stream(alloc, bytes) {
+        Err(fault) => write!(text, "fault {fault:?}\n")?,
+        Ok(stream) => {
+            put_stream(&mut text, &stream)?;
+            if stream.read < bytes.len() {
+                write!(text, "unread {}\n", bytes.len() - stream.read)?;
+            }
+        }
+    }
+    Ok(text)
+}
+
+// The batches that a reader gives, up to its end or its fault; nothing comes behind.
+fn put_read(text: &mut String, alloc: Global, bytes: &[u8]) -> Result<(), Fault> {
+    let mut reader = StreamReader::new(alloc, bytes)?;
+    for _ in 0..bytes.len() {
+        match reader.next_batch(alloc) {
+            Err(fault) => {
+                return match reader.next_batch(alloc)? {
+                    None => Err(fault),
+                    Some(_batch) => Ok(()),
+                };
+            }
+            Ok(None) => {
+                return match reader.next_batch(alloc)? {
+                    None => Ok(()),
+                    Some(batch) => put_batch(text, &batch),
+                };
+            }
+            Ok(Some(batch)) => put_batch(text, &batch)?,
+        }
+    }
+    Ok(())
+}
+
+fn put_whole(text: &mut String, alloc: Global, bytes: &[u8]) -> Result<(), Fault> {
+    let stream = read_stream(alloc, bytes)?;
+    for batch in &stream.batches {
+        put_batch(text, batch)?;
+    }
+    Ok(())
+}
+
+/// Whether the bytes are read, by `read_stream` and by a reader alike: both answer the same fault, or the same batches. None where
+/// they differ.
+pub fn is_read(alloc: Global, bytes: &[u8]) -> Option<bool> {
+    let mut one_by_one = String::new(alloc);
+    let mut whole = String::new(alloc);
+    let read = put_read(&mut one_by_one, alloc, bytes);
+    if read != put_whole(&mut whole, alloc, bytes) || read.is_ok() && one_by_one != whole {
+        return None;
+    }
+    Some(read.is_ok())
+}
