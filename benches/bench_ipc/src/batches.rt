@@ -26,7 +26,7 @@ pub fn schema(alloc: Global) -> Result<Schema, Error> {
 fn values(alloc: Global, n: usize) -> Result<Buffer<i64>, Error> {
     let mut values = Vec::with_capacity(alloc, n)?;
     for i in 0..n {
-        values.push_reserved(i as i64);
+        values.push(i as i64)?;
     }
     Buffer::from_vec(alloc, values)
 }
