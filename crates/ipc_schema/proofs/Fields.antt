@@ -3,16 +3,14 @@ use Rattle.std.proofs.Common.{◌≡◌, ℕ, ◌+◌, ◌<◌, ◌≤◌, List,
 use Rattle.std.proofs.lemmas.List.{drop_more, drop_all}
 use Rattle.nest_memory.specs.TypeOf.{field_of}
 use Rattle.nest_memory.specs.declared.datatypes.field.Field.{Field}
-use Rattle.nest_memory.specs.declared.datatypes.IntegerType.{IntegerType}
 use Rattle.ipc_model.specs.declared.fault.NoForm.{NoForm}
 use Rattle.std.specs.Global.{Vec}
 use Rattle.std.proofs.lemmas.List.{map_push}
-use Rattle.std.proofs.Common.{append_assoc, ◌⊎◌, inl, inr}
+use Rattle.std.proofs.Common.{append_assoc}
 use Rattle.nest_memory.specs.TypeTree.{FieldTree}
 use Rattle.ipc_words.specs.Bytes.{parts_of}
-use Rattle.ipc_words.specs.Writes.{IsTooLong, too_long_more}
 use Rattle.ipc_schema.specs.SchemaBytes.{field_bytes}
-use Rattle.ipc_schema.specs.FieldLaws.{AllFit, FieldFits}
+use Rattle.ipc_schema.specs.FieldLaws.{AllFit, FieldFits, split}
 use Rattle.ipc_schema.specs.Forms.{field_form, fields_form}
 
 pub fields_left : (fs : List Field) (i : ℕ) (f : Field) → i < length fs → f ≡ get_or fs i f → map field_of (drop i fs) ≡ field_of f ∷ map field_of (drop (i + 1) fs)
@@ -21,10 +19,10 @@ fields_left fs i f lt is = ap (λ (l : List Field). map field_of l) (drop_more f
 pub none_left : (fs : List Field) (i : ℕ) → length fs ≤ i → map field_of (drop i fs) ≡ []
 none_left fs i le = ap (λ (l : List Field). map field_of l) (drop_all i fs le)
 
-pub form_more : (fs : List Field) (i : ℕ) (f : Field) (integer : IntegerType) → i < length fs → f ≡ get_or fs i f → field_form (field_of f) ≡ Ok integer → fields_form (map field_of (drop i fs)) ≡ fields_form (map field_of fs)
+pub form_more : (fs : List Field) (i : ℕ) (f : Field) → i < length fs → f ≡ get_or fs i f → field_form (field_of f) ≡ Ok tt → fields_form (map field_of (drop i fs)) ≡ fields_form (map field_of fs)
     → fields_form (map field_of (drop (i + 1) fs)) ≡ fields_form (map field_of fs)
 unfolding fields_form
-form_more fs i f integer lt is form so_far =
+form_more fs i f lt is form so_far =
     let one : fields_form (map field_of (drop i fs)) ≡ fields_form (map field_of (drop (i + 1) fs)) = rw (fields_left fs i f lt is, form) refl in
     sym one ∙ so_far
 
@@ -46,7 +44,6 @@ bytes_left fs i f lt is = ap (λ (l : List FieldTree). map field_bytes l) (field
 pub fits_more : (fs : List Field) (i : ℕ) (f : Field) → i < length fs → f ≡ get_or fs i f → FieldFits (field_of f) → (AllFit (map field_of (drop i fs)) → AllFit (map field_of fs)) → AllFit (map field_of (drop (i + 1) fs)) → AllFit (map field_of fs)
 fits_more fs i f lt is fits so_far rest = so_far (rw (fields_left fs i f lt is) (fits, rest))
 
--- fields that have forms are only too long
-pub only_long : (fs : List FieldTree) (why : NoForm) (part whole : ℕ) → fields_form fs ≡ Ok tt → part ≤ whole → (fields_form fs ≡ Err why) ⊎ IsTooLong why part → IsTooLong why whole
-only_long fs why part whole form le (inl e) = absurd (cc (form, e))
-only_long fs why part whole form le (inr long) = too_long_more why part whole le long
+-- each of fields that are written is
+pub form_next : (fs : List Field) (i : ℕ) (f : Field) → i < length fs → f ≡ get_or fs i f → fields_form (map field_of (drop i fs)) ≡ Ok tt → (field_form (field_of f) ≡ Ok tt) × (fields_form (map field_of (drop (i + 1) fs)) ≡ Ok tt)
+form_next fs i f lt is form = split (field_of f) (map field_of (drop (i + 1) fs)) (rw (fields_left fs i f lt is) at form)

@@ -1,35 +1,63 @@
 -- Which schemas are written.
-use Rattle.std.specs.Prelude.{◌≡◌, ℕ, ◌^◌, ◌≤◌, ◌⊎◌, List, [], ◌∷◌, Result, Ok, Err, if◌then◌else◌}
+use Rattle.std.specs.Prelude.{◌≡◌, ℕ, ◌^◌, ◌≤◌, ◌⊎◌, Bool, true, false, not, nat_lt, ◌==◌, List, [], ◌∷◌, Result, Ok, Err, if◌then◌else◌}
 use Rattle.nest_memory.specs.TypeTree as types
 use Rattle.nest_memory.specs.TypeTree.{TypeTree, FieldTree, field}
-use Rattle.nest_memory.specs.declared.datatypes.IntegerType.{IntegerType}
-use Rattle.nest_memory.specs.declared.datatypes.IntegerType.TheVariants.{Int8, Int16, Int32, Int64, UInt8, UInt16, UInt32, UInt64}
 use Rattle.ipc_model.specs.declared.fault.NoForm.{NoForm}
 use Rattle.ipc_model.specs.declared.fault.NoForm.TheVariants as reasons
+use Rattle.ipc_schema.specs.Types.{is_coarse}
 use Rattle.ipc_schema.specs.Schemas.{has_key, extension_name}
-
--- the types that are written
-abbrev pub type_form : TypeTree → Result IntegerType NoForm
-type_form types.int8 = Ok Int8
-type_form types.int16 = Ok Int16
-type_form types.int32 = Ok Int32
-type_form types.int64 = Ok Int64
-type_form types.uint8 = Ok UInt8
-type_form types.uint16 = Ok UInt16
-type_form types.uint32 = Ok UInt32
-type_form types.uint64 = Ok UInt64
-type_form types.float16 = Err reasons.Float
-type_form types.float32 = Err reasons.Float
-type_form types.float64 = Err reasons.Float
-type_form t = Err reasons.Type
-
--- a field's own metadata spells no extension
-unfoldable pub field_form : FieldTree → Result IntegerType NoForm
-field_form (field name type nullable entries) = if has_key extension_name entries then Err reasons.Extension else type_form type
 
 abbrev pub then_form : {A B : Type 0} → Result A NoForm → Result B NoForm → Result B NoForm
 then_form (Ok x) next = next
 then_form (Err why) next = Err why
+
+-- a reason, unless a test passes
+abbrev pub unless : Bool → NoForm → Result (Unit {0}) NoForm
+unless true why = Ok tt
+unless false why = Err why
+
+-- a number that a table can hold
+abbrev pub number_form : ℕ → Result (Unit {0}) NoForm
+number_form n = unless (nat_lt n (2 ^ 31)) reasons.Size
+
+-- a size of slots, which is no 0
+abbrev pub size_form : ℕ → Result (Unit {0}) NoForm
+size_form n = then_form (unless (not (n == 0)) reasons.Type) (number_form n)
+
+-- the first reason why a type is not written
+abbrev pub type_form : TypeTree → Result (Unit {0}) NoForm
+type_form types.null = Ok tt
+type_form types.boolean = Ok tt
+type_form types.int8 = Ok tt
+type_form types.int16 = Ok tt
+type_form types.int32 = Ok tt
+type_form types.int64 = Ok tt
+type_form types.uint8 = Ok tt
+type_form types.uint16 = Ok tt
+type_form types.uint32 = Ok tt
+type_form types.uint64 = Ok tt
+type_form types.float16 = Err reasons.Float
+type_form types.float32 = Err reasons.Float
+type_form types.float64 = Err reasons.Float
+type_form (types.timestamp _ _) = Ok tt
+type_form types.date32 = Ok tt
+type_form types.date64 = Ok tt
+type_form (types.time32 unit) = unless (is_coarse unit) reasons.Unit
+type_form (types.time64 unit) = unless (not (is_coarse unit)) reasons.Unit
+type_form (types.duration unit) = Ok tt
+type_form (types.interval unit) = Ok tt
+type_form types.binary = Ok tt
+type_form (types.fixed_size_binary size) = size_form size
+type_form types.large_binary = Ok tt
+type_form types.utf8 = Ok tt
+type_form types.large_utf8 = Ok tt
+type_form (types.decimal digits after) = then_form (number_form digits) (number_form after)
+type_form (types.decimal256 digits after) = then_form (number_form digits) (number_form after)
+type_form t = Err reasons.Type
+
+-- the same of a field, whose own metadata spells no extension
+unfoldable pub field_form : FieldTree → Result (Unit {0}) NoForm
+field_form (field name type nullable entries) = if has_key extension_name entries then Err reasons.Extension else type_form type
 
 -- the first reason why fields are not written
 unfoldable pub fields_form : List FieldTree → Result (Unit {0}) NoForm

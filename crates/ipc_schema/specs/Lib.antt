@@ -1,8 +1,11 @@
 -- What contracts cite.
+pub mod Types
+pub mod Leaves
 pub mod Schemas
 pub mod Forms
 pub mod SchemaBytes
 pub mod MetadataLaws
+pub mod TypeLaws
 pub mod FieldLaws
 pub mod SchemaLaws
 pub mod Examples

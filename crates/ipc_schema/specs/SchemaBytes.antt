@@ -1,14 +1,15 @@
 -- The bytes of a schema that is written. Each table's vtable stands at its head, what the table names behind it, and all parts are multiples of 8.
-use Rattle.std.specs.Prelude.{ℕ, ◌+◌, Bool, true, false, List, [], ◌∷◌, ◌++◌, map, length, Result, Ok, Err}
+use Rattle.std.specs.Prelude.{ℕ, ◌+◌, Bool, List, [], ◌∷◌, ◌++◌, map, length, Option, Some, None}
 use Rattle.std.specs.Int.{from_bool}
-use Rattle.nest_memory.specs.TypeTree.{Letters, Entries, FieldTree, field}
-use Rattle.nest_memory.specs.declared.datatypes.IntegerType.{IntegerType}
-use Rattle.nest_memory.specs.declared.datatypes.IntegerType.TheVariants.{Int8, Int16, Int32, Int64, UInt8, UInt16, UInt32, UInt64}
-use Rattle.ipc_model.specs.declared.fault.NoForm.{NoForm}
+use Rattle.nest_memory.specs.TypeTree as types
+use Rattle.nest_memory.specs.TypeTree.{Letters, Entries, TypeTree, FieldTree, field}
+use Rattle.nest_memory.specs.declared.datatypes.TimeUnit.{TimeUnit}
+use Rattle.nest_memory.specs.declared.datatypes.TimeUnit.TheVariants.{Second, Millisecond, Microsecond, Nanosecond}
+use Rattle.nest_memory.specs.declared.datatypes.IntervalUnit.{IntervalUnit}
+use Rattle.nest_memory.specs.declared.datatypes.IntervalUnit.TheVariants.{YearMonth, DayTime, MonthDayNano}
 use Rattle.ipc_words.specs.Bytes.{u32_bytes, string_bytes, row_bytes}
 use Rattle.ipc_message.specs.MessageBytes.{message_bytes}
 use Rattle.ipc_message.specs.declared.message.Kind.TheVariants as kinds
-use Rattle.ipc_schema.specs.Forms.{field_form}
 use Rattle.ipc_schema.specs.Schemas.{SchemaTree}
 
 -- `KeyValue`, at 8
@@ -20,51 +21,118 @@ pair_bytes pair =
 abbrev pub entries_bytes : Entries → List ℕ
 entries_bytes entries = row_bytes 8 (map pair_bytes entries)
 
-abbrev pub bits_of : IntegerType → ℕ
-bits_of Int8 = 8
-bits_of Int16 = 16
-bits_of Int32 = 32
-bits_of Int64 = 64
-bits_of UInt8 = 8
-bits_of UInt16 = 16
-bits_of UInt32 = 32
-bits_of UInt64 = 64
+-- ---- types
 
-abbrev pub is_signed : IntegerType → Bool
-is_signed Int8 = true
-is_signed Int16 = true
-is_signed Int32 = true
-is_signed Int64 = true
-is_signed UInt8 = false
-is_signed UInt16 = false
-is_signed UInt32 = false
-is_signed UInt64 = false
+-- the tables of types stand at 12: one that has no field
+unfoldable pub no_field : List ℕ
+no_field = 4 ∷ 0 ∷ 4 ∷ 0 ∷ 0 ∷ 0 ∷ 0 ∷ 0 ∷ 0 ∷ 0 ∷ 0 ∷ 0 ∷ 12 ∷ 0 ∷ 0 ∷ 0 ∷ []
 
--- `Int`, at 8
-unfoldable pub integer_bytes : IntegerType → List ℕ
-integer_bytes type = 8 ∷ 0 ∷ 9 ∷ 0 ∷ 4 ∷ 0 ∷ 8 ∷ 0 ∷ 8 ∷ 0 ∷ 0 ∷ 0 ∷ bits_of type ∷ 0 ∷ 0 ∷ 0 ∷ from_bool (is_signed type) ∷ 0 ∷ 0 ∷ 0 ∷ 0 ∷ 0 ∷ 0 ∷ 0 ∷ []
+-- with a number in its first field
+unfoldable pub one_field : ℕ → List ℕ
+one_field a = (6 ∷ 0 ∷ 8 ∷ 0 ∷ 4 ∷ 0 ∷ 0 ∷ 0 ∷ 0 ∷ 0 ∷ 0 ∷ 0 ∷ 12 ∷ 0 ∷ 0 ∷ 0 ∷ []) ++ (u32_bytes a ++ (0 ∷ 0 ∷ 0 ∷ 0 ∷ []))
 
--- `Field`, at 24: its parts stand at 48, the type, whose table stands head bytes into it, then the children, the name, the metadata
-unfoldable pub field_head : Bool → ℕ → ℕ → ℕ → ℕ → ℕ → List ℕ
-field_head nullable tag head behind_type behind_children behind_name =
+-- with numbers in its first two
+unfoldable pub two_fields : ℕ → ℕ → List ℕ
+two_fields a b = (8 ∷ 0 ∷ 12 ∷ 0 ∷ 4 ∷ 0 ∷ 8 ∷ 0 ∷ 0 ∷ 0 ∷ 0 ∷ 0 ∷ 12 ∷ 0 ∷ 0 ∷ 0 ∷ []) ++ (u32_bytes a ++ u32_bytes b)
+
+-- in its first three
+unfoldable pub three_fields : ℕ → ℕ → ℕ → List ℕ
+three_fields a b c =
+    (10 ∷ 0 ∷ 16 ∷ 0 ∷ 4 ∷ 0 ∷ 8 ∷ 0 ∷ 12 ∷ 0 ∷ 0 ∷ 0 ∷ 12 ∷ 0 ∷ 0 ∷ 0 ∷ []) ++ (u32_bytes a ++ (u32_bytes b ++ (u32_bytes c ++ (0 ∷ 0 ∷ 0 ∷ 0 ∷ []))))
+
+abbrev pub unit_number : TimeUnit → ℕ
+unit_number Second = 0
+unit_number Millisecond = 1
+unit_number Microsecond = 2
+unit_number Nanosecond = 3
+
+abbrev pub interval_number : IntervalUnit → ℕ
+interval_number YearMonth = 0
+interval_number DayTime = 1
+interval_number MonthDayNano = 2
+
+-- `Timestamp`; the text of a zone stands behind it
+unfoldable pub timestamp_bytes : TimeUnit → Option Letters → List ℕ
+timestamp_bytes unit None = one_field (unit_number unit)
+timestamp_bytes unit (Some zone) = two_fields (unit_number unit) 4 ++ string_bytes zone
+
+-- the table of a type, by the fields that differ from their defaults; of one that is not written nothing
+unfoldable pub type_bytes : TypeTree → List ℕ
+type_bytes types.null = no_field
+type_bytes types.boolean = no_field
+type_bytes types.int8 = two_fields 8 1
+type_bytes types.int16 = two_fields 16 1
+type_bytes types.int32 = two_fields 32 1
+type_bytes types.int64 = two_fields 64 1
+type_bytes types.uint8 = two_fields 8 0
+type_bytes types.uint16 = two_fields 16 0
+type_bytes types.uint32 = two_fields 32 0
+type_bytes types.uint64 = two_fields 64 0
+type_bytes (types.timestamp unit zone) = timestamp_bytes unit zone
+type_bytes types.date32 = one_field 0
+type_bytes types.date64 = one_field 1
+type_bytes (types.time32 unit) = two_fields (unit_number unit) 32
+type_bytes (types.time64 unit) = two_fields (unit_number unit) 64
+type_bytes (types.duration unit) = one_field (unit_number unit)
+type_bytes (types.interval unit) = one_field (interval_number unit)
+type_bytes types.binary = no_field
+type_bytes (types.fixed_size_binary size) = one_field size
+type_bytes types.large_binary = no_field
+type_bytes types.utf8 = no_field
+type_bytes types.large_utf8 = no_field
+type_bytes (types.decimal digits after) = two_fields digits after
+type_bytes (types.decimal256 digits after) = three_fields digits after 256
+type_bytes t = []
+
+-- the tag of a type, in the union `Type`
+unfoldable pub type_number : TypeTree → ℕ
+type_number types.null = 1
+type_number types.boolean = 6
+type_number types.int8 = 2
+type_number types.int16 = 2
+type_number types.int32 = 2
+type_number types.int64 = 2
+type_number types.uint8 = 2
+type_number types.uint16 = 2
+type_number types.uint32 = 2
+type_number types.uint64 = 2
+type_number (types.timestamp _ _) = 10
+type_number types.date32 = 8
+type_number types.date64 = 8
+type_number (types.time32 unit) = 9
+type_number (types.time64 unit) = 9
+type_number (types.duration unit) = 18
+type_number (types.interval unit) = 11
+type_number types.binary = 4
+type_number (types.fixed_size_binary size) = 15
+type_number types.large_binary = 19
+type_number types.utf8 = 5
+type_number types.large_utf8 = 20
+type_number (types.decimal digits after) = 7
+type_number (types.decimal256 digits after) = 7
+type_number t = 0
+
+-- ---- fields
+
+-- `Field`, at 24: its parts stand at 48, the type, whose table stands 12 bytes into it, then the children, the name, the metadata
+unfoldable pub field_head : Bool → ℕ → ℕ → ℕ → ℕ → List ℕ
+field_head nullable tag behind_type behind_children behind_name =
     (18 ∷ 0 ∷ 24 ∷ 0 ∷ 4 ∷ 0 ∷ 20 ∷ 0 ∷ 21 ∷ 0 ∷ 8 ∷ 0 ∷ 0 ∷ 0 ∷ 12 ∷ 0 ∷ 16 ∷ 0 ∷ 0 ∷ 0 ∷ 0 ∷ 0 ∷ 0 ∷ 0 ∷ 24 ∷ 0 ∷ 0 ∷ 0 ∷ [])
-    ++ (u32_bytes (20 + behind_children) ++ (u32_bytes (16 + head) ++ (u32_bytes (12 + behind_type) ++ (u32_bytes (8 + behind_name) ++ (from_bool nullable ∷ tag ∷ 0 ∷ 0 ∷ [])))))
+    ++ (u32_bytes (20 + behind_children) ++ ((28 ∷ 0 ∷ 0 ∷ 0 ∷ []) ++ (u32_bytes (12 + behind_type) ++ (u32_bytes (8 + behind_name) ++ (from_bool nullable ∷ tag ∷ 0 ∷ 0 ∷ [])))))
 
-unfoldable pub field_parts : Bool → ℕ → ℕ → List ℕ → List ℕ → List ℕ → List ℕ → List ℕ
-field_parts nullable tag head type children name metadata =
-    field_head nullable tag head (length type) (length type + length children) (length type + length children + length name) ++ (type ++ (children ++ (name ++ metadata)))
+unfoldable pub field_parts : Bool → ℕ → List ℕ → List ℕ → List ℕ → List ℕ → List ℕ
+field_parts nullable tag type children name metadata =
+    field_head nullable tag (length type) (length type + length children) (length type + length children + length name) ++ (type ++ (children ++ (name ++ metadata)))
 
 -- a vector of no tables
 abbrev pub no_tables : List ℕ
 no_tables = 0 ∷ 0 ∷ 0 ∷ 0 ∷ 0 ∷ 0 ∷ 0 ∷ 0 ∷ []
 
--- the type that a field is written with
-abbrev pub form_bytes : Result IntegerType NoForm → List ℕ
-form_bytes (Ok type) = integer_bytes type
-form_bytes (Err why) = []
+abbrev pub parts_of_field : Bool → TypeTree → Letters → Entries → List ℕ
+parts_of_field nullable type name entries = field_parts nullable (type_number type) (type_bytes type) no_tables (string_bytes name) (entries_bytes entries)
 
 unfoldable pub field_bytes : FieldTree → List ℕ
-field_bytes (field name type nullable entries) = field_parts nullable 2 8 (form_bytes (field_form (field name type nullable entries))) no_tables (string_bytes name) (entries_bytes entries)
+field_bytes (field name type nullable entries) = parts_of_field nullable type name entries
 
 abbrev pub fields_bytes : List FieldTree → List ℕ
 fields_bytes fields = row_bytes 24 (map field_bytes fields)

@@ -47,7 +47,7 @@ message_long s =
 
 schema_pays : (s : SchemaTree) → SchemaFits s → schema_cost s ≤ length (part_of s)
 unfolding schema_cost
-schema_pays s fits = omega (arith, part_long s, fields_pay s.fields fits.form, row_is_long 24 (map field_bytes s.fields), entries_pay s.metadata)
+schema_pays s fits = omega (arith, part_long s, fields_pay s.fields fits.form fits.fields, row_is_long 24 (map field_bytes s.fields), entries_pay s.metadata)
 
 schema_again : (s : SchemaTree) (whole : List ℕ) (p q left : ℕ) (after : List ℕ) → SchemaFits s → From whole p (part_of s ++ after) → length whole < 2 ^ 32 → q ≡ p + 16 → schema_cost s ≤ left → schema_at whole q left ≡ Ok (s, left - schema_cost s)
 unfolding schema_at schema_bytes u32_bytes items_at schema_cost

@@ -4,22 +4,21 @@ use Rattle.std.specs.Map.{lookup}
 use Rattle.std.specs.BTreeMap.{insert_entry}
 use Rattle.std.specs.Cmp.Lexicographic.{slice_cmp}
 use Rattle.std.specs.Ordering.{nat_cmp, int_eq}
-use Rattle.std.specs.Int.{w8, w16, w32}
+use Rattle.std.specs.Int.{w8, w16}
 use Rattle.std.specs.Str.{bytes_eq}
-use Rattle.nest_memory.specs.Physical.{integer_tree}
 use Rattle.nest_memory.specs.TypeOf.{entries_of, field_of}
 use Rattle.nest_memory.specs.TypeTree.{Letters, Entries, FieldTree, field}
-use Rattle.nest_memory.specs.declared.datatypes.IntegerType.{IntegerType}
-use Rattle.nest_memory.specs.declared.datatypes.IntegerType.TheVariants.{Int8, Int16, Int32, Int64, UInt8, UInt16, UInt32, UInt64}
 use Rattle.ipc_model.specs.Reading.{◌>>=◌, check}
 use Rattle.ipc_model.specs.declared.fault.Fault.{Fault}
-use Rattle.ipc_model.specs.declared.fault.Fault.TheVariants.{NoSchema, BodyLength, Endianness, NoType, UnknownType, UnsupportedType, TypeRange, ChildCount, Metadata}
+use Rattle.ipc_model.specs.declared.fault.Fault.TheVariants.{NoSchema, BodyLength, Endianness, UnsupportedType, ChildCount, Metadata}
 use Rattle.ipc_words.specs.Words as words
-use Rattle.ipc_words.specs.Words.{natural, number_at, signed_at, offset_field, visit_table, text_at, items_at, tables_at}
+use Rattle.ipc_words.specs.Words.{number_at, signed_at, offset_field, visit_table, text_at, items_at, tables_at}
 use Rattle.ipc_message.specs.Messages.{Parts, message_at}
 use Rattle.ipc_message.specs.declared.message.Kind.{Kind}
 use Rattle.ipc_message.specs.declared.message.Kind.TheVariants as kinds
 use Rattle.ipc_schema.specs.declared.schema.Schema.{Schema}
+use Rattle.ipc_schema.specs.Types.{type_place, type_at}
+unfoldable pub use Rattle.ipc_schema.specs.Types.{integer_at}
 
 -- ---- metadata of users
 
@@ -47,31 +46,6 @@ metadata_at bytes place left = do
   items ← items_at 4 bytes place left
   with_all (tables_at (pair_at bytes) bytes items.0.count items.0.first items.1)
 
--- ---- types
-
--- where the type's table stands: a field has a type, of those that are read here
-abbrev pub type_place : ℕ → Option ℕ → Result ℕ Fault
-type_place tag None = Err NoType
-type_place tag (Some place) =
-    if tag == 0 then Err NoType
-    else (if nat_lt 26 tag then Err UnknownType else (if tag == 2 then Ok place else Err UnsupportedType))
-
--- the whole numbers of so many bits
-abbrev pub integer_of : ℕ → Bool → Result IntegerType Fault
-integer_of bits signed =
-    if bits == 8 then Ok (if signed then Int8 else UInt8)
-    else (if bits == 16 then Ok (if signed then Int16 else UInt16) else (if bits == 32 then Ok (if signed then Int32 else UInt32) else (if bits == 64 then Ok (if signed then Int64 else UInt64) else Err TypeRange)))
-
--- `Int`
-unfoldable pub integer_at : List ℕ → ℕ → ℕ → Result (IntegerType × ℕ) Fault
-integer_at bytes place left = do
-  table ← visit_table bytes place left
-  width ← words.field (signed_at w32 bytes) (pos 0) bytes table.0 0
-  sign ← words.field (number_at w8 bytes) 0 bytes table.0 1
-  bits ← natural TypeRange width
-  type ← integer_of bits (nat_lt 0 sign)
-  Ok (type, table.1)
-
 -- ---- fields
 
 -- the key by which a field spells an extension
@@ -81,7 +55,7 @@ extension_name = codes "ARROW:extension:name"
 abbrev pub has_key : Letters → Entries → Bool
 has_key key entries = is_some (lookup (λ other. bytes_eq key other) entries)
 
--- a type of whole numbers is not by a dictionary, and has no children
+-- a type that is read is not by a dictionary, and has no children
 abbrev pub plain : Option ℕ → ℕ → Result (Unit {0}) Fault
 plain (Some dictionary) children = Err UnsupportedType
 plain None children = check (children == 0) ChildCount
@@ -94,16 +68,16 @@ field_at bytes place left = do
   nullable ← words.field (number_at w8 bytes) 0 bytes table.0 1
   tag ← words.field (number_at w8 bytes) 0 bytes table.0 2
   to ← offset_field bytes table.0 3
-  place ← type_place tag to
+  kind ← type_place tag to
   to ← offset_field bytes table.0 5
   children ← items_at 4 bytes to name.1
-  integer ← integer_at bytes place children.1
+  type ← type_at kind.0 bytes kind.1 children.1
   dictionary ← offset_field bytes table.0 4
   alone ← plain dictionary children.0.count
   to ← offset_field bytes table.0 6
-  metadata ← metadata_at bytes to integer.1
+  metadata ← metadata_at bytes to type.1
   own ← check (not (has_key extension_name metadata.0)) UnsupportedType
-  Ok (field name.0 (integer_tree integer.0) (nat_lt 0 nullable) metadata.0, metadata.1)
+  Ok (field name.0 type.0 (nat_lt 0 nullable) metadata.0, metadata.1)
 
 -- ---- schemas
 

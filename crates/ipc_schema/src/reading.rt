@@ -1,21 +1,61 @@
 //! Reads the schema that a stream begins with.
 ghost use Rattle.std.specs.Prelude.{◌≡◌, ◌<◌, ◌≤◌, ◌^◌, ◌+◌, ◌*◌, map, length, IfOk, IfSome, Ok};
-ghost use Rattle.nest_memory.specs.TypeOf.{field_of};
+ghost use Rattle.nest_memory.specs.TypeOf.{entries_of, field_of};
+ghost use Rattle.nest_memory.specs.TypeTree.{field};
 ghost use Rattle.ipc_model.specs.Reading.{Gives, Spells};
 ghost use Rattle.ipc_words.specs.Words.{tables_at};
 ghost use Rattle.ipc_message.specs.Messages.{parts_of, message_of};
-ghost use Rattle.ipc_schema.specs.Schemas.{field_at as field_at_lem, schema_at as schema_at_lem, schema_parts, stream_schema_at, schema_of};
+ghost use Rattle.ipc_schema.specs.Leaves.{leaf_tree};
+ghost use Rattle.ipc_schema.specs.Schemas.{plain as plain_lem, field_at as field_at_lem, schema_at as schema_at_lem, schema_parts, stream_schema_at, schema_of};
 
 use crate::metadata::{has_key, metadata_at};
 use crate::schema::Schema;
-use crate::types::{integer_at, plain, type_place};
+use crate::leaves::{Leaf, data_type_of};
+use crate::tags::type_place;
+use crate::types::type_at;
 use ipc_message::{Kind, Message, next_message};
 use ipc_model::Fault;
 use ipc_words::{
     Items, i16_field, items_at, offset_at, offset_field, text_at, u8_field, visit_table,
 };
-use nest_memory::datatypes::{DataType, Field};
+use nest_memory::datatypes::{Field, Metadata};
 use std::alloc::Global;
+
+// That a field is not by a dictionary and has no children.
+fn plain(dictionary: Option<usize>, children: usize) -> Result<(), Fault>
+    ensures { result ≡ plain_lem dictionary children }
+{
+    match dictionary {
+        Some(_) => Err(Fault::UnsupportedType),
+        None => {
+            if children == 0 {
+                Ok(())
+            } else {
+                Err(Fault::ChildCount)
+            }
+        }
+    }
+}
+
+// A field with a name and a type of its own.
+fn field_with(
+    alloc: Global,
+    name: &str,
+    leaf: Leaf<'_>,
+    is_nullable: bool,
+    metadata: Metadata,
+) -> Result<Field, Fault>
+    ensures { Gives field_of result (Ok (field name.now (leaf_tree leaf.entry) is_nullable (entries_of metadata.entries))) }
+{
+    let name = String::from_str(alloc, name)?;
+    let data_type = data_type_of(alloc, leaf)?;
+    Ok(Field {
+        name,
+        data_type,
+        is_nullable,
+        metadata,
+    })
+}
 
 #[tactic(auto, unfolding(crate::specs::Schemas::field_at))]
 fn field_at(alloc: Global, bytes: &[u8], place: usize, left: usize) -> Result<(Field, usize), Fault>
@@ -25,22 +65,16 @@ fn field_at(alloc: Global, bytes: &[u8], place: usize, left: usize) -> Result<(F
     let (table, left) = visit_table(bytes, place, left)?;
     let (name, left) = text_at(bytes, offset_field(bytes, table, 0)?, left)?;
     let is_nullable = u8_field(bytes, table, 1)? > 0;
-    let tag = u8_field(bytes, table, 2)?;
-    let place = type_place(tag, offset_field(bytes, table, 3)?)?;
+    let number = u8_field(bytes, table, 2)?;
+    let (tag, place) = type_place(number, offset_field(bytes, table, 3)?)?;
     let (children, left) = items_at(4, bytes, offset_field(bytes, table, 5)?, left)?;
-    let (integer, left) = integer_at(bytes, place, left)?;
+    let (leaf, left) = type_at(tag, bytes, place, left)?;
     plain(offset_field(bytes, table, 4)?, children.count)?;
     let (metadata, left) = metadata_at(alloc, bytes, offset_field(bytes, table, 6)?, left)?;
     if has_key(&metadata, "ARROW:extension:name") {
         return Err(Fault::UnsupportedType);
     }
-    let name = String::from_str(alloc, name)?;
-    let field = Field {
-        name,
-        data_type: DataType::from(integer),
-        is_nullable,
-        metadata,
-    };
+    let field = field_with(alloc, name, leaf, is_nullable, metadata)?;
     Ok((field, left))
 }
 

@@ -3,29 +3,30 @@ ghost use Rattle.std.specs.Prelude.{◌≡◌, ◌<◌, ◌≤◌, ◌^◌, ◌+
 ghost use Rattle.std.specs.BTreeMap.{IsOrdered};
 ghost use Rattle.std.specs.Str.{is_utf8};
 ghost use Rattle.std.specs.String.{string_cmp};
-ghost use Rattle.nest_memory.specs.TypeOf.{field_of, entries_of};
-ghost use Rattle.ipc_words.specs.Bytes.{string_bytes as string_part, together, parts_of};
+ghost use Rattle.nest_memory.specs.TypeOf.{type_of, field_of, entries_of};
+ghost use Rattle.ipc_words.specs.Bytes.{together, parts_of};
 ghost use Rattle.ipc_words.specs.Writes.{IsTooLong};
 ghost use Rattle.ipc_message.specs.MessageBytes.{metadata_size};
 ghost use Rattle.ipc_schema.specs.Schemas.{schema_of, stream_schema_at};
-ghost use Rattle.ipc_schema.specs.Forms.{field_form as field_form_lem, fields_form, IsUnwritten};
-ghost use Rattle.ipc_schema.specs.SchemaBytes.{field_head, integer_bytes, no_tables, entries_bytes, field_bytes, field_parts, schema_bytes, schema_message};
+ghost use Rattle.ipc_schema.specs.Forms.{type_form as type_form_lem, field_form as field_form_lem, fields_form, IsUnwritten};
+ghost use Rattle.ipc_schema.specs.SchemaBytes.{field_head, entries_bytes, parts_of_field, field_bytes, field_parts, schema_bytes, schema_message};
 ghost use Rattle.ipc_schema.specs.MetadataLaws.{AreTexts};
+ghost use Rattle.ipc_schema.specs.TypeLaws.{TypeFits};
 ghost use Rattle.ipc_schema.specs.FieldLaws.{FieldFits, AllFit, name_of, nullable_of, own_entries};
 ghost use Rattle.ipc_schema.specs.SchemaLaws.{SchemaFits};
 
 use crate::metadata::{has_key, put_metadata};
 use crate::schema::Schema;
-use crate::types::{put_integer, type_form};
+use crate::type_writing::{put_type, type_form, type_number};
 use ipc_message::{Kind, put_message};
 use ipc_model::NoForm;
 use ipc_words::{put_offset, put_row, put_string};
-use nest_memory::datatypes::{Field, IntegerType, Metadata};
+use nest_memory::datatypes::{DataType, Field, Metadata};
 use std::alloc::Global;
 
-// The type that a field is written with.
+// The first reason why a field is not written.
 #[tactic(auto, unfolding(crate::specs::Forms::field_form))]
-fn field_form(field: &Field) -> Result<IntegerType, NoForm>
+fn field_form(field: &Field) -> Result<(), NoForm>
     ensures { result ≡ field_form_lem (field_of field.now) }
 {
     if has_key(&field.metadata, "ARROW:extension:name") {
@@ -58,39 +59,37 @@ fn put_head(
     out: &mut Vec<u8>,
     is_nullable: bool,
     tag: u8,
-    head: u8,
     ends: Ends,
 ) -> Result<(), NoForm>
     requires rising { (ends.type_end ≤ ends.name_end) × (ends.children_end ≤ ends.name_end) }
     requires small { ends.name_end < 2 ^ 63 }
-    ensures ok { OnOk result (out.new.items ≡ out.old.items ++ field_head is_nullable tag head ends.type_end ends.children_end ends.name_end) }
+    ensures ok { OnOk result (out.new.items ≡ out.old.items ++ field_head is_nullable tag ends.type_end ends.children_end ends.name_end) }
     ensures size { IfErr result (λ why. IsTooLong why (48 + ends.name_end)) }
 {
     out.extend_from_slice(&[
         18, 0, 24, 0, 4, 0, 20, 0, 21, 0, 8, 0, 0, 0, 12, 0, 16, 0, 0, 0, 0, 0, 0, 0, 24, 0, 0, 0,
     ])?;
     put_offset(out, 20 + ends.children_end, 0)?;
-    put_offset(out, 16, head)?;
+    out.extend_from_slice(&[28, 0, 0, 0])?;
     put_offset(out, 12 + ends.type_end, 0)?;
     put_offset(out, 8 + ends.name_end, 0)?;
     out.extend_from_slice(&[is_nullable as u8, tag, 0, 0])?;
     Ok(())
 }
 
-// A field's table and its parts; the type's table stands `head` bytes into its part.
+// A field's table and its parts.
 #[tactic(auto, unfolding(crate::specs::SchemaBytes::field_parts))]
 fn put_field(
     out: &mut Vec<u8>,
     is_nullable: bool,
     tag: u8,
-    head: u8,
     data_type: &[u8],
     children: &[u8],
     name: &[u8],
     metadata: &[u8],
 ) -> Result<(), NoForm>
-    ensures ok { OnOk result (out.new.items ≡ out.old.items ++ field_parts is_nullable tag head data_type.now children.now name.now metadata.now) }
-    ensures size { IfErr result (λ why. IsTooLong why (length (field_parts is_nullable tag head data_type.now children.now name.now metadata.now))) }
+    ensures ok { OnOk result (out.new.items ≡ out.old.items ++ field_parts is_nullable tag data_type.now children.now name.now metadata.now) }
+    ensures size { IfErr result (λ why. IsTooLong why (length (field_parts is_nullable tag data_type.now children.now name.now metadata.now))) }
 {
     if data_type.len() >= 1 << 31 || children.len() >= 1 << 31 || name.len() >= 1 << 31 {
         return Err(NoForm::Size);
@@ -103,7 +102,7 @@ fn put_field(
         children_end,
         name_end,
     };
-    put_head(out, is_nullable, tag, head, ends)?;
+    put_head(out, is_nullable, tag, ends)?;
     out.extend_from_slice(data_type)?;
     out.extend_from_slice(children)?;
     out.extend_from_slice(name)?;
@@ -116,17 +115,18 @@ fn parts_together(
     alloc: Global,
     name: &String,
     is_nullable: bool,
-    integer: IntegerType,
+    data_type: &DataType,
     own: &Metadata,
 ) -> Result<Vec<u8>, NoForm>
-    ensures ok { IfOk result (λ part. part.items ≡ field_parts is_nullable 2 8 (integer_bytes integer) no_tables (string_part (string_bytes name.now)) (entries_bytes (entries_of own.now.entries))) }
-    ensures fits { OnOk result ((is_utf8 (string_bytes name.now) ≡ true) × AreTexts (entries_of own.now.entries)) }
+    requires { type_form_lem (type_of data_type.now) ≡ Ok tt }
+    ensures ok { IfOk result (λ part. part.items ≡ parts_of_field is_nullable (type_of data_type.now) (string_bytes name.now) (entries_of own.now.entries)) }
+    ensures fits { OnOk result ((is_utf8 (string_bytes name.now) ≡ true) × TypeFits (type_of data_type.now) × AreTexts (entries_of own.now.entries)) }
     ensures rising { IsOrdered string_cmp own.now }
-    ensures size { IfErr result (λ why. IsTooLong why (length (field_parts is_nullable 2 8 (integer_bytes integer) no_tables (string_part (string_bytes name.now)) (entries_bytes (entries_of own.now.entries))))) }
+    ensures size { IfErr result (λ why. IsTooLong why (length (parts_of_field is_nullable (type_of data_type.now) (string_bytes name.now) (entries_of own.now.entries)))) }
 {
     let _len = own.len();
-    let mut data_type = Vec::new(alloc);
-    put_integer(&mut data_type, integer)?;
+    let mut table = Vec::new(alloc);
+    put_type(&mut table, data_type)?;
     let mut text = Vec::new(alloc);
     put_string(&mut text, name.as_str())?;
     let mut metadata = Vec::new(alloc);
@@ -136,9 +136,8 @@ fn parts_together(
     put_field(
         &mut out,
         is_nullable,
-        2,
-        8,
-        &data_type,
+        type_number(data_type),
+        &table,
         &children,
         &text,
         &metadata,
@@ -164,9 +163,9 @@ fn own_metadata(field: &Field) -> &Metadata
     &field.metadata
 }
 
-// The same of a field that is written with this type.
-fn field_part(alloc: Global, field: &Field, integer: IntegerType) -> Result<Vec<u8>, NoForm>
-    requires { field_form_lem (field_of field.now) ≡ Ok integer }
+// The same of a field that is written.
+fn field_part(alloc: Global, field: &Field) -> Result<Vec<u8>, NoForm>
+    requires { field_form_lem (field_of field.now) ≡ Ok tt }
     ensures ok { IfOk result (λ part. part.items ≡ field_bytes (field_of field.now)) }
     ensures fits { OnOk result (FieldFits (field_of field.now)) }
     ensures size { IfErr result (λ why. IsTooLong why (length (field_bytes (field_of field.now)))) }
@@ -175,21 +174,21 @@ fn field_part(alloc: Global, field: &Field, integer: IntegerType) -> Result<Vec<
         alloc,
         field_name(field),
         is_nullable(field),
-        integer,
+        field.data_type(),
         own_metadata(field),
     )
 }
 
 // Each field as a table.
 fn field_parts_of(alloc: Global, fields: &[Field]) -> Result<Vec<Vec<u8>>, NoForm>
+    requires { fields_form (map field_of fields.now) ≡ Ok tt }
     ensures ok { IfOk result (λ parts. parts_of parts.items ≡ map field_bytes (map field_of fields.now)) }
     ensures fits { OnOk result (AllFit (map field_of fields.now)) }
-    ensures err { IfErr result (λ why. (fields_form (map field_of fields.now) ≡ Err why) ⊎ IsTooLong why (length (together (map field_bytes (map field_of fields.now))))) }
+    ensures size { IfErr result (λ why. IsTooLong why (length (together (map field_bytes (map field_of fields.now))))) }
 {
     let mut parts = Vec::new(alloc);
     for field in fields {
-        let integer = field_form(field)?;
-        let part = field_part(alloc, field, integer)?;
+        let part = field_part(alloc, field)?;
         parts.push(part)?;
     }
     Ok(parts)

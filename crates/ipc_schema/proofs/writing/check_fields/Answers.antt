@@ -4,7 +4,7 @@ use Rattle.ipc_schema.proofs.Fields.{form_more, form_ends, form_done}
 use Rattle.ipc_schema.proofs.writing.check_fields.Goals as goal
 
 pub loop-field-preserved : goal.loop-field-preserved
-loop-field-preserved c = form_more c.args.fields.now c.loop-field.field-index c.field-item.result c.in_ok-field_form.field-0 c.loop-field-test.true c.field-item.is (sym c.in_ok-field_form.ensures) c.loop-field.invariant
+loop-field-preserved c = form_more c.args.fields.now c.loop-field.field-index c.field-item.result c.loop-field-test.true c.field-item.is (sym c.in_ok-field_form.ensures) c.loop-field.invariant
 
 pub returns-in_err-field_form : goal.returns-in_err-field_form
 returns-in_err-field_form c =

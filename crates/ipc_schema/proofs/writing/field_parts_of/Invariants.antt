@@ -1,4 +1,4 @@
-use Rattle.std.proofs.Common.{◌≡◌, ◌++◌, map, drop}
+use Rattle.std.proofs.Common.{◌≡◌, ◌++◌, map, drop, Ok}
 use Rattle.nest_memory.specs.TypeOf.{field_of}
 use Rattle.ipc_words.specs.Bytes.{parts_of}
 use Rattle.ipc_schema.specs.Forms.{fields_form}
@@ -8,7 +8,7 @@ use Rattle.ipc_schema.proofs.writing.field_parts_of.Given as goal
 
 abbrev pub invariant-loop-field : goal.invariant-loop-field
 invariant-loop-field l = record {
-  form : fields_form (map field_of (drop l.field-index l.fields)) ≡ fields_form (map field_of l.fields);
+  form : fields_form (map field_of (drop l.field-index l.fields)) ≡ Ok tt;
   parts : parts_of l.parts.items ++ map field_bytes (map field_of (drop l.field-index l.fields)) ≡ map field_bytes (map field_of l.fields);
   fits : AllFit (map field_of (drop l.field-index l.fields)) → AllFit (map field_of l.fields);
 }

@@ -1,24 +1,32 @@
 use Rattle.std.proofs.Common.{length, ap, arith}
 use Rattle.std.specs.Prelude.{string_bytes}
 use Rattle.std.proofs.lemmas.Result.{err_from_is_err_and}
-use Rattle.nest_memory.specs.TypeOf.{entries_of}
+use Rattle.nest_memory.specs.TypeOf.{type_of, entries_of}
 use Rattle.ipc_words.specs.Bytes as parts
 use Rattle.ipc_words.specs.PartLaws.{string_long}
 use Rattle.ipc_words.specs.Writes.{too_long_more}
-use Rattle.ipc_schema.specs.SchemaBytes.{integer_bytes, no_tables, entries_bytes}
+use Rattle.ipc_schema.specs.SchemaBytes.{type_number, type_bytes, no_tables, entries_bytes}
 use Rattle.ipc_schema.specs.FieldLaws.{field_parts_long}
 use Rattle.ipc_schema.proofs.writing.parts_together.Goals as goal
+
+pub returns-in_err-put_type-clause-size : goal.returns-in_err-put_type-clause-size
+returns-in_err-put_type-clause-size c =
+    let p = err_from_is_err_and c.from_residual.result c.from_residual.ensures.1 in
+    let type = type_of c.args.data_type.now in
+    let long = field_parts_long c.args.is_nullable (type_number type) (type_bytes type) no_tables (parts.string_bytes (string_bytes c.args.name.now)) (entries_bytes (entries_of c.args.own.now.entries)) in
+    rw (p.1, p.2) (too_long_more _ _ _ (omega (arith, long)) c.in_err-put_type.ensures.size)
 
 pub returns-in_err-put_string-clause-size : goal.returns-in_err-put_string-clause-size
 returns-in_err-put_string-clause-size c =
     let p = err_from_is_err_and c.from_residual-in_err-put_string.result c.from_residual-in_err-put_string.ensures.1 in
     let text = string_bytes c.args.name.now in
-    let long = field_parts_long c.args.is_nullable 2 8 (integer_bytes c.args.integer) no_tables (parts.string_bytes text) (entries_bytes (entries_of c.args.own.now.entries)) in
+    let type = type_of c.args.data_type.now in
+    let long = field_parts_long c.args.is_nullable (type_number type) (type_bytes type) no_tables (parts.string_bytes text) (entries_bytes (entries_of c.args.own.now.entries)) in
     rw (p.1, p.2) (too_long_more _ _ _ (omega (arith, long, string_long text, ap length c.as_str.ensures.value)) c.in_err-put_string.ensures.size)
 
 pub returns-in_err-put_metadata-clause-size : goal.returns-in_err-put_metadata-clause-size
 returns-in_err-put_metadata-clause-size c =
     let p = err_from_is_err_and c.from_residual-in_err-put_metadata.result c.from_residual-in_err-put_metadata.ensures.1 in
-    let text = string_bytes c.args.name.now in
-    let long = field_parts_long c.args.is_nullable 2 8 (integer_bytes c.args.integer) no_tables (parts.string_bytes text) (entries_bytes (entries_of c.args.own.now.entries)) in
+    let type = type_of c.args.data_type.now in
+    let long = field_parts_long c.args.is_nullable (type_number type) (type_bytes type) no_tables (parts.string_bytes (string_bytes c.args.name.now)) (entries_bytes (entries_of c.args.own.now.entries)) in
     rw (p.1, p.2) (too_long_more _ _ _ (omega (arith, long)) c.in_err-put_metadata.ensures.size)

@@ -11,7 +11,6 @@ use Rattle.ipc_schema.specs.Schemas.{SchemaTree, schema_of}
 use Rattle.ipc_schema.specs.SchemaBytes.{field_bytes, fields_bytes, entries_bytes, schema_bytes, schema_message}
 use Rattle.ipc_schema.specs.FieldLaws.{AllFit}
 use Rattle.ipc_schema.specs.SchemaLaws.{part_of, part_long, message_long}
-use Rattle.ipc_schema.proofs.Fields.{only_long}
 use Rattle.ipc_schema.proofs.Maps.{rising_is}
 use Rattle.ipc_schema.proofs.writing.schema_bytes_of.Goals as goal
 
@@ -20,8 +19,8 @@ returns-in_err-parts-clause-size c =
     let p = err_from_is_err_and c.from_residual.result c.from_residual.ensures.1 in
     let s : SchemaTree = schema_of c.args.schema.now in
     let le : length (together (map field_bytes s.fields)) ≤ metadata_size (schema_message s) = omega (arith, message_long s, part_long s, row_is_long 24 (map field_bytes s.fields)) in
-    let e = rw c.deref.ensures.value at c.in_err-parts.ensures.err in
-    rw (p.1, p.2) (only_long s.fields _ _ _ c.requires le e)
+    let e = rw c.deref.ensures.value at c.in_err-parts.ensures.size in
+    rw (p.1, p.2) (too_long_more _ _ _ le e)
 
 pub returns-in_err-put_row-clause-size : goal.returns-in_err-put_row-clause-size
 returns-in_err-put_row-clause-size c =
