@@ -9,3 +9,4 @@ pub mod TypeLaws
 pub mod FieldLaws
 pub mod SchemaLaws
 pub mod Examples
+pub mod TypeExamples

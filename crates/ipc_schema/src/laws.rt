@@ -2,6 +2,7 @@
 ghost use Rattle.std.specs.Prelude.{◌≡◌, ◌<◌, ◌^◌, ◌++◌, List, ℕ, [], Ok};
 ghost use Rattle.ipc_message.specs.MessageBytes.{metadata_size};
 ghost use Rattle.ipc_schema.specs.Examples.{worked_message, worked_tree};
+ghost use Rattle.ipc_schema.specs.TypeExamples.{AreDecimals, AreTimes, AreZones, AreIntervals, AreSizes};
 ghost use Rattle.ipc_schema.specs.Schemas.{SchemaTree, stream_schema_at};
 ghost use Rattle.ipc_schema.specs.SchemaBytes.{schema_message};
 ghost use Rattle.ipc_schema.specs.SchemaLaws.{SchemaFits};
@@ -9,6 +10,15 @@ ghost use Rattle.ipc_schema.specs.SchemaLaws.{SchemaFits};
 /// The message of another writer, byte by byte, spells one field.
 pub fn a_message_is_read()
     ensures { stream_schema_at worked_message ≡ Ok (worked_tree, []) }
+{}
+
+/// The fields of another writer, byte by byte, spell their types: decimals, dates and times, points in time and durations, intervals, bytes of a fixed size.
+pub fn types_are_read()
+    ensures decimals { AreDecimals }
+    ensures times { AreTimes }
+    ensures zones { AreZones }
+    ensures intervals { AreIntervals }
+    ensures sizes { AreSizes }
 {}
 
 /// The message of a schema that is written is read back, with anything behind it.

@@ -8,9 +8,9 @@ ghost use Rattle.ipc_message.specs.Messages.{parts_of, message_of};
 ghost use Rattle.ipc_schema.specs.Leaves.{leaf_tree};
 ghost use Rattle.ipc_schema.specs.Schemas.{plain as plain_lem, field_at as field_at_lem, schema_at as schema_at_lem, schema_parts, stream_schema_at, schema_of};
 
+use crate::leaves::{Leaf, data_type_of};
 use crate::metadata::{has_key, metadata_at};
 use crate::schema::Schema;
-use crate::leaves::{Leaf, data_type_of};
 use crate::tags::type_place;
 use crate::types::type_at;
 use ipc_message::{Kind, Message, next_message};

@@ -85,11 +85,7 @@ pub fn type_form(data_type: &DataType) -> Result<(), NoForm>
 fn coarse_form(has_unit: bool) -> Result<(), NoForm>
     ensures { result ≡ unless has_unit NoUnit }
 {
-    if has_unit {
-        Ok(())
-    } else {
-        Err(NoForm::Unit)
-    }
+    if has_unit { Ok(()) } else { Err(NoForm::Unit) }
 }
 
 /// The tag of a type, in the union `Type` of `Schema.fbs` of the Arrow format.

@@ -7,9 +7,7 @@ ghost use Rattle.ipc_schema.specs.Types.{bare_at as bare_at_lem, integer_of as i
 use crate::leaves::Leaf;
 use crate::tags::Tag;
 use ipc_model::Fault;
-use ipc_words::{
-    i16_field, i32_field, natural, offset_field, u8_field, visit_string, visit_table,
-};
+use ipc_words::{i16_field, i32_field, natural, offset_field, u8_field, visit_string, visit_table};
 use nest_memory::datatypes::{IntegerType, IntervalUnit, TimeUnit};
 
 #[tactic(auto, unfolding(crate::specs::Types::bare_at))]
@@ -172,11 +170,7 @@ fn time_at(bytes: &[u8], place: usize, left: usize) -> Result<(Leaf<'_>, usize),
 
 // The zone of a point in time, where it has one.
 #[tactic(auto, unfolding(crate::specs::Types::zone_at))]
-fn zone_at(
-    bytes: &[u8],
-    place: Option<usize>,
-    left: usize,
-) -> Result<(Option<&str>, usize), Fault>
+fn zone_at(bytes: &[u8], place: Option<usize>, left: usize) -> Result<(Option<&str>, usize), Fault>
     requires { length bytes.now < 2 ^ 32 }
     ensures { Spells (λ x. (option_map (λ z. z.now) x.0, x.1)) result (zone_at_lem bytes.now place left) }
 {
@@ -246,11 +240,7 @@ fn size_of(number: usize) -> Result<usize, Fault>
 }
 
 #[tactic(auto, unfolding(crate::specs::Types::fixed_size_binary_at))]
-fn fixed_size_binary_at(
-    bytes: &[u8],
-    place: usize,
-    left: usize,
-) -> Result<(Leaf<'_>, usize), Fault>
+fn fixed_size_binary_at(bytes: &[u8], place: usize, left: usize) -> Result<(Leaf<'_>, usize), Fault>
     requires { length bytes.now < 2 ^ 32 }
     ensures { Spells (λ x. (leaf_tree x.0, x.1)) result (fixed_size_binary_at_lem bytes.now place left) }
 {

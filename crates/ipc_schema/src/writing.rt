@@ -55,12 +55,7 @@ struct Ends {
 
 // A field's table, before its parts.
 #[tactic(auto, unfolding(crate::specs::SchemaBytes::field_head))]
-fn put_head(
-    out: &mut Vec<u8>,
-    is_nullable: bool,
-    tag: u8,
-    ends: Ends,
-) -> Result<(), NoForm>
+fn put_head(out: &mut Vec<u8>, is_nullable: bool, tag: u8, ends: Ends) -> Result<(), NoForm>
     requires rising { (ends.type_end ≤ ends.name_end) × (ends.children_end ≤ ends.name_end) }
     requires small { ends.name_end < 2 ^ 63 }
     ensures ok { OnOk result (out.new.items ≡ out.old.items ++ field_head is_nullable tag ends.type_end ends.children_end ends.name_end) }

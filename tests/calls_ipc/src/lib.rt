@@ -6,6 +6,7 @@
 //! | Streams of other writers are read: one field and a batch, byte by byte, whole and batch by batch; all kinds of whole numbers | `worked` |
 //! | Streams of another program have their answers, or their faults | `samples_read` |
 //! | A schema that is written is read back, with its metadata, and so is a batch | `written` |
+//! | Schemas of another program have their text, or their faults; each type is read back; schemas drawn, over every type, are read back or have the first reason of a plain model; each beginning of a message and each byte of it changed is answered | `schemas` |
 //! | Each schema without a form is refused by its reason | `written::refused_schemas` |
 //! | Each word of flatbuffers once | `words` |
 //! | A column is read from a body, of each kind of whole numbers; each of its faults once | `columns` |
@@ -28,11 +29,17 @@ mod samples;
 #[cfg(test)]
 mod samples_read;
 #[cfg(test)]
+mod schema_samples;
+#[cfg(test)]
+mod schemas;
+#[cfg(test)]
 mod streams;
 #[cfg(test)]
 mod streams_written;
 #[cfg(test)]
 mod texts;
+#[cfg(test)]
+mod type_texts;
 #[cfg(test)]
 mod words;
 #[cfg(test)]

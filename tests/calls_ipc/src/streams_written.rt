@@ -186,9 +186,9 @@ fn a_schema_without_a_form(rt: HostRuntime) {
     let floats = schema(alloc, DataType::Float32).expect(&rt, "a schema");
     let one = batch(alloc, 1, 2, 9).expect(&rt, "a batch");
     assert!(rt; reason(alloc, &floats, one) == Some(NoForm::Float));
-    let texts = schema(alloc, DataType::Utf8).expect(&rt, "a schema");
+    let sizeless = schema(alloc, DataType::FixedSizeBinary(0)).expect(&rt, "a schema");
     let other = batch(alloc, 1, 2, 9).expect(&rt, "a batch");
-    assert!(rt; reason(alloc, &texts, other) == Some(NoForm::Type));
+    assert!(rt; reason(alloc, &sizeless, other) == Some(NoForm::Type));
 }
 
 #[test]

@@ -1,57 +1,11 @@
 //! What a reader answers, as the text that stands beside the samples.
+use crate::type_texts::put_schema;
 use ipc::{Batch, Stream, StreamReader, read_stream};
 use ipc_model::Fault;
 use nest_array::any::AnyArray;
 use nest_flat::any_native::AnyNative;
 use nest_flat::any_primitive::AnyPrimitive;
-use nest_memory::datatypes::{DataType, Field, Metadata};
 use std::alloc::Global;
-
-fn put_letters(text: &mut String, letters: &str) -> Result<(), Fault> {
-    text.push_str(" .")?;
-    for byte in letters.as_bytes() {
-        if *byte <= 32 || *byte == b'%' || *byte >= 127 {
-            write!(text, "%{byte:02x}")?;
-        } else {
-            text.push(*byte as char)?;
-        }
-    }
-    Ok(())
-}
-
-fn put_metadata(text: &mut String, metadata: &Metadata) -> Result<(), Fault> {
-    write!(text, " {}", metadata.len())?;
-    for (key, value) in metadata.iter() {
-        put_letters(text, key.as_str())?;
-        put_letters(text, value.as_str())?;
-    }
-    Ok(())
-}
-
-fn type_text(data_type: &DataType) -> &'static str {
-    match data_type {
-        DataType::Int8 => "i1",
-        DataType::Int16 => "i2",
-        DataType::Int32 => "i4",
-        DataType::Int64 => "i8",
-        DataType::UInt8 => "u1",
-        DataType::UInt16 => "u2",
-        DataType::UInt32 => "u4",
-        DataType::UInt64 => "u8",
-        _ => "another",
-    }
-}
-
-fn put_field(text: &mut String, field: &Field) -> Result<(), Fault> {
-    text.push_str("field")?;
-    put_letters(text, field.name.as_str())?;
-    text.push_str(if field.is_nullable { " 1" } else { " 0" })?;
-    put_metadata(text, &field.metadata)?;
-    text.push_str(" ")?;
-    text.push_str(type_text(&field.data_type))?;
-    text.push_str("\n")?;
-    Ok(())
-}
 
 fn put_value(text: &mut String, value: AnyNative) -> Result<(), Fault> {
     match value {
@@ -99,12 +53,7 @@ pub fn put_batch(text: &mut String, batch: &Batch) -> Result<(), Fault> {
 }
 
 fn put_stream(text: &mut String, stream: &Stream) -> Result<(), Fault> {
-    text.push_str("metadata")?;
-    put_metadata(text, &stream.schema.metadata)?;
-    text.push_str("\n")?;
-    for field in &stream.schema.fields {
-        put_field(text, field)?;
-    }
+    put_schema(text, &stream.schema)?;
     for batch in &stream.batches {
         put_batch(text, batch)?;
     }

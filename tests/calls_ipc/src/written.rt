@@ -64,7 +64,7 @@ fn refused_schemas(rt: HostRuntime) {
     let alloc = rt.alloc();
     for (data_type, want) in [
         (DataType::Float32, NoForm::Float),
-        (DataType::Utf8, NoForm::Type),
+        (DataType::Struct(Vec::new(alloc)), NoForm::Type),
     ] {
         let mut schema = schema_of(alloc).expect(&rt, "no schema");
         let field = of_one(alloc, "f", data_type, true).expect(&rt, "no field");

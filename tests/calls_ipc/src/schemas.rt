@@ -1,0 +1,256 @@
+//! Schemas of each type: those of another program, and those that are written and read back.
+use crate::samples_read::bytes_of;
+use crate::schema_samples::{REFUSED_SCHEMAS, SCHEMAS};
+use crate::type_texts::schema_answer;
+use drawn::numbers::Draw;
+use drawn::start::START;
+use drawn::types::draw_type;
+use ipc_model::{Fault, NoForm};
+use ipc_schema::{Schema, read_schema, write_schema};
+use nest_memory::datatypes::{DataType, Field, IntervalUnit, Metadata, TimeUnit};
+use std::alloc::Global;
+use std::collections::BTreeMap;
+
+#[test]
+fn of_another_program(rt: HostRuntime) {
+    for sample in &SCHEMAS {
+        let bytes = bytes_of(rt.alloc(), sample).expect(&rt, "no bytes");
+        let text = schema_answer(rt.alloc(), &bytes).expect(&rt, "no text");
+        assert!(rt; text.as_str() == sample.answer, "{}: {text}", sample.name);
+    }
+}
+
+#[test]
+fn refused_of_another_program(rt: HostRuntime) {
+    for sample in &REFUSED_SCHEMAS {
+        let bytes = bytes_of(rt.alloc(), sample).expect(&rt, "no bytes");
+        let text = schema_answer(rt.alloc(), &bytes).expect(&rt, "no text");
+        assert!(rt; text.as_str() == sample.answer, "{}: {text}", sample.name);
+    }
+}
+
+fn field_of(alloc: Global, data_type: DataType) -> Result<Field, NoForm> {
+    Field::new(alloc, "f", data_type, true).map_err(|_| NoForm::Memory)
+}
+
+fn schema_of(alloc: Global, data_type: DataType) -> Result<Schema, NoForm> {
+    let mut fields = Vec::new(alloc);
+    fields.push(field_of(alloc, data_type)?)?;
+    Ok(Schema {
+        fields,
+        metadata: BTreeMap::new(alloc),
+    })
+}
+
+/// The first reason why a schema of the type is not written; None where it is read back as it was.
+fn reason(alloc: Global, data_type: DataType) -> Result<Option<NoForm>, Fault> {
+    let schema = schema_of(alloc, data_type).map_err(|_| Fault::Memory)?;
+    match write_schema(alloc, &schema) {
+        Err(why) => Ok(Some(why)),
+        Ok(bytes) => {
+            let (read, rest) = read_schema(alloc, &bytes)?;
+            if read.fields == schema.fields && rest.is_empty() {
+                Ok(None)
+            } else {
+                Err(Fault::Block)
+            }
+        }
+    }
+}
+
+const UNITS: [TimeUnit; 4] = [
+    TimeUnit::Second,
+    TimeUnit::Millisecond,
+    TimeUnit::Microsecond,
+    TimeUnit::Nanosecond,
+];
+
+#[test]
+fn each_unit(rt: HostRuntime) {
+    let alloc = rt.alloc();
+    for (place, unit) in UNITS.into_iter().enumerate() {
+        let zone = String::from_str(alloc, "Europe/Oslo").expect(&rt, "no memory");
+        let short = (place > 1).then_some(NoForm::Unit);
+        let long = (place < 2).then_some(NoForm::Unit);
+        for (data_type, want) in [
+            (DataType::Time32(unit), short),
+            (DataType::Time64(unit), long),
+            (DataType::Duration(unit), None),
+            (DataType::Timestamp(unit, None), None),
+            (DataType::Timestamp(unit, Some(String::new(alloc))), None),
+            (DataType::Timestamp(unit, Some(zone)), None),
+        ] {
+            assert!(rt; reason(alloc, data_type) == Ok(want));
+        }
+    }
+}
+
+#[test]
+fn each_type_without_a_unit(rt: HostRuntime) {
+    let alloc = rt.alloc();
+    for data_type in [
+        DataType::Null,
+        DataType::Boolean,
+        DataType::Int8,
+        DataType::Int16,
+        DataType::Int32,
+        DataType::Int64,
+        DataType::UInt8,
+        DataType::UInt16,
+        DataType::UInt32,
+        DataType::UInt64,
+        DataType::Date32,
+        DataType::Date64,
+        DataType::Interval(IntervalUnit::YearMonth),
+        DataType::Interval(IntervalUnit::DayTime),
+        DataType::Interval(IntervalUnit::MonthDayNano),
+        DataType::Binary,
+        DataType::LargeBinary,
+        DataType::Utf8,
+        DataType::LargeUtf8,
+        DataType::FixedSizeBinary(1),
+        DataType::FixedSizeBinary((1 << 31) - 1),
+        DataType::Decimal(0, 0),
+        DataType::Decimal((1 << 31) - 1, (1 << 31) - 1),
+        DataType::Decimal256(76, 38),
+    ] {
+        assert!(rt; reason(alloc, data_type) == Ok(None));
+    }
+}
+
+#[test]
+fn types_without_a_form(rt: HostRuntime) {
+    let alloc = rt.alloc();
+    for (data_type, want) in [
+        (DataType::Float16, NoForm::Float),
+        (DataType::Float32, NoForm::Float),
+        (DataType::Float64, NoForm::Float),
+        (DataType::FixedSizeBinary(0), NoForm::Type),
+        (DataType::FixedSizeBinary(1 << 31), NoForm::Size),
+        (DataType::Decimal(1 << 31, 0), NoForm::Size),
+        (DataType::Decimal(0, 1 << 31), NoForm::Size),
+        (DataType::Decimal256(1 << 31, 0), NoForm::Size),
+        (DataType::Decimal256(0, usize::MAX), NoForm::Size),
+    ] {
+        assert!(rt; reason(alloc, data_type) == Ok(Some(want)));
+    }
+}
+
+/// The first reason why a type is not written, by a plain model.
+fn wanted(data_type: &DataType) -> Option<NoForm> {
+    match data_type {
+        DataType::Time32(TimeUnit::Microsecond | TimeUnit::Nanosecond) => Some(NoForm::Unit),
+        DataType::Time64(TimeUnit::Second | TimeUnit::Millisecond) => Some(NoForm::Unit),
+        DataType::List(_)
+        | DataType::LargeList(_)
+        | DataType::FixedSizeList(_, _)
+        | DataType::Struct(_)
+        | DataType::Map(_, _)
+        | DataType::Union(_, _, _)
+        | DataType::Dictionary(_, _, _)
+        | DataType::Extension(_, _, _) => Some(NoForm::Type),
+        _ => None,
+    }
+}
+
+fn wanted_of(fields: &[Field]) -> Option<NoForm> {
+    for field in fields {
+        let why = wanted(&field.data_type);
+        if why.is_some() {
+            return why;
+        }
+    }
+    None
+}
+
+fn draw_metadata(alloc: Global, draw: &mut Draw) -> Result<Metadata, NoForm> {
+    let mut metadata = BTreeMap::new(alloc);
+    for _ in 0..draw.below(3) {
+        let key = String::from_str(alloc, ["", "k", "key", "\u{e9}"][draw.below(4)])?;
+        let value = String::from_str(alloc, ["", "v", "eight by"][draw.below(3)])?;
+        metadata.insert(key, value)?;
+    }
+    Ok(metadata)
+}
+
+fn draw_schema(alloc: Global, draw: &mut Draw, depth: usize) -> Result<Schema, NoForm> {
+    let mut fields = Vec::new(alloc);
+    for _ in 0..draw.below(4) {
+        let data_type = draw_type(alloc, draw, depth).map_err(|_| NoForm::Memory)?;
+        let name = String::from_str(alloc, ["a", "", "a longer name"][draw.below(3)])?;
+        fields.push(Field {
+            name,
+            data_type,
+            is_nullable: draw.truth(),
+            metadata: draw_metadata(alloc, draw)?,
+        })?;
+    }
+    let metadata = draw_metadata(alloc, draw)?;
+    Ok(Schema { fields, metadata })
+}
+
+/// Whether a schema is read back, or is refused by the reason that the model has.
+fn is_answered(alloc: Global, schema: &Schema) -> bool {
+    match write_schema(alloc, schema) {
+        Err(why) => wanted_of(&schema.fields) == Some(why),
+        Ok(bytes) => match read_schema(alloc, &bytes) {
+            Err(_) => false,
+            Ok((read, rest)) => {
+                rest.is_empty()
+                    && wanted_of(&schema.fields).is_none()
+                    && read.fields == schema.fields
+                    && read.metadata == schema.metadata
+            }
+        },
+    }
+}
+
+const DRAWN: u64 = 31;
+
+#[test]
+fn drawn_schemas(rt: HostRuntime) {
+    for case in 0..2000 {
+        let mut draw = Draw::new(START, DRAWN, case);
+        let schema = draw_schema(rt.alloc(), &mut draw, case % 2).expect(&rt, "no schema");
+        assert!(rt; is_answered(rt.alloc(), &schema), "case {case}");
+    }
+}
+
+#[test]
+fn each_beginning_of_a_message(rt: HostRuntime) {
+    for sample in &SCHEMAS {
+        let bytes = bytes_of(rt.alloc(), sample).expect(&rt, "no bytes");
+        for len in 1..bytes.len() {
+            let fault = read_schema(rt.alloc(), &bytes[..len]).err();
+            assert!(rt; fault == Some(Fault::Truncated), "{}: {len}", sample.name);
+        }
+    }
+}
+
+/// How many messages are read that differ from one in a byte: it is 0, 255 or one more. What is read of each is written and read back.
+fn count_read(alloc: Global, bytes: &mut [u8]) -> Option<usize> {
+    let mut count = 0;
+    for place in 0..bytes.len() {
+        let old = bytes[place];
+        for new in [0, 255, old.wrapping_add(1)] {
+            bytes[place] = new;
+            if let Ok((schema, _)) = read_schema(alloc, bytes) {
+                if !is_answered(alloc, &schema) {
+                    return None;
+                }
+                count += 1;
+            }
+        }
+        bytes[place] = old;
+    }
+    Some(count)
+}
+
+#[test]
+fn each_byte_changed(rt: HostRuntime) {
+    for sample in &SCHEMAS {
+        let mut bytes = bytes_of(rt.alloc(), sample).expect(&rt, "no bytes");
+        let count = count_read(rt.alloc(), &mut bytes).expect(&rt, "not read back");
+        assert!(rt; count > bytes.len() / 2, "{}: {count}", sample.name);
+    }
+}
