@@ -1,9 +1,11 @@
 -- Which schemas are written.
 use Rattle.std.specs.Prelude.{◌≡◌, ℕ, ◌^◌, ◌≤◌, ◌⊎◌, Bool, true, false, not, nat_lt, ◌==◌, List, [], ◌∷◌, Result, Ok, Err, if◌then◌else◌}
+use Rattle.std.proofs.Common.{inl, inr, arith}
 use Rattle.nest_memory.specs.TypeTree as types
 use Rattle.nest_memory.specs.TypeTree.{TypeTree, FieldTree, field}
 use Rattle.ipc_model.specs.declared.fault.NoForm.{NoForm}
 use Rattle.ipc_model.specs.declared.fault.NoForm.TheVariants as reasons
+use Rattle.ipc_words.specs.Writes.{IsTooLong}
 use Rattle.ipc_schema.specs.Types.{is_coarse}
 use Rattle.ipc_schema.specs.Schemas.{has_key, extension_name}
 
@@ -67,3 +69,14 @@ fields_form (f ∷ fs) = then_form (field_form f) (fields_form fs)
 -- why a schema is not written: for want of memory, for a field, or since its message of so many bytes passes 2^31 - 1
 abbrev pub IsUnwritten : List FieldTree → ℕ → NoForm → Type 0
 IsUnwritten fields long why = (why ≡ reasons.Memory) ⊎ ((fields_form fields ≡ Err why) ⊎ ((fields_form fields ≡ Ok tt) × (why ≡ reasons.Size) × (2 ^ 31 ≤ long)))
+
+-- what is longer is not written either
+pub unwritten_more : (fields : List FieldTree) (part whole : ℕ) (why : NoForm) → part ≤ whole → IsUnwritten fields part why → IsUnwritten fields whole why
+unwritten_more fields part whole why le (inl memory) = inl memory
+unwritten_more fields part whole why le (inr (inl reason)) = inr (inl reason)
+unwritten_more fields part whole why le (inr (inr (form, size, long))) = inr (inr (form, size, omega arith))
+
+-- nor is what is too long, though each field is
+pub long_form : (fields : List FieldTree) (long : ℕ) (why : NoForm) → fields_form fields ≡ Ok tt → IsTooLong why long → IsUnwritten fields long why
+long_form fields long why form (inl memory) = inl memory
+long_form fields long why form (inr (size, past)) = inr (inr (form, size, past))

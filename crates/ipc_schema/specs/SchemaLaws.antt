@@ -5,7 +5,7 @@ use Rattle.ipc_words.specs.Words.{offset_at, field_place, visit_table, items_at}
 use Rattle.ipc_words.specs.Bytes.{u32_bytes}
 use Rattle.ipc_words.specs.Laws.{From, From-length, From_next}
 use Rattle.ipc_words.specs.PartLaws.{From_at, offset_in, table_in, visit_in, field_in, field_out}
-use Rattle.ipc_words.specs.RowLaws.{row_again, row_is_long}
+use Rattle.ipc_words.specs.RowLaws.{IsRead, row_again, row_is_long}
 use Rattle.ipc_message.specs.Messages.{message_at}
 use Rattle.ipc_message.specs.MessageBytes.{root_bytes, message_bytes, metadata_size, framed_bytes, padding}
 use Rattle.ipc_message.specs.MessageLaws.{padded, padded_long, padding_long, framed_long, root_long, written_parts, message_again, written_part}
@@ -45,7 +45,7 @@ message_long s =
     let framed : length (message_bytes kinds.Schema 0 16 (part_of s)) ≡ length (framed_bytes metadata) = unfold message_bytes in refl in
     omega (arith, framed, framed_long metadata, root_long kinds.Schema 0 16 (part_of s))
 
-schema_pays : (s : SchemaTree) → SchemaFits s → schema_cost s ≤ length (part_of s)
+pub schema_pays : (s : SchemaTree) → SchemaFits s → schema_cost s ≤ length (part_of s)
 unfolding schema_cost
 schema_pays s fits = omega (arith, part_long s, fields_pay s.fields fits.form fits.fields, row_is_long 24 (map field_bytes s.fields), entries_pay s.metadata)
 
@@ -72,6 +72,13 @@ schema_again s whole p q left after fits h small at le =
     let m : metadata_at whole (Some (p + 16 + 4 + 12 + length row)) rest ≡ Ok (s.metadata, rest - entries_cost s.metadata) = metadata_again s.metadata whole (p + 16 + 4 + 12 + length row) rest after fits.texts fits.rising second small (omega arith) in
     let spent : rest - entries_cost s.metadata ≡ left - (8 + row_cost s + entries_cost s.metadata) = omega arith in
     rw (at, v, f0, f1, o1, r.vector, r.tables, f2, o2, there, m, spent) refl
+
+-- wherever the part stands
+pub table_again : (s : SchemaTree) → SchemaFits s → IsRead schema_at 16 (part_of s) s (schema_cost s)
+table_again s fits = record {
+  law = λ whole p q left after h small at le. schema_again s whole p q left after fits h small at le;
+  long = omega (arith, part_long s);
+}
 
 -- the message of a schema is read, and what stands behind it is left
 pub stream_again : (s : SchemaTree) (rest : List ℕ) → SchemaFits s → metadata_size (schema_message s) < 2 ^ 31 → stream_schema_at (schema_message s ++ rest) ≡ Ok (s, rest)

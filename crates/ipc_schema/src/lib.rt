@@ -11,6 +11,6 @@ mod type_writing;
 mod types;
 mod writing;
 
-pub use reading::read_schema;
+pub use reading::{read_schema, schema_at};
 pub use schema::Schema;
-pub use writing::write_schema;
+pub use writing::{schema_table, write_schema};

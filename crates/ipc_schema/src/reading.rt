@@ -100,8 +100,9 @@ fn fields_at(
     Ok((fields, rest))
 }
 
+/// The schema of a table of metadata, and what is left to spend.
 #[tactic(auto, unfolding(crate::specs::Schemas::schema_at))]
-fn schema_at(
+pub fn schema_at(
     alloc: Global,
     bytes: &[u8],
     place: usize,

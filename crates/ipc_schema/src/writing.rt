@@ -7,13 +7,14 @@ ghost use Rattle.nest_memory.specs.TypeOf.{type_of, field_of, entries_of};
 ghost use Rattle.ipc_words.specs.Bytes.{together, parts_of};
 ghost use Rattle.ipc_words.specs.Writes.{IsTooLong};
 ghost use Rattle.ipc_message.specs.MessageBytes.{metadata_size};
-ghost use Rattle.ipc_schema.specs.Schemas.{schema_of, stream_schema_at};
+ghost use Rattle.ipc_words.specs.RowLaws.{IsRead};
+ghost use Rattle.ipc_schema.specs.Schemas.{schema_of, schema_at, stream_schema_at};
 ghost use Rattle.ipc_schema.specs.Forms.{type_form as type_form_lem, field_form as field_form_lem, fields_form, IsUnwritten};
 ghost use Rattle.ipc_schema.specs.SchemaBytes.{field_head, entries_bytes, parts_of_field, field_bytes, field_parts, schema_bytes, schema_message};
 ghost use Rattle.ipc_schema.specs.MetadataLaws.{AreTexts};
 ghost use Rattle.ipc_schema.specs.TypeLaws.{TypeFits};
 ghost use Rattle.ipc_schema.specs.FieldLaws.{FieldFits, AllFit, name_of, nullable_of, own_entries};
-ghost use Rattle.ipc_schema.specs.SchemaLaws.{SchemaFits};
+ghost use Rattle.ipc_schema.specs.SchemaLaws.{SchemaFits, part_of, schema_cost};
 
 use crate::metadata::{has_key, put_metadata};
 use crate::schema::Schema;
@@ -205,13 +206,12 @@ fn put_schema(out: &mut Vec<u8>, fields: &[u8], metadata: &[u8]) -> Result<(), N
     Ok(())
 }
 
-// The message of a schema whose fields are written.
+// The table of a schema whose fields are written, with what it names.
 fn schema_bytes_of(alloc: Global, schema: &Schema) -> Result<Vec<u8>, NoForm>
     requires { fields_form (schema_of schema.now).fields ≡ Ok tt }
-    ensures ok { IfOk result (λ out. out.items ≡ schema_message (schema_of schema.now)) }
+    ensures ok { IfOk result (λ part. part.items ≡ part_of (schema_of schema.now)) }
     ensures fits { OnOk result (SchemaFits (schema_of schema.now)) }
-    ensures small { OnOk result (metadata_size (schema_message (schema_of schema.now)) < 2 ^ 31) }
-    ensures size { IfErr result (λ why. IsTooLong why (metadata_size (schema_message (schema_of schema.now)))) }
+    ensures size { IfErr result (λ why. IsTooLong why (length (part_of (schema_of schema.now)))) }
 {
     let mut fields = Vec::new(alloc);
     let parts = field_parts_of(alloc, &schema.fields)?;
@@ -220,9 +220,20 @@ fn schema_bytes_of(alloc: Global, schema: &Schema) -> Result<Vec<u8>, NoForm>
     put_metadata(alloc, &mut metadata, &schema.metadata)?;
     let mut part = Vec::new(alloc);
     put_schema(&mut part, &fields, &metadata)?;
-    let mut out = Vec::new(alloc);
-    put_message(alloc, &mut out, Kind::Schema, 0, 16, &part)?;
-    Ok(out)
+    Ok(part)
+}
+
+/// The table of a schema, with what it names: it stands 16 bytes into the part, which is read as the schema wherever it
+/// stands. Refused with the first reason in the order of writing.
+pub fn schema_table(alloc: Global, schema: &Schema) -> Result<Vec<u8>, NoForm>
+    ensures again { OnOk result (IsRead schema_at 16 (part_of (schema_of schema.now)) (schema_of schema.now) (schema_cost (schema_of schema.now))) }
+    ensures bytes { IfOk result (λ part. part.items ≡ part_of (schema_of schema.now)) }
+    ensures fits { OnOk result (SchemaFits (schema_of schema.now)) }
+    ensures err { IfErr result (IsUnwritten (schema_of schema.now).fields (length (part_of (schema_of schema.now)))) }
+{
+    check_fields(&schema.fields)?;
+    let part = schema_bytes_of(alloc, schema)?;
+    Ok(part)
 }
 
 /// The message of a schema: whatever stands behind it, reading gives the schema back. Refused with the first reason in the order of writing.
@@ -233,7 +244,8 @@ pub fn write_schema(alloc: Global, schema: &Schema) -> Result<Vec<u8>, NoForm>
     ensures small { OnOk result (metadata_size (schema_message (schema_of schema.now)) < 2 ^ 31) }
     ensures err { IfErr result (IsUnwritten (schema_of schema.now).fields (metadata_size (schema_message (schema_of schema.now)))) }
 {
-    check_fields(&schema.fields)?;
-    let out = schema_bytes_of(alloc, schema)?;
+    let part = schema_table(alloc, schema)?;
+    let mut out = Vec::new(alloc);
+    put_message(alloc, &mut out, Kind::Schema, 0, 16, &part)?;
     Ok(out)
 }

@@ -1,16 +1,14 @@
-use Rattle.std.proofs.Common.{◌≡◌, ◌<◌, ◌≤◌, ◌^◌, List, ℕ, length, map, refl, ap, subst, arith}
+use Rattle.std.proofs.Common.{◌≡◌, ◌≤◌, List, ℕ, length, map, refl, ap, subst, arith}
 use Rattle.std.proofs.lemmas.Result.{err_from_is_err_and}
 use Rattle.nest_memory.specs.TypeOf.{field_of}
 use Rattle.nest_memory.specs.declared.datatypes.field.Field.{Field}
 use Rattle.ipc_words.specs.Bytes.{parts_of, row_bytes, together}
 use Rattle.ipc_words.specs.RowLaws.{row_is_long}
 use Rattle.ipc_words.specs.Writes.{too_long_more}
-use Rattle.ipc_message.specs.MessageBytes.{message_bytes, metadata_size}
-use Rattle.ipc_message.specs.declared.message.Kind.TheVariants as kinds
 use Rattle.ipc_schema.specs.Schemas.{SchemaTree, schema_of}
-use Rattle.ipc_schema.specs.SchemaBytes.{field_bytes, fields_bytes, entries_bytes, schema_bytes, schema_message}
+use Rattle.ipc_schema.specs.SchemaBytes.{field_bytes, fields_bytes, entries_bytes, schema_bytes}
 use Rattle.ipc_schema.specs.FieldLaws.{AllFit}
-use Rattle.ipc_schema.specs.SchemaLaws.{part_of, part_long, message_long}
+use Rattle.ipc_schema.specs.SchemaLaws.{part_of, part_long}
 use Rattle.ipc_schema.proofs.Maps.{rising_is}
 use Rattle.ipc_schema.proofs.writing.schema_bytes_of.Goals as goal
 
@@ -18,7 +16,7 @@ pub returns-in_err-parts-clause-size : goal.returns-in_err-parts-clause-size
 returns-in_err-parts-clause-size c =
     let p = err_from_is_err_and c.from_residual.result c.from_residual.ensures.1 in
     let s : SchemaTree = schema_of c.args.schema.now in
-    let le : length (together (map field_bytes s.fields)) ≤ metadata_size (schema_message s) = omega (arith, message_long s, part_long s, row_is_long 24 (map field_bytes s.fields)) in
+    let le : length (together (map field_bytes s.fields)) ≤ length (part_of s) = omega (arith, part_long s, row_is_long 24 (map field_bytes s.fields)) in
     let e = rw c.deref.ensures.value at c.in_err-parts.ensures.size in
     rw (p.1, p.2) (too_long_more _ _ _ le e)
 
@@ -27,13 +25,13 @@ returns-in_err-put_row-clause-size c =
     let p = err_from_is_err_and c.from_residual-in_err-put_row.result c.from_residual-in_err-put_row.ensures.1 in
     let s : SchemaTree = schema_of c.args.schema.now in
     let rows : parts_of c.deref-2.result.now ≡ map field_bytes s.fields = rw (c.deref-2.ensures.value, c.in_ok-parts.ensures.ok, c.deref.ensures.value) refl in
-    rw (p.1, p.2) (too_long_more _ _ _ (omega (arith, ap (λ (l : List (List ℕ)). length (row_bytes 24 l)) rows, message_long s, part_long s)) c.in_err-put_row.ensures.size)
+    rw (p.1, p.2) (too_long_more _ _ _ (omega (arith, ap (λ (l : List (List ℕ)). length (row_bytes 24 l)) rows, part_long s)) c.in_err-put_row.ensures.size)
 
 pub returns-in_err-put_metadata-clause-size : goal.returns-in_err-put_metadata-clause-size
 returns-in_err-put_metadata-clause-size c =
     let p = err_from_is_err_and c.from_residual-in_err-put_metadata.result c.from_residual-in_err-put_metadata.ensures.1 in
     let s : SchemaTree = schema_of c.args.schema.now in
-    rw (p.1, p.2) (too_long_more _ _ _ (omega (arith, message_long s, part_long s)) c.in_err-put_metadata.ensures.size)
+    rw (p.1, p.2) (too_long_more _ _ _ (omega (arith, part_long s)) c.in_err-put_metadata.ensures.size)
 
 pub returns-in_err-put_schema-clause-size : goal.returns-in_err-put_schema-clause-size
 returns-in_err-put_schema-clause-size c =
@@ -43,28 +41,15 @@ returns-in_err-put_schema-clause-size c =
     let fields : c.deref-3.result.now ≡ fields_bytes s.fields = rw (c.deref-3.ensures.value, c.in_ok-put_row.ensures.ok, c.new-fields.ensures.items, rows) refl in
     let metadata : c.deref-4.result.now ≡ entries_bytes s.metadata = rw (c.deref-4.ensures.value, c.in_ok-put_metadata.ensures.ok, c.new-metadata.ensures.items) refl in
     let same : schema_bytes c.deref-3.result.now c.deref-4.result.now ≡ part_of s = rw (fields, metadata) refl in
-    rw (p.1, p.2) (too_long_more _ _ _ (omega (arith, ap length same, message_long s)) c.in_err-put_schema.ensures.size)
-
-pub returns-in_err-put_message-clause-size : goal.returns-in_err-put_message-clause-size
-unfolding schema_message
-returns-in_err-put_message-clause-size c =
-    let p = err_from_is_err_and c.from_residual-in_err-put_message.result c.from_residual-in_err-put_message.ensures.1 in
-    let s : SchemaTree = schema_of c.args.schema.now in
-    let rows : parts_of c.deref-2.result.now ≡ map field_bytes s.fields = rw (c.deref-2.ensures.value, c.in_ok-parts.ensures.ok, c.deref.ensures.value) refl in
-    let fields : c.deref-3.result.now ≡ fields_bytes s.fields = rw (c.deref-3.ensures.value, c.in_ok-put_row.ensures.ok, c.new-fields.ensures.items, rows) refl in
-    let metadata : c.deref-4.result.now ≡ entries_bytes s.metadata = rw (c.deref-4.ensures.value, c.in_ok-put_metadata.ensures.ok, c.new-metadata.ensures.items) refl in
-    let part : c.deref-5.result.now ≡ part_of s = rw (c.deref-5.ensures.value, c.in_ok-put_schema.ensures.ok, c.new-part.ensures.items, fields, metadata) refl in
-    rw (p.1, p.2) (too_long_more _ _ _ (omega (arith, ap (λ (l : List ℕ). metadata_size (message_bytes kinds.Schema 0 16 l)) part)) c.in_err-put_message.ensures.size)
+    rw (p.1, p.2) (too_long_more _ _ _ (omega (arith, ap length same)) c.in_err-put_schema.ensures.size)
 
 pub returns-clause-ok : goal.returns-clause-ok
-unfolding schema_message
 returns-clause-ok c =
     let s : SchemaTree = schema_of c.args.schema.now in
     let rows : parts_of c.deref-2.result.now ≡ map field_bytes s.fields = rw (c.deref-2.ensures.value, c.in_ok-parts.ensures.ok, c.deref.ensures.value) refl in
     let fields : c.deref-3.result.now ≡ fields_bytes s.fields = rw (c.deref-3.ensures.value, c.in_ok-put_row.ensures.ok, c.new-fields.ensures.items, rows) refl in
     let metadata : c.deref-4.result.now ≡ entries_bytes s.metadata = rw (c.deref-4.ensures.value, c.in_ok-put_metadata.ensures.ok, c.new-metadata.ensures.items) refl in
-    let part : c.deref-5.result.now ≡ part_of s = rw (c.deref-5.ensures.value, c.in_ok-put_schema.ensures.ok, c.new-part.ensures.items, fields, metadata) refl in
-    rw (c.in_ok-put_message.ensures.ok, c.new-out.ensures.items, part) refl
+    rw (c.in_ok-put_schema.ensures.ok, c.new-part.ensures.items, fields, metadata) refl
 
 pub returns-clause-fits : goal.returns-clause-fits
 returns-clause-fits c = record {
@@ -73,13 +58,3 @@ returns-clause-fits c = record {
   texts = c.in_ok-put_metadata.ensures.texts;
   rising = rising_is c.args.schema.now.metadata.entries c.in_ok-put_metadata.ensures.rising;
 }
-
-pub returns-clause-small : goal.returns-clause-small
-unfolding schema_message
-returns-clause-small c =
-    let s : SchemaTree = schema_of c.args.schema.now in
-    let rows : parts_of c.deref-2.result.now ≡ map field_bytes s.fields = rw (c.deref-2.ensures.value, c.in_ok-parts.ensures.ok, c.deref.ensures.value) refl in
-    let fields : c.deref-3.result.now ≡ fields_bytes s.fields = rw (c.deref-3.ensures.value, c.in_ok-put_row.ensures.ok, c.new-fields.ensures.items, rows) refl in
-    let metadata : c.deref-4.result.now ≡ entries_bytes s.metadata = rw (c.deref-4.ensures.value, c.in_ok-put_metadata.ensures.ok, c.new-metadata.ensures.items) refl in
-    let part : c.deref-5.result.now ≡ part_of s = rw (c.deref-5.ensures.value, c.in_ok-put_schema.ensures.ok, c.new-part.ensures.items, fields, metadata) refl in
-    subst (λ (l : List ℕ). metadata_size (message_bytes kinds.Schema 0 16 l) < 2 ^ 31) part c.in_ok-put_message.ensures.small
