@@ -6,5 +6,5 @@ mod reading;
 mod writing;
 
 pub use message::{Kind, Message, Root, Version};
-pub use reading::{next_message, read_root};
+pub use reading::{next_message, read_root, version_of};
 pub use writing::{put_message, put_root};

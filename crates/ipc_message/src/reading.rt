@@ -7,7 +7,8 @@ use crate::message::{Kind, Message, Root, Version};
 use ipc_model::Fault;
 use ipc_words::{i16_field, i64_field, natural, offset_at, offset_field, u8_field, visit_table};
 
-fn version_of(number: i16) -> Result<Version, Fault>
+/// The version that a number is, where it is one that is read.
+pub fn version_of(number: i16) -> Result<Version, Fault>
     ensures { result ≡ version_of_lem number }
 {
     let number = natural(Fault::Version, number as i64)?;
