@@ -1,0 +1,137 @@
+-- The footer of a file, and where its blocks lie: "IPC File Format" of the Arrow columnar format, `Footer` and `Block` of `File.fbs`, in the order of reading.
+use Rattle.std.specs.Prelude.{ℕ, ◌+◌, ◌-◌, ◌*◌, ℤ, pos, negsuc, nat_eq, Bool, false, ◌&&◌, List, ◌++◌, map, sum, length, take, drop, codes, Option, Some, None, Result, Ok, Err, nat_le, unsigned_abs, if◌then◌else◌}
+use Rattle.std.specs.Int.{w16, w32, w64, from_le_bytes, cast_signed}
+use Rattle.std.specs.List.{list_all, starts_with, ends_with}
+use Rattle.ipc_model.specs.Reading.{◌>>=◌, check}
+use Rattle.ipc_model.specs.declared.fault.Fault.{Fault}
+use Rattle.ipc_model.specs.declared.fault.Fault.TheVariants as faults
+use Rattle.ipc_model.specs.declared.fault.Fault.TheVariants.{Truncated, Magic, FooterLength, NoSchema}
+use Rattle.ipc_words.specs.Words.{natural, signed_at, offset_at, field, offset_field, visit_table, vector_at}
+use Rattle.ipc_words.specs.declared.tables.Table.{Table}
+use Rattle.ipc_message.specs.Messages.{version_of}
+use Rattle.ipc_message.specs.declared.message.Version.{Version}
+use Rattle.ipc_schema.specs.Schemas.{SchemaTree, schema_at, schema_of}
+use Rattle.ipc_schema.specs.declared.schema.Schema.{Schema}
+use Rattle.ipc_footer.specs.declared.footer.Block.{Block}
+use Rattle.ipc_footer.specs.declared.footer.Footer.{Footer}
+
+-- ---- the footer
+
+-- a footer without where it lies in memory
+pub record FooterTree : Type 0 where
+  pub schema : SchemaTree
+  pub dictionaries : List Block
+  pub batches : List Block
+
+-- `Block`: behind the length of the metadata is a gap of four bytes
+abbrev pub block_at : List ℕ → ℕ → Result Block Fault
+block_at bytes place = do
+  offset ← signed_at w64 bytes place
+  metadata ← signed_at w32 bytes (place + 8)
+  body ← signed_at w64 bytes (place + 16)
+  Ok (record { offset = offset; metadata_length = metadata; body_length = body })
+
+abbrev pub schema_place : Option ℕ → Result ℕ Fault
+schema_place None = Err NoSchema
+schema_place (Some place) = Ok place
+
+-- metadata of V4 is not read of a schema that has a union. No type that is read is a union
+abbrev pub in_version : Version → SchemaTree → Result (Unit {0}) Fault
+in_version version schema = Ok tt
+
+-- the blocks in a field of a footer's table
+unfoldable pub blocks_in : List ℕ → Table → ℕ → ℕ → Result (List Block × ℕ) Fault
+blocks_in bytes table id left = do
+  to ← offset_field bytes table id
+  vector_at (block_at bytes) 24 bytes to left
+
+-- those of its dictionaries, then those of its batches
+unfoldable pub lists_at : List ℕ → Table → ℕ → Result (List Block × List Block) Fault
+lists_at bytes table left = do
+  dictionaries ← blocks_in bytes table 2 left
+  batches ← blocks_in bytes table 3 dictionaries.1
+  Ok (dictionaries.0, batches.0)
+
+-- `Footer`, whose parts may cost 64 times its bytes
+unfoldable pub footer_at : List ℕ → Result FooterTree Fault
+footer_at bytes = do
+  place ← offset_at bytes 0
+  table ← visit_table bytes place (64 * length bytes)
+  number ← field (signed_at w16 bytes) (pos 0) bytes table.0 0
+  version ← version_of number
+  to ← offset_field bytes table.0 1
+  there ← schema_place to
+  schema ← schema_at bytes there table.1
+  allowed ← in_version version schema.0
+  lists ← lists_at bytes table.0 schema.1
+  Ok (record { schema = schema.0; dictionaries = lists.0; batches = lists.1 })
+
+-- ---- blocks
+
+-- whether a message that begins behind the file's first 8 bytes ends, with its body, before a place
+abbrev pub is_before : ℕ → ℤ → ℤ → ℤ → Bool
+is_before end (pos offset) (pos metadata) (pos body) = nat_le 8 offset && nat_le 8 metadata && nat_le (offset + metadata + body) end
+is_before end (pos offset) (pos metadata) (negsuc body) = false
+is_before end (pos offset) (negsuc metadata) body = false
+is_before end (negsuc offset) metadata body = false
+
+abbrev pub block_before : ℕ → Block → Bool
+block_before end b = is_before end b.offset b.metadata_length b.body_length
+
+-- the bytes of a message with its body
+abbrev pub block_length : Block → ℕ
+block_length b = unsigned_abs b.metadata_length + unsigned_abs b.body_length
+
+-- whether each block lies before a place, and so do all of them together: blocks that lie over one another take no more memory than the file
+abbrev pub blocks_before : ℕ → List Block → Bool
+blocks_before end blocks = list_all (block_before end) blocks && nat_le (sum (map block_length blocks)) end
+
+-- the bytes that a block names
+abbrev pub block_bytes : List ℕ → Block → List ℕ
+block_bytes bytes b = take (block_length b) (drop (unsigned_abs b.offset) bytes)
+
+-- ---- the file
+
+-- what a file begins and ends with
+abbrev pub magic : List ℕ
+magic = codes "ARROW1"
+
+abbrev pub has_magic : List ℕ → Bool
+has_magic bytes = starts_with nat_eq bytes magic && ends_with nat_eq bytes magic
+
+-- a file is long enough for both ends, and is marked at both
+abbrev pub check_ends : List ℕ → Result (Unit {0}) Fault
+check_ends bytes = do
+  long ← check (nat_le 18 (length bytes)) Truncated
+  check (has_magic bytes) Magic
+
+-- the bytes of the footer: their number stands behind them, before the magic at the end. Before them are 8 bytes at least
+abbrev pub footer_length : List ℕ → Result ℕ Fault
+footer_length bytes = do
+  long ← natural FooterLength (cast_signed w32 (from_le_bytes w32 (drop (length bytes - 10) bytes)))
+  within ← check (nat_le 1 long && nat_le (18 + long) (length bytes)) FooterLength
+  Ok long
+
+-- where a footer of so many bytes begins
+abbrev pub footer_place : ℕ → List ℕ → ℕ
+footer_place long bytes = length bytes - (10 + long)
+
+-- a footer whose blocks lie before a place
+abbrev pub placed : ℕ → FooterTree → Result FooterTree Fault
+placed end f = if blocks_before end (f.dictionaries ++ f.batches) then Ok f else Err faults.Block
+
+-- the footer of a file, all blocks of which lie before it
+unfoldable pub file_footer_in : List ℕ → Result FooterTree Fault
+file_footer_in bytes = do
+  ends ← check_ends bytes
+  long ← footer_length bytes
+  footer ← footer_at (take long (drop (footer_place long bytes) bytes))
+  placed (footer_place long bytes) footer
+
+-- a footer of the code
+abbrev pub footer_of : Footer → FooterTree
+footer_of f = record { schema = schema_of f.schema; dictionaries = f.dictionaries.items; batches = f.batches.items }
+
+-- the footer of a schema of the code and blocks
+abbrev pub footer_with : Schema → List Block → List Block → FooterTree
+footer_with schema dictionaries batches = record { schema = schema_of schema; dictionaries = dictionaries; batches = batches }

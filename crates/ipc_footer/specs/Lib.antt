@@ -1,0 +1,5 @@
+-- What contracts cite.
+pub mod Footers
+pub mod FooterBytes
+pub mod FooterLaws
+pub mod Examples

@@ -1,0 +1,192 @@
+//! Reads the footer of a file.
+ghost use Rattle.std.specs.Prelude.{◌≡◌, ◌<◌, ◌≤◌, ◌^◌, ◌+◌, ◌*◌, ◌-◌, ◌++◌, take, drop, length, nat_le, true, IfOk, Ok};
+ghost use Rattle.std.specs.List.{list_all};
+ghost use Rattle.ipc_model.specs.Reading.{Gives};
+ghost use Rattle.ipc_words.specs.Words.{structs_at};
+ghost use Rattle.ipc_schema.specs.Schemas.{schema_of};
+ghost use Rattle.ipc_footer.specs.Footers.{block_at as block_at_lem, schema_place as schema_place_lem, blocks_in as blocks_in_lem, lists_at as lists_at_lem, check_ends as check_ends_lem, placed as placed_lem, in_version as in_version_lem, footer_at as footer_at_lem, has_magic as has_magic_lem, footer_length as footer_length_lem, footer_place, file_footer_in, footer_of, block_before};
+
+use crate::blocks::blocks_before;
+use crate::footer::{Block, Footer};
+use ipc_message::{Version, version_of};
+use ipc_model::Fault;
+use ipc_schema::{Schema, schema_at};
+use ipc_words::{
+    Items, Table, i16_field, i32_at, i64_at, items_at, natural, offset_at, offset_field,
+    visit_table,
+};
+use std::alloc::Global;
+
+fn block_at(bytes: &[u8], place: usize) -> Result<Block, Fault>
+    requires { place < 2 ^ 63 }
+    ensures { result ≡ block_at_lem bytes.now place }
+{
+    let offset = i64_at(bytes, place)?;
+    let metadata_length = i32_at(bytes, place + 8)?;
+    let body_length = i64_at(bytes, place + 16)?;
+    Ok(Block {
+        offset,
+        metadata_length,
+        body_length,
+    })
+}
+
+fn blocks_of(alloc: Global, bytes: &[u8], items: Items) -> Result<Vec<Block>, Fault>
+    requires length { length bytes.now < 2 ^ 32 }
+    requires within { items.first + items.count * 24 ≤ length bytes.now }
+    ensures { Gives (λ v. v.items) result (structs_at (block_at_lem bytes.now) 24 items.count items.first) }
+{
+    let mut blocks = Vec::new(alloc);
+    for i in 0..items.count {
+        let block = block_at(bytes, items.first + 24 * i)?;
+        blocks.push(block)?;
+    }
+    Ok(blocks)
+}
+
+// The blocks of the vector in a field.
+#[tactic(auto, unfolding(crate::specs::Footers::blocks_in, ipc_words::specs::Words::vector_at))]
+fn blocks_in(
+    alloc: Global,
+    bytes: &[u8],
+    table: Table,
+    id: u8,
+    left: usize,
+) -> Result<(Vec<Block>, usize), Fault>
+    requires length { length bytes.now < 2 ^ 32 }
+    requires at { table.at < 2 ^ 32 }
+    requires vtable { table.vtable < 2 ^ 32 }
+    ensures { Gives (λ x. (x.0.items, x.1)) result (blocks_in_lem bytes.now table id left) }
+{
+    let (items, left) = items_at(24, bytes, offset_field(bytes, table, id)?, left)?;
+    let blocks = blocks_of(alloc, bytes, items)?;
+    Ok((blocks, left))
+}
+
+fn schema_place(to: Option<usize>) -> Result<usize, Fault>
+    ensures { result ≡ schema_place_lem to }
+{
+    match to {
+        None => Err(Fault::NoSchema),
+        Some(place) => Ok(place),
+    }
+}
+
+/// That metadata of this version is read of a schema.
+pub fn in_version(_version: Version, _schema: &Schema) -> Result<(), Fault>
+    ensures { result ≡ in_version_lem _version (schema_of _schema.now) }
+{
+    Ok(())
+}
+
+#[tactic(auto, unfolding(crate::specs::Footers::lists_at))]
+fn lists_at(
+    alloc: Global,
+    bytes: &[u8],
+    table: Table,
+    left: usize,
+) -> Result<(Vec<Block>, Vec<Block>), Fault>
+    requires length { length bytes.now < 2 ^ 32 }
+    requires at { table.at < 2 ^ 32 }
+    requires vtable { table.vtable < 2 ^ 32 }
+    ensures { Gives (λ x. (x.0.items, x.1.items)) result (lists_at_lem bytes.now table left) }
+{
+    let (dictionaries, left) = blocks_in(alloc, bytes, table, 2, left)?;
+    let (batches, _) = blocks_in(alloc, bytes, table, 3, left)?;
+    Ok((dictionaries, batches))
+}
+
+// The footer that its own bytes spell.
+#[tactic(auto, unfolding(crate::specs::Footers::footer_at))]
+fn footer_at(alloc: Global, bytes: &[u8]) -> Result<Footer, Fault>
+    requires { length bytes.now < 2 ^ 31 }
+    ensures { Gives footer_of result (footer_at_lem bytes.now) }
+{
+    let place = offset_at(bytes, 0)?;
+    let (table, left) = visit_table(bytes, place, 64 * bytes.len())?;
+    let version = version_of(i16_field(bytes, table, 0, 0)?)?;
+    let place = schema_place(offset_field(bytes, table, 1)?)?;
+    let (schema, left) = schema_at(alloc, bytes, place, left)?;
+    match in_version(version, &schema) {
+        Err(fault) => Err(fault),
+        Ok(_) => match lists_at(alloc, bytes, table, left) {
+            Err(fault) => Err(fault),
+            Ok((dictionaries, batches)) => Ok(Footer {
+                schema,
+                dictionaries,
+                batches,
+            }),
+        },
+    }
+}
+
+fn has_magic(bytes: &[u8]) -> bool
+    ensures { result ≡ has_magic_lem bytes.now }
+{
+    let magic = b"ARROW1";
+    bytes.starts_with(magic) && bytes.ends_with(magic)
+}
+
+fn check_ends(bytes: &[u8]) -> Result<(), Fault>
+    ensures value { result ≡ check_ends_lem bytes.now }
+    ensures long { IfOk result (λ _. 18 ≤ length bytes.now) }
+{
+    if bytes.len() < 18 {
+        return Err(Fault::Truncated);
+    }
+    if !has_magic(bytes) {
+        return Err(Fault::Magic);
+    }
+    Ok(())
+}
+
+fn footer_length(bytes: &[u8]) -> Result<usize, Fault>
+    requires { 18 ≤ length bytes.now }
+    ensures value { result ≡ footer_length_lem bytes.now }
+    ensures within { IfOk result (λ long. (18 + long ≤ length bytes.now) × (long < 2 ^ 31)) }
+{
+    let (_, end) = bytes.split_at(bytes.len() - 10);
+    let number = u32::from_le_bytes([end[0], end[1], end[2], end[3]]).cast_signed();
+    let long = natural(Fault::FooterLength, number as i64)?;
+    if long < 1 || long > bytes.len() - 18 {
+        return Err(Fault::FooterLength);
+    }
+    Ok(long)
+}
+
+// The bytes of the footer.
+fn footer_part(bytes: &[u8], long: usize) -> &[u8]
+    requires { 10 + long ≤ length bytes.now }
+    ensures part { result.now ≡ take long (drop (footer_place long bytes.now) bytes.now) }
+    ensures length { length result.now ≡ long }
+{
+    let (_, from) = bytes.split_at(bytes.len() - (10 + long));
+    let (footer, _) = from.split_at(long);
+    footer
+}
+
+// A footer whose blocks lie before a place.
+fn placed(end: usize, footer: Footer) -> Result<Footer, Fault>
+    ensures value { Gives footer_of result (placed_lem end (footer_of footer)) }
+    ensures dictionaries { IfOk result (λ f. list_all (block_before end) f.dictionaries.items ≡ true) }
+    ensures batches { IfOk result (λ f. list_all (block_before end) f.batches.items ≡ true) }
+{
+    if blocks_before(end, &footer.dictionaries, &footer.batches) {
+        Ok(footer)
+    } else {
+        Err(Fault::Block)
+    }
+}
+
+/// The footer of a file: its schema, and its blocks, which all lie before it; or the first fault in the order of reading.
+#[tactic(auto, unfolding(crate::specs::Footers::file_footer_in))]
+pub fn read_footer(alloc: Global, bytes: &[u8]) -> Result<Footer, Fault>
+    ensures footer { Gives footer_of result (file_footer_in bytes.now) }
+    ensures dictionaries { IfOk result (λ f. list_all (block_before (length bytes.now)) f.dictionaries.items ≡ true) }
+    ensures batches { IfOk result (λ f. list_all (block_before (length bytes.now)) f.batches.items ≡ true) }
+{
+    check_ends(bytes)?;
+    let long = footer_length(bytes)?;
+    let footer = footer_at(alloc, footer_part(bytes, long))?;
+    placed(bytes.len() - (10 + long), footer)
+}
