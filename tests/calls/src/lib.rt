@@ -9,6 +9,8 @@ mod array;
 #[cfg(test)]
 mod build;
 #[cfg(test)]
+mod concat;
+#[cfg(test)]
 mod flat;
 #[cfg(test)]
 mod hostile;

@@ -13,7 +13,7 @@
 //! | Fixed-size lists of nulls whose items are more than a length can be | `limits::more_items_than_a_length` |
 //! | Any one request for memory refused: the call answers `Memory`, and its source is as it was | `limits::refused_memory` |
 
-mod arrays;
+pub mod arrays;
 mod limits;
 mod nested;
 mod no_place;

@@ -12,6 +12,7 @@
 //! | Arrays of nulls and without a slot, and of types that have none | `empties` |
 //! | Iterators from both ends | `scans::both_ends` |
 //! | Slots at places, and by a mask | `takes` |
+//! | Slots of several arrays, one array after another | `joins::slots_of_arrays` |
 #![tactic(auto)]
 
 #[cfg(test)]
@@ -22,6 +23,8 @@ mod cutting;
 mod empties;
 #[cfg(test)]
 mod equality;
+#[cfg(test)]
+mod joins;
 #[cfg(test)]
 mod laying;
 #[cfg(test)]

@@ -24,7 +24,8 @@ fn both<A: Drop, B: Drop>(a: Result<A, Error>, b: Result<B, Error>) -> Result<(A
     Ok((a?, b?))
 }
 
-fn two<T: Drop>(
+/// Both in a vector.
+pub fn two<T: Drop>(
     alloc: Global,
     first: Result<T, Error>,
     second: Result<T, Error>,

@@ -1,0 +1,219 @@
+use Rattle.std.proofs.Common.{◌≡◌, ◌+◌, ◌*◌, ℕ, ◌∷◌, [], length, length-append, get_or, true, false, refl, ap, sym, ◌∙◌, subst, arith, inl, inr}
+use Rattle.std.proofs.lemmas.Result.{err_from_is_err_and}
+use Rattle.std.specs.Prelude.{map}
+use Rattle.nest_memory.specs.Physical.{physical_type}
+use Rattle.nest_model.specs.Accessors.{child_at, children_of}
+use Rattle.nest_model.specs.Layout.{layout_type, weight, weight_all}
+use Rattle.nest_concat.specs.Windows.{field_of}
+use Rattle.nest_array.specs.Seen.{layout_of, layouts_of}
+use Rattle.nest_concat.specs.Joined.{AreArrays, AreWithin, IsJoined, RefusesEach, RefusesJoin, first_array}
+use Rattle.nest_concat.proofs.Children.{count-of, each-joined, one-more, weight-at}
+use Rattle.nest_concat.proofs.Made.{arm-memory, list-kind, lists-refuse, map-kind, maps-refuse, ok-joined, record-kind, sized-kind}
+use Rattle.nest_concat.proofs.Nested.{list-children, list-joined, list-lighter, list-refuses, map-children, map-joined, map-lighter, map-refuses, sized-children, sized-joined, sized-lighter, sized-refuses}
+use Rattle.nest_concat.proofs.Records.{field-first, field-joined, field-refuses, record-children, record-count, record-joined, record-lighter, record-refuses}
+use Rattle.nest_concat.proofs.+join.Goals as goal
+
+pub list::join_lists-join-requires : goal.list::join_lists-join-requires
+list::join_lists-join-requires t c =
+    let a = c.args.array.now in
+    let ws = c.args.windows.now in
+    let p = list-kind false a _ _ _ _ c.known.ensures.fits c.known.ensures.kind in
+    let e = c.deref.ensures.value ∙ c.in_ok-items.ensures.ok in
+    let r = list-children false (layout_type a) ws c.deref.result.now c.requires.within p c.requires.some e (subst AreArrays (sym c.deref.ensures.value) c.in_ok-items.ensures.fit) in
+    let w = list-lighter false a _ _ _ _ ws c.deref.result.now c.known.ensures.kind (c.requires.first, c.requires.some) e in
+    (omega (arith, w), r)
+
+pub list::join_lists-lists_of-requires : goal.list::join_lists-lists_of-requires
+list::join_lists-lists_of-requires t c =
+    let a = c.args.array.now in
+    let ws = c.args.windows.now in
+    let p = list-kind false a _ _ _ _ c.known.ensures.fits c.known.ensures.kind in
+    let e = c.deref.ensures.value ∙ c.in_ok-items.ensures.ok in
+    (list-joined false (layout_type a) _ ws c.deref.result.now _ _ _ c.requires.within p c.requires.some e c.data_type.ensures c.in_ok-offsets.ensures.ok (c.known-2.ensures.some, c.known-2.ensures.rising) c.in_ok-validity.ensures.ok c.in-Ok.ensures.ok).0
+
+pub list::join_lists-returns-in-Ok-clause-ok : goal.list::join_lists-returns-in-Ok-clause-ok
+list::join_lists-returns-in-Ok-clause-ok t c =
+    let a = c.args.array.now in
+    let ws = c.args.windows.now in
+    let p = list-kind false a _ _ _ _ c.known.ensures.fits c.known.ensures.kind in
+    let e = c.deref.ensures.value ∙ c.in_ok-items.ensures.ok in
+    ok-joined c.lists_of.result (layout_type a) _ ws c.lists_of.ensures.ok (list-joined false (layout_type a) _ ws c.deref.result.now _ _ _ c.requires.within p c.requires.some e c.data_type.ensures c.in_ok-offsets.ensures.ok (c.known-2.ensures.some, c.known-2.ensures.rising) c.in_ok-validity.ensures.ok c.in-Ok.ensures.ok).1
+
+pub list::join_lists-returns-in-Err-clause-err : goal.list::join_lists-returns-in-Err-clause-err
+list::join_lists-returns-in-Err-clause-err t c =
+    let e = c.deref.ensures.value ∙ c.in_ok-items.ensures.ok in
+    list-refuses false c.in-Err.error c.args.array.now _ _ _ _ c.args.windows.now c.deref.result.now c.known.ensures.kind (c.requires.first, c.requires.some) e c.in-Err.ensures.err
+
+pub list::join_large_lists-join-requires : goal.list::join_large_lists-join-requires
+list::join_large_lists-join-requires t c =
+    let a = c.args.array.now in
+    let ws = c.args.windows.now in
+    let p = list-kind true a _ _ _ _ c.known.ensures.fits c.known.ensures.kind in
+    let e = c.deref.ensures.value ∙ c.in_ok-items.ensures.ok in
+    let r = list-children true (layout_type a) ws c.deref.result.now c.requires.within p c.requires.some e (subst AreArrays (sym c.deref.ensures.value) c.in_ok-items.ensures.fit) in
+    let w = list-lighter true a _ _ _ _ ws c.deref.result.now c.known.ensures.kind (c.requires.first, c.requires.some) e in
+    (omega (arith, w), r)
+
+pub list::join_large_lists-large_lists_of-requires : goal.list::join_large_lists-large_lists_of-requires
+list::join_large_lists-large_lists_of-requires t c =
+    let a = c.args.array.now in
+    let ws = c.args.windows.now in
+    let p = list-kind true a _ _ _ _ c.known.ensures.fits c.known.ensures.kind in
+    let e = c.deref.ensures.value ∙ c.in_ok-items.ensures.ok in
+    (list-joined true (layout_type a) _ ws c.deref.result.now _ _ _ c.requires.within p c.requires.some e c.data_type.ensures c.in_ok-offsets.ensures.ok (c.known-2.ensures.some, c.known-2.ensures.rising) c.in_ok-validity.ensures.ok c.in-Ok.ensures.ok).0
+
+pub list::join_large_lists-returns-in-Ok-clause-ok : goal.list::join_large_lists-returns-in-Ok-clause-ok
+list::join_large_lists-returns-in-Ok-clause-ok t c =
+    let a = c.args.array.now in
+    let ws = c.args.windows.now in
+    let p = list-kind true a _ _ _ _ c.known.ensures.fits c.known.ensures.kind in
+    let e = c.deref.ensures.value ∙ c.in_ok-items.ensures.ok in
+    ok-joined c.large_lists_of.result (layout_type a) _ ws c.large_lists_of.ensures.ok (list-joined true (layout_type a) _ ws c.deref.result.now _ _ _ c.requires.within p c.requires.some e c.data_type.ensures c.in_ok-offsets.ensures.ok (c.known-2.ensures.some, c.known-2.ensures.rising) c.in_ok-validity.ensures.ok c.in-Ok.ensures.ok).1
+
+pub list::join_large_lists-returns-in-Err-clause-err : goal.list::join_large_lists-returns-in-Err-clause-err
+list::join_large_lists-returns-in-Err-clause-err t c =
+    let e = c.deref.ensures.value ∙ c.in_ok-items.ensures.ok in
+    list-refuses true c.in-Err.error c.args.array.now _ _ _ _ c.args.windows.now c.deref.result.now c.known.ensures.kind (c.requires.first, c.requires.some) e c.in-Err.ensures.err
+
+pub map::join_maps-join-requires : goal.map::join_maps-join-requires
+map::join_maps-join-requires t c =
+    let a = c.args.array.now in
+    let ws = c.args.windows.now in
+    let p = map-kind a _ _ _ _ c.known.ensures.fits c.known.ensures.kind in
+    let e = c.deref.ensures.value ∙ c.in_ok-items.ensures.ok in
+    let r = map-children (layout_type a) ws c.deref.result.now c.requires.within p c.requires.some e (subst AreArrays (sym c.deref.ensures.value) c.in_ok-items.ensures.fit) in
+    let w = map-lighter a _ _ _ _ ws c.deref.result.now c.known.ensures.kind (c.requires.first, c.requires.some) e in
+    (omega (arith, w), r)
+
+pub map::join_maps-maps_of-requires : goal.map::join_maps-maps_of-requires
+map::join_maps-maps_of-requires t c =
+    let a = c.args.array.now in
+    let ws = c.args.windows.now in
+    let p = map-kind a _ _ _ _ c.known.ensures.fits c.known.ensures.kind in
+    let e = c.deref.ensures.value ∙ c.in_ok-items.ensures.ok in
+    (map-joined (layout_type a) _ ws c.deref.result.now _ _ _ c.requires.within p c.requires.some e c.data_type.ensures c.in_ok-offsets.ensures.ok (c.known-2.ensures.some, c.known-2.ensures.rising) c.in_ok-validity.ensures.ok c.in-Ok.ensures.ok).0
+
+pub map::join_maps-returns-in-Ok-clause-ok : goal.map::join_maps-returns-in-Ok-clause-ok
+map::join_maps-returns-in-Ok-clause-ok t c =
+    let a = c.args.array.now in
+    let ws = c.args.windows.now in
+    let p = map-kind a _ _ _ _ c.known.ensures.fits c.known.ensures.kind in
+    let e = c.deref.ensures.value ∙ c.in_ok-items.ensures.ok in
+    ok-joined c.maps_of.result (layout_type a) _ ws c.maps_of.ensures.ok (map-joined (layout_type a) _ ws c.deref.result.now _ _ _ c.requires.within p c.requires.some e c.data_type.ensures c.in_ok-offsets.ensures.ok (c.known-2.ensures.some, c.known-2.ensures.rising) c.in_ok-validity.ensures.ok c.in-Ok.ensures.ok).1
+
+pub map::join_maps-returns-in-Err-clause-err : goal.map::join_maps-returns-in-Err-clause-err
+map::join_maps-returns-in-Err-clause-err t c =
+    let e = c.deref.ensures.value ∙ c.in_ok-items.ensures.ok in
+    map-refuses c.in-Err.error c.args.array.now _ _ _ _ c.args.windows.now c.deref.result.now c.known.ensures.kind (c.requires.first, c.requires.some) e c.in-Err.ensures.err
+
+pub fixed_size_list::join_lists-join-requires : goal.fixed_size_list::join_lists-join-requires
+fixed_size_list::join_lists-join-requires t c =
+    let a = c.args.array.now in
+    let ws = c.args.windows.now in
+    let p = sized-kind a _ _ _ c.known.ensures.fits c.known.ensures.kind in
+    let e = c.deref.ensures.value ∙ c.in_ok-items.ensures.ok in
+    let r = sized-children (layout_type a) _ ws c.deref.result.now c.requires.within p refl c.requires.some e (subst AreArrays (sym c.deref.ensures.value) c.in_ok-items.ensures.fit) in
+    let w = sized-lighter a _ _ _ _ ws c.deref.result.now c.known.ensures.kind (c.requires.first, c.requires.some) e in
+    (omega (arith, w), r)
+
+pub fixed_size_list::join_lists-array_of-requires : goal.fixed_size_list::join_lists-array_of-requires
+fixed_size_list::join_lists-array_of-requires t c =
+    let a = c.args.array.now in
+    let ws = c.args.windows.now in
+    let p = sized-kind a _ _ _ c.known.ensures.fits c.known.ensures.kind in
+    let e = c.deref.ensures.value ∙ c.in_ok-items.ensures.ok in
+    (sized-joined (layout_type a) _ _ ws c.deref.result.now _ _ c.requires.within p refl c.requires.some e c.data_type.ensures c.in_ok-validity.ensures.ok c.in-Ok.ensures.ok).0
+
+pub fixed_size_list::join_lists-returns-in-Ok-clause-ok : goal.fixed_size_list::join_lists-returns-in-Ok-clause-ok
+fixed_size_list::join_lists-returns-in-Ok-clause-ok t c =
+    let a = c.args.array.now in
+    let ws = c.args.windows.now in
+    let p = sized-kind a _ _ _ c.known.ensures.fits c.known.ensures.kind in
+    let e = c.deref.ensures.value ∙ c.in_ok-items.ensures.ok in
+    ok-joined c.array_of.result (layout_type a) _ ws c.array_of.ensures.ok (sized-joined (layout_type a) _ _ ws c.deref.result.now _ _ c.requires.within p refl c.requires.some e c.data_type.ensures c.in_ok-validity.ensures.ok c.in-Ok.ensures.ok).1
+
+pub fixed_size_list::join_lists-returns-in-Err-clause-err : goal.fixed_size_list::join_lists-returns-in-Err-clause-err
+fixed_size_list::join_lists-returns-in-Err-clause-err t c =
+    let e = c.deref.ensures.value ∙ c.in_ok-items.ensures.ok in
+    sized-refuses c.in-Err.error c.args.array.now _ _ _ _ c.args.windows.now c.deref.result.now c.known.ensures.kind refl (c.requires.first, c.requires.some) e c.in-Err.ensures.err
+
+pub struct_::join_records-join_fields-requires : goal.struct_::join_records-join_fields-requires
+struct_::join_records-join_fields-requires t c =
+    let a = c.args.array.now in
+    let ws = c.args.windows.now in
+    let p = record-kind a _ _ _ c.known.ensures.fits c.known.ensures.kind in
+    let w = record-lighter a _ _ _ c.known.ensures.kind in
+    let m = ap weight_all c.values.ensures in (
+      omega (arith, w, m),
+      (
+        c.requires.some,
+        (
+          ap (λ z. physical_type (layout_type z)) (sym c.requires.first) ∙ p,
+          (subst (λ z. AreWithin (layout_type z) ws) c.requires.first c.requires.within, c.values.ensures ∙ ap children_of c.requires.first),
+        ),
+      ),
+    )
+
+pub struct_::join_records-array_of-requires : goal.struct_::join_records-array_of-requires
+struct_::join_records-array_of-requires t c =
+    let a = c.args.array.now in
+    let ws = c.args.windows.now in
+    let p = record-kind a _ _ _ c.known.ensures.fits c.known.ensures.kind in
+    (record-joined (layout_type a) _ ws _ _ _ c.requires.within p c.requires.some (c.values.ensures ∙ ap children_of c.requires.first) c.in-Ok.ensures.ok c.data_type.ensures c.in_ok-validity.ensures.ok).0
+
+pub struct_::join_records-returns-in-Ok-clause-ok : goal.struct_::join_records-returns-in-Ok-clause-ok
+struct_::join_records-returns-in-Ok-clause-ok t c =
+    let a = c.args.array.now in
+    let ws = c.args.windows.now in
+    let p = record-kind a _ _ _ c.known.ensures.fits c.known.ensures.kind in
+    ok-joined c.array_of.result (layout_type a) _ ws c.array_of.ensures.ok
+    (record-joined (layout_type a) _ ws _ _ _ c.requires.within p c.requires.some (c.values.ensures ∙ ap children_of c.requires.first) c.in-Ok.ensures.ok c.data_type.ensures c.in_ok-validity.ensures.ok).1
+
+pub struct_::join_records-returns-in-Err-clause-err : goal.struct_::join_records-returns-in-Err-clause-err
+struct_::join_records-returns-in-Err-clause-err t c =
+    let ws = c.args.windows.now in
+    record-refuses c.in-Err.error c.args.array.now _ _ _ ws c.known.ensures.kind (subst (λ z. RefusesEach c.in-Err.error z ws) c.values.ensures c.in-Err.ensures.err)
+
+pub struct_::join_fields-field-requires : goal.struct_::join_fields-field-requires
+struct_::join_fields-field-requires t c =
+    let ws = c.args.windows.now in
+    let n = record-count (layout_type (first_array ws)) _ ws c.requires.within c.requires.kind c.requires.some c.requires.children in
+    record { kind = c.requires.kind; within = c.requires.within; field = omega (arith, n, count-of c.args.children.now) }
+
+pub struct_::join_fields-join-requires : goal.struct_::join_fields-join-requires
+struct_::join_fields-join-requires t c =
+    let ws = c.args.windows.now in
+    let cs = layouts_of c.args.children.now in
+    let f = c.loop-f.f in
+    let cws = c.deref.result.now in
+    let e = c.deref.ensures.value ∙ c.in_ok-slots.ensures.ok in
+    let n = record-count (layout_type (first_array ws)) cs ws c.requires.within c.requires.kind c.requires.some c.requires.children in
+    let l = count-of c.args.children.now in
+    let r = record-children (layout_type (first_array ws)) f ws cws c.requires.within c.requires.kind c.requires.some (omega (arith, n, l)) e (subst AreArrays (sym c.deref.ensures.value) c.in_ok-slots.ensures.fit) in
+    let w = weight-at cs f (omega (arith, l)) in
+    let z = ap weight (field-first f cs ws cws c.requires.children c.requires.some e) in
+    (omega (arith, w, z), r)
+
+pub struct_::join_fields-returns-in-Err-clause-err : goal.struct_::join_fields-returns-in-Err-clause-err
+struct_::join_fields-returns-in-Err-clause-err t c =
+    let e = c.deref.ensures.value ∙ c.in_ok-slots.ensures.ok in
+    field-refuses c.in-Err.error c.loop-f.f (layouts_of c.args.children.now) c.args.windows.now c.deref.result.now c.requires.children c.requires.some (omega (arith, count-of c.args.children.now)) e c.in-Err.ensures.err
+
+pub struct_::join_fields-returns-clause-ok : goal.struct_::join_fields-returns-clause-ok
+struct_::join_fields-returns-clause-ok t c =
+    let l = count-of c.args.children.now in
+    each-joined (layouts_of c.args.children.now) c.args.windows.now c.loop-f.joined.items (omega (arith, l, c.loop-f.invariant.same_length)) (λ k d h. c.loop-f.invariant.done k d (omega (arith, l)))
+
+pub struct_::join_fields-loop-f-preserved : goal.struct_::join_fields-loop-f-preserved
+struct_::join_fields-loop-f-preserved t c =
+    let ws = c.args.windows.now in
+    let cs = layouts_of c.args.children.now in
+    let e = c.push_reserved.ensures.items in
+    let i = c.loop-f.invariant in
+    let y = c.in-Ok.child in
+    let g = field-joined c.loop-f.f cs ws c.deref.result.now (layout_of y) c.requires.children c.requires.some (c.deref.ensures.value ∙ c.in_ok-slots.ensures.ok) c.in-Ok.ensures.ok in
+    record {
+      same_length = omega (arith, c.push_reserved.ensures.len, ap length e, i.same_length, length-append c.loop-f.joined.items (y ∷ []));
+      room = omega (arith, c.push_reserved.ensures.capacity, i.room);
+      done = rw e (one-more (λ k z. IsJoined (layout_type (child_at cs k)) (map (field_of k) ws) z) c.loop-f.joined.items c.loop-f.f y i.same_length i.done g);
+    }

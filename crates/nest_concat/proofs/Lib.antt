@@ -1,0 +1,11 @@
+pub mod Children
+pub mod Flats
+pub mod Grown
+pub mod Made
+pub mod Nested
+pub mod Pieces
+pub mod Records
+pub mod Rows
+pub mod Shapes
+pub mod Wholes
+pub mod Windows

@@ -1,0 +1,41 @@
+use Rattle.std.proofs.Common.{sym, ◌∙◌, subst, arith}
+use Rattle.nest_model.specs.Layout.{layout_type}
+use Rattle.nest_concat.specs.Joined.{IsJoined}
+use Rattle.nest_concat.proofs.Rows.{binary-joined}
+use Rattle.nest_concat.proofs.Made.{made-err, made-ok, of-kind, binary-kind}
+use Rattle.nest_concat.proofs.binary.joined.Goals as goal
+
+pub count-requires : goal.count-requires
+count-requires g c =
+    let a = c.args.array.now in
+    let ws = c.args.windows.now in
+    let p = binary-kind _ a _ _ _ _ c.known.ensures.fits c.known.ensures.kind in
+    record { kind = of-kind (layout_type a) _ ws c.requires.within (p ∙ sym c.requires.kind) }
+
+pub offsets-requires : goal.offsets-requires
+offsets-requires g c =
+    let a = c.args.array.now in
+    let ws = c.args.windows.now in
+    let p = binary-kind _ a _ _ _ _ c.known.ensures.fits c.known.ensures.kind in
+    record { kind = of-kind (layout_type a) _ ws c.requires.within (p ∙ sym c.requires.kind); room = omega (arith, c.in_ok-count.ensures.0, c.in_ok-count.ensures.1) }
+
+pub bytes-requires : goal.bytes-requires
+bytes-requires g c =
+    let a = c.args.array.now in
+    let ws = c.args.windows.now in
+    let p = binary-kind _ a _ _ _ _ c.known.ensures.fits c.known.ensures.kind in
+    record { kind = of-kind (layout_type a) _ ws c.requires.within (p ∙ sym c.requires.kind) }
+
+pub returns-clause-ok : goal.returns-clause-ok
+returns-clause-ok g c =
+    let a = c.args.array.now in
+    let ws = c.args.windows.now in
+    let p = binary-kind _ a _ _ _ _ c.known.ensures.fits c.known.ensures.kind in
+    made-ok c.try_new.result (layout_type a) _ ws c.try_new.ensures (binary-joined _ (layout_type a) _ ws _ _ _ c.requires.within p (c.in_ok-data_type.ensures.ok ∙ c.data_type.ensures) c.in_ok-offsets.ensures.ok c.in_ok-bytes.ensures.ok c.in_ok-validity.ensures.ok).1
+
+pub returns-clause-err : goal.returns-clause-err
+returns-clause-err g c =
+    let a = c.args.array.now in
+    let ws = c.args.windows.now in
+    let p = binary-kind _ a _ _ _ _ c.known.ensures.fits c.known.ensures.kind in
+    made-err c.try_new.result _ (layout_type a) ws _ c.try_new.ensures (binary-joined _ (layout_type a) _ ws _ _ _ c.requires.within p (c.in_ok-data_type.ensures.ok ∙ c.data_type.ensures) c.in_ok-offsets.ensures.ok c.in_ok-bytes.ensures.ok c.in_ok-validity.ensures.ok)

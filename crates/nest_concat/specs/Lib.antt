@@ -1,0 +1,5 @@
+pub mod Joined
+pub mod JoinedLaws
+pub mod Limits
+pub mod Windows
+pub mod Words

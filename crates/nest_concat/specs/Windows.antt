@@ -1,0 +1,70 @@
+-- What windows over arrays have: values, bits, rows, and the windows of their items (of this project).
+use Rattle.std.specs.Prelude.{ℕ, ◌+◌, ◌-◌, ◌*◌, ℤ, Bool, true, false, ◌||◌, is_some, List, [], ◌∷◌, map, replicate, Option, Some, None, if◌then◌else◌}
+use Rattle.std.specs.List.{flat_map, range_with_len, sum_by}
+use Rattle.nest_memory.specs.Cut.{cut}
+use Rattle.nest_model.specs.Accessors.{validity_of, bits_of, natives_of, bytes_of, offsets_of, child_of, children_of, child_at}
+use Rattle.nest_model.specs.Part.{Validity, begin, extent}
+use Rattle.nest_array.specs.WindowParts.{WindowParts, window_parts}
+
+abbrev pub count_of : WindowParts → ℕ
+count_of w = w.count
+
+-- how many slots they have
+abbrev pub count_slots : List WindowParts → ℕ
+count_slots ws = sum_by count_of ws
+
+-- Fixed-size Primitive Layout: the bits, the native values of a window; of one size, the bytes
+abbrev pub truths_in : WindowParts → List Bool
+truths_in w = cut (bits_of w.array) w.offset w.count
+
+abbrev pub natives_in : WindowParts → List (List ℤ)
+natives_in w = cut (natives_of w.array) w.offset w.count
+
+abbrev pub blocks_in : ℕ → WindowParts → List ℕ
+blocks_in size w = cut (bytes_of w.array) (w.offset * size) (w.count * size)
+
+-- Validity bitmaps: the bits of a window, set where its array has no bitmap
+abbrev pub window_bits : Validity → ℕ → ℕ → List Bool
+window_bits None o n = replicate n true
+window_bits (Some bits) o n = cut bits o n
+
+abbrev pub bits_in : WindowParts → List Bool
+bits_in w = window_bits (validity_of w.array) w.offset w.count
+
+-- some array has a bitmap
+abbrev pub have_bits : List WindowParts → Bool
+have_bits [] = false
+have_bits (w ∷ ws) = is_some (validity_of w.array) || have_bits ws
+
+-- the bits of windows, one window after another; no bitmap where no array has one
+abbrev pub joined_validity : List WindowParts → Validity
+joined_validity ws = if have_bits ws then Some (flat_map bits_in ws) else None
+
+-- Variable-size layouts: how many items each of n rows has, and each row of a window
+abbrev pub extents : List ℕ → ℕ → ℕ → List ℕ
+extents os o n = map (extent os) (range_with_len o n)
+
+abbrev pub extents_in : WindowParts → List ℕ
+extents_in w = extents (offsets_of w.array) w.offset w.count
+
+-- where the items of its rows begin, and how many they are in all
+abbrev pub first_item : WindowParts → ℕ
+first_item w = begin (offsets_of w.array) w.offset
+
+abbrev pub count_items : WindowParts → ℕ
+count_items w = begin (offsets_of w.array) (w.offset + w.count) - first_item w
+
+-- their bytes, and the window over their items
+abbrev pub bytes_in : WindowParts → List ℕ
+bytes_in w = cut (bytes_of w.array) (first_item w) (count_items w)
+
+abbrev pub items_in : WindowParts → WindowParts
+items_in w = window_parts (child_of w.array) (first_item w) (count_items w)
+
+-- layouts of one size: the window over the items of rows of n items each
+abbrev pub blocks_of : ℕ → WindowParts → WindowParts
+blocks_of n w = window_parts (child_of w.array) (w.offset * n) (w.count * n)
+
+-- Struct Layout: the same slots of child f
+abbrev pub field_of : ℕ → WindowParts → WindowParts
+field_of f w = window_parts (child_at (children_of w.array) f) w.offset w.count

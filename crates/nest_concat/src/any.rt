@@ -1,0 +1,60 @@
+//! Arrays of any kind.
+ghost use Rattle.std.specs.Prelude.{◌≡◌, ◌<◌, IfErr, IfOk, MatchResult, length};
+ghost use Rattle.nest_array.specs.Seen.{layout_of};
+ghost use Rattle.nest_flat.specs.AnyPrimitive.{primitive_layout};
+ghost use Rattle.nest_concat.specs.Words.{AreWithin, IsJoined, Overflow, PassesLength, RefusesJoin, count_slots, first_array, layout_type};
+
+use crate::{
+    binary, boolean, fixed_size_binary, fixed_size_list, list, map, null, primitive, struct_, utf8,
+};
+use nest_array::{AnyArray, Window};
+use nest_memory::error::Error;
+use std::alloc::Global;
+
+/// How many slots the windows have. `Overflow` where a length can't be as many.
+pub(crate) fn count(windows: &[Window<'_>]) -> Result<usize, Error>
+    ensures { MatchResult result (λ n. n ≡ count_slots windows.now) (λ e. (e ≡ Overflow) × PassesLength windows.now) }
+{
+    let mut count: usize = 0;
+    for window in windows {
+        let Some(sum) = count.checked_add(window.len()) else {
+            return Err(Error::Overflow);
+        };
+        count = sum;
+    }
+    Ok(count)
+}
+
+/// The slots of windows over arrays of one data type, one window after another.
+#[cycle(join)]
+pub(crate) fn join(alloc: Global, windows: &[Window<'_>]) -> Result<AnyArray, Error>
+    requires some { 0 < length windows.now }
+    requires within { AreWithin (layout_type (first_array windows.now)) windows.now }
+    ensures ok { IfOk result (λ a. IsJoined (layout_type (first_array windows.now)) windows.now (layout_of a)) }
+    ensures err { IfErr result (λ e. RefusesJoin e (first_array windows.now) windows.now) }
+{
+    let total = count(windows)?;
+    match windows[0].array() {
+        AnyArray::Null(array) => null::join(alloc, array, windows, total),
+        AnyArray::Boolean(array) => boolean::join(alloc, array, windows, total),
+        AnyArray::Primitive(array) => primitive::join(alloc, array, windows, total),
+        AnyArray::Binary(array) => binary::join(alloc, array, windows, total),
+        AnyArray::LargeBinary(array) => binary::join_large(alloc, array, windows, total),
+        AnyArray::Utf8(array) => utf8::join(alloc, array, windows, total),
+        AnyArray::LargeUtf8(array) => utf8::join_large(alloc, array, windows, total),
+        AnyArray::FixedSizeBinary(array) => fixed_size_binary::join(alloc, array, windows, total),
+        AnyArray::FixedSizeList(array) => fixed_size_list::join_lists(alloc, array, windows, total),
+        AnyArray::List(array) => list::join_lists(alloc, array, windows, total),
+        AnyArray::LargeList(array) => list::join_large_lists(alloc, array, windows, total),
+        AnyArray::Struct(array) => struct_::join_records(alloc, array, windows, total),
+        AnyArray::Map(array) => map::join_maps(alloc, array, windows, total),
+        AnyArray::Union(array) => {
+            array.known();
+            Err(Error::NotYetImplemented)
+        }
+        AnyArray::Dictionary(array) => {
+            array.known();
+            Err(Error::NotYetImplemented)
+        }
+    }
+}

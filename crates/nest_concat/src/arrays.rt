@@ -1,0 +1,72 @@
+//! Whole arrays.
+ghost use Rattle.std.specs.Prelude.{◌≡◌, ◌<◌, ◌↔◌, IfErr, IfOk, IsErrOf, IsOkUnless, IsTrue, alloc_error, length, map};
+ghost use Rattle.std.specs.List.{All};
+ghost use Rattle.nest_array.specs.Seen.{layout_of};
+ghost use Rattle.nest_concat.specs.Words.{AreOfOneType, AreWithin, InvalidArgumentError, IsConcatenated, ItemType, Memory, RefusesConcatenate, first_array, layout_type, type_of, whole};
+
+use crate::any::join;
+use nest_array::{AnyArray, Window};
+use nest_memory::datatypes::DataType;
+use nest_memory::error::{Argument, Error};
+use std::alloc::Global;
+
+/// Whether an array has this data type.
+fn has_type(array: &AnyArray, data_type: &DataType) -> bool
+    ensures { IsTrue result ↔ (layout_type (layout_of array.now) ≡ type_of data_type.now) }
+{
+    *array.data_type() == *data_type
+}
+
+/// Whether all arrays have this data type.
+fn have_type(arrays: &[AnyArray], data_type: &DataType) -> bool
+    ensures { IsTrue result ↔ All (λ a. layout_type (layout_of a) ≡ type_of data_type.now) arrays.now }
+{
+    for array in arrays {
+        if !has_type(array, data_type) {
+            return false;
+        }
+    }
+    true
+}
+
+/// Whether there is an array, and all have the data type of the first.
+fn are_of_one_type(arrays: &[AnyArray]) -> bool
+    ensures { IsTrue result ↔ AreOfOneType (map layout_of arrays.now) }
+{
+    if arrays.is_empty() {
+        return false;
+    }
+    have_type(arrays, arrays[0].data_type())
+}
+
+/// The windows over all slots of arrays of one data type.
+fn windows(alloc: Global, arrays: &[AnyArray]) -> Result<Vec<Window<'_>>, Error>
+    ensures ok { IfOk result (λ v. v.items ≡ map (λ a. whole (layout_of a)) arrays.now) }
+    ensures within { AreOfOneType (map layout_of arrays.now) → IfOk result (λ v. AreWithin (layout_type (first_array v.items)) v.items) }
+    ensures err { IsOkUnless result (Memory alloc_error) }
+{
+    let mut windows = Vec::with_capacity(alloc, arrays.len())?;
+    for array in arrays {
+        array.known();
+        windows.push_reserved(Window::of(array));
+    }
+    Ok(windows)
+}
+
+/// The slots of arrays of one data type, one array after another, under that data type. The arrays stay as they are.
+///
+/// # Errors
+/// `InvalidArgumentError(ItemType)` where there is no array, or one has another data type than the first. Else
+/// `NotYetImplemented` where a union or a dictionary is in them; `Overflow` where in some array of the tree the slots are more
+/// than a length can be, or the items or bytes more than an offset can name; `Memory`.
+pub fn concatenate(alloc: Global, arrays: &[AnyArray]) -> Result<AnyArray, Error>
+    ensures ok { IfOk result (λ a. IsConcatenated (map layout_of arrays.now) (layout_of a)) }
+    ensures types { IsErrOf result (InvalidArgumentError ItemType) ↔ (AreOfOneType (map layout_of arrays.now) → ⊥) }
+    ensures err { IfErr result (λ e. RefusesConcatenate e (map layout_of arrays.now)) }
+{
+    if !are_of_one_type(arrays) {
+        return Err(Error::InvalidArgumentError(Argument::ItemType));
+    }
+    let windows = windows(alloc, arrays)?;
+    join(alloc, &windows)
+}

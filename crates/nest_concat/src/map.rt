@@ -1,0 +1,95 @@
+//! Maps.
+ghost use Rattle.std.specs.Prelude.{◌≡◌, ◌<◌, IfErr, IfOk, IsOkUnless, alloc_error, length};
+ghost use Rattle.nest_memory.specs.declared.datatypes.physical_type.PhysicalType.TheVariants as physical;
+ghost use Rattle.nest_model.specs.Layout as layouts;
+ghost use Rattle.nest_array.specs.Seen.{layout_of};
+ghost use Rattle.nest_concat.specs.Words.{AreWithin, Fits, IsJoined, Memory, RefusesJoin, count_slots, first_array, layout_type, physical_type, type_of};
+
+use crate::any::join;
+use crate::bits;
+use crate::spans::{self, Spanned, SpannedItems};
+use nest_array::{AnyArray, MapArray, Window};
+use nest_memory::bitmap::immutable::Bitmap;
+use nest_memory::datatypes::DataType;
+use nest_memory::error::Error;
+use nest_memory::offsets::OffsetsBuffer;
+use std::alloc::Global;
+
+/// Maps.
+pub(crate) struct Entries;
+
+impl Spanned<i32> for Entries {
+    ghost kind = { physical.Map };
+
+    fn offsets(array: &AnyArray) -> &OffsetsBuffer<i32> {
+        let Some(array) = array.as_map() else {
+            unreachable!()
+        };
+        array.known();
+        array.offsets()
+    }
+}
+
+impl SpannedItems<i32> for Entries {
+    fn items(array: &AnyArray) -> &AnyArray {
+        let Some(array) = array.as_map() else {
+            unreachable!()
+        };
+        array.known();
+        array.field()
+    }
+}
+
+/// The slots of windows over maps, of so many slots in all, under the data type of the first array.
+#[cycle(join)]
+#[inline(never)]
+pub(crate) fn join_maps(
+    alloc: Global,
+    array: &MapArray,
+    windows: &[Window<'_>],
+    total: usize,
+) -> Result<AnyArray, Error>
+    requires some { 0 < length windows.now }
+    requires first { array.now ≡ first_array windows.now }
+    requires within { AreWithin (layout_type array.now) windows.now }
+    requires total { total ≡ count_slots windows.now }
+    ensures ok { IfOk result (λ a. IsJoined (layout_type array.now) windows.now (layout_of a)) }
+    ensures err { IfErr result (λ e. RefusesJoin e array.now windows.now) }
+{
+    array.known();
+    spans::count::<i32, Entries>(windows)?;
+    let offsets = spans::offsets::<i32, Entries>(alloc, windows, total)?;
+    offsets.known();
+    let validity = bits::validity(alloc, windows, total)?;
+    let items = spans::items::<i32, Entries>(alloc, windows)?;
+    match join(alloc, &items) {
+        Ok(values) => maps_of(alloc, array.data_type(), offsets, values, validity),
+        Err(error) => Err(error),
+    }
+}
+
+/// The array of these parts.
+fn maps_of(
+    alloc: Global,
+    data_type: &DataType,
+    offsets: OffsetsBuffer<i32>,
+    values: AnyArray,
+    validity: Option<Bitmap>,
+) -> Result<AnyArray, Error>
+    requires { Fits (layouts.map (type_of data_type.now) offsets (layout_of values) validity) }
+    ensures ok { IfOk result (λ a. layout_of a ≡ layouts.map (type_of data_type.now) offsets (layout_of values) validity) }
+    ensures err { IsOkUnless result (Memory alloc_error) }
+{
+    match data_type.clone(alloc) {
+        Ok(data_type) => match MapArray::new(alloc, data_type, offsets, values, validity) {
+            Ok(array) => Ok(AnyArray::Map(array)),
+            Err(error) => Err(error),
+        },
+        Err(error) => {
+            drop(validity);
+            drop(values);
+            drop(offsets);
+            Err(error)
+        }
+    }
+}

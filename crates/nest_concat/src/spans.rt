@@ -1,0 +1,210 @@
+//! Windows over rows between offsets: what bytes, texts, lists and maps share.
+ghost use Rattle.std.specs.Prelude.{◌≡◌, ◌+◌, ◌<◌, ◌≤◌, ◌^◌, ◌++◌, ◌∷◌, ℕ, false, true, IfOk, IsOkUnless, MatchResult, OnOk, alloc_error, length, map};
+ghost use Rattle.std.specs.List.{flat_map, sum_by};
+ghost use Rattle.nest_memory.specs.declared.datatypes.physical_type.PhysicalType.{PhysicalType};
+ghost use Rattle.nest_memory.specs.declared.datatypes.physical_type.PhysicalType.TheVariants as physical;
+ghost use Rattle.nest_array.specs.Seen.{layout_of};
+ghost use Rattle.nest_concat.specs.Words.{AreArrays, AreOfKind, Memory, Overflow, PassesOffsets, TopFits, begin, bytes_in, bytes_of, child_of, count_items, count_rows, ends_from, extents, extents_in, first_item, items_in, last_of, layout_type, len, offsets_of, physical_type};
+
+use nest_array::{AnyArray, Window};
+use nest_memory::buffer::Buffer;
+use nest_memory::error::Error;
+use nest_memory::offset::Offset;
+use nest_memory::offsets::{Offsets, OffsetsBuffer};
+use std::alloc::Global;
+
+/// A kind of arrays whose rows lie between offsets.
+pub(crate) trait Spanned<O: Offset> {
+    /// The physical type of their data types.
+    ghost kind: { PhysicalType };
+
+    /// The offsets of an array of this kind.
+    fn offsets(array: &AnyArray) -> &OffsetsBuffer<O>
+        requires { physical_type (layout_type (layout_of array.now)) ≡ kind }
+        ensures offsets { result.now ≡ offsets_of (layout_of array.now) }
+        ensures rows { count_rows result.now ≡ len (layout_of array.now) };
+}
+
+/// One whose items are bytes.
+pub(crate) trait SpannedBytes<O: Offset>: Spanned<O> {
+    /// The bytes of an array of this kind.
+    fn bytes(array: &AnyArray) -> &[u8]
+        requires { physical_type (layout_type (layout_of array.now)) ≡ Self.kind }
+        ensures bytes { result.now ≡ bytes_of (layout_of array.now) }
+        ensures within { last_of (offsets_of (layout_of array.now)) ≤ length result.now };
+}
+
+/// One whose items are an array.
+pub(crate) trait SpannedItems<O: Offset>: Spanned<O> {
+    /// The items of an array of this kind.
+    fn items(array: &AnyArray) -> &AnyArray
+        requires { physical_type (layout_type (layout_of array.now)) ≡ Self.kind }
+        ensures items { layout_of result.now ≡ child_of (layout_of array.now) }
+        ensures within { last_of (offsets_of (layout_of array.now)) ≤ len (layout_of result.now) };
+}
+
+/// The offset at place i.
+fn offset_at<O: Offset>(offsets: &OffsetsBuffer<O>, i: usize) -> usize
+    requires { i ≤ count_rows offsets.now }
+    ensures offset { result ≡ begin offsets.now i }
+    ensures within { result ≤ last_of offsets.now }
+{
+    offsets.known();
+    if i < offsets.len_proxy() {
+        offsets.start_end(i).0
+    } else {
+        offsets.last()
+    }
+}
+
+/// Where the items of a window begin, and how many there are.
+fn range<O: Offset, K: Spanned<O>>(window: &Window<'_>) -> (usize, usize)
+    requires kind { physical_type (layout_type window.now.array) ≡ K.kind }
+    ensures first { result.0 ≡ first_item window.now }
+    ensures count { result.1 ≡ count_items window.now }
+    ensures within { result.0 + result.1 ≤ last_of (offsets_of window.now.array) }
+    ensures fits { last_of (offsets_of window.now.array) < 2 ^ 63 }
+{
+    window.known();
+    window.array().known();
+    let offsets = K::offsets(window.array());
+    offsets.known();
+    let _len = window.array().len();
+    let start = window.offset();
+    let first = offset_at(offsets, start);
+    let end = offset_at(offsets, start + window.len());
+    (first, end - first)
+}
+
+/// How many items the windows have. `Overflow` where no offset can name as many.
+pub(crate) fn count<O: Offset, K: Spanned<O>>(windows: &[Window<'_>]) -> Result<usize, Error>
+    requires kind { AreOfKind K.kind windows.now }
+    ensures { MatchResult result
+        (λ n. (n ≡ sum_by count_items windows.now) × (n ≤ O.largest))
+        (λ e. (e ≡ Overflow) × PassesOffsets O.IS_LARGE windows.now) }
+{
+    let mut count: usize = 0;
+    for window in windows {
+        let Some(sum) = count.checked_add(range::<O, K>(window).1) else {
+            return Err(Error::Overflow);
+        };
+        count = sum;
+    }
+    if O::from_usize(count).is_none() {
+        return Err(Error::Overflow);
+    }
+    Ok(count)
+}
+
+/// Adds n rows of others, from row `start` on.
+fn push_rows<O: Offset>(
+    ends: &mut Offsets<O>,
+    offsets: &OffsetsBuffer<O>,
+    start: usize,
+    n: usize,
+) -> Result<(), Error>
+    requires within { start + n ≤ count_rows offsets.now }
+    requires room { last_of ends.old + begin offsets.now (start + n) ≤ O.largest + begin offsets.now start }
+    ensures ok { OnOk result (ends.new ≡ ends.old ++ ends_from (last_of ends.old) (extents offsets.now start n)) }
+    ensures last { OnOk result (last_of ends.new + begin offsets.now start ≡ last_of ends.old + begin offsets.now (start + n)) }
+    ensures err { IsOkUnless result (Memory alloc_error) }
+{
+    offsets.known();
+    for i in 0..n {
+        let (from, to) = offsets.start_end(start + i);
+        ends.try_push_usize(to - from)?;
+    }
+    Ok(())
+}
+
+/// Adds the rows of a window.
+fn push_window<O: Offset, K: Spanned<O>>(
+    ends: &mut Offsets<O>,
+    window: &Window<'_>,
+) -> Result<(), Error>
+    requires kind { physical_type (layout_type window.now.array) ≡ K.kind }
+    requires room { last_of ends.old + count_items window.now ≤ O.largest }
+    ensures ok { OnOk result (ends.new ≡ ends.old ++ ends_from (last_of ends.old) (extents_in window.now)) }
+    ensures last { OnOk result (last_of ends.new ≡ last_of ends.old + count_items window.now) }
+    ensures err { IsOkUnless result (Memory alloc_error) }
+{
+    window.known();
+    let offsets = K::offsets(window.array());
+    offsets.known();
+    push_rows(ends, offsets, window.offset(), window.len())
+}
+
+/// The offsets of the rows of windows, from 0 on, of so many rows in all.
+pub(crate) fn offsets<O: Offset, K: Spanned<O>>(
+    alloc: Global,
+    windows: &[Window<'_>],
+    total: usize,
+) -> Result<OffsetsBuffer<O>, Error>
+    requires kind { AreOfKind K.kind windows.now }
+    requires room { sum_by count_items windows.now ≤ O.largest }
+    ensures ok { IfOk result (λ b. b ≡ 0 ∷ ends_from 0 (flat_map extents_in windows.now)) }
+    ensures err { IsOkUnless result (Memory alloc_error) }
+{
+    let mut ends = Offsets::new(alloc)?;
+    ends.reserve(total)?;
+    for window in windows {
+        push_window::<O, K>(&mut ends, window)?;
+    }
+    ends.freeze()
+}
+
+/// The bytes of a window.
+fn bytes_of_window<'a, O: Offset, K: SpannedBytes<O>>(window: &Window<'a>) -> &'a [u8]
+    requires kind { physical_type (layout_type window.now.array) ≡ K.kind }
+    ensures { result.now ≡ bytes_in window.now }
+{
+    let (first, n) = range::<O, K>(window);
+    let bytes = K::bytes(window.array());
+    &bytes[first..first + n]
+}
+
+/// The bytes of windows, so many in all.
+pub(crate) fn bytes<O: Offset, K: SpannedBytes<O>>(
+    alloc: Global,
+    windows: &[Window<'_>],
+    count: usize,
+) -> Result<Buffer<u8>, Error>
+    requires kind { AreOfKind K.kind windows.now }
+    ensures ok { IfOk result (λ b. b ≡ flat_map bytes_in windows.now) }
+    ensures err { IsOkUnless result (Memory alloc_error) }
+{
+    let mut taken = Vec::with_capacity(alloc, count)?;
+    for window in windows {
+        taken.extend_from_slice(bytes_of_window::<O, K>(window))?;
+    }
+    Buffer::from_vec(alloc, taken)
+}
+
+/// The window over the items of a window.
+fn items_of_window<'a, O: Offset, K: SpannedItems<O>>(window: &Window<'a>) -> Window<'a>
+    requires kind { physical_type (layout_type window.now.array) ≡ K.kind }
+    ensures parts { result ≡ items_in window.now }
+    ensures fits { TopFits result.array }
+{
+    let (first, n) = range::<O, K>(window);
+    let items = K::items(window.array());
+    items.known();
+    Window::new(items, first, n)
+}
+
+/// The windows over the items of windows.
+pub(crate) fn items<'a, O: Offset, K: SpannedItems<O>>(
+    alloc: Global,
+    windows: &[Window<'a>],
+) -> Result<Vec<Window<'a>>, Error>
+    requires kind { AreOfKind K.kind windows.now }
+    ensures ok { IfOk result (λ v. v.items ≡ map items_in windows.now) }
+    ensures fit { IfOk result (λ v. AreArrays v.items) }
+    ensures err { IsOkUnless result (Memory alloc_error) }
+{
+    let mut items = Vec::with_capacity(alloc, windows.len())?;
+    for window in windows {
+        items.push_reserved(items_of_window::<O, K>(window));
+    }
+    Ok(items)
+}

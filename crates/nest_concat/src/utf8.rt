@@ -1,0 +1,126 @@
+//! Texts.
+ghost use Rattle.std.specs.Prelude.{◌≡◌, ◌⊎◌, IfErr, IfOk, alloc_error};
+ghost use Rattle.nest_memory.specs.declared.datatypes.physical_type.PhysicalType.TheVariants as physical;
+ghost use Rattle.nest_array.specs.Seen.{layout_of};
+ghost use Rattle.nest_concat.specs.Words.{AreWithin, IsJoined, Memory, Overflow, PassesOffsets, RefusesJoin, text_of_width, count_slots, layout_type, physical_type};
+
+use crate::bits;
+use crate::spans::{self, Spanned, SpannedBytes};
+use nest_array::{AnyArray, Window};
+use nest_flat::utf8::Utf8Array;
+use nest_memory::error::Error;
+use nest_memory::offset::Offset;
+use nest_memory::offsets::OffsetsBuffer;
+use std::alloc::Global;
+
+/// Texts by offsets of 32 bits.
+struct Small;
+
+/// Texts by offsets of 64 bits.
+struct Large;
+
+impl Spanned<i32> for Small {
+    ghost kind = { physical.Utf8 };
+
+    fn offsets(array: &AnyArray) -> &OffsetsBuffer<i32> {
+        let Some(array) = array.as_utf8() else {
+            unreachable!()
+        };
+        array.known();
+        array.offsets()
+    }
+}
+
+impl SpannedBytes<i32> for Small {
+    fn bytes(array: &AnyArray) -> &[u8] {
+        let Some(array) = array.as_utf8() else {
+            unreachable!()
+        };
+        array.known();
+        array.values().as_slice()
+    }
+}
+
+impl Spanned<i64> for Large {
+    ghost kind = { physical.LargeUtf8 };
+
+    fn offsets(array: &AnyArray) -> &OffsetsBuffer<i64> {
+        let Some(array) = array.as_large_utf8() else {
+            unreachable!()
+        };
+        array.known();
+        array.offsets()
+    }
+}
+
+impl SpannedBytes<i64> for Large {
+    fn bytes(array: &AnyArray) -> &[u8] {
+        let Some(array) = array.as_large_utf8() else {
+            unreachable!()
+        };
+        array.known();
+        array.values().as_slice()
+    }
+}
+
+/// The slots of windows over texts, of so many slots in all, under the data type of one of the arrays.
+fn joined<O: Offset, K: SpannedBytes<O>>(
+    alloc: Global,
+    array: &Utf8Array<O>,
+    windows: &[Window<'_>],
+    total: usize,
+) -> Result<Utf8Array<O>, Error>
+    requires kind { K.kind ≡ text_of_width O.IS_LARGE }
+    requires within { AreWithin (layout_type array.now) windows.now }
+    requires total { total ≡ count_slots windows.now }
+    ensures ok { IfOk result (λ a. IsJoined (layout_type array.now) windows.now a) }
+    ensures err { IfErr result (λ e. (e ≡ Memory alloc_error) ⊎ ((e ≡ Overflow) × PassesOffsets O.IS_LARGE windows.now)) }
+{
+    array.known();
+    let count = spans::count::<O, K>(windows)?;
+    let offsets = spans::offsets::<O, K>(alloc, windows, total)?;
+    let bytes = spans::bytes::<O, K>(alloc, windows, count)?;
+    let validity = bits::validity(alloc, windows, total)?;
+    let data_type = array.data_type().clone(alloc)?;
+    Ok(Utf8Array::new(data_type, offsets, bytes, validity))
+}
+
+/// The slots of windows over texts by offsets of 32 bits.
+#[inline(never)]
+pub(crate) fn join(
+    alloc: Global,
+    array: &Utf8Array<i32>,
+    windows: &[Window<'_>],
+    total: usize,
+) -> Result<AnyArray, Error>
+    requires within { AreWithin (layout_type array.now) windows.now }
+    requires total { total ≡ count_slots windows.now }
+    ensures ok { IfOk result (λ a. IsJoined (layout_type array.now) windows.now (layout_of a)) }
+    ensures err { IfErr result (λ e. RefusesJoin e array.now windows.now) }
+{
+    array.known();
+    match joined::<i32, Small>(alloc, array, windows, total) {
+        Ok(joined) => Ok(AnyArray::Utf8(joined)),
+        Err(error) => Err(error),
+    }
+}
+
+/// The slots of windows over texts by offsets of 64 bits.
+#[inline(never)]
+pub(crate) fn join_large(
+    alloc: Global,
+    array: &Utf8Array<i64>,
+    windows: &[Window<'_>],
+    total: usize,
+) -> Result<AnyArray, Error>
+    requires within { AreWithin (layout_type array.now) windows.now }
+    requires total { total ≡ count_slots windows.now }
+    ensures ok { IfOk result (λ a. IsJoined (layout_type array.now) windows.now (layout_of a)) }
+    ensures err { IfErr result (λ e. RefusesJoin e array.now windows.now) }
+{
+    array.known();
+    match joined::<i64, Large>(alloc, array, windows, total) {
+        Ok(joined) => Ok(AnyArray::LargeUtf8(joined)),
+        Err(error) => Err(error),
+    }
+}
