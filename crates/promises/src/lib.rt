@@ -29,6 +29,8 @@
 //! *What is taken of an array at some places has the slots at those places, in their order, under its data type*: `slots_at`,
 //! and `slots_where_true` of a mask, in [`takes`].
 //!
+//! *What is concatenated has the slots of all arrays, one array after another*: `slots_of_all`, and its laws, in [`joins`].
+//!
 //! *A builder freezes to what was pushed, and a refused push changes no slot at any depth*: `push_null`, `push_value`, `push_item`,
 //! `push_items`, `join_rows`, `push_each`, `cut_rows`, `freeze_rows`, and a push and a freeze together in `push_and_freeze`, in [`rows`], each once
 //! for every builder, at any nesting; there too what builders of lists do besides (`tell_row`, `tell_rows`, `push_values`), and those of dictionaries (`dictionaries_over`, `different_values`, `key_of_value`),
@@ -60,6 +62,7 @@ pub use promises_empties as empties;
 pub use promises_equality as equality;
 pub use promises_flat as flat;
 pub use promises_ipc as streams;
+pub use promises_joins as joins;
 pub use promises_memory as memory;
 pub use promises_rows as rows;
 pub use promises_scans as scans;

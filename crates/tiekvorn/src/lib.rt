@@ -2,6 +2,14 @@
 //! What each call promises stands at its own crate, and so do the words of contracts: `ghost use Rattle.nest_array.specs.Words`.
 #![tactic(auto)]
 
+pub use ipc::Batch;
+pub use ipc::Stream;
+pub use ipc::StreamReader;
+pub use ipc::read_stream;
+pub use ipc::write_stream;
+pub use ipc_model::Fault;
+pub use ipc_model::NoForm;
+pub use ipc_schema::Schema;
 pub use nest_any::AnyMutableArray;
 pub use nest_any::AnyMutableDictionary;
 pub use nest_any::AnyMutableFlat;
@@ -52,6 +60,7 @@ pub use nest_build::push::TryExtend;
 pub use nest_build::push::TryExtendFromSelf;
 pub use nest_build::push::TryPush;
 pub use nest_build::tried::push_all;
+pub use nest_concat::concatenate;
 pub use nest_flat::any_native::AnyNative;
 pub use nest_flat::any_primitive::AnyPrimitive;
 pub use nest_flat::any_primitive::Native;
