@@ -17,7 +17,8 @@ use Rattle.ipc_schema.specs.SchemaBytes.{schema_message}
 use Rattle.ipc_batch.specs.BatchBytes as batches
 use Rattle.ipc_layout.specs.Written.{has_form, no_form, IsUnwritten}
 use Rattle.ipc.specs.Streams.{Arrays}
-use Rattle.ipc.specs.Written.{batch_tree, batch_head, batch_bytes, is_column, are_columns, else_for, size_if, schema_refusal, arrays_refusal, batch_refusal, batches_refusal, IsRefused, IsReadAgain, IsSameBatch}
+use Rattle.ipc.specs.WrittenFiles.{block_refusal, blocks_refusal}
+use Rattle.ipc.specs.Written.{batch_tree, batch_head, batch_bytes, is_column, are_columns, else_for, size_if, schema_refusal, arrays_refusal, batch_refusal, each_refusal, batches_refusal, IsRefused, IsReadAgain, IsSameBatch}
 
 module _ {A B : Type 0} (f : A → B) where
   pub taken : (xs : List A) (i : ℕ) (x : A) → i < length xs → x ≡ get_or xs i x → map f (take (i + 1) xs) ≡ map f (take i xs) ++ f x ∷ []
@@ -99,25 +100,26 @@ batch_accepted types b are none = rw are none
 
 -- ---- batches
 
-pub batches_push : (types : List TypeTree) (bs : List Arrays) (b : Arrays) → batches_refusal types bs ≡ None → batch_refusal types b ≡ None → batches_refusal types (bs ++ b ∷ []) ≡ None
-batches_push types [] b none h = rw h refl
-batches_push types (c ∷ bs) b none h = both (batch_refusal types c) (batches_refusal types bs) (batches_refusal types (bs ++ b ∷ [])) none (λ k. batches_push types bs b k h)
-  where
-    both : (r s t : Option NoForm) → else_for r s ≡ None → (s ≡ None → t ≡ None) → else_for r t ≡ None
-    both None s t k f = f k
-    both (Some why) s t k f = k
+module _ (refusal : Arrays → Option NoForm) where
+  pub batches_push : (bs : List Arrays) (b : Arrays) → each_refusal refusal bs ≡ None → refusal b ≡ None → each_refusal refusal (bs ++ b ∷ []) ≡ None
+  batches_push [] b none h = rw h refl
+  batches_push (c ∷ bs) b none h = both (refusal c) (each_refusal refusal bs) (each_refusal refusal (bs ++ b ∷ [])) none (λ k. batches_push bs b k h)
+    where
+      both : (r s t : Option NoForm) → else_for r s ≡ None → (s ≡ None → t ≡ None) → else_for r t ≡ None
+      both None s t k f = f k
+      both (Some why) s t k f = k
 
-pub batches_fail : (types : List TypeTree) (bs back : List Arrays) (b : Arrays) (why : NoForm) → batches_refusal types bs ≡ None → batch_refusal types b ≡ Some why → batches_refusal types (bs ++ b ∷ back) ≡ Some why
-batches_fail types [] back b why none h = rw h refl
-batches_fail types (c ∷ bs) back b why none h = both (batch_refusal types c) (batches_refusal types bs) (batches_refusal types (bs ++ b ∷ back)) none (λ k. batches_fail types bs back b why k h)
-  where
-    both : (r s t : Option NoForm) → else_for r s ≡ None → (s ≡ None → t ≡ Some why) → else_for r t ≡ Some why
-    both None s t k f = f k
-    both (Some other) s t k f = cc
+  pub batches_fail : (bs back : List Arrays) (b : Arrays) (why : NoForm) → each_refusal refusal bs ≡ None → refusal b ≡ Some why → each_refusal refusal (bs ++ b ∷ back) ≡ Some why
+  batches_fail [] back b why none h = rw h refl
+  batches_fail (c ∷ bs) back b why none h = both (refusal c) (each_refusal refusal bs) (each_refusal refusal (bs ++ b ∷ back)) none (λ k. batches_fail bs back b why k h)
+    where
+      both : (r s t : Option NoForm) → else_for r s ≡ None → (s ≡ None → t ≡ Some why) → else_for r t ≡ Some why
+      both None s t k f = f k
+      both (Some other) s t k f = cc
 
-pub batches_refused : (types : List TypeTree) (bs front back : List Arrays) (b : Arrays) (why : NoForm) → bs ≡ front ++ b ∷ back → batches_refusal types front ≡ None → IsRefused (batch_refusal types b) why → IsRefused (batches_refusal types bs) why
-batches_refused types bs front back b why e none (inl memory) = inl memory
-batches_refused types bs front back b why e none (inr reason) = inr (rw e (batches_fail types front back b why none reason))
+  pub batches_refused : (bs front back : List Arrays) (b : Arrays) (why : NoForm) → bs ≡ front ++ b ∷ back → each_refusal refusal front ≡ None → IsRefused (refusal b) why → IsRefused (each_refusal refusal bs) why
+  batches_refused bs front back b why e none (inl memory) = inl memory
+  batches_refused bs front back b why e none (inr reason) = inr (rw e (batches_fail front back b why none reason))
 
 pub all_push : {A : Type 0} (P : A → Type 0) (xs : List A) (x : A) → AllByRecursion P xs → P x → AllByRecursion P (xs ++ x ∷ [])
 all_push P [] x all p = (p, tt)
@@ -170,3 +172,34 @@ first_refused r s why (inr reason) = inr (rw reason refl)
 pub later_refused : (r s : Option NoForm) (why : NoForm) → r ≡ None → IsRefused s why → IsRefused (else_for r s) why
 later_refused r s why none (inl memory) = inl memory
 later_refused r s why none (inr reason) = inr (rw none reason)
+
+-- ---- a file
+
+-- the message is longer than a footer has a number for
+pub block_past : (types : List TypeTree) (b : Arrays) → batch_refusal types b ≡ None → 2 ^ 31 ≤ length (batch_head b) → block_refusal types b ≡ Some Size
+block_past types b none long =
+    let past : leb (2 ^ 31) (length (batch_head b)) ≡ true = le-leb _ _ long in
+    rw (none, past) refl
+
+pub block_accepted : (types : List TypeTree) (b : Arrays) → batch_refusal types b ≡ None → length (batch_head b) < 2 ^ 31 → block_refusal types b ≡ None
+block_accepted types b none short =
+    let fits : leb (2 ^ 31) (length (batch_head b)) ≡ false = lt-leb _ _ short in
+    rw (none, fits) refl
+
+-- what has no form in a stream has none in a file
+pub else_refused : (first next : Option NoForm) (why : NoForm) → IsRefused first why → IsRefused (else_for first next) why
+else_refused first next why (inl memory) = inl memory
+else_refused first next why (inr reason) = inr (rw reason refl)
+
+pub next_refused : (first next : Option NoForm) (why : NoForm) → first ≡ None → IsRefused next why → IsRefused (else_for first next) why
+next_refused first next why none refused = rw none refused
+
+-- batches that are written into a file are written into a stream
+pub stream_accepts : (types : List TypeTree) (bs : List Arrays) → blocks_refusal types bs ≡ None → batches_refusal types bs ≡ None
+stream_accepts types [] none = refl
+stream_accepts types (b ∷ bs) none = both (batch_refusal types b) (size_if (leb (2 ^ 31) (length (batch_head b)))) (blocks_refusal types bs) (batches_refusal types bs) none (λ k. stream_accepts types bs k)
+  where
+    both : (r past s t : Option NoForm) → else_for (else_for r past) s ≡ None → (s ≡ None → t ≡ None) → else_for r t ≡ None
+    both None None s t k f = f k
+    both None (Some why) s t k f = cc
+    both (Some why) past s t k f = cc

@@ -6,3 +6,7 @@ pub mod ReaderLaws
 pub mod Examples
 pub mod Written
 pub mod WrittenLaws
+pub mod Files
+pub mod WrittenFiles
+pub mod FileLaws
+pub mod FileExamples

@@ -74,7 +74,8 @@ field_again (field n t b es) = refl
 abbrev coded_field : Coded FieldTree
 coded_field = code_by FieldParts (coded× (coded× letters coded_type) (coded× coded_bool entries)) parts_of_field field_of_parts field_again
 
+abbrev pub coded_schema : Coded SchemaTree
+coded_schema = code_by (List FieldTree × Entries) (coded× (coded_list coded_field) entries) (λ s. (s.fields, s.metadata)) (λ p. record { fields = p.0; metadata = p.1 }) (λ _. refl)
+
 abbrev pub coded_reader : Coded ReaderTree
-coded_reader =
-    code_by ((List FieldTree × Entries) × List ℕ) (coded× (coded× (coded_list coded_field) entries) (coded_list coded_ℕ)) (λ r. ((r.schema.fields, r.schema.metadata), r.left))
-    (λ p. record { schema = record { fields = p.0.0; metadata = p.0.1 }; left = p.1 }) (λ _. refl)
+coded_reader = code_by (SchemaTree × List ℕ) (coded× coded_schema (coded_list coded_ℕ)) (λ r. (r.schema, r.left)) (λ p. record { schema = p.0; left = p.1 }) (λ _. refl)

@@ -1,5 +1,5 @@
 -- What a stream is written as ("IPC Streaming Format" of the Arrow columnar format), and why one is not written.
-use Rattle.std.specs.Prelude.{◌≡◌, ◌⊎◌, ◌^◌, ℕ, Bool, true, false, ◌&&◌, ◌==◌, nat_le, if◌then◌else◌, List, [], ◌∷◌, ◌++◌, map, length, Option, Some, None, Result, Ok, Err}
+use Rattle.std.specs.Prelude.{◌≡◌, ◌⊎◌, ◌^◌, ◌+◌, ℕ, Bool, true, false, ◌&&◌, ◌==◌, nat_le, if◌then◌else◌, List, [], ◌∷◌, ◌++◌, map, length, Option, Some, None, Result, Ok, Err}
 use Rattle.std.specs.List.{AllByRecursion, flat_map}
 use Rattle.nest_memory.specs.TypeTree.{TypeTree}
 use Rattle.nest_memory.specs.TypeEq.{same_type}
@@ -8,7 +8,10 @@ use Rattle.nest_model.specs.Meaning.{len}
 use Rattle.nest_model.specs.SameArray.{IsSameArray}
 use Rattle.ipc_model.specs.declared.fault.NoForm.{NoForm}
 use Rattle.ipc_model.specs.declared.fault.NoForm.TheVariants.{Memory, Size, Columns}
+use Rattle.ipc_message.specs.Messages.{Parts, message_at}
 use Rattle.ipc_message.specs.MessageBytes.{metadata_size, end_mark}
+use Rattle.ipc_message.specs.declared.message.Kind.TheVariants.{RecordBatch}
+use Rattle.ipc_message.specs.declared.message.Version.TheVariants.{V5}
 use Rattle.ipc_schema.specs.Schemas.{SchemaTree}
 use Rattle.ipc_schema.specs.Forms.{fields_form}
 use Rattle.ipc_schema.specs.SchemaBytes.{schema_message}
@@ -16,7 +19,7 @@ use Rattle.ipc_batch.specs.Batches.{BatchTree}
 use Rattle.ipc_batch.specs.BatchBytes.{batch_message}
 use Rattle.ipc_layout.specs.Placed.{regions_from}
 use Rattle.ipc_layout.specs.Written.{column_node, buffers_of, columns_body, no_form, shown}
-use Rattle.ipc.specs.Streams.{Arrays, StreamTree, next_in, types_of}
+use Rattle.ipc.specs.Streams.{Arrays, StreamTree, record_batch_in, types_of}
 
 -- ---- bytes
 
@@ -77,10 +80,14 @@ arrays_refusal b = else_for (no_form b.columns) (else_for (size_if (nat_le (2 ^ 
 abbrev pub batch_refusal : List TypeTree → Arrays → Option NoForm
 batch_refusal types b = if are_columns types b.rows b.columns then arrays_refusal b else Some Columns
 
+-- the first reason of any batch
+abbrev pub each_refusal : (Arrays → Option NoForm) → List Arrays → Option NoForm
+each_refusal refusal [] = None
+each_refusal refusal (b ∷ bs) = else_for (refusal b) (each_refusal refusal bs)
+
 -- batch by batch
 abbrev pub batches_refusal : List TypeTree → List Arrays → Option NoForm
-batches_refusal types [] = None
-batches_refusal types (b ∷ bs) = else_for (batch_refusal types b) (batches_refusal types bs)
+batches_refusal types bs = each_refusal (batch_refusal types) bs
 
 -- the first reason why a stream is not written: the schema, then batch by batch
 abbrev pub stream_refusal : SchemaTree → List Arrays → Option NoForm
@@ -104,7 +111,17 @@ shown_stream s bs size = record { schema = s; batches = map shown_arrays bs; rea
 abbrev pub IsSameBatch : Arrays → Type 0
 IsSameBatch b = AllByRecursion (λ a. IsSameArray a (shown a)) b.columns
 
--- a batch that is written is read back, whatever stands behind it
+-- the message of a batch that is written, as it is read, whatever stands behind its body
+pub record IsMessage (b : Arrays) (m : Parts) : Type 0 where
+  pub again : (rest : List ℕ) → message_at (batch_bytes b ++ rest) ≡ Ok (Some m, rest)
+  pub kind : m.root.kind ≡ RecordBatch
+  pub version : m.root.version ≡ V5
+  pub metadata : 8 + length m.metadata ≡ length (batch_head b)
+  pub body : length m.body ≡ length (columns_body b.columns)
+  pub columns : (types : List TypeTree) → are_columns types b.rows b.columns ≡ true → record_batch_in types m ≡ Ok (shown_arrays b)
+
+-- a batch that is written is read back
 pub record IsReadAgain (b : Arrays) : Type 0 where
-  pub read : (types : List TypeTree) (rest : List ℕ) → are_columns types b.rows b.columns ≡ true → next_in types (batch_bytes b ++ rest) ≡ Ok (Some (shown_arrays b), rest)
+  pub parts : Parts
+  pub message : IsMessage b parts
   pub same : IsSameBatch b

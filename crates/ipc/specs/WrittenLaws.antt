@@ -50,19 +50,30 @@ lengths_are (t ∷ types) rows (a ∷ columns) h =
 
 -- ---- batches
 
-batch_read : (b : Arrays) → IsReadBack (batch_tree b) (batch_head b) (columns_body b.columns) → AreReadBack b.columns
-    → (types : List TypeTree) (rest : List ℕ) → are_columns types b.rows b.columns ≡ true → next_in types (batch_bytes b ++ rest) ≡ Ok (Some (shown_arrays b), rest)
-unfolding batch_bytes next_in record_batch_in
-batch_read b message body types rest h =
-    let columns : List Layout = b.columns in
-    let parts = message.parts in
-    let regrouped : batch_bytes b ++ rest ≡ batch_head b ++ (columns_body columns ++ rest) = append_assoc (batch_head b) (columns_body columns) rest in
-    let read : columns_in (λ t. t) (map layout_type columns) b.rows (columns_body columns) (record { nodes = map column_node columns; regions = regions_from 0 (buffers_of columns) }) ≡ Ok (map shown columns) =
-    body.read b.rows (lengths_are types b.rows columns h) in
-    rw (regrouped, message.again rest, message.kind, message.same_batch, message.same_body, types_are types b.rows columns h, read) refl
-
 pub batch_again : (b : Arrays) → IsReadBack (batch_tree b) (batch_head b) (columns_body b.columns) → AreReadBack b.columns → IsReadAgain b
-batch_again b message body = record { read = batch_read b message body; same = body.same }
+unfolding batch_bytes record_batch_in
+batch_again b message body =
+    let columns : List Layout = b.columns in
+    record {
+      parts = message.parts;
+      message = record {
+        again = λ rest. rw (append_assoc (batch_head b) (columns_body columns) rest) (message.again rest);
+        kind = message.kind;
+        version = message.version;
+        metadata = message.long;
+        body = ap length message.same_body;
+        columns = λ types are.
+            let read : columns_in (λ t. t) (map layout_type columns) b.rows (columns_body columns) (record { nodes = map column_node columns; regions = regions_from 0 (buffers_of columns) }) ≡ Ok (map shown columns) =
+            body.read b.rows (lengths_are types b.rows columns are) in
+            rw (message.same_batch, message.same_body, types_are types b.rows columns are, read) refl;
+      };
+      same = body.same;
+    }
+
+-- a batch that is read back is the next one of a stream
+pub next_again : (b : Arrays) → IsReadAgain b → (types : List TypeTree) (rest : List ℕ) → are_columns types b.rows b.columns ≡ true → next_in types (batch_bytes b ++ rest) ≡ Ok (Some (shown_arrays b), rest)
+unfolding next_in record_batch_in
+next_again b ok types rest are = rw (ok.message.again rest, ok.message.kind, ok.message.columns types are) refl
 
 -- arrays that pass each limit are written
 pub none_refuses : (b : Arrays) → no_form b.columns ≡ None → b.rows < 2 ^ 63 → metadata_size (batch_head b) < 2 ^ 31 → arrays_refusal b ≡ None
@@ -84,7 +95,7 @@ batches_again types (b ∷ bs) rest ok are =
     let behind : List ℕ = flat_map batch_bytes bs ++ (end_mark ++ rest) in
     let bytes : flat_map batch_bytes (b ∷ bs) ++ (end_mark ++ rest) ≡ batch_bytes b ++ behind =
     ap (λ (x : List ℕ). x ++ (end_mark ++ rest)) (flat_map-cons batch_bytes b bs) ∙ append_assoc (batch_bytes b) (flat_map batch_bytes bs) (end_mark ++ rest) in
-    rw (bytes, one_by_one types (batch_bytes b ++ behind), ok.0.read types behind are.0, batches_again types bs rest ok.1 are.1) refl
+    rw (bytes, one_by_one types (batch_bytes b ++ behind), next_again b ok.0 types behind are.0, batches_again types bs rest ok.1 are.1) refl
 
 -- ---- streams
 

@@ -47,8 +47,9 @@ fn columns_of(
     }
 }
 
+/// The batch of a record batch's message.
 #[tactic(auto, unfolding(crate::specs::Streams::record_batch_in))]
-fn record_batch(alloc: Global, types: &[DataType], message: Message<'_>) -> Result<Batch, Fault>
+pub fn record_batch(alloc: Global, types: &[DataType], message: Message<'_>) -> Result<Batch, Fault>
     requires { length message.metadata.now < 2 ^ 31 }
     ensures { Gives arrays_of result (record_batch_in (map type_of types.now) (parts_of message.entry)) }
 {
@@ -71,9 +72,9 @@ fn record_batch(alloc: Global, types: &[DataType], message: Message<'_>) -> Resu
     })
 }
 
-// That no field has the dictionary.
+/// That no field has the dictionary of a message.
 #[tactic(auto, unfolding(crate::specs::Streams::dictionary_in))]
-fn dictionary(message: Message<'_>) -> Result<Batch, Fault>
+pub fn dictionary(message: Message<'_>) -> Result<Batch, Fault>
     requires { length message.metadata.now < 2 ^ 31 }
     ensures { Gives arrays_of result (dictionary_in (parts_of message.entry)) }
 {

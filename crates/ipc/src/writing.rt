@@ -1,5 +1,5 @@
 //! Writes streams.
-ghost use Rattle.std.specs.Prelude.{◌≡◌, ◌⊎◌, ◌++◌, List, ℕ, None, false, map, length, IfErr, IfOk, OnOk, Ok};
+ghost use Rattle.std.specs.Prelude.{◌≡◌, ◌<◌, ◌^◌, ◌⊎◌, ◌++◌, List, ℕ, None, false, map, length, IfErr, IfOk, OnOk, Ok};
 ghost use Rattle.std.specs.List.{AllByRecursion, flat_map};
 ghost use Rattle.nest_memory.specs.TypeOf.{field_of};
 ghost use Rattle.nest_memory.specs.TypeTree.{field_type};
@@ -7,7 +7,7 @@ ghost use Rattle.nest_array.specs.Seen.{layout_of};
 ghost use Rattle.nest_flat.specs.AnyPrimitive.{primitive_layout};
 ghost use Rattle.ipc_model.specs.declared.fault.NoForm.TheVariants.{Memory, «Type» as NotWritten};
 ghost use Rattle.ipc_schema.specs.Schemas.{schema_of};
-ghost use Rattle.ipc_layout.specs.Written.{has_form, IsUnwritten};
+ghost use Rattle.ipc_layout.specs.Written.{columns_body, has_form, IsUnwritten};
 ghost use Rattle.ipc.specs.Streams.{arrays_of, types_of, stream_in};
 ghost use Rattle.ipc.specs.Written.{batch_bytes, stream_bytes, is_column as is_column_lem, are_columns as are_columns_lem, arrays_refusal, batch_refusal, batches_refusal, stream_refusal, IsRefused, IsReadAgain, IsSameBatch, shown_stream};
 
@@ -72,15 +72,17 @@ fn natives(alloc: Global, columns: &[AnyArray]) -> Result<Vec<AnyPrimitive>, NoF
     Ok(natives)
 }
 
-// The message of so many rows of columns, and their body.
+// The message of so many rows of columns, and their body, whose length is told.
 #[tactic(auto, unfolding(crate::specs::Written::batch_bytes))]
 fn put_arrays(
     alloc: Global,
     out: &mut Vec<u8>,
     rows: usize,
     columns: &[AnyPrimitive],
-) -> Result<(), NoForm>
+) -> Result<usize, NoForm>
     ensures bytes { OnOk result (out.new.items ≡ out.old.items ++ batch_bytes (record { rows = rows; columns = map primitive_layout columns.now })) }
+    ensures body { IfOk result (λ long. long ≡ length (columns_body (map primitive_layout columns.now))) }
+    ensures small { IfOk result (λ long. long < 2 ^ 63) }
     ensures again { OnOk result (IsReadAgain (record { rows = rows; columns = map primitive_layout columns.now })) }
     ensures form { OnOk result (arrays_refusal (record { rows = rows; columns = map primitive_layout columns.now }) ≡ None) }
     ensures err { IfErr result (IsRefused (arrays_refusal (record { rows = rows; columns = map primitive_layout columns.now }))) }
@@ -94,16 +96,19 @@ fn put_arrays(
     };
     write_batch(alloc, out, &metadata, body_length)?;
     put_columns(out, columns)?;
-    Ok(())
+    Ok(body_length)
 }
 
-fn put_batch(
+/// Appends a batch with its body, whose length is told.
+pub fn put_batch(
     alloc: Global,
     out: &mut Vec<u8>,
     fields: &[Field],
     batch: &Batch,
-) -> Result<(), NoForm>
+) -> Result<usize, NoForm>
     ensures bytes { OnOk result (out.new.items ≡ out.old.items ++ batch_bytes (arrays_of batch.now)) }
+    ensures body { IfOk result (λ long. long ≡ length (columns_body (arrays_of batch.now).columns)) }
+    ensures small { IfOk result (λ long. long < 2 ^ 63) }
     ensures again { OnOk result (IsReadAgain (arrays_of batch.now)) }
     ensures form { OnOk result (batch_refusal (map field_type (map field_of fields.now)) (arrays_of batch.now) ≡ None) }
     ensures err { IfErr result (IsRefused (batch_refusal (map field_type (map field_of fields.now)) (arrays_of batch.now))) }
@@ -112,8 +117,8 @@ fn put_batch(
         return Err(NoForm::Columns);
     }
     let columns = natives(alloc, &batch.columns)?;
-    put_arrays(alloc, out, batch.rows, &columns)?;
-    Ok(())
+    let body_length = put_arrays(alloc, out, batch.rows, &columns)?;
+    Ok(body_length)
 }
 
 fn put_batches(

@@ -19,6 +19,7 @@ use Rattle.ipc_message.specs.Messages.{Parts, message_at}
 use Rattle.ipc_message.specs.MessageBytes.{root_bytes, message_bytes, metadata_size, framed_bytes, padding}
 use Rattle.ipc_message.specs.MessageLaws.{padded, padded_long, padding_long, framed_long, root_long, written_parts, message_again, written_part}
 use Rattle.ipc_message.specs.declared.message.Kind.TheVariants.{RecordBatch}
+use Rattle.ipc_message.specs.declared.message.Version.TheVariants.{V5}
 use Rattle.ipc_batch.specs.Batches.{BatchTree, node_at, region_at, all_within, batch_at}
 use Rattle.ipc_batch.specs.BatchBytes.{node_bytes, region_bytes, batch_head, batch_bytes, batch_message}
 
@@ -142,6 +143,8 @@ pub record IsReadBack (b : BatchTree) (message body : List ℕ) : Type 0 where
   pub parts : Parts
   pub again : (rest : List ℕ) → message_at (message ++ (body ++ rest)) ≡ Ok (Some parts, rest)
   pub kind : parts.root.kind ≡ RecordBatch
+  pub version : parts.root.version ≡ V5
+  pub long : 8 + length parts.metadata ≡ length message
   pub same_body : parts.body ≡ body
   pub same_batch : batch_in parts ≡ Ok b
 
@@ -160,6 +163,8 @@ written_again b body fits short inside small =
       parts = written_parts RecordBatch 16 part body;
       again = λ rest. message_again RecordBatch 16 part body rest short (omega arith) small;
       kind = refl;
+      version = refl;
+      long = omega (arith, framed, framed_long metadata, padding_long (length metadata), padded_long metadata);
       same_body = refl;
       same_batch = r;
     }

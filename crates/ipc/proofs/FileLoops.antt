@@ -1,0 +1,84 @@
+-- Going through the blocks of a file, as loops do, and through batches that are written into one.
+use Rattle.std.proofs.Common.{◌≡◌, ℕ, ◌+◌, ◌<◌, ◌≤◌, List, [], ◌∷◌, ◌++◌, length, get_or, drop, map, Result, Ok, Err, refl, sym, ap, ◌∙◌, append_assoc, arith}
+use Rattle.std.specs.List.{flat_map}
+use Rattle.std.proofs.lemmas.List.{append-nil, map-append, drop_more, drop_all, length-append}
+use Rattle.std.proofs.lemmas.List.Concat.{flat_map-cons}
+use Rattle.ipc_model.specs.declared.fault.Fault.{Fault}
+use Rattle.ipc_model.specs.Reading.{◌>>=◌, Fails}
+use Rattle.ipc_message.specs.Messages.{Parts}
+use Rattle.ipc_message.specs.declared.message.Kind.TheVariants.{DictionaryBatch}
+use Rattle.ipc_schema.specs.Schemas.{SchemaTree}
+use Rattle.ipc_footer.specs.declared.footer.Block.{Block}
+use Rattle.ipc.specs.Streams.{Arrays, dictionary_in}
+use Rattle.ipc.specs.Files.{block_in, block_batch_in, batches_at, dictionaries_at, no_block}
+use Rattle.ipc.specs.Written.{batch_bytes}
+use Rattle.ipc.specs.WrittenFiles.{written_block, blocks_from}
+
+-- ---- dictionaries
+
+module _ (schema : SchemaTree) (bytes : List ℕ) (blocks : List Block) (i : ℕ) (total : Result (Unit {0}) Fault) where
+  pub dictionary_lacks_message : (f : Fault) → i < length blocks → block_in DictionaryBatch schema bytes (get_or blocks i no_block) ≡ Err f → dictionaries_at schema bytes (drop i blocks) ≡ total → total ≡ Err f
+  unfolding dictionaries_at
+  dictionary_lacks_message f lt read so_far = sym so_far ∙ rw (drop_more blocks i no_block lt, read) refl
+
+  pub dictionary_fails : (m : Parts) (f : Fault) → i < length blocks → block_in DictionaryBatch schema bytes (get_or blocks i no_block) ≡ Ok m → Fails f (dictionary_in m) → dictionaries_at schema bytes (drop i blocks) ≡ total → Fails f total
+  unfolding dictionaries_at
+  dictionary_fails m f lt read fails so_far = λ known. sym so_far ∙ rw (drop_more blocks i no_block lt, read, fails known) refl
+
+  pub dictionary_goes_on : (m : Parts) (a : Arrays) → i < length blocks → block_in DictionaryBatch schema bytes (get_or blocks i no_block) ≡ Ok m → dictionary_in m ≡ Ok a → dictionaries_at schema bytes (drop i blocks) ≡ total → dictionaries_at schema bytes (drop (i + 1) blocks) ≡ total
+  unfolding dictionaries_at
+  dictionary_goes_on m a lt read given so_far =
+      let one : dictionaries_at schema bytes (drop i blocks) ≡ dictionaries_at schema bytes (drop (i + 1) blocks) = rw (drop_more blocks i no_block lt, read, given) refl in
+      sym one ∙ so_far
+
+  pub dictionaries_end : length blocks ≤ i → dictionaries_at schema bytes (drop i blocks) ≡ total → total ≡ Ok tt
+  unfolding dictionaries_at
+  dictionaries_end le so_far = sym so_far ∙ rw (drop_all i blocks le) refl
+
+-- ---- batches
+
+-- what was read before, and what is still read
+abbrev pub with_first : List Arrays → Result (List Arrays) Fault → Result (List Arrays) Fault
+with_first front read = read >>= λ batches. Ok (front ++ batches)
+
+regroup : (front : List Arrays) (a : Arrays) (read : Result (List Arrays) Fault) → with_first front (read >>= λ batches. Ok (a ∷ batches)) ≡ with_first (front ++ a ∷ []) read
+regroup front a (Ok batches) = ap (λ (as_ : List Arrays). Ok as_) (sym (append_assoc front (a ∷ []) batches))
+regroup front a (Err f) = refl
+
+pub batches_start : (read : Result (List Arrays) Fault) → with_first [] read ≡ read
+batches_start (Ok batches) = refl
+batches_start (Err f) = refl
+
+module _ (schema : SchemaTree) (bytes : List ℕ) (blocks : List Block) (i : ℕ) where
+  pub batch_fails : (f : Fault) (front : List Arrays) (total : Result (List Arrays) Fault) → i < length blocks → Fails f (block_batch_in schema bytes (get_or blocks i no_block)) → with_first front (batches_at schema bytes (drop i blocks)) ≡ total → Fails f total
+  unfolding batches_at
+  batch_fails f front total lt fails so_far = λ known. sym so_far ∙ rw (drop_more blocks i no_block lt, fails known) refl
+
+  pub batch_goes_on : {B : Type 0} (view : B → Arrays) (front new : List B) (b : B) (total : Result (List Arrays) Fault) → new ≡ front ++ b ∷ [] → i < length blocks → block_batch_in schema bytes (get_or blocks i no_block) ≡ Ok (view b)
+      → with_first (map view front) (batches_at schema bytes (drop i blocks)) ≡ total → with_first (map view new) (batches_at schema bytes (drop (i + 1) blocks)) ≡ total
+  unfolding batches_at
+  batch_goes_on view front new b total e lt read so_far =
+      let one : with_first (map view front) (batches_at schema bytes (drop i blocks)) ≡ with_first (map view front ++ view b ∷ []) (batches_at schema bytes (drop (i + 1) blocks)) =
+      rw (drop_more blocks i no_block lt, read) (regroup (map view front) (view b) (batches_at schema bytes (drop (i + 1) blocks))) in
+      rw (e, map-append view front (b ∷ [])) (sym one ∙ so_far)
+
+  pub batches_end : (front : List Arrays) (total : Result (List Arrays) Fault) → length blocks ≤ i → with_first front (batches_at schema bytes (drop i blocks)) ≡ total → total ≡ Ok front
+  unfolding batches_at
+  batches_end front total le so_far = sym so_far ∙ rw (drop_all i blocks le) (ap (λ (as_ : List Arrays). Ok as_) (append-nil front))
+
+-- ---- batches that are written
+
+pub blocks_push : (place : ℕ) (bs : List Arrays) (b : Arrays) → blocks_from place (bs ++ b ∷ []) ≡ blocks_from place bs ++ written_block (place + length (flat_map batch_bytes bs)) b ∷ []
+unfolding blocks_from
+blocks_push place [] b =
+    let start : place + 0 ≡ place = omega arith in
+    rw start refl
+blocks_push place (c ∷ bs) b =
+    let next : ℕ = place + length (batch_bytes c) in
+    let all : length (flat_map batch_bytes (c ∷ bs)) ≡ length (batch_bytes c) + length (flat_map batch_bytes bs) = ap length (flat_map-cons batch_bytes c bs) ∙ length-append (batch_bytes c) (flat_map batch_bytes bs) in
+    let same : next + length (flat_map batch_bytes bs) ≡ place + length (flat_map batch_bytes (c ∷ bs)) = omega (arith, all) in
+    rw (blocks_push next bs b, same) refl
+
+pub blocks_more : (place : ℕ) (bs more : List Arrays) (b : Arrays) (old new : List Block) (block : Block) (start : ℕ) → more ≡ bs ++ b ∷ [] → new ≡ old ++ block ∷ [] → old ≡ blocks_from place bs → block ≡ written_block start b → start ≡ place + length (flat_map batch_bytes bs)
+    → new ≡ blocks_from place more
+blocks_more place bs more b old new block start e pushed so_far is there = rw (e, blocks_push place bs b, pushed, so_far, is, there) refl

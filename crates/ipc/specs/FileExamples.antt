@@ -1,0 +1,23 @@
+-- The file of another writer, byte by byte: no column, and one batch of three rows.
+use Rattle.std.specs.Prelude.{◌≡◌, [], ◌∷◌, Ok, refl}
+use Rattle.ipc_words.specs.Words.{offset_at, back_from, table_at, field_place, spend, visit_table, visit_vector, structs_at, items_at, vector_at}
+use Rattle.ipc_message.specs.Messages.{root_at, front, behind_mark, parts_at, sized_at, message_at}
+use Rattle.ipc_batch.specs.Batches.{each_within, all_within, batch_at}
+use Rattle.ipc_layout.specs.Columns.{each_in, columns_in}
+use Rattle.ipc_footer.specs.Examples as footers
+use Rattle.ipc.specs.Streams.{Arrays, record_batch_in}
+use Rattle.ipc.specs.Files.{FileTree, block_in, batches_at, dictionaries_at, file_reader_in, file_in}
+
+abbrev pub worked_arrays : Arrays
+worked_arrays = record { rows = 3; columns = [] }
+
+abbrev pub worked_tree : FileTree
+worked_tree = record { schema = footers.worked_tree.schema; batches = worked_arrays ∷ [] }
+
+worked_batches : batches_at footers.worked_tree.schema footers.worked_file footers.worked_tree.batches ≡ Ok (worked_arrays ∷ [])
+unfolding offset_at back_from table_at field_place spend visit_table visit_vector structs_at items_at vector_at root_at front behind_mark parts_at sized_at message_at each_within all_within batch_at each_in columns_in record_batch_in block_in batches_at
+worked_batches = refl
+
+pub worked : file_in footers.worked_file ≡ Ok worked_tree
+unfolding file_in file_reader_in dictionaries_at
+worked = rw (footers.worked, worked_batches) refl

@@ -1,0 +1,203 @@
+//! Reads files.
+ghost use Rattle.std.specs.Prelude.{◌≡◌, ◌<◌, ◌^◌, ◌==◌, true, length, map, IfOk, Ok};
+ghost use Rattle.std.specs.List.{list_all};
+ghost use Rattle.ipc_model.specs.Reading.{Gives, Spells};
+ghost use Rattle.ipc_message.specs.Messages.{parts_of, message_of};
+ghost use Rattle.ipc_message.specs.MessageBytes.{tag_of};
+ghost use Rattle.ipc_schema.specs.Schemas.{schema_of};
+ghost use Rattle.ipc_footer.specs.Footers.{block_before};
+ghost use Rattle.ipc.specs.Streams.{arrays_of};
+ghost use Rattle.ipc.specs.Files.{of_block as of_block_lem, block_in, dictionaries_at, file_reader_in, batch_of_file, batches_of_file, file_in, file_of};
+
+use crate::batch::Batch;
+use crate::reading::{dictionary, record_batch, types_of};
+use ipc_footer::{Block, Footer, block_bytes, in_version, read_footer};
+use ipc_message::{Kind, Message, next_message};
+use ipc_model::Fault;
+use ipc_schema::Schema;
+use nest_memory::datatypes::DataType;
+use std::alloc::Global;
+use std::marker::Model;
+
+/// What a file has.
+#[derive(Drop)]
+pub struct File {
+    /// The columns of all batches.
+    pub schema: Schema,
+    /// The batches in the order of the footer.
+    pub batches: Vec<Batch>,
+}
+
+// A message that has the lengths of its block.
+fn of_block(block: Block, next: Option<Message<'_>>) -> Result<Message<'_>, Fault>
+    ensures parts { Spells parts_of result (of_block_lem block (message_of next.entry)) }
+    ensures same { IfOk result (λ m. Some m ≡ next.entry) }
+{
+    match next {
+        None => Err(Fault::Block),
+        Some(message) => {
+            let metadata = block.metadata_length.unsigned_abs() as usize;
+            let body = block.body_length.unsigned_abs() as usize;
+            if 8 + message.metadata.len() == metadata && message.body.len() == body {
+                Ok(message)
+            } else {
+                Err(Fault::Block)
+            }
+        }
+    }
+}
+
+fn is_kind(kind: Kind, want: Kind) -> bool
+    ensures { result ≡ (tag_of kind == tag_of want) }
+{
+    match kind {
+        Kind::Schema => matches!(want, Kind::Schema),
+        Kind::DictionaryBatch => matches!(want, Kind::DictionaryBatch),
+        Kind::RecordBatch => matches!(want, Kind::RecordBatch),
+    }
+}
+
+// The message of a block, within the block's own bytes, and of this kind.
+#[tactic(auto, unfolding(crate::specs::Files::block_in))]
+fn block_message<'a>(
+    kind: Kind,
+    schema: &Schema,
+    bytes: &'a [u8],
+    block: Block,
+) -> Result<Message<'a>, Fault>
+    requires { block_before (length bytes.now) block ≡ true }
+    ensures parts { Spells parts_of result (block_in kind (schema_of schema.now) bytes.now block) }
+    ensures small { IfOk result (λ m. length m.metadata.now < 2 ^ 31) }
+{
+    let (next, _) = next_message(block_bytes(bytes, block))?;
+    let message = of_block(block, next)?;
+    if !is_kind(message.root.kind, kind) {
+        return Err(Fault::HeaderType);
+    }
+    in_version(message.root.version, schema)?;
+    Ok(message)
+}
+
+// The dictionaries of blocks: that no field has any.
+fn read_dictionaries(schema: &Schema, bytes: &[u8], blocks: &[Block]) -> Result<(), Fault>
+    requires { list_all (block_before (length bytes.now)) blocks.now ≡ true }
+    ensures { Gives (λ done. done) result (dictionaries_at (schema_of schema.now) bytes.now blocks.now) }
+{
+    for block in blocks {
+        let message = block_message(Kind::DictionaryBatch, schema, bytes, *block)?;
+        match dictionary(message) {
+            Err(fault) => return Err(fault),
+            Ok(_) => {}
+        }
+    }
+    Ok(())
+}
+
+/// A file whose batches are read one by one, in any order. Its answers are those of `read_file`.
+#[derive(Drop)]
+pub struct FileReader<'a> {
+    schema: Schema,
+    types: Vec<DataType>,
+    bytes: &'a [u8],
+    blocks: Vec<Block>,
+}
+
+impl<'a> Model for FileReader<'a> {
+    ghost use Rattle.ipc.specs.Files.{FileReaderTree, coded_file_reader};
+
+    ghost Value = { FileReaderTree };
+
+    ghost coded = { coded_file_reader };
+
+    ghost use Rattle.std.specs.Prelude.{◌≡◌, map, length, true};
+    ghost use Rattle.std.specs.List.{list_all};
+    ghost use Rattle.nest_memory.specs.TypeOf.{type_of};
+    ghost use Rattle.ipc_schema.specs.Schemas.{schema_of};
+    ghost use Rattle.ipc_footer.specs.Footers.{block_before};
+    ghost use Rattle.ipc.specs.Streams.{types_of};
+
+    ghost view = { λ r. record { schema = schema_of r.schema; bytes = r.bytes.now; blocks = r.blocks.items } };
+
+    ghost invariant = { λ r. (map type_of r.types.items ≡ types_of (schema_of r.schema)) × (list_all (block_before (length r.bytes.now)) r.blocks.items ≡ true) };
+}
+
+impl<'a> FileReader<'a> {
+    // The reader of a footer whose dictionaries were read.
+    fn of_footer(alloc: Global, bytes: &'a [u8], footer: Footer) -> Result<FileReader<'a>, Fault>
+        requires { list_all (block_before (length bytes.now)) footer.batches.items ≡ true }
+        ensures { Gives (λ r. r) result (Ok (record { schema = schema_of footer.schema; bytes = bytes.now; blocks = footer.batches.items })) }
+    {
+        match types_of(alloc, &footer.schema.fields) {
+            Err(fault) => Err(fault),
+            Ok(types) => Ok(FileReader {
+                schema: footer.schema,
+                types,
+                bytes,
+                blocks: footer.batches,
+            }),
+        }
+    }
+
+    /// The reader of a file: its footer and its dictionaries are read here, its batches when they are asked for.
+    #[tactic(auto, unfolding(crate::specs::Files::file_reader_in))]
+    pub fn new(alloc: Global, bytes: &'a [u8]) -> Result<FileReader<'a>, Fault>
+        ensures { Gives (λ r. r) result (file_reader_in bytes.now) }
+    {
+        let footer = read_footer(alloc, bytes)?;
+        match read_dictionaries(&footer.schema, bytes, &footer.dictionaries) {
+            Err(fault) => Err(fault),
+            Ok(_) => FileReader::of_footer(alloc, bytes, footer),
+        }
+    }
+
+    /// The columns of all batches.
+    pub fn schema(&self) -> &Schema
+        ensures { schema_of result.now ≡ self.now.schema }
+    {
+        &self.schema
+    }
+
+    /// How many batches there are.
+    pub fn len(&self) -> usize
+        ensures { result ≡ length self.now.blocks }
+    {
+        self.blocks.len()
+    }
+
+    /// The batch at a place in the order of the footer, or its first fault: the same whenever it is asked for.
+    pub fn batch(&self, alloc: Global, i: usize) -> Result<Batch, Fault>
+        requires { i < length self.now.blocks }
+        ensures { Gives arrays_of result (batch_of_file self.now i) }
+    {
+        let message = block_message(Kind::RecordBatch, &self.schema, self.bytes, self.blocks[i])?;
+        record_batch(alloc, &self.types, message)
+    }
+
+    // All batches, in the order of the footer.
+    fn batches(&self, alloc: Global) -> Result<Vec<Batch>, Fault>
+        ensures { Gives (λ v. map arrays_of v.items) result (batches_of_file self.now) }
+    {
+        let mut batches = Vec::new(alloc);
+        for i in 0..self.len() {
+            let batch = self.batch(alloc, i)?;
+            batches.push(batch)?;
+        }
+        Ok(batches)
+    }
+}
+
+/// The file that bytes are: the schema of its footer, and all batches that the footer names, in its order; or the first fault in
+/// the order of reading.
+#[tactic(auto, unfolding(crate::specs::Files::file_in))]
+pub fn read_file(alloc: Global, bytes: &[u8]) -> Result<File, Fault>
+    ensures { Gives file_of result (file_in bytes.now) }
+{
+    let reader = FileReader::new(alloc, bytes)?;
+    match reader.batches(alloc) {
+        Err(fault) => Err(fault),
+        Ok(batches) => Ok(File {
+            schema: reader.schema,
+            batches,
+        }),
+    }
+}
