@@ -1,7 +1,7 @@
 -- Reading batch after batch, and type after type, as loops do.
-use Rattle.std.proofs.Common.{◌≡◌, ℕ, ◌+◌, ◌<◌, List, [], ◌∷◌, ◌++◌, length, get_or, take, map, Result, Ok, Err, refl, sym, ap, ◌∙◌, append_assoc}
+use Rattle.std.proofs.Common.{◌≡◌, ℕ, ◌<◌, List, [], ◌∷◌, ◌++◌, length, map, Result, Ok, Err, refl, sym, ap, ◌∙◌, append_assoc}
 use Rattle.std.specs.Prelude.{Some, None}
-use Rattle.std.proofs.lemmas.List.{append-nil, map-append, take_more}
+use Rattle.std.proofs.lemmas.List.{append-nil, map-append}
 use Rattle.ipc_model.specs.declared.fault.Fault.{Fault}
 use Rattle.ipc_model.specs.Reading.{◌>>=◌, Fails}
 use Rattle.nest_memory.specs.TypeTree.{TypeTree}
@@ -41,8 +41,6 @@ batches_end front types rest behind total next so_far =
 pub batches_shrink : (types : List TypeTree) (rest behind : List ℕ) (a : Arrays) → next_in types rest ≡ Ok (Some a, behind) → length behind < length rest
 batches_shrink types rest behind a next = (rw next at (next_goes types rest)).1
 
-pub types_go_on : {A B C D : Type 0} (f : B → D) (g : A → B) (view : C → D) (xs : List A) (i : ℕ) (x : A) (front new : List C) (y : C) → i < length xs → x ≡ get_or xs i x → new ≡ front ++ y ∷ []
-    → f (g x) ≡ view y → map view front ≡ map f (map g (take i xs)) → map view new ≡ map f (map g (take (i + 1) xs))
-types_go_on {A} f g view xs i x front new y lt is e same so_far =
-    let more : take (i + 1) xs ≡ take i xs ++ x ∷ [] = take_more xs i x lt ∙ ap (λ (z : A). take i xs ++ z ∷ []) (sym is) in
-    rw (e, map-append view front (y ∷ []), more, map-append g (take i xs) (x ∷ []), map-append f (map g (take i xs)) (g x ∷ []), so_far, same) refl
+pub map_twice : {A B C : Type 0} (f : B → C) (g : A → B) (xs : List A) → map (λ x. f (g x)) xs ≡ map f (map g xs)
+map_twice f g [] = refl
+map_twice {C = C} f g (x ∷ xs) = ap (λ (ys : List C). f (g x) ∷ ys) (map_twice f g xs)

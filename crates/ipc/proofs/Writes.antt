@@ -1,12 +1,12 @@
 -- Why a stream is not written, and what is written, as loops go through columns and batches.
-use Rattle.std.proofs.Common.{◌≡◌, ℕ, ◌+◌, ◌^◌, ◌<◌, ◌≤◌, ◌⊎◌, inl, inr, Bool, true, false, leb, List, [], ◌∷◌, ◌++◌, length, get_or, take, drop, map, Option, Some, None, Ok, refl, sym, ap, ◌∙◌, append_assoc, arith}
+use Rattle.std.proofs.Common.{◌≡◌, ℕ, ◌+◌, ◌^◌, ◌<◌, ◌≤◌, inl, inr, Bool, true, false, leb, List, [], ◌∷◌, ◌++◌, length, get_or, take, drop, map, Option, Some, None, Ok, refl, sym, ap, ◌∙◌, append_assoc, arith}
 use Rattle.std.specs.Prelude.{◌&&◌, if◌then◌else◌}
-use Rattle.std.specs.List.{AllByRecursion, flat_map, list_all}
+use Rattle.std.specs.List.{AllByRecursion, flat_map}
 use Rattle.std.proofs.lemmas.Bool.{le-leb, lt-leb}
 use Rattle.std.proofs.lemmas.List.{append-nil, map-append, map_more, drop_more, take-append-drop, take_all}
 use Rattle.std.proofs.lemmas.List.Concat.{flat_map-cons, flat_map-append}
 use Rattle.ipc_model.specs.declared.fault.NoForm.{NoForm}
-use Rattle.ipc_model.specs.declared.fault.NoForm.TheVariants.{Memory, Size, Columns, «Type» as NotWritten}
+use Rattle.ipc_model.specs.declared.fault.NoForm.TheVariants.{Size, Columns}
 use Rattle.nest_memory.specs.TypeTree.{TypeTree}
 use Rattle.nest_model.specs.Layout.{Layout}
 use Rattle.ipc_message.specs.MessageBytes.{metadata_size}
@@ -15,7 +15,7 @@ use Rattle.ipc_schema.specs.Forms as forms
 use Rattle.ipc_schema.specs.Forms.{fields_form}
 use Rattle.ipc_schema.specs.SchemaBytes.{schema_message}
 use Rattle.ipc_batch.specs.BatchBytes as batches
-use Rattle.ipc_layout.specs.Written.{has_form, no_form, IsUnwritten}
+use Rattle.ipc_layout.specs.Written.{no_form, IsUnwritten}
 use Rattle.ipc.specs.Streams.{Arrays}
 use Rattle.ipc.specs.WrittenFiles.{block_refusal, blocks_refusal}
 use Rattle.ipc.specs.Written.{batch_tree, batch_head, batch_bytes, is_column, are_columns, else_for, size_if, schema_refusal, arrays_refusal, batch_refusal, each_refusal, batches_refusal, IsRefused, IsReadAgain, IsSameBatch}
@@ -58,17 +58,6 @@ module _ (types more : List TypeTree) (columns others : List Layout) (t : TypeTr
   column_passes e f h is =
       let one : are_columns types rows columns ≡ are_columns more rows others = rw (e, f, is) refl in
       sym one ∙ h
-
-pub pass_fails : {A : Type 0} (p : A → Bool) (xs : List A) (x : A) (ys : List A) → p x ≡ false → list_all p (xs ++ x ∷ ys) ≡ false
-pass_fails p [] x ys e = rw e refl
-pass_fails p (y ∷ xs) x ys e = and_false (p y) (list_all p (xs ++ x ∷ ys)) (pass_fails p xs x ys e)
-
-pub column_refused : (columns front back : List Layout) (x : Layout) (why : NoForm) → columns ≡ front ++ x ∷ back → (why ≡ Memory) ⊎ ((why ≡ NotWritten) × (has_form x ≡ false)) → IsUnwritten columns why
-unfolding no_form
-column_refused columns front back x why e (inl memory) = inl memory
-column_refused columns front back x why e (inr (is, lacks)) =
-    let none : list_all has_form (front ++ x ∷ back) ≡ false = pass_fails has_form front x back lacks in
-    inr (rw (e, none, is) refl)
 
 -- ---- a batch
 

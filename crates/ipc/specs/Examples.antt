@@ -11,7 +11,7 @@ use Rattle.ipc_schema.specs.Examples as schemas
 use Rattle.ipc_batch.specs.Batches.{each_within, all_within, batch_at}
 use Rattle.ipc_batch.specs.Examples as batches
 use Rattle.ipc_layout.specs.Stored.{values_in}
-use Rattle.ipc_layout.specs.Columns.{next_counts, bytes_of, next_bytes, bits_in, validity_in, natives_in, native_in, each_in, columns_in}
+use Rattle.ipc_layout.specs.Columns.{next_counts, bytes_of, next_bytes, bits_in, validity_in, node_in, buffer_in, head_in, natives_in, native_in, each_in, columns_in}
 use Rattle.ipc_layout.specs.Examples as columns
 use Rattle.ipc.specs.Streams.{Arrays, StreamTree, record_batch_in, next_in, types_of, stream_in}
 use Rattle.ipc.specs.StreamLaws.{one_by_one}
@@ -40,7 +40,7 @@ unfolding offset_at back_from table_at field_place spend visit_table visit_vecto
 worked_schema = rw is_text refl
 
 pub worked_next : next_in (types_of schemas.worked_tree) worked_rest ≡ Ok (Some worked_arrays, end_mark)
-unfolding offset_at back_from table_at field_place spend visit_table visit_vector structs_at items_at vector_at root_at front behind_mark parts_at sized_at message_at each_within all_within batch_at bit bits_from values_in next_counts bytes_of next_bytes bits_in validity_in natives_in native_in each_in columns_in record_batch_in next_in
+unfolding offset_at back_from table_at field_place spend visit_table visit_vector structs_at items_at vector_at root_at front behind_mark parts_at sized_at message_at each_within all_within batch_at bit bits_from values_in next_counts bytes_of next_bytes bits_in validity_in node_in buffer_in head_in natives_in native_in each_in columns_in record_batch_in next_in
 worked_next = refl
 
 pub worked_end : next_in (types_of schemas.worked_tree) end_mark ≡ Ok (None, [])

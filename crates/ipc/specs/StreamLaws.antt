@@ -1,16 +1,14 @@
 -- What follows from the definitions of `Streams`.
-use Rattle.std.specs.Prelude.{◌≡◌, ℕ, zero, suc, ◌<◌, ◌≤◌, Bool, true, false, ◌==◌, List, [], ◌∷◌, map, length, take, drop, Option, Some, None, Result, Ok, Err, IfOk, IfSome, nat_le, if◌then◌else◌, refl}
+use Rattle.std.specs.Prelude.{◌≡◌, ℕ, zero, suc, ◌<◌, ◌≤◌, Bool, true, false, ◌==◌, List, [], ◌∷◌, length, take, drop, Option, Some, None, Result, Ok, Err, IfOk, IfSome, nat_le, if◌then◌else◌, refl}
 use Rattle.std.proofs.Common.{ap, ◌∙◌, arith, length-drop}
 use Rattle.std.specs.Int.{w32, from_le_bytes, cast_signed}
 use Rattle.nest_memory.specs.TypeTree.{TypeTree}
-use Rattle.nest_model.specs.Layout.{Layout}
 use Rattle.ipc_model.specs.Reading.{◌>>=◌, check}
 use Rattle.ipc_model.specs.declared.fault.Fault.{Fault}
 use Rattle.ipc_model.specs.declared.fault.Fault.TheVariants.{Truncated, Continuation, MetadataLength}
 use Rattle.ipc_words.specs.Words.{natural}
 use Rattle.ipc_message.specs.Messages.{Parts, root_at, front, behind_mark, parts_at, sized_at, message_at}
 use Rattle.ipc_schema.specs.Schemas.{schema_parts, schema_at, stream_schema_at}
-use Rattle.ipc_layout.specs.Columns.{Rest, column_in, each_in, none_left, columns_in}
 use Rattle.ipc.specs.Streams.{Arrays, batch_in, next_in, with_others, batches_within, batches_in, first_and_others}
 
 -- ---- what stands behind a part has fewer bytes
@@ -145,14 +143,3 @@ within_leaves (suc most) types bytes =
 
 pub batches_leave : (types : List TypeTree) (bytes : List ℕ) → IfOk (batches_in types bytes) (Leaves (length bytes))
 batches_leave types bytes = within_leaves (length bytes) types bytes
-
--- ---- columns by their types
-
-each_by_type : {A : Type 0} (type : A → TypeTree) (xs : List A) (rows : ℕ) (body : List ℕ) (rest : Rest) → each_in (λ x r. column_in (type x) rows body r) xs rest ≡ each_in (λ t r. column_in t rows body r) (map type xs) rest
-unfolding each_in
-each_by_type type [] rows body rest = refl
-each_by_type type (x ∷ xs) rows body rest = λ i. column_in (type x) rows body rest >>= λ first. (each_by_type type xs rows body first.1 i) >>= λ others. Ok (first.0 ∷ others.0, others.1)
-
-pub columns_by_type : {A : Type 0} (type : A → TypeTree) (xs : List A) (rows : ℕ) (body : List ℕ) (rest : Rest) → columns_in type xs rows body rest ≡ columns_in (λ t. t) (map type xs) rows body rest
-unfolding columns_in
-columns_by_type type xs rows body rest = ap (λ (read : Result (List Layout × Rest) Fault). read >>= λ columns. none_left columns.1 >>= λ all. Ok columns.0) (each_by_type type xs rows body rest)

@@ -28,7 +28,7 @@ pub record Arrays : Type 0 where
 unfoldable pub record_batch_in : List TypeTree → Parts → Result Arrays Fault
 record_batch_in types m = do
   batch ← batch_at m.metadata m.root.header m.root.left m.root.body_length
-  columns ← columns_in (λ t. t) types batch.rows m.body (record { nodes = batch.nodes; regions = batch.regions })
+  columns ← columns_in types batch.rows m.body (record { nodes = batch.nodes; regions = batch.regions })
   Ok (record { rows = batch.rows; columns = columns })
 
 -- the values of a dictionary: `DictionaryBatch` of `Message.fbs`. No field that is read has a dictionary, so none has its id

@@ -63,7 +63,7 @@ batch_again b message body =
         metadata = message.long;
         body = ap length message.same_body;
         columns = λ types are.
-            let read : columns_in (λ t. t) (map layout_type columns) b.rows (columns_body columns) (record { nodes = map column_node columns; regions = regions_from 0 (buffers_of columns) }) ≡ Ok (map shown columns) =
+            let read : columns_in (map layout_type columns) b.rows (columns_body columns) (record { nodes = map column_node columns; regions = regions_from 0 (buffers_of columns) }) ≡ Ok (map shown columns) =
             body.read b.rows (lengths_are types b.rows columns are) in
             rw (message.same_batch, message.same_body, types_are types b.rows columns are, read) refl;
       };

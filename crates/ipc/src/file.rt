@@ -10,12 +10,11 @@ ghost use Rattle.ipc.specs.Streams.{arrays_of};
 ghost use Rattle.ipc.specs.Files.{of_block as of_block_lem, block_in, dictionaries_at, file_reader_in, batch_of_file, batches_of_file, file_in, file_of};
 
 use crate::batch::Batch;
-use crate::reading::{dictionary, record_batch, types_of};
+use crate::reading::{dictionary, record_batch};
 use ipc_footer::{Block, Footer, block_bytes, in_version, read_footer};
 use ipc_message::{Kind, Message, next_message};
 use ipc_model::Fault;
 use ipc_schema::Schema;
-use nest_memory::datatypes::DataType;
 use std::alloc::Global;
 use std::marker::Model;
 
@@ -97,7 +96,6 @@ fn read_dictionaries(schema: &Schema, bytes: &[u8], blocks: &[Block]) -> Result<
 #[derive(Drop)]
 pub struct FileReader<'a> {
     schema: Schema,
-    types: Vec<DataType>,
     bytes: &'a [u8],
     blocks: Vec<Block>,
 }
@@ -109,32 +107,26 @@ impl<'a> Model for FileReader<'a> {
 
     ghost coded = { coded_file_reader };
 
-    ghost use Rattle.std.specs.Prelude.{◌≡◌, map, length, true};
+    ghost use Rattle.std.specs.Prelude.{◌≡◌, length, true};
     ghost use Rattle.std.specs.List.{list_all};
-    ghost use Rattle.nest_memory.specs.TypeOf.{type_of};
     ghost use Rattle.ipc_schema.specs.Schemas.{schema_of};
     ghost use Rattle.ipc_footer.specs.Footers.{block_before};
-    ghost use Rattle.ipc.specs.Streams.{types_of};
 
     ghost view = { λ r. record { schema = schema_of r.schema; bytes = r.bytes.now; blocks = r.blocks.items } };
 
-    ghost invariant = { λ r. (map type_of r.types.items ≡ types_of (schema_of r.schema)) × (list_all (block_before (length r.bytes.now)) r.blocks.items ≡ true) };
+    ghost invariant = { λ r. list_all (block_before (length r.bytes.now)) r.blocks.items ≡ true };
 }
 
 impl<'a> FileReader<'a> {
     // The reader of a footer whose dictionaries were read.
-    fn of_footer(alloc: Global, bytes: &'a [u8], footer: Footer) -> Result<FileReader<'a>, Fault>
+    fn of_footer(bytes: &'a [u8], footer: Footer) -> FileReader<'a>
         requires { list_all (block_before (length bytes.now)) footer.batches.items ≡ true }
-        ensures { Gives (λ r. r) result (Ok (record { schema = schema_of footer.schema; bytes = bytes.now; blocks = footer.batches.items })) }
+        ensures { result ≡ record { schema = schema_of footer.schema; bytes = bytes.now; blocks = footer.batches.items } }
     {
-        match types_of(alloc, &footer.schema.fields) {
-            Err(fault) => Err(fault),
-            Ok(types) => Ok(FileReader {
-                schema: footer.schema,
-                types,
-                bytes,
-                blocks: footer.batches,
-            }),
+        FileReader {
+            schema: footer.schema,
+            bytes,
+            blocks: footer.batches,
         }
     }
 
@@ -146,7 +138,7 @@ impl<'a> FileReader<'a> {
         let footer = read_footer(alloc, bytes)?;
         match read_dictionaries(&footer.schema, bytes, &footer.dictionaries) {
             Err(fault) => Err(fault),
-            Ok(_) => FileReader::of_footer(alloc, bytes, footer),
+            Ok(_) => Ok(FileReader::of_footer(bytes, footer)),
         }
     }
 
@@ -170,7 +162,7 @@ impl<'a> FileReader<'a> {
         ensures { Gives arrays_of result (batch_of_file self.now i) }
     {
         let message = block_message(Kind::RecordBatch, &self.schema, self.bytes, self.blocks[i])?;
-        record_batch(alloc, &self.types, message)
+        record_batch(alloc, &self.schema.fields, message)
     }
 
     // All batches, in the order of the footer.

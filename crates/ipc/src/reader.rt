@@ -7,10 +7,9 @@ ghost use Rattle.ipc.specs.Streams.{arrays_of};
 ghost use Rattle.ipc.specs.Readers.{next_of, reader_in, spent};
 
 use crate::batch::Batch;
-use crate::reading::{next_batch, types_of};
+use crate::reading::next_batch;
 use ipc_model::Fault;
 use ipc_schema::{Schema, read_schema};
-use nest_memory::datatypes::DataType;
 use std::alloc::Global;
 use std::marker::Model;
 
@@ -18,7 +17,6 @@ use std::marker::Model;
 #[derive(Drop)]
 pub struct StreamReader<'a> {
     schema: Schema,
-    types: Vec<DataType>,
     left: &'a [u8],
 }
 
@@ -29,14 +27,9 @@ impl<'a> Model for StreamReader<'a> {
 
     ghost coded = { coded_reader };
 
-    ghost use Rattle.std.specs.Prelude.{◌≡◌, map};
-    ghost use Rattle.nest_memory.specs.TypeOf.{type_of};
     ghost use Rattle.ipc_schema.specs.Schemas.{schema_of};
-    ghost use Rattle.ipc.specs.Streams.{types_of};
 
     ghost view = { λ r. record { schema = schema_of r.schema; left = r.left.now } };
-
-    ghost invariant = { λ r. map type_of r.types.items ≡ types_of (schema_of r.schema) };
 }
 
 impl<'a> StreamReader<'a> {
@@ -46,12 +39,7 @@ impl<'a> StreamReader<'a> {
         ensures { Gives (λ r. r) result (reader_in bytes.now) }
     {
         let (schema, left) = read_schema(alloc, bytes)?;
-        let types = types_of(alloc, &schema.fields)?;
-        Ok(StreamReader {
-            schema,
-            types,
-            left,
-        })
+        Ok(StreamReader { schema, left })
     }
 
     /// The columns of all batches.
@@ -67,7 +55,7 @@ impl<'a> StreamReader<'a> {
         ensures next { Gives (λ b. (option_map arrays_of b, self.new)) result (next_of self.old) }
         ensures over { IfErr result (λ _. self.new ≡ spent self.old) }
     {
-        match next_batch(alloc, &self.types, self.left) {
+        match next_batch(alloc, &self.schema.fields, self.left) {
             Err(fault) => {
                 self.left = &[];
                 Err(fault)

@@ -1,14 +1,15 @@
 //! Reads streams whole.
 ghost use Rattle.std.specs.Prelude.{◌≡◌, map};
-ghost use Rattle.nest_memory.specs.TypeOf.{type_of};
+ghost use Rattle.nest_memory.specs.TypeOf.{field_of};
+ghost use Rattle.nest_memory.specs.TypeTree.{field_type};
 ghost use Rattle.ipc_model.specs.Reading.{Gives};
 ghost use Rattle.ipc.specs.Streams.{arrays_of, batches_in, stream_in, stream_of};
 
 use crate::batch::Batch;
-use crate::reading::{next_batch, types_of};
+use crate::reading::next_batch;
 use ipc_model::Fault;
 use ipc_schema::{Schema, read_schema};
-use nest_memory::datatypes::DataType;
+use nest_memory::datatypes::Field;
 use std::alloc::Global;
 
 /// What a stream has.
@@ -25,15 +26,15 @@ pub struct Stream {
 // The batches up to the end of a stream, and what stands behind it.
 fn read_batches<'a>(
     alloc: Global,
-    types: &[DataType],
+    fields: &[Field],
     bytes: &'a [u8],
 ) -> Result<(Vec<Batch>, &'a [u8]), Fault>
-    ensures { Gives (λ x. (map arrays_of x.0.items, x.1.now)) result (batches_in (map type_of types.now) bytes.now) }
+    ensures { Gives (λ x. (map arrays_of x.0.items, x.1.now)) result (batches_in (map field_type (map field_of fields.now)) bytes.now) }
 {
     let mut batches = Vec::new(alloc);
     let mut rest = bytes;
     'batches: loop {
-        let (next, behind) = next_batch(alloc, types, rest)?;
+        let (next, behind) = next_batch(alloc, fields, rest)?;
         match next {
             None => return Ok((batches, behind)),
             Some(batch) => batches.push(batch)?,
@@ -49,8 +50,7 @@ pub fn read_stream(alloc: Global, bytes: &[u8]) -> Result<Stream, Fault>
     ensures { Gives stream_of result (stream_in bytes.now) }
 {
     let (schema, rest) = read_schema(alloc, bytes)?;
-    let types = types_of(alloc, &schema.fields)?;
-    let (batches, rest) = read_batches(alloc, &types, rest)?;
+    let (batches, rest) = read_batches(alloc, &schema.fields, rest)?;
     let read = bytes.len() - rest.len();
     Ok(Stream {
         schema,

@@ -1,13 +1,11 @@
 //! Writes streams.
-ghost use Rattle.std.specs.Prelude.{◌≡◌, ◌<◌, ◌^◌, ◌⊎◌, ◌++◌, List, ℕ, None, false, map, length, IfErr, IfOk, OnOk, Ok};
+ghost use Rattle.std.specs.Prelude.{◌≡◌, ◌<◌, ◌^◌, ◌++◌, List, ℕ, None, map, length, IfErr, IfOk, OnOk, Ok};
 ghost use Rattle.std.specs.List.{AllByRecursion, flat_map};
 ghost use Rattle.nest_memory.specs.TypeOf.{field_of};
 ghost use Rattle.nest_memory.specs.TypeTree.{field_type};
 ghost use Rattle.nest_array.specs.Seen.{layout_of};
-ghost use Rattle.nest_flat.specs.AnyPrimitive.{primitive_layout};
-ghost use Rattle.ipc_model.specs.declared.fault.NoForm.TheVariants.{Memory, «Type» as NotWritten};
 ghost use Rattle.ipc_schema.specs.Schemas.{schema_of};
-ghost use Rattle.ipc_layout.specs.Written.{columns_body, has_form, IsUnwritten};
+ghost use Rattle.ipc_layout.specs.Written.{columns_body};
 ghost use Rattle.ipc.specs.Streams.{arrays_of, types_of, stream_in};
 ghost use Rattle.ipc.specs.Written.{batch_bytes, stream_bytes, is_column as is_column_lem, are_columns as are_columns_lem, arrays_refusal, batch_refusal, batches_refusal, stream_refusal, IsRefused, IsReadAgain, IsSameBatch, shown_stream};
 
@@ -17,7 +15,6 @@ use ipc_layout::{place_columns, put_columns};
 use ipc_model::NoForm;
 use ipc_schema::{Schema, write_schema};
 use nest_array::any::AnyArray;
-use nest_flat::any_primitive::AnyPrimitive;
 use nest_memory::datatypes::Field;
 use std::alloc::Global;
 
@@ -43,49 +40,20 @@ fn are_columns(fields: &[Field], rows: usize, columns: &[AnyArray]) -> bool
     true
 }
 
-// A column as an array of native values.
-fn native(alloc: Global, column: &AnyArray) -> Result<AnyPrimitive, NoForm>
-    ensures ok { IfOk result (λ a. primitive_layout a ≡ layout_of column.now) }
-    ensures err { IfErr result (λ why. (why ≡ Memory) ⊎ ((why ≡ NotWritten) × (has_form (layout_of column.now) ≡ false))) }
-{
-    column.known();
-    match column.as_any_primitive() {
-        None => Err(NoForm::Type),
-        Some(array) => match array.clone(alloc) {
-            Ok(array) => Ok(array),
-            Err(_) => Err(NoForm::Memory),
-        },
-    }
-}
-
-fn natives(alloc: Global, columns: &[AnyArray]) -> Result<Vec<AnyPrimitive>, NoForm>
-    ensures ok { IfOk result (λ v. map primitive_layout v.items ≡ map layout_of columns.now) }
-    ensures err { IfErr result (IsUnwritten (map layout_of columns.now)) }
-{
-    let mut natives = Vec::with_capacity(alloc, columns.len())?;
-    for column in columns {
-        match native(alloc, column) {
-            Ok(array) => natives.push_reserved(array),
-            Err(why) => return Err(why),
-        }
-    }
-    Ok(natives)
-}
-
 // The message of so many rows of columns, and their body, whose length is told.
 #[tactic(auto, unfolding(crate::specs::Written::batch_bytes))]
 fn put_arrays(
     alloc: Global,
     out: &mut Vec<u8>,
     rows: usize,
-    columns: &[AnyPrimitive],
+    columns: &[AnyArray],
 ) -> Result<usize, NoForm>
-    ensures bytes { OnOk result (out.new.items ≡ out.old.items ++ batch_bytes (record { rows = rows; columns = map primitive_layout columns.now })) }
-    ensures body { IfOk result (λ long. long ≡ length (columns_body (map primitive_layout columns.now))) }
+    ensures bytes { OnOk result (out.new.items ≡ out.old.items ++ batch_bytes (record { rows = rows; columns = map layout_of columns.now })) }
+    ensures body { IfOk result (λ long. long ≡ length (columns_body (map layout_of columns.now))) }
     ensures small { IfOk result (λ long. long < 2 ^ 63) }
-    ensures again { OnOk result (IsReadAgain (record { rows = rows; columns = map primitive_layout columns.now })) }
-    ensures form { OnOk result (arrays_refusal (record { rows = rows; columns = map primitive_layout columns.now }) ≡ None) }
-    ensures err { IfErr result (IsRefused (arrays_refusal (record { rows = rows; columns = map primitive_layout columns.now }))) }
+    ensures again { OnOk result (IsReadAgain (record { rows = rows; columns = map layout_of columns.now })) }
+    ensures form { OnOk result (arrays_refusal (record { rows = rows; columns = map layout_of columns.now }) ≡ None) }
+    ensures err { IfErr result (IsRefused (arrays_refusal (record { rows = rows; columns = map layout_of columns.now }))) }
 {
     let placed = place_columns(alloc, columns)?;
     let body_length = placed.length;
@@ -116,8 +84,7 @@ pub fn put_batch(
     if !are_columns(fields, batch.rows, &batch.columns) {
         return Err(NoForm::Columns);
     }
-    let columns = natives(alloc, &batch.columns)?;
-    let body_length = put_arrays(alloc, out, batch.rows, &columns)?;
+    let body_length = put_arrays(alloc, out, batch.rows, &batch.columns)?;
     Ok(body_length)
 }
 

@@ -1,8 +1,10 @@
 -- Copying values and bits, as loops do.
-use Rattle.std.proofs.Common.{◌≡◌, ℕ, suc, ◌+◌, ◌-◌, ◌*◌, ◌<◌, ◌≤◌, List, [], ◌∷◌, ◌++◌, drop, map, refl, sym, ap, ◌∙◌, append_assoc, arith}
+use Rattle.std.proofs.Common.{◌≡◌, ℕ, suc, ◌+◌, ◌-◌, ◌*◌, ◌<◌, ◌≤◌, List, [], ◌∷◌, ◌++◌, length, drop, map, refl, sym, ap, ◌∙◌, append_assoc, arith}
 use Rattle.std.specs.Prelude.{ℤ}
 use Rattle.std.proofs.Math.Nat.{suc-mul}
 use Rattle.std.proofs.lemmas.List.{append-nil, map-append}
+use Rattle.std.proofs.lemmas.List.FromFn.{length-map-range_with_len}
+use Rattle.nest_memory.specs.Bits.{bit, bits_from}
 use Rattle.ipc_layout.specs.Stored.{Form, values_in}
 
 pub values_more : {A : Type 0} (f : A → List ℤ) (form : Form) (front new : List A) (x : A) (slots i : ℕ) (from next : List ℕ) (total : List (List ℤ)) → i < slots → new ≡ front ++ x ∷ [] → f x ≡ form.numbers from → next ≡ drop form.size from
@@ -27,3 +29,7 @@ room_left slots i size n m lt enough e =
     let k : slots - i ≡ suc (slots - (i + 1)) = omega arith in
     let one : (slots - i) * size ≡ (slots - (i + 1)) * size + size = rw k (suc-mul (slots - (i + 1)) size) in
     omega (arith, one, enough, e)
+
+pub bits_long : (bytes : List ℕ) (n : ℕ) → length (bits_from bytes 0 n) ≡ n
+unfolding bits_from
+bits_long bytes n = length-map-range_with_len (bit bytes) 0 n

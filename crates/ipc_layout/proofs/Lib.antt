@@ -1,5 +1,6 @@
 pub mod Arrays
 pub mod Bodies
-pub mod Bytes
 pub mod Copies
 pub mod Orders
+pub mod Packing
+pub mod Offsets

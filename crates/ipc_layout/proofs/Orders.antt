@@ -3,8 +3,9 @@ use Rattle.std.proofs.Common.{◌≡◌, ℕ, ◌+◌, ◌<◌, ◌≤◌, List,
 use Rattle.std.proofs.lemmas.List.{append-nil, map-append, drop_more, drop_all}
 use Rattle.ipc_model.specs.declared.fault.Fault.{Fault}
 use Rattle.ipc_model.specs.Reading.{◌>>=◌, Fails}
+use Rattle.nest_memory.specs.TypeTree.{TypeTree}
 use Rattle.nest_model.specs.Layout.{Layout}
-use Rattle.ipc_layout.specs.Columns.{Rest, each_in}
+use Rattle.ipc_layout.specs.Columns.{Rest, column_in, each_in}
 
 -- what was read before, and what is still read
 abbrev pub with_columns : List Layout → Result (List Layout × Rest) Fault → Result (List Layout × Rest) Fault
@@ -14,30 +15,31 @@ regroup : (front : List Layout) (a : Layout) (read : Result (List Layout × Rest
 regroup front a (Ok x) = ap (λ (as_ : List Layout). Ok (as_, x.1)) (simp append_assoc)
 regroup front a (Err f) = refl
 
-left_is : {A : Type 0} (xs : List A) (i : ℕ) (x : A) → i < length xs → x ≡ get_or xs i x → drop i xs ≡ x ∷ drop (i + 1) xs
-left_is {A} xs i x lt is = drop_more xs i x lt ∙ ap (λ (y : A). y ∷ drop (i + 1) xs) (sym is)
+module _ {A B : Type 0} (view : B → Layout) (tree : A → TypeTree) (xs : List A) (rows : ℕ) (body : List ℕ) (i : ℕ) where
+  left_is : (x : A) → i < length xs → x ≡ get_or xs i x → map tree (drop i xs) ≡ tree x ∷ map tree (drop (i + 1) xs)
+  left_is x lt is = ap (map tree) (drop_more xs i x lt ∙ ap (λ (y : A). y ∷ drop (i + 1) xs) (sym is))
 
-pub order_goes_on : {A B : Type 0} (view : B → Layout) (read : A → Rest → Result (Layout × Rest) Fault) (front new : List B) (b : B) (xs : List A) (i : ℕ) (x : A) (rest behind : Rest) (total : Result (List Layout × Rest) Fault) → i < length xs → x ≡ get_or xs i x → new ≡ front ++ b ∷ []
-    → read x rest ≡ Ok (view b, behind) → with_columns (map view front) (each_in read (drop i xs) rest) ≡ total → with_columns (map view new) (each_in read (drop (i + 1) xs) behind) ≡ total
-unfolding each_in
-order_goes_on view read front new b xs i x rest behind total lt is e h so_far =
-    let one : with_columns (map view front) (each_in read (drop i xs) rest) ≡ with_columns (map view front ++ view b ∷ []) (each_in read (drop (i + 1) xs) behind) = rw (left_is xs i x lt is, h) (regroup (map view front) (view b) (each_in read (drop (i + 1) xs) behind)) in
-    rw (e, map-append view front (b ∷ [])) (sym one ∙ so_far)
+  pub order_goes_on : (front new : List B) (b : B) (x : A) (rest behind : Rest) (total : Result (List Layout × Rest) Fault) → i < length xs → x ≡ get_or xs i x → new ≡ front ++ b ∷ []
+      → column_in (tree x) rows body rest ≡ Ok (view b, behind) → with_columns (map view front) (each_in (map tree (drop i xs)) rows body rest) ≡ total → with_columns (map view new) (each_in (map tree (drop (i + 1) xs)) rows body behind) ≡ total
+  unfolding each_in
+  order_goes_on front new b x rest behind total lt is e h so_far =
+      let one : with_columns (map view front) (each_in (map tree (drop i xs)) rows body rest) ≡ with_columns (map view front ++ view b ∷ []) (each_in (map tree (drop (i + 1) xs)) rows body behind) = rw (left_is x lt is, h) (regroup (map view front) (view b) (each_in (map tree (drop (i + 1) xs)) rows body behind)) in
+      rw (e, map-append view front (b ∷ [])) (sym one ∙ so_far)
 
-pub order_ends : {A : Type 0} (f : Fault) (read : A → Rest → Result (Layout × Rest) Fault) (front : List Layout) (xs : List A) (i : ℕ) (x : A) (rest : Rest) (total : Result (List Layout × Rest) Fault) → i < length xs → x ≡ get_or xs i x
-    → Fails f (read x rest) → with_columns front (each_in read (drop i xs) rest) ≡ total → Fails f total
-unfolding each_in
-order_ends f read front xs i x rest total lt is h so_far = λ known.
-    let e : read x rest ≡ Err f = h known in
-    let one : with_columns front (each_in read (drop i xs) rest) ≡ Err f = rw (left_is xs i x lt is, e) refl in
-    sym so_far ∙ one
+  pub order_ends : (f : Fault) (front : List B) (x : A) (rest : Rest) (total : Result (List Layout × Rest) Fault) → i < length xs → x ≡ get_or xs i x
+      → Fails f (column_in (tree x) rows body rest) → with_columns (map view front) (each_in (map tree (drop i xs)) rows body rest) ≡ total → Fails f total
+  unfolding each_in
+  order_ends f front x rest total lt is h so_far = λ known.
+      let e : column_in (tree x) rows body rest ≡ Err f = h known in
+      let one : with_columns (map view front) (each_in (map tree (drop i xs)) rows body rest) ≡ Err f = rw (left_is x lt is, e) refl in
+      sym so_far ∙ one
+
+  pub order_is_done : (front : List B) (rest : Rest) (total : Result (List Layout × Rest) Fault) → length xs ≤ i → with_columns (map view front) (each_in (map tree (drop i xs)) rows body rest) ≡ total → total ≡ Ok (map view front, rest)
+  unfolding each_in
+  order_is_done front rest total le so_far =
+      let one : with_columns (map view front) (each_in (map tree (drop i xs)) rows body rest) ≡ Ok (map view front, rest) = rw (drop_all i xs le) (ap (λ (as_ : List Layout). Ok (as_, rest)) (append-nil (map view front))) in
+      sym so_far ∙ one
 
 pub order_starts : (read : Result (List Layout × Rest) Fault) → with_columns [] read ≡ read
 order_starts (Ok x) = refl
 order_starts (Err f) = refl
-
-pub order_is_done : {A : Type 0} (read : A → Rest → Result (Layout × Rest) Fault) (front : List Layout) (xs : List A) (i : ℕ) (rest : Rest) (total : Result (List Layout × Rest) Fault) → length xs ≤ i → with_columns front (each_in read (drop i xs) rest) ≡ total → total ≡ Ok (front, rest)
-unfolding each_in
-order_is_done {A} read front xs i rest total le so_far =
-    let one : with_columns front (each_in read (drop i xs) rest) ≡ Ok (front, rest) = rw (drop_all i xs le) (ap (λ (as_ : List Layout). Ok (as_, rest)) (append-nil front)) in
-    sym so_far ∙ one

@@ -1,16 +1,42 @@
 //! Reads the columns of a batch.
 ghost use Rattle.std.specs.Prelude.{◌≡◌, map};
 ghost use Rattle.ipc_model.specs.Reading.{Gives};
-ghost use Rattle.nest_memory.specs.TypeOf.{type_of};
-ghost use Rattle.nest_flat.specs.AnyPrimitive.{primitive_layout};
-ghost use Rattle.ipc_layout.specs.Columns.{rest_of, column_in, each_in, columns_in, none_left as none_left_lem};
+ghost use Rattle.nest_memory.specs.TypeOf.{type_of, field_of};
+ghost use Rattle.nest_memory.specs.TypeTree.{TypeTree, field_type};
+ghost use Rattle.nest_array.specs.Seen.{layout_of};
+ghost use Rattle.ipc_layout.specs.Columns.{rest_of, each_in, columns_in, none_left as none_left_lem};
 
 use crate::parts::Left;
 use crate::reading::read_column;
 use ipc_model::Fault;
-use nest_flat::any_primitive::AnyPrimitive;
-use nest_memory::datatypes::DataType;
+use nest_array::any::AnyArray;
+use nest_memory::datatypes::{DataType, Field};
 use std::alloc::Global;
+
+/// What a column is read by: its data type, or its field.
+pub trait Typed {
+    ghost tree: { Self → TypeTree };
+
+    /// The data type.
+    fn data_type(&self) -> &DataType
+        ensures { type_of result.now ≡ tree self.now };
+}
+
+impl Typed for DataType {
+    ghost tree = { type_of };
+
+    fn data_type(&self) -> &DataType {
+        self
+    }
+}
+
+impl Typed for Field {
+    ghost tree = { λ f. field_type (field_of f) };
+
+    fn data_type(&self) -> &DataType {
+        &self.data_type
+    }
+}
 
 fn none_left(left: Left<'_>) -> Result<(), Fault>
     ensures { result ≡ none_left_lem (rest_of left.entry) }
@@ -24,19 +50,19 @@ fn none_left(left: Left<'_>) -> Result<(), Fault>
     Ok(())
 }
 
-fn read_each<'a>(
+fn read_each<'a, A: Typed>(
     alloc: Global,
-    types: &[DataType],
+    typed: &[A],
     rows: usize,
     body: &'a [u8],
     left: Left<'a>,
-) -> Result<(Vec<AnyPrimitive>, Left<'a>), Fault>
-    ensures { Gives (λ x. (map primitive_layout x.0.items, rest_of x.1)) result (each_in (λ t r. column_in (type_of t) rows body.now r) types.now (rest_of left.entry)) }
+) -> Result<(Vec<AnyArray>, Left<'a>), Fault>
+    ensures { Gives (λ x. (map layout_of x.0.items, rest_of x.1)) result (each_in (map A.tree typed.now) rows body.now (rest_of left.entry)) }
 {
     let mut columns = Vec::new(alloc);
     let mut rest = left;
-    for data_type in types {
-        match read_column(alloc, data_type, rows, body, rest) {
+    for it in typed {
+        match read_column(alloc, it.data_type(), rows, body, rest) {
             Err(fault) => return Err(fault),
             Ok((column, behind)) => {
                 columns.push(column)?;
@@ -49,16 +75,16 @@ fn read_each<'a>(
 
 /// The columns of a batch of so many rows, one for each data type. All nodes and buffers are used up.
 #[tactic(auto, unfolding(crate::specs::Columns::columns_in))]
-pub fn read_columns(
+pub fn read_columns<A: Typed>(
     alloc: Global,
-    types: &[DataType],
+    typed: &[A],
     rows: usize,
     body: &[u8],
     left: Left<'_>,
-) -> Result<Vec<AnyPrimitive>, Fault>
-    ensures { Gives (λ v. map primitive_layout v.items) result (columns_in type_of types.now rows body.now (rest_of left.entry)) }
+) -> Result<Vec<AnyArray>, Fault>
+    ensures { Gives (λ v. map layout_of v.items) result (columns_in (map A.tree typed.now) rows body.now (rest_of left.entry)) }
 {
-    match read_each(alloc, types, rows, body, left) {
+    match read_each(alloc, typed, rows, body, left) {
         Err(fault) => Err(fault),
         Ok((columns, rest)) => match none_left(rest) {
             Err(fault) => Err(fault),

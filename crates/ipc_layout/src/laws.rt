@@ -3,7 +3,7 @@ ghost use Rattle.std.specs.Prelude.{◌≡◌, [], ◌∷◌, map, Ok};
 ghost use Rattle.ipc_layout.specs.Columns.{column_in};
 ghost use Rattle.ipc_layout.specs.Placed.{regions_from};
 ghost use Rattle.ipc_layout.specs.Written.{column_node, buffers_of, columns_body};
-ghost use Rattle.ipc_layout.specs.Examples.{worked_type, worked_body, worked_rest, worked_column, nothing};
+ghost use Rattle.ipc_layout.specs.Examples.{worked_type, worked_body, worked_rest, worked_column, nothing, IsSpelledSo, IsWrittenSo, nulls, truths, wide, halves, days, months, sized, strings, texts, cut_strings};
 
 /// The body of another writer, byte by byte, spells a column of the numbers 7 and null.
 pub fn a_column_is_read()
@@ -15,4 +15,64 @@ pub fn a_column_is_written()
     ensures nodes { map column_node (worked_column ∷ []) ≡ worked_rest.nodes }
     ensures regions { regions_from 0 (buffers_of (worked_column ∷ [])) ≡ worked_rest.regions }
     ensures body { columns_body (worked_column ∷ []) ≡ worked_body }
+{}
+
+/// Three nulls have a node and no buffer.
+pub fn nulls_are_read_and_written()
+    ensures read { IsSpelledSo nulls }
+    ensures written { IsWrittenSo nulls }
+{}
+
+/// Ten truths, of which one is null: bits from the lowest of the first byte on.
+pub fn truths_are_read_and_written()
+    ensures read { IsSpelledSo truths }
+    ensures written { IsWrittenSo truths }
+{}
+
+/// A value of 128 bits, little-endian, in two's complement.
+pub fn wide_values_are_read_and_written()
+    ensures read { IsSpelledSo wide }
+    ensures written { IsWrittenSo wide }
+{}
+
+/// A value of 256 bits: the low half stands first.
+pub fn halves_are_read_and_written()
+    ensures read { IsSpelledSo halves }
+    ensures written { IsWrittenSo halves }
+{}
+
+/// A day and two milliseconds: days stand first.
+pub fn days_are_read_and_written()
+    ensures read { IsSpelledSo days }
+    ensures written { IsWrittenSo days }
+{}
+
+/// A month, two days and a nanosecond less: months stand first, nanoseconds last.
+pub fn months_are_read_and_written()
+    ensures read { IsSpelledSo months }
+    ensures written { IsWrittenSo months }
+{}
+
+/// Two byte strings of three bytes each.
+pub fn sized_strings_are_read_and_written()
+    ensures read { IsSpelledSo sized }
+    ensures written { IsWrittenSo sized }
+{}
+
+/// Two byte strings by offsets of 32 bits.
+pub fn strings_are_read_and_written()
+    ensures read { IsSpelledSo strings }
+    ensures written { IsWrittenSo strings }
+{}
+
+/// A text by offsets of 64 bits.
+pub fn texts_are_read_and_written()
+    ensures read { IsSpelledSo texts }
+    ensures written { IsWrittenSo texts }
+{}
+
+/// Byte strings whose offsets begin past 0, over bytes of which some are no string's: what is written begins at 0, and has just the bytes
+/// that are covered.
+pub fn offsets_are_written_from_0()
+    ensures { columns_body (cut_strings ∷ []) ≡ strings.body }
 {}

@@ -1,7 +1,7 @@
 //! Nodes and buffers, taken one after the other.
-ghost use Rattle.std.specs.Prelude.{◌≡◌};
+ghost use Rattle.std.specs.Prelude.{◌≡◌, IfOk};
 ghost use Rattle.ipc_model.specs.Reading.{Spells};
-ghost use Rattle.ipc_layout.specs.Columns.{counts_of as counts_of_lem, bytes_of as bytes_of_lem, next_counts as next_counts_lem, next_bytes as next_bytes_lem};
+ghost use Rattle.ipc_layout.specs.Columns.{rest_of, counts_of as counts_of_lem, bytes_of as bytes_of_lem, next_counts as next_counts_lem, next_bytes as next_bytes_lem, node_in, buffer_in};
 
 use ipc_model::{Fault, Node, Region};
 
@@ -31,9 +31,9 @@ fn counts_of(node: Node) -> Result<Counts, Fault>
     })
 }
 
-/// The numbers of the next array, and the nodes behind.
+// The numbers of the next array, and the nodes behind.
 #[tactic(auto, unfolding(crate::specs::Columns::next_counts))]
-pub(crate) fn next_counts(nodes: &[Node]) -> Result<(Counts, &[Node]), Fault>
+fn next_counts(nodes: &[Node]) -> Result<(Counts, &[Node]), Fault>
     ensures { Spells (λ x. (x.0, x.1.now)) result (next_counts_lem nodes.now) }
 {
     match nodes {
@@ -59,16 +59,37 @@ fn bytes_of(body: &[u8], region: Region) -> Result<&[u8], Fault>
     Ok(bytes)
 }
 
-/// The bytes of the next buffer, and the buffers behind.
+// The bytes of the next buffer, and the buffers behind.
 #[tactic(auto, unfolding(crate::specs::Columns::next_bytes))]
-pub(crate) fn next_bytes<'a>(
-    body: &'a [u8],
-    regions: &'a [Region],
-) -> Result<(&'a [u8], &'a [Region]), Fault>
+fn next_bytes<'a>(body: &'a [u8], regions: &'a [Region]) -> Result<(&'a [u8], &'a [Region]), Fault>
     ensures { Spells (λ x. (x.0.now, x.1.now)) result (next_bytes_lem body.now regions.now) }
 {
     match regions {
         [] => Err(Fault::BufferCount),
         [region, rest @ ..] => Ok((bytes_of(body, *region)?, rest)),
     }
+}
+
+/// The numbers of the next array, which has so many slots.
+#[tactic(auto, unfolding(crate::specs::Columns::node_in))]
+pub(crate) fn next_node<'a>(rows: usize, left: Left<'a>) -> Result<(Counts, Left<'a>), Fault>
+    ensures read { Spells (λ x. (x.0, rest_of x.1)) result (node_in rows (rest_of left.entry)) }
+    ensures slots { IfOk result (λ x. x.0.slots ≡ rows) }
+{
+    let (counts, nodes) = next_counts(left.nodes)?;
+    if counts.slots != rows {
+        return Err(Fault::RowCount);
+    }
+    let regions = left.regions;
+    Ok((counts, Left { nodes, regions }))
+}
+
+/// The bytes of the next buffer.
+#[tactic(auto, unfolding(crate::specs::Columns::buffer_in))]
+pub(crate) fn next_buffer<'a>(body: &'a [u8], left: Left<'a>) -> Result<(&'a [u8], Left<'a>), Fault>
+    ensures { Spells (λ x. (x.0.now, rest_of x.1)) result (buffer_in body.now (rest_of left.entry)) }
+{
+    let (bytes, regions) = next_bytes(body, left.regions)?;
+    let nodes = left.nodes;
+    Ok((bytes, Left { nodes, regions }))
 }

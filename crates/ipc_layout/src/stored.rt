@@ -1,20 +1,12 @@
 //! Native values as they lie in a body.
-ghost use Rattle.std.specs.Prelude.{◌≡◌, ◌≤◌, ◌++◌, length, map, IfOk, OnOk, Some};
+ghost use Rattle.std.specs.Prelude.{◌≡◌, ◌≤◌, ◌++◌, length, OnOk, Some};
+ghost use Rattle.std.specs.Int.{w128, from_le_bytes, to_le_bytes};
 ghost use Rattle.nest_memory.specs.Native.{signed, unsigned};
-ghost use Rattle.nest_memory.specs.TypeOf.{type_of};
-ghost use Rattle.nest_memory.specs.declared.datatypes.physical_type.PrimitiveType.TheVariants as kinds;
-ghost use Rattle.nest_model.specs.Layout as layouts;
-ghost use Rattle.nest_flat.specs.AnyPrimitive.{primitive_layout};
-ghost use Rattle.ipc_layout.specs.Stored.{Form, form_of};
+ghost use Rattle.ipc_layout.specs.Stored.{Form, form_of, offset_form, unsigned_form};
 ghost use Rattle.ipc_layout.specs.StoredLaws.{IsSpelled};
 
-use nest_flat::any_primitive::AnyPrimitive;
-use nest_flat::primitive::PrimitiveArray;
-use nest_memory::bitmap::immutable::Bitmap;
-use nest_memory::buffer::Buffer;
-use nest_memory::datatypes::DataType;
-use nest_memory::error::Error;
-use nest_memory::types::NativeType;
+use nest_memory::offset::Offset;
+use nest_memory::types::{NativeType, days_ms, i256, months_days_ns};
 use std::alloc::AllocError;
 
 /// A native type whose values are read and written.
@@ -35,16 +27,52 @@ pub trait Stored: NativeType {
         ensures ok { OnOk result (out.new.items ≡ out.old.items ++ form.bytes (Self.numbers self)) }
         ensures spelled { IsSpelled form (Self.numbers self) };
 
-    /// The array of these parts in the variant of its kind.
-    fn array(
-        data_type: DataType,
-        values: Buffer<Self>,
-        validity: Option<Bitmap>,
-    ) -> Result<AnyPrimitive, Error>
-        ensures { IfOk result (λ a. primitive_layout a ≡ layouts.primitive Self.PRIMITIVE (type_of data_type) (map Self.numbers values) validity) };
-
     // Its kind has that form.
     ghost formed: { form_of Self.NativeType.PRIMITIVE ≡ Some form };
+}
+
+/// A native type of offsets.
+pub trait StoredOffset: Stored + Offset {
+    // A value is one number, that which it is as an offset.
+    ghost one: { (x : Self) → Self.numbers x ≡ signed (Self.value x) };
+
+    // Its form is that of offsets of its width.
+    ghost width: { Self.form ≡ offset_form Self.IS_LARGE };
+}
+
+impl StoredOffset for i32 {
+    ghost use Rattle.std.proofs.Common.{refl};
+
+    ghost one = { λ x. refl };
+
+    ghost width = { refl };
+}
+
+impl StoredOffset for i64 {
+    ghost use Rattle.std.proofs.Common.{refl};
+
+    ghost one = { λ x. refl };
+
+    ghost width = { refl };
+}
+
+// The number that the first 16 bytes are.
+fn low_128(bytes: &[u8]) -> u128
+    requires { 16 ≤ length bytes.now }
+    ensures { result ≡ from_le_bytes w128 bytes.now }
+{
+    u128::from_le_bytes([
+        bytes[0], bytes[1], bytes[2], bytes[3], bytes[4], bytes[5], bytes[6], bytes[7], bytes[8],
+        bytes[9], bytes[10], bytes[11], bytes[12], bytes[13], bytes[14], bytes[15],
+    ])
+}
+
+#[tactic(auto, using(crate::specs::StoredLaws::spelled_u128))]
+fn put_128(out: &mut Vec<u8>, number: u128) -> Result<(), AllocError>
+    ensures ok { OnOk result (out.new.items ≡ out.old.items ++ to_le_bytes w128 number) }
+    ensures spelled { IsSpelled (unsigned_form w128) (unsigned number) }
+{
+    out.extend_from_slice(&number.to_le_bytes())
 }
 
 impl Stored for i8 {
@@ -65,19 +93,6 @@ impl Stored for i8 {
     #[tactic(auto, using(crate::specs::StoredLaws::spelled_i8))]
     fn put(self, out: &mut Vec<u8>) -> Result<(), AllocError> {
         out.extend_from_slice(&self.to_le_bytes())
-    }
-
-    fn array(
-        data_type: DataType,
-        values: Buffer<i8>,
-        validity: Option<Bitmap>,
-    ) -> Result<AnyPrimitive, Error>
-        ensures { IfOk result (λ a. primitive_layout a ≡ layouts.primitive kinds.Int8 (type_of data_type) (map signed values) validity) }
-    {
-        match PrimitiveArray::try_new(data_type, values, validity) {
-            Ok(array) => Ok(AnyPrimitive::Int8(array)),
-            Err(error) => Err(error),
-        }
     }
 
     ghost formed = { refl };
@@ -103,19 +118,6 @@ impl Stored for i16 {
         out.extend_from_slice(&self.to_le_bytes())
     }
 
-    fn array(
-        data_type: DataType,
-        values: Buffer<i16>,
-        validity: Option<Bitmap>,
-    ) -> Result<AnyPrimitive, Error>
-        ensures { IfOk result (λ a. primitive_layout a ≡ layouts.primitive kinds.Int16 (type_of data_type) (map signed values) validity) }
-    {
-        match PrimitiveArray::try_new(data_type, values, validity) {
-            Ok(array) => Ok(AnyPrimitive::Int16(array)),
-            Err(error) => Err(error),
-        }
-    }
-
     ghost formed = { refl };
 }
 
@@ -137,19 +139,6 @@ impl Stored for i32 {
     #[tactic(auto, using(crate::specs::StoredLaws::spelled_i32))]
     fn put(self, out: &mut Vec<u8>) -> Result<(), AllocError> {
         out.extend_from_slice(&self.to_le_bytes())
-    }
-
-    fn array(
-        data_type: DataType,
-        values: Buffer<i32>,
-        validity: Option<Bitmap>,
-    ) -> Result<AnyPrimitive, Error>
-        ensures { IfOk result (λ a. primitive_layout a ≡ layouts.primitive kinds.Int32 (type_of data_type) (map signed values) validity) }
-    {
-        match PrimitiveArray::try_new(data_type, values, validity) {
-            Ok(array) => Ok(AnyPrimitive::Int32(array)),
-            Err(error) => Err(error),
-        }
     }
 
     ghost formed = { refl };
@@ -177,19 +166,6 @@ impl Stored for i64 {
         out.extend_from_slice(&self.to_le_bytes())
     }
 
-    fn array(
-        data_type: DataType,
-        values: Buffer<i64>,
-        validity: Option<Bitmap>,
-    ) -> Result<AnyPrimitive, Error>
-        ensures { IfOk result (λ a. primitive_layout a ≡ layouts.primitive kinds.Int64 (type_of data_type) (map signed values) validity) }
-    {
-        match PrimitiveArray::try_new(data_type, values, validity) {
-            Ok(array) => Ok(AnyPrimitive::Int64(array)),
-            Err(error) => Err(error),
-        }
-    }
-
     ghost formed = { refl };
 }
 
@@ -211,19 +187,6 @@ impl Stored for u8 {
     #[tactic(auto, using(crate::specs::StoredLaws::spelled_u8))]
     fn put(self, out: &mut Vec<u8>) -> Result<(), AllocError> {
         out.extend_from_slice(&self.to_le_bytes())
-    }
-
-    fn array(
-        data_type: DataType,
-        values: Buffer<u8>,
-        validity: Option<Bitmap>,
-    ) -> Result<AnyPrimitive, Error>
-        ensures { IfOk result (λ a. primitive_layout a ≡ layouts.primitive kinds.UInt8 (type_of data_type) (map unsigned values) validity) }
-    {
-        match PrimitiveArray::try_new(data_type, values, validity) {
-            Ok(array) => Ok(AnyPrimitive::UInt8(array)),
-            Err(error) => Err(error),
-        }
     }
 
     ghost formed = { refl };
@@ -249,19 +212,6 @@ impl Stored for u16 {
         out.extend_from_slice(&self.to_le_bytes())
     }
 
-    fn array(
-        data_type: DataType,
-        values: Buffer<u16>,
-        validity: Option<Bitmap>,
-    ) -> Result<AnyPrimitive, Error>
-        ensures { IfOk result (λ a. primitive_layout a ≡ layouts.primitive kinds.UInt16 (type_of data_type) (map unsigned values) validity) }
-    {
-        match PrimitiveArray::try_new(data_type, values, validity) {
-            Ok(array) => Ok(AnyPrimitive::UInt16(array)),
-            Err(error) => Err(error),
-        }
-    }
-
     ghost formed = { refl };
 }
 
@@ -283,19 +233,6 @@ impl Stored for u32 {
     #[tactic(auto, using(crate::specs::StoredLaws::spelled_u32))]
     fn put(self, out: &mut Vec<u8>) -> Result<(), AllocError> {
         out.extend_from_slice(&self.to_le_bytes())
-    }
-
-    fn array(
-        data_type: DataType,
-        values: Buffer<u32>,
-        validity: Option<Bitmap>,
-    ) -> Result<AnyPrimitive, Error>
-        ensures { IfOk result (λ a. primitive_layout a ≡ layouts.primitive kinds.UInt32 (type_of data_type) (map unsigned values) validity) }
-    {
-        match PrimitiveArray::try_new(data_type, values, validity) {
-            Ok(array) => Ok(AnyPrimitive::UInt32(array)),
-            Err(error) => Err(error),
-        }
     }
 
     ghost formed = { refl };
@@ -323,17 +260,105 @@ impl Stored for u64 {
         out.extend_from_slice(&self.to_le_bytes())
     }
 
-    fn array(
-        data_type: DataType,
-        values: Buffer<u64>,
-        validity: Option<Bitmap>,
-    ) -> Result<AnyPrimitive, Error>
-        ensures { IfOk result (λ a. primitive_layout a ≡ layouts.primitive kinds.UInt64 (type_of data_type) (map unsigned values) validity) }
-    {
-        match PrimitiveArray::try_new(data_type, values, validity) {
-            Ok(array) => Ok(AnyPrimitive::UInt64(array)),
-            Err(error) => Err(error),
+    ghost formed = { refl };
+}
+
+impl Stored for i128 {
+    ghost use Rattle.std.proofs.Common.{refl};
+    ghost use Rattle.std.specs.Int.{w128};
+    ghost use Rattle.ipc_layout.specs.Stored.{signed_form};
+
+    ghost form = { signed_form w128 };
+
+    fn size() -> usize {
+        16
+    }
+
+    fn from_bytes(bytes: &[u8]) -> i128 {
+        low_128(bytes).cast_signed()
+    }
+
+    #[tactic(auto, using(crate::specs::StoredLaws::spelled_i128))]
+    fn put(self, out: &mut Vec<u8>) -> Result<(), AllocError> {
+        put_128(out, self.cast_unsigned())
+    }
+
+    ghost formed = { refl };
+}
+
+impl Stored for i256 {
+    ghost use Rattle.std.proofs.Common.{refl};
+    ghost use Rattle.ipc_layout.specs.Stored.{halves_form};
+
+    ghost form = { halves_form };
+
+    fn size() -> usize {
+        32
+    }
+
+    fn from_bytes(bytes: &[u8]) -> i256 {
+        let (_, high) = bytes.split_at(16);
+        i256::from_words(low_128(high).cast_signed(), low_128(bytes))
+    }
+
+    fn put(self, out: &mut Vec<u8>) -> Result<(), AllocError> {
+        put_128(out, self.low)?;
+        self.high.put(out)
+    }
+
+    ghost formed = { refl };
+}
+
+impl Stored for days_ms {
+    ghost use Rattle.std.proofs.Common.{refl};
+    ghost use Rattle.ipc_layout.specs.Stored.{days_form};
+
+    ghost form = { days_form };
+
+    fn size() -> usize {
+        8
+    }
+
+    fn from_bytes(bytes: &[u8]) -> days_ms {
+        let (_, rest) = bytes.split_at(4);
+        days_ms {
+            days: i32::from_bytes(bytes),
+            milliseconds: i32::from_bytes(rest),
         }
+    }
+
+    fn put(self, out: &mut Vec<u8>) -> Result<(), AllocError> {
+        self.days.put(out)?;
+        self.milliseconds.put(out)
+    }
+
+    ghost formed = { refl };
+}
+
+impl Stored for months_days_ns {
+    ghost use Rattle.std.proofs.Common.{refl};
+    ghost use Rattle.ipc_layout.specs.Stored.{months_form};
+
+    ghost form = { months_form };
+
+    fn size() -> usize {
+        16
+    }
+
+    fn from_bytes(bytes: &[u8]) -> months_days_ns {
+        let (_, days) = bytes.split_at(4);
+        let (_, ns) = days.split_at(4);
+        months_days_ns {
+            months: i32::from_bytes(bytes),
+            days: i32::from_bytes(days),
+            ns: i64::from_bytes(ns),
+        }
+    }
+
+    fn put(self, out: &mut Vec<u8>) -> Result<(), AllocError> {
+        self.months.put(out)?;
+        self.days.put(out)?;
+        self.ns.put(out)
     }
 
     ghost formed = { refl };

@@ -1,7 +1,6 @@
 -- Children of arrays in vectors, and windows over them.
 use Rattle.std.specs.Prelude.{List as Seq, [], ◌∷◌, ◌++◌, ◌⊎◌, map}
-use Rattle.std.specs.List.{All}
-use Rattle.std.proofs.Common.{◌≡◌, ℕ, zero, suc, ◌+◌, ◌<◌, length, get_or, inl, inr, refl, ap, sym, ◌∙◌, subst, arith}
+use Rattle.std.proofs.Common.{◌≡◌, ℕ, zero, suc, ◌+◌, ◌<◌, length, get_or, inl, inr, refl, ap, sym, subst, arith}
 use Rattle.std.proofs.lemmas.List.Elements.{All-nil, All-append, All-cons}
 use Rattle.nest_array.specs.WindowParts.{WindowParts}
 use Rattle.nest_array.specs.declared.any.AnyArray.{AnyArray}

@@ -1,5 +1,5 @@
 -- Flat arrays that are made of joined values and bits.
-use Rattle.std.specs.Prelude.{List, map, length, get_or, if◌then◌else◌}
+use Rattle.std.specs.Prelude.{List, map, length, get_or}
 use Rattle.std.specs.List.{All, flat_map, sum_by}
 use Rattle.std.proofs.Common.{◌≡◌, ℕ, ◌+◌, ◌*◌, ◌/◌, ◌%◌, ◌<◌, ◌≤◌, ℤ, Bool, false, [], ◌∷◌, refl, ap, sym, ◌∙◌, subst, arith, take, drop, ◌++◌}
 use Rattle.std.proofs.Math.Nat.{mul-div_cancel, add-mul}
@@ -12,11 +12,10 @@ use Rattle.nest_memory.specs.declared.datatypes.physical_type.PhysicalType.TheVa
 use Rattle.nest_memory.specs.declared.datatypes.physical_type.PrimitiveType.{PrimitiveType}
 use Rattle.nest_model.specs.Accessors.{validity_of, bits_of, natives_of, bytes_of}
 use Rattle.nest_model.specs.Array.{TopFits}
-use Rattle.nest_model.specs.FactLaws.{fixed_size_binary-facts}
 use Rattle.nest_model.specs.Fits.{Fits, ValidityFits}
 use Rattle.nest_model.specs.Layout.{Layout, null, boolean, primitive, fixed_size_binary, layout_type}
 use Rattle.nest_model.specs.Meaning.{len, slot}
-use Rattle.nest_model.specs.Part.{Validity, valid_at}
+use Rattle.nest_model.specs.Part.{Validity}
 use Rattle.nest_model.specs.Runs.{cut-cut, length-cut, product-end, product-exact, product-fits}
 use Rattle.nest_model.specs.Slot as slots
 use Rattle.nest_array.specs.WindowParts.{WindowParts}

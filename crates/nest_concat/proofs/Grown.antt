@@ -1,6 +1,6 @@
 -- What one window, or one row, more adds.
 use Rattle.std.specs.Prelude.{OnOk, Some, slice_get, List, [], ◌∷◌, ◌++◌, ◌||◌, is_some, map, length, get_or}
-use Rattle.std.specs.List.{All, flat_map, range_with_len, sum_by}
+use Rattle.std.specs.List.{flat_map, sum_by}
 use Rattle.std.proofs.Common.{◌≡◌, ℕ, Result, Ok, Err, sum, zero, suc, ◌+◌, ◌-◌, ◌<◌, ◌≤◌, Bool, true, false, take, drop, refl, ap, sym, ◌∙◌, arith, length-append, length-drop, append-nil, append_assoc}
 use Rattle.std.proofs.lemmas.List.{drop_all, drop_more, flat_map_more, get_or-drop, get_or_push, map_more, take_all, take_more}
 use Rattle.std.proofs.lemmas.List.Sums.{sum_by-cons, sum_by_more, sum_by_more_le}
@@ -11,7 +11,7 @@ use Rattle.nest_model.specs.Array.{AreOffsets}
 use Rattle.nest_model.specs.Part.{begin, extent, count_rows}
 use Rattle.nest_model.specs.Accessors.{offsets_of, validity_of}
 use Rattle.nest_array.specs.WindowParts.{WindowParts}
-use Rattle.nest_concat.specs.Windows.{count_items, count_of, extents, extents_in, have_bits}
+use Rattle.nest_concat.specs.Windows.{count_items, extents, extents_in, have_bits}
 use Rattle.nest_concat.proofs.Pieces.{ends, ends-last, extents-length, extents-sum}
 
 -- one more

@@ -1,39 +1,36 @@
 -- Arrays that are made of joined children.
-use Rattle.std.specs.Prelude.{IsTrue, List, [], ◌∷◌, ◌⊎◌, map, length, get_or, Some, if◌then◌else◌, alloc_error}
-use Rattle.std.specs.List.{All, flat_map, sum_by}
-use Rattle.std.proofs.Common.{◌≡◌, ℕ, zero, suc, ◌+◌, ◌*◌, ◌/◌, ◌%◌, ◌<◌, ◌≤◌, Bool, false, take, inl, inr, refl, ap, sym, ◌∙◌, subst, arith}
+use Rattle.std.specs.Prelude.{IsTrue, List, [], ◌∷◌, map, length, get_or, Some}
+use Rattle.std.specs.List.{All, flat_map}
+use Rattle.std.proofs.Common.{◌≡◌, ℕ, ◌+◌, ◌*◌, ◌/◌, ◌%◌, ◌<◌, ◌≤◌, Bool, inl, inr, refl, ap, sym, ◌∙◌, subst, arith}
 use Rattle.std.proofs.Math.Nat.{mul-div_cancel}
 use Rattle.std.proofs.lemmas.List.Elements.{All-nil, All-cons}
 use Rattle.std.proofs.lemmas.List.Folds.{flat_map-map}
 use Rattle.std.proofs.lemmas.List.Sums.{sum_by_more_le}
 use Rattle.nest_memory.specs.Cut.{cut}
 use Rattle.nest_memory.specs.Physical.{physical_type, list_of_width}
-use Rattle.nest_memory.specs.Rising.{last_of}
-use Rattle.nest_memory.specs.TypeTree.{TypeTree, FieldTrees, no_fields, more_fields, field_type, item_type, size_of, fields_of, count_fields, has_pairs}
-use Rattle.nest_memory.specs.TypeTree as types
+use Rattle.nest_memory.specs.TypeTree.{TypeTree, item_type, size_of, has_pairs}
 use Rattle.nest_memory.specs.declared.datatypes.physical_type.PhysicalType.TheVariants as physical
 use Rattle.nest_memory.specs.declared.error.Error.{Error}
-use Rattle.nest_memory.specs.declared.error.Error.TheVariants.{Memory, NotYetImplemented, Overflow}
-use Rattle.nest_model.specs.Accessors.{validity_of, offsets_of, child_of, children_of, child_at}
+use Rattle.nest_model.specs.Accessors.{validity_of, offsets_of, child_of}
 use Rattle.nest_model.specs.Array.{AreOffsets, TopFits}
-use Rattle.nest_model.specs.FactLaws.{list-facts, map-facts, fixed_size_list-facts, struct-facts}
-use Rattle.nest_model.specs.Fits.{Fits, ValidityFits, EachType, EachLen}
-use Rattle.nest_model.specs.Layout.{Layout, Layouts, fixed_size_list, list, map as map_of, struct, no_layouts, more_layouts, layout_type, count_layouts, weight, weight_all}
-use Rattle.nest_model.specs.Meaning.{len, first_len, slot, each, slots_of}
-use Rattle.nest_model.specs.Part.{Validity, begin, extent, count_rows}
-use Rattle.nest_model.specs.Reads.{slots-length, slot-place, list-slot, map-slot, fixed_size_list-slot}
+use Rattle.nest_model.specs.FactLaws.{list-facts, map-facts, fixed_size_list-facts}
+use Rattle.nest_model.specs.Fits.{Fits, ValidityFits}
+use Rattle.nest_model.specs.Layout.{Layout, fixed_size_list, list, map as map_of, layout_type, weight}
+use Rattle.nest_model.specs.Meaning.{len, slot, slots_of}
+use Rattle.nest_model.specs.Part.{Validity, begin, extent}
+use Rattle.nest_model.specs.Reads.{slots-length, list-slot, map-slot, fixed_size_list-slot}
 use Rattle.nest_model.specs.Runs.{product-exact, product-fits}
 use Rattle.nest_model.specs.Slot as slots
 use Rattle.nest_model.specs.Slot.{Slot, seal}
 use Rattle.nest_array.specs.WindowParts.{WindowParts, window_slots}
-use Rattle.nest_concat.specs.Joined.{AreArrays, AreWithin, EachJoined, IsJoined, IsWithin, RefusesJoin, first_array}
-use Rattle.nest_concat.specs.Limits.{HasOther, PassesLimits, SomeHasOther, SomePasses}
-use Rattle.nest_concat.specs.Windows.{blocks_of, count_items, count_of, count_slots, field_of, first_item, items_in, joined_validity}
+use Rattle.nest_concat.specs.Joined.{AreArrays, AreWithin, IsJoined, IsWithin, RefusesJoin, first_array}
+use Rattle.nest_concat.specs.Limits.{HasOther, PassesLimits}
+use Rattle.nest_concat.specs.Windows.{blocks_of, count_of, count_slots, items_in, joined_validity}
 use Rattle.nest_concat.proofs.Flats.{block-at, blocks-count}
 use Rattle.nest_concat.proofs.Pieces.{first-one, later-ones, begin-last, begin-rises}
-use Rattle.nest_concat.proofs.Shapes.{list-shape, map-shape, fixed_size_list-shape, struct-shape}
+use Rattle.nest_concat.proofs.Shapes.{list-shape, map-shape, fixed_size_list-shape}
 use Rattle.nest_concat.proofs.Rows.{SpansOf, joined_ends, span-at, span_in, spans-last, spans-length, spans-rows}
-use Rattle.nest_concat.proofs.Windows.{flat-ext, joined-fits, joined-slots, nowhere, place_of, same-slot, validity-at, values-at, window}
+use Rattle.nest_concat.proofs.Windows.{joined-fits, joined-slots, nowhere, place_of, same-slot, validity-at, window}
 
 -- what holds of what a function makes of each
 pub all-map : {X Y : Type 0} (f : X → Y) (P : Y → Type 0) (xs : List X) → All (λ x. P (f x)) xs → All P (map f xs)

@@ -1,8 +1,8 @@
 -- Lists one after another, and what lies at a place in one of them.
-use Rattle.std.specs.Prelude.{List, [], ◌∷◌, ◌++◌, map, length, get_or}
-use Rattle.std.specs.List.{All, flat_map, range_with_len, sum_by}
-use Rattle.std.proofs.Common.{◌≡◌, ℕ, sum, zero, suc, ◌+◌, ◌-◌, ◌<◌, ◌≤◌, take, drop, refl, ap, sym, ◌∙◌, arith, length-append, append_assoc}
-use Rattle.std.proofs.lemmas.List.{get_or_append_left, get_or-append-add, take-append-le, drop-drop, drop-append-le, drop_at, length-drop, take-take, drop-take}
+use Rattle.std.specs.Prelude.{List, [], ◌∷◌, ◌++◌, length, get_or}
+use Rattle.std.specs.List.{All, flat_map, sum_by}
+use Rattle.std.proofs.Common.{◌≡◌, ℕ, sum, zero, suc, ◌+◌, ◌-◌, ◌<◌, ◌≤◌, take, drop, refl, ap, sym, ◌∙◌, arith, length-append}
+use Rattle.std.proofs.lemmas.List.{get_or_append_left, get_or-append-add, take-append-le, drop-drop, drop-append-le, drop_at, length-drop}
 use Rattle.std.proofs.lemmas.List.Sums.{sum_by-append, sum_by-cons, sum_by_more_le}
 use Rattle.nest_memory.specs.Cut.{cut}
 use Rattle.nest_memory.specs.Rising.{ends_from, last_of}

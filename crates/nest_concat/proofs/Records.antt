@@ -1,5 +1,5 @@
 -- Records that are made of joined children.
-use Rattle.std.specs.Prelude.{List, [], ◌∷◌, ◌⊎◌, map, length, get_or, if◌then◌else◌, alloc_error}
+use Rattle.std.specs.Prelude.{List, map, length, get_or}
 use Rattle.std.specs.List.{All, flat_map}
 use Rattle.std.proofs.Common.{◌≡◌, ℕ, zero, suc, ◌+◌, ◌<◌, ◌≤◌, inl, inr, refl, ap, sym, ◌∙◌, subst, arith}
 use Rattle.std.proofs.lemmas.List.Folds.{flat_map-map}
@@ -23,7 +23,7 @@ use Rattle.nest_array.specs.WindowParts.{WindowParts, window_slots}
 use Rattle.nest_concat.specs.Joined.{AreArrays, AreWithin, EachJoined, IsJoined, IsWithin, RefusesEach, RefusesJoin, first_array}
 use Rattle.nest_concat.specs.Limits.{HasOther, PassesLimits, SomeHasOther, SomePasses}
 use Rattle.nest_concat.specs.Windows.{count_of, count_slots, field_of, joined_validity}
-use Rattle.nest_concat.proofs.Nested.{IsFirst, children-within, first-of-map, first-within, place-below}
+use Rattle.nest_concat.proofs.Nested.{children-within, first-of-map, first-within, place-below}
 use Rattle.nest_concat.proofs.Shapes.{struct-shape}
 use Rattle.nest_concat.proofs.Windows.{joined-fits, joined-slots, nowhere, place_of, same-slot, validity-at, values-at, values-count, window}
 

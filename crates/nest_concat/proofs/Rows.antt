@@ -1,26 +1,26 @@
 -- Arrays that are made of the bytes of windows over rows between offsets.
-use Rattle.std.specs.Prelude.{List, map, length, get_or, if◌then◌else◌}
-use Rattle.std.specs.List.{All, flat_map, sum_by}
+use Rattle.std.specs.Prelude.{List, length, get_or}
+use Rattle.std.specs.List.{flat_map, sum_by}
 use Rattle.std.specs.Str.{IsUtf8}
-use Rattle.std.proofs.Common.{◌≡◌, ℕ, ◌+◌, ◌<◌, ◌≤◌, Bool, sum, refl, ap, sym, ◌∙◌, subst, arith}
+use Rattle.std.proofs.Common.{◌≡◌, ℕ, ◌+◌, ◌<◌, Bool, refl, ap, sym, ◌∙◌, subst, arith}
 use Rattle.nest_memory.specs.Cut.{cut}
 use Rattle.nest_memory.specs.Physical.{physical_type, binary_of_width, text_of_width}
 use Rattle.nest_memory.specs.Rising.{last_of}
 use Rattle.nest_memory.specs.TypeTree.{TypeTree}
 use Rattle.nest_model.specs.Accessors.{validity_of, bytes_of, offsets_of}
-use Rattle.nest_model.specs.Array.{AreOffsets, TopFits}
+use Rattle.nest_model.specs.Array.{TopFits}
 use Rattle.nest_model.specs.FactLaws.{binary-facts, text-facts}
 use Rattle.nest_model.specs.Fits.{Fits, ValidityFits}
-use Rattle.nest_model.specs.Layout.{Layout, binary, text, layout_type}
+use Rattle.nest_model.specs.Layout.{binary, text}
 use Rattle.nest_model.specs.Meaning.{len, slot}
 use Rattle.nest_model.specs.Part.{Validity, begin, extent, count_rows}
 use Rattle.nest_model.specs.Slot as slots
 use Rattle.nest_array.specs.WindowParts.{WindowParts}
 use Rattle.nest_concat.specs.Joined.{AreWithin, IsJoined, IsWithin}
 use Rattle.nest_concat.specs.Windows.{bytes_in, count_items, count_of, count_slots, extents_in, joined_validity}
-use Rattle.nest_concat.proofs.Pieces.{AreLong, AreSpans, IsSpan, ends, ends-last, ends-rows, extents-length, flat-length, row-cut, span-items, span-sum, sum-all}
+use Rattle.nest_concat.proofs.Pieces.{AreLong, AreSpans, ends, ends-last, ends-rows, extents-length, flat-length, row-cut, span-items, span-sum, sum-all}
 use Rattle.nest_concat.proofs.Shapes.{binary-shape, text-shape}
-use Rattle.nest_concat.proofs.Windows.{IsPlace, joined-fits, joined-slots, locate, nowhere, place_of, same-slot, validity-at, window}
+use Rattle.nest_concat.proofs.Windows.{joined-fits, joined-slots, locate, nowhere, place_of, same-slot, validity-at, window}
 
 -- windows over rows of items
 abbrev pub SpansOf : {A : Type 0} → (WindowParts → List A) → List WindowParts → Type 0

@@ -1,7 +1,7 @@
 -- What lies at a place of joined windows.
-use Rattle.std.specs.Prelude.{◌⊎◌, List, [], ◌∷◌, ◌++◌, ◌||◌, is_some, map, length, get_or, replicate, Option, Some, None, if◌then◌else◌}
+use Rattle.std.specs.Prelude.{◌⊎◌, List, [], ◌∷◌, ◌++◌, ◌||◌, is_some, length, get_or, Some, None, if◌then◌else◌}
 use Rattle.std.specs.List.{All, flat_map, sum_by}
-use Rattle.std.proofs.Common.{◌≡◌, ℕ, zero, suc, ◌+◌, ◌-◌, ◌*◌, ◌<◌, ◌≤◌, Bool, true, false, take, drop, inl, inr, refl, ap, sym, ◌∙◌, arith}
+use Rattle.std.proofs.Common.{◌≡◌, ℕ, zero, suc, ◌+◌, ◌-◌, ◌<◌, ◌≤◌, Bool, true, false, take, inl, inr, refl, ap, sym, ◌∙◌, arith}
 use Rattle.std.proofs.lemmas.List.{get_or-replicate, length-replicate}
 use Rattle.std.proofs.lemmas.List.Sums.{sum_by-cons}
 use Rattle.nest_memory.specs.Cut.{cut}
@@ -17,7 +17,7 @@ use Rattle.nest_model.specs.Runs.{run-ext, cut-run, length-cut, get_or-cut}
 use Rattle.nest_model.specs.Slot as slots
 use Rattle.nest_model.specs.Slot.{Slot}
 use Rattle.nest_array.specs.WindowParts.{WindowParts, window_parts, window_slots}
-use Rattle.nest_concat.specs.Joined.{AreWithin, IsWithin, IsJoined}
+use Rattle.nest_concat.specs.Joined.{AreWithin, IsWithin}
 use Rattle.nest_concat.specs.Windows.{bits_in, count_of, count_slots, have_bits, joined_validity, window_bits}
 use Rattle.nest_concat.proofs.Pieces.{AreLong, first-one, later-ones, flat-at, flat-length}
 

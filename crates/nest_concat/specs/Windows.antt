@@ -1,5 +1,5 @@
 -- What windows over arrays have: values, bits, rows, and the windows of their items (of this project).
-use Rattle.std.specs.Prelude.{ℕ, ◌+◌, ◌-◌, ◌*◌, ℤ, Bool, true, false, ◌||◌, is_some, List, [], ◌∷◌, map, replicate, Option, Some, None, if◌then◌else◌}
+use Rattle.std.specs.Prelude.{ℕ, ◌+◌, ◌-◌, ◌*◌, ℤ, Bool, true, false, ◌||◌, is_some, List, [], ◌∷◌, map, replicate, Some, None, if◌then◌else◌}
 use Rattle.std.specs.List.{flat_map, range_with_len, sum_by}
 use Rattle.nest_memory.specs.Cut.{cut}
 use Rattle.nest_model.specs.Accessors.{validity_of, bits_of, natives_of, bytes_of, offsets_of, child_of, children_of, child_at}

@@ -6,8 +6,7 @@ ghost use Rattle.nest_memory.specs.declared.datatypes.physical_type.PhysicalType
 ghost use Rattle.nest_array.specs.Seen.{layout_of};
 ghost use Rattle.nest_concat.specs.Words.{AreWithin, IsJoined, Memory, blocks_in, count_slots, layout_type, physical_type};
 
-use crate::bits;
-use crate::natives;
+use crate::{bits, natives};
 use nest_array::{AnyArray, FixedSizeBinaryArray, Window};
 use nest_memory::buffer::Buffer;
 use nest_memory::error::Error;
@@ -45,7 +44,11 @@ fn blocks<'a>(window: &Window<'a>, size: usize) -> &'a [u8]
     };
     array.known();
     let _len = array.values().len();
-    natives::part(array.values().as_slice(), window.offset() * size, window.len() * size)
+    natives::part(
+        array.values().as_slice(),
+        window.offset() * size,
+        window.len() * size,
+    )
 }
 
 /// The slots of windows over byte strings of one size, of so many slots in all, under the data type of one of the arrays.

@@ -1,11 +1,13 @@
 //! Columns that are written, byte by byte, and read back.
 use ipc_layout::{Left, Placed, Stored, place_columns, put_columns, read_columns};
 use ipc_model::NoForm;
+use nest_array::any::AnyArray;
+use nest_array::nulls::new_empty_array;
 use nest_flat::any_primitive::AnyPrimitive;
 use nest_flat::primitive::PrimitiveArray;
 use nest_memory::bitmap::immutable::Bitmap;
 use nest_memory::buffer::Buffer;
-use nest_memory::datatypes::DataType;
+use nest_memory::datatypes::{DataType, IntegerType};
 use nest_memory::error::Error;
 use nest_memory::types::NativeType;
 use std::alloc::Global;
@@ -26,7 +28,7 @@ fn array<T: NativeType>(
     PrimitiveArray::try_new(data_type, values, Some(validity))
 }
 
-fn bytes_of(alloc: Global, columns: &[AnyPrimitive]) -> Result<(Placed, Vec<u8>), NoForm> {
+fn bytes_of(alloc: Global, columns: &[AnyArray]) -> Result<(Placed, Vec<u8>), NoForm> {
     let placed = place_columns(alloc, columns)?;
     let mut out = Vec::new(alloc);
     put_columns(&mut out, columns)?;
@@ -37,8 +39,8 @@ fn bytes_of(alloc: Global, columns: &[AnyPrimitive]) -> Result<(Placed, Vec<u8>)
 fn again(
     alloc: Global,
     rows: usize,
-    columns: &[AnyPrimitive],
-) -> Result<Option<Vec<AnyPrimitive>>, Error> {
+    columns: &[AnyArray],
+) -> Result<Option<Vec<AnyArray>>, Error> {
     let Ok((placed, body)) = bytes_of(alloc, columns) else {
         return Ok(None);
     };
@@ -57,7 +59,7 @@ fn again(
 fn seven_and_null(rt: HostRuntime) {
     let alloc = rt.alloc();
     let numbers = array(alloc, DataType::Int32, &[7i32, 0], &[true, false]).expect(&rt, "an array");
-    let columns = [AnyPrimitive::Int32(numbers)];
+    let columns = [AnyArray::Primitive(AnyPrimitive::Int32(numbers))];
     let (placed, body) = bytes_of(alloc, &columns).expect(&rt, "bytes");
     assert!(rt; body.as_slice() == [1u8, 0, 0, 0, 0, 0, 0, 0, 7, 0, 0, 0, 0, 0, 0, 0].as_slice());
     assert!(rt; placed.length == 16);
@@ -86,7 +88,10 @@ fn two_columns(rt: HostRuntime) {
         &[false, false, true],
     )
     .expect(&rt, "an array");
-    let columns = [AnyPrimitive::Int16(first), AnyPrimitive::UInt8(second)];
+    let columns = [
+        AnyArray::Primitive(AnyPrimitive::Int16(first)),
+        AnyArray::Primitive(AnyPrimitive::UInt8(second)),
+    ];
     let (placed, body) = bytes_of(alloc, &columns).expect(&rt, "bytes");
     // No validity where nothing is null, six bytes of values, then a validity and three bytes.
     let want = [
@@ -113,7 +118,7 @@ fn bits_of_a_window_begin_at_bit_0(rt: HostRuntime) {
     let numbers = [1u8, 2, 3, 4, 5, 6, 7, 8, 9, 10, 11, 12];
     for (start, count, bits) in [(1, 3, 6), (3, 9, 93), (8, 4, 2), (9, 3, 1)] {
         let whole = array(alloc, DataType::UInt8, &numbers, &valid).expect(&rt, "an array");
-        let columns = [AnyPrimitive::UInt8(whole.sliced(start, count))];
+        let columns = [AnyArray::Primitive(AnyPrimitive::UInt8(whole.sliced(start, count)))];
         let (placed, body) = bytes_of(alloc, &columns).expect(&rt, "bytes");
         assert!(rt; body[0] == bits);
         assert!(rt; body[1] == 0);
@@ -148,7 +153,7 @@ fn drawn_columns_are_read_back(rt: HostRuntime) {
         let whole = array(alloc, DataType::Int64, &values, &valid).expect(&rt, "an array");
         let start = case % 17;
         let count = case % 23;
-        let columns = [AnyPrimitive::Int64(whole.sliced(start, count))];
+        let columns = [AnyArray::Primitive(AnyPrimitive::Int64(whole.sliced(start, count)))];
         let read = again(alloc, count, &columns)
             .expect(&rt, "memory")
             .expect(&rt, "columns");
@@ -161,7 +166,7 @@ fn drawn_columns_are_read_back(rt: HostRuntime) {
 fn no_rows_and_no_columns(rt: HostRuntime) {
     let alloc = rt.alloc();
     let none = array::<u64>(alloc, DataType::UInt64, &[], &[]).expect(&rt, "an array");
-    let columns = [AnyPrimitive::UInt64(none)];
+    let columns = [AnyArray::Primitive(AnyPrimitive::UInt64(none))];
     let (placed, body) = bytes_of(alloc, &columns).expect(&rt, "bytes");
     assert!(rt; body.len() == 0);
     assert!(rt; placed.regions.len() == 2);
@@ -177,8 +182,10 @@ fn no_rows_and_no_columns(rt: HostRuntime) {
 #[test]
 fn other_kinds_are_not_written(rt: HostRuntime) {
     let alloc = rt.alloc();
-    let wide = array(alloc, DataType::Decimal(3, 0), &[1i128], &[true]).expect(&rt, "an array");
-    let columns = [AnyPrimitive::Int128(wide)];
+    let key = IntegerType::Int8;
+    let values = Box::new(alloc, DataType::Utf8).expect(&rt, "memory");
+    let keyed = new_empty_array(alloc, DataType::Dictionary(key, values, false)).expect(&rt, "an array");
+    let columns = [keyed];
     assert!(rt; place_columns(alloc, &columns).err() == Some(NoForm::Type));
     let mut out = Vec::new(alloc);
     assert!(rt; put_columns(&mut out, &columns) == Err(NoForm::Type));

@@ -2,12 +2,20 @@
 use ipc_layout::{Left, read_column, read_columns};
 use ipc_model::{Fault, Node, Region};
 use nest_flat::any_native::AnyNative;
-use nest_flat::any_primitive::AnyPrimitive;
+use nest_array::any::AnyArray;
 use nest_memory::datatypes::DataType;
 use std::alloc::Global;
 
 /// The body of 7 and a null, of 32 bits.
 const BODY: [u8; 16] = [1, 0, 0, 0, 0, 0, 0, 0, 7, 0, 0, 0, 0, 0, 0, 0];
+
+// The native value of a slot.
+fn value(column: &AnyArray, i: usize) -> Option<AnyNative> {
+    match column {
+        AnyArray::Primitive(array) => Some(array.value(i)),
+        _ => None,
+    }
+}
 
 fn read(
     alloc: Global,
@@ -15,7 +23,7 @@ fn read(
     numbers: (i64, i64),
     bits: (i64, i64),
     values: (i64, i64),
-) -> Result<AnyPrimitive, Fault> {
+) -> Result<AnyArray, Fault> {
     let nodes = [Node {
         length: numbers.0,
         null_count: numbers.1,
@@ -45,7 +53,7 @@ fn seven_and_null(rt: HostRuntime) {
     let array = read(rt.alloc(), DataType::Int32, (2, 1), (0, 1), (8, 8)).expect(&rt, "a column");
     assert!(rt; array.len() == 2);
     assert!(rt; *array.data_type() == DataType::Int32);
-    assert!(rt; array.value(0) == AnyNative::Int32(7));
+    assert!(rt; value(&array, 0) == Some(AnyNative::Int32(7)));
     assert!(rt; array.is_null(1));
 }
 
@@ -53,8 +61,8 @@ fn seven_and_null(rt: HostRuntime) {
 fn without_nulls(rt: HostRuntime) {
     let array = read(rt.alloc(), DataType::UInt16, (2, 0), (0, 0), (7, 4)).expect(&rt, "a column");
     assert!(rt; array.null_count() == 0);
-    assert!(rt; array.value(0) == AnyNative::UInt16(1792));
-    assert!(rt; array.value(1) == AnyNative::UInt16(0));
+    assert!(rt; value(&array, 0) == Some(AnyNative::UInt16(1792)));
+    assert!(rt; value(&array, 1) == Some(AnyNative::UInt16(0)));
 }
 
 #[test]
@@ -104,7 +112,7 @@ fn nothing_left(rt: HostRuntime) {
 }
 
 /// The body as two columns of numbers of 32 and of 64 bits, by these nodes and buffers.
-fn both(alloc: Global, nodes: &[Node], regions: &[Region]) -> Result<Vec<AnyPrimitive>, Fault> {
+fn both(alloc: Global, nodes: &[Node], regions: &[Region]) -> Result<Vec<AnyArray>, Fault> {
     let types = [DataType::Int32, DataType::UInt64];
     read_columns(alloc, &types, 2, &BODY, Left { nodes, regions })
 }
@@ -141,10 +149,10 @@ fn two_columns_use_all_nodes_and_buffers(rt: HostRuntime) {
     ];
     let columns = both(alloc, &[nulls, full], &regions[..4]).expect(&rt, "two columns");
     assert!(rt; columns.len() == 2);
-    assert!(rt; columns[0].value(0) == AnyNative::Int32(7) && columns[0].is_null(1));
+    assert!(rt; value(&columns[0], 0) == Some(AnyNative::Int32(7)) && columns[0].is_null(1));
     assert!(rt; columns[1].null_count() == 0);
-    assert!(rt; columns[1].value(0) == AnyNative::UInt64(1));
-    assert!(rt; columns[1].value(1) == AnyNative::UInt64(7));
+    assert!(rt; value(&columns[1], 0) == Some(AnyNative::UInt64(1)));
+    assert!(rt; value(&columns[1], 1) == Some(AnyNative::UInt64(7)));
     let short = both_fault(alloc, &[nulls], &regions[..4]);
     assert!(rt; short == Some(Fault::NodeCount));
     let node_left = both_fault(alloc, &[nulls, full, full], &regions);

@@ -11,6 +11,8 @@
 //! | Each word of flatbuffers once | `words` |
 //! | A column is read from a body, of each kind of whole numbers; each of its faults once | `columns` |
 //! | Columns that are written, byte by byte, of windows too, and read back; kinds that are not written | `bodies` |
+//! | Flat arrays of every kind, of another program: read, or refused; each window of them written and read back | `flat_read` |
+//! | Flat arrays of each kind byte by byte, and each of their faults | `flat_written` |
 //! | Streams that are written, and read back: windows, nothing, streams of others, rows without columns; each reason not to | `streams_written` |
 //! | Each fault once | `faults` |
 //! | Each beginning of ten streams, and each byte of three changed, is answered, by `read_stream` and by a reader alike | `hostile` |
@@ -23,9 +25,15 @@ mod columns;
 #[cfg(test)]
 mod faults;
 #[cfg(test)]
+mod flat_read;
+#[cfg(test)]
+mod flat_written;
+#[cfg(test)]
 mod hostile;
 #[cfg(test)]
 mod samples;
+#[cfg(test)]
+mod samples_flat;
 #[cfg(test)]
 mod samples_read;
 #[cfg(test)]

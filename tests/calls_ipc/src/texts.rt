@@ -4,7 +4,6 @@ use ipc::{Batch, Stream, StreamReader, read_stream};
 use ipc_model::Fault;
 use nest_array::any::AnyArray;
 use nest_flat::any_native::AnyNative;
-use nest_flat::any_primitive::AnyPrimitive;
 use std::alloc::Global;
 
 fn put_value(text: &mut String, value: AnyNative) -> Result<(), Fault> {
@@ -13,27 +12,51 @@ fn put_value(text: &mut String, value: AnyNative) -> Result<(), Fault> {
         AnyNative::Int16(number) => write!(text, " {number}")?,
         AnyNative::Int32(number) => write!(text, " {number}")?,
         AnyNative::Int64(number) => write!(text, " {number}")?,
+        AnyNative::Int128(number) => write!(text, " {number}")?,
+        AnyNative::Int256(number) => write!(text, " {}:{}", number.high, number.low)?,
         AnyNative::UInt8(number) => write!(text, " {number}")?,
         AnyNative::UInt16(number) => write!(text, " {number}")?,
         AnyNative::UInt32(number) => write!(text, " {number}")?,
         AnyNative::UInt64(number) => write!(text, " {number}")?,
-        _ => text.push_str(" another")?,
+        AnyNative::DaysMs(span) => write!(text, " {}:{}", span.days, span.milliseconds)?,
+        AnyNative::MonthDayNano(span) => write!(text, " {}:{}:{}", span.months, span.days, span.ns)?,
     }
     Ok(())
 }
 
-fn put_slot(text: &mut String, column: &AnyArray, i: usize) -> Result<(), Fault> {
-    match column {
-        AnyArray::Primitive(array) => {
-            if array.is_null(i) {
-                text.push_str(" N")?;
-            } else {
-                put_value(text, array.value(i))?;
-            }
-        }
-        _ => text.push_str(" another")?,
+fn put_bytes(text: &mut String, head: &str, bytes: &[u8]) -> Result<(), Fault> {
+    text.push_str(head)?;
+    for byte in bytes {
+        write!(text, "{byte:02x}")?;
     }
     Ok(())
+}
+
+fn put_there(text: &mut String, column: &AnyArray, i: usize) -> Result<(), Fault> {
+    match column {
+        AnyArray::Boolean(array) => {
+            text.push_str(if array.value(i) { " 1" } else { " 0" })?;
+            Ok(())
+        }
+        AnyArray::Primitive(array) => put_value(text, array.value(i)),
+        AnyArray::FixedSizeBinary(array) => put_bytes(text, " x", array.value(i)),
+        AnyArray::Binary(array) => put_bytes(text, " x", array.value(i)),
+        AnyArray::LargeBinary(array) => put_bytes(text, " x", array.value(i)),
+        AnyArray::Utf8(array) => put_bytes(text, " s", array.value(i).as_bytes()),
+        AnyArray::LargeUtf8(array) => put_bytes(text, " s", array.value(i).as_bytes()),
+        _ => {
+            text.push_str(" another")?;
+            Ok(())
+        }
+    }
+}
+
+fn put_slot(text: &mut String, column: &AnyArray, i: usize) -> Result<(), Fault> {
+    if column.is_null(i) {
+        text.push_str(" N")?;
+        return Ok(());
+    }
+    put_there(text, column, i)
 }
 
 /// More rows are not looked at: a batch without columns may say any number.
@@ -41,10 +64,15 @@ const ROWS: usize = 100;
 
 /// A batch and its rows, a line each.
 pub fn put_batch(text: &mut String, batch: &Batch) -> Result<(), Fault> {
-    write!(text, "batch {}\n", batch.rows)?;
-    for i in 0..batch.rows.min(ROWS) {
+    put_rows(text, batch.rows, &batch.columns)
+}
+
+/// So many rows of columns.
+pub fn put_rows(text: &mut String, rows: usize, columns: &[AnyArray]) -> Result<(), Fault> {
+    write!(text, "batch {rows}\n")?;
+    for i in 0..rows.min(ROWS) {
         text.push_str("row")?;
-        for column in &batch.columns {
+        for column in columns {
             put_slot(text, column, i)?;
         }
         text.push_str("\n")?;

@@ -1,14 +1,13 @@
-use Rattle.std.proofs.Common.{◌≡◌, ◌+◌, ◌*◌, ℕ, ◌∷◌, [], length, length-append, get_or, true, false, refl, ap, sym, ◌∙◌, subst, arith, inl, inr}
-use Rattle.std.proofs.lemmas.Result.{err_from_is_err_and}
+use Rattle.std.proofs.Common.{◌∷◌, [], length, length-append, true, false, refl, ap, sym, ◌∙◌, subst, arith}
 use Rattle.std.specs.Prelude.{map}
 use Rattle.nest_memory.specs.Physical.{physical_type}
 use Rattle.nest_model.specs.Accessors.{child_at, children_of}
 use Rattle.nest_model.specs.Layout.{layout_type, weight, weight_all}
 use Rattle.nest_concat.specs.Windows.{field_of}
 use Rattle.nest_array.specs.Seen.{layout_of, layouts_of}
-use Rattle.nest_concat.specs.Joined.{AreArrays, AreWithin, IsJoined, RefusesEach, RefusesJoin, first_array}
+use Rattle.nest_concat.specs.Joined.{AreArrays, AreWithin, IsJoined, RefusesEach, first_array}
 use Rattle.nest_concat.proofs.Children.{count-of, each-joined, one-more, weight-at}
-use Rattle.nest_concat.proofs.Made.{arm-memory, list-kind, lists-refuse, map-kind, maps-refuse, ok-joined, record-kind, sized-kind}
+use Rattle.nest_concat.proofs.Made.{list-kind, map-kind, ok-joined, record-kind, sized-kind}
 use Rattle.nest_concat.proofs.Nested.{list-children, list-joined, list-lighter, list-refuses, map-children, map-joined, map-lighter, map-refuses, sized-children, sized-joined, sized-lighter, sized-refuses}
 use Rattle.nest_concat.proofs.Records.{field-first, field-joined, field-refuses, record-children, record-count, record-joined, record-lighter, record-refuses}
 use Rattle.nest_concat.proofs.+join.Goals as goal

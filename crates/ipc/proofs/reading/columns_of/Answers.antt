@@ -1,10 +1,13 @@
-use Rattle.nest_memory.specs.TypeOf.{type_of}
-use Rattle.ipc_layout.specs.Columns.{rest_of}
-use Rattle.ipc.specs.StreamLaws.{columns_by_type}
+use Rattle.std.proofs.Common.{List, map, subst}
+use Rattle.ipc_model.specs.Reading.{Gives}
+use Rattle.nest_array.specs.Seen.{layout_of}
+use Rattle.nest_memory.specs.TypeOf.{field_of}
+use Rattle.nest_memory.specs.TypeTree.{TypeTree, field_type}
+use Rattle.ipc_layout.specs.Columns.{rest_of, columns_in}
+use Rattle.ipc.proofs.Loops.{map_twice}
 use Rattle.ipc.proofs.reading.columns_of.Goals as goal
 
-pub returns-in-Err : goal.returns-in-Err
-returns-in-Err c = rw (← columns_by_type type_of c.args.types.now c.args.rows c.args.body.now (rest_of c.args.left)) c.in-Err.ensures
-
-pub returns-in-Ok : goal.returns-in-Ok
-returns-in-Ok c = rw (← columns_by_type type_of c.args.types.now c.args.rows c.args.body.now (rest_of c.args.left), c.in-Ok.ensures) c.arrays.ensures
+pub returns : goal.returns
+returns c =
+    subst (λ (types : List TypeTree). Gives (λ v. map layout_of v.items) c.read_columns.result (columns_in types c.args.rows c.args.body.now (rest_of c.args.left)))
+    (map_twice field_type field_of c.args.fields.now) c.read_columns.ensures

@@ -1,21 +1,23 @@
 use Rattle.std.proofs.Common.{map}
-use Rattle.nest_memory.specs.TypeOf.{type_of}
-use Rattle.nest_flat.specs.AnyPrimitive.{primitive_layout}
-use Rattle.ipc_layout.specs.Columns.{rest_of, column_in, each_in}
+use Rattle.nest_array.specs.Seen.{layout_of}
+use Rattle.ipc_layout.specs.Columns.{rest_of, each_in}
 use Rattle.ipc_layout.proofs.Orders.{order_goes_on, order_ends, order_is_done}
 use Rattle.ipc_layout.proofs.columns.read_each.Goals as goal
 
 pub returns-in-Err : goal.returns-in-Err
-returns-in-Err c =
-    let total = each_in (λ t r. column_in (type_of t) c.args.rows c.args.body.now r) c.args.types.now (rest_of c.args.left) in
-    order_ends c.in-Err.fault (λ t r. column_in (type_of t) c.args.rows c.args.body.now r) (map primitive_layout c.loop-data_type.columns.items) c.args.types.now c.loop-data_type.data_type-index c.data_type-item.result (rest_of c.loop-data_type.rest) total c.loop-data_type-test.true c.data_type-item.is c.in-Err.ensures c.loop-data_type.invariant
+returns-in-Err g c =
+    let tree = g.A.Typed.tree in
+    let total = each_in (map tree c.args.typed.now) c.args.rows c.args.body.now (rest_of c.args.left) in
+    order_ends layout_of tree c.args.typed.now c.args.rows c.args.body.now c.loop-it.it-index c.in-Err.fault c.loop-it.columns.items c.it-item.result (rest_of c.loop-it.rest) total c.loop-it-test.true c.it-item.is (rw c.data_type.ensures at c.in-Err.ensures) c.loop-it.invariant
 
-pub loop-data_type-preserved : goal.loop-data_type-preserved
-loop-data_type-preserved c =
-    let total = each_in (λ t r. column_in (type_of t) c.args.rows c.args.body.now r) c.args.types.now (rest_of c.args.left) in
-    order_goes_on primitive_layout (λ t r. column_in (type_of t) c.args.rows c.args.body.now r) c.loop-data_type.columns.items c.push.new.self.items c.in-Ok.column c.args.types.now c.loop-data_type.data_type-index c.data_type-item.result (rest_of c.loop-data_type.rest) (rest_of c.in-Ok.behind) total c.loop-data_type-test.true c.data_type-item.is c.in_ok-push-in-Ok.ensures.items c.in-Ok.ensures c.loop-data_type.invariant
+pub loop-it-preserved : goal.loop-it-preserved
+loop-it-preserved g c =
+    let tree = g.A.Typed.tree in
+    let total = each_in (map tree c.args.typed.now) c.args.rows c.args.body.now (rest_of c.args.left) in
+    order_goes_on layout_of tree c.args.typed.now c.args.rows c.args.body.now c.loop-it.it-index c.loop-it.columns.items c.push.new.self.items c.in-Ok.column c.it-item.result (rest_of c.loop-it.rest) (rest_of c.in-Ok.behind) total c.loop-it-test.true c.it-item.is c.in_ok-push-in-Ok.ensures.items (rw c.data_type.ensures at c.in-Ok.ensures) c.loop-it.invariant
 
 pub returns : goal.returns
-returns c =
-    let total = each_in (λ t r. column_in (type_of t) c.args.rows c.args.body.now r) c.args.types.now (rest_of c.args.left) in
-    order_is_done (λ t r. column_in (type_of t) c.args.rows c.args.body.now r) (map primitive_layout c.loop-data_type.columns.items) c.args.types.now c.loop-data_type.data_type-index (rest_of c.loop-data_type.rest) total c.loop-data_type-test.false c.loop-data_type.invariant
+returns g c =
+    let tree = g.A.Typed.tree in
+    let total = each_in (map tree c.args.typed.now) c.args.rows c.args.body.now (rest_of c.args.left) in
+    order_is_done layout_of tree c.args.typed.now c.args.rows c.args.body.now c.loop-it.it-index c.loop-it.columns.items (rest_of c.loop-it.rest) total c.loop-it-test.false c.loop-it.invariant

@@ -1,4 +1,4 @@
-use Rattle.std.proofs.Common.{◌<◌, length, arith}
+use Rattle.std.proofs.Common.{length}
 use Rattle.nest_memory.specs.TypeOf.{type_of}
 use Rattle.nest_concat.proofs.Wholes.{all-from-one, one-from-all, some-array}
 use Rattle.nest_concat.proofs.arrays.are_of_one_type.Goals as goal

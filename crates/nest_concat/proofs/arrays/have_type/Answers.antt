@@ -1,10 +1,6 @@
-use Rattle.std.proofs.Common.{◌≡◌, ap, sym, ◌∙◌, take, get_or, refl, arith, true}
-use Rattle.std.specs.List.{All}
-use Rattle.std.proofs.lemmas.List.{take_all}
+use Rattle.std.proofs.Common.{refl}
 use Rattle.nest_memory.specs.TypeOf.{type_of}
-use Rattle.nest_array.specs.Seen.{layout_of}
-use Rattle.nest_model.specs.Layout.{layout_type}
-use Rattle.nest_concat.proofs.Wholes.{type-more, one-other, types-all}
+use Rattle.nest_concat.proofs.Wholes.{type-more, types-all}
 use Rattle.nest_concat.proofs.arrays.have_type.Goals as goal
 
 pub loop-array-preserved : goal.loop-array-preserved

@@ -1,6 +1,5 @@
-use Rattle.std.proofs.Common.{sym, ◌∙◌, subst, arith}
+use Rattle.std.proofs.Common.{sym, ◌∙◌, arith}
 use Rattle.nest_model.specs.Layout.{layout_type}
-use Rattle.nest_concat.specs.Joined.{IsJoined}
 use Rattle.nest_concat.proofs.Rows.{binary-joined}
 use Rattle.nest_concat.proofs.Made.{made-err, made-ok, of-kind, binary-kind}
 use Rattle.nest_concat.proofs.binary.joined.Goals as goal

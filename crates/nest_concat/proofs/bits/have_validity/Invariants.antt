@@ -1,4 +1,4 @@
-use Rattle.std.proofs.Common.{◌≡◌, ◌+◌, ◌++◌, ◌≤◌, length, take, drop, map}
+use Rattle.std.proofs.Common.{◌≡◌, drop}
 use Rattle.nest_concat.specs.Windows.{have_bits}
 use Rattle.nest_concat.proofs.bits.have_validity.Given as goal
 

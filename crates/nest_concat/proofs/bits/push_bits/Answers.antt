@@ -1,4 +1,4 @@
-use Rattle.std.proofs.Common.{◌+◌, ◌++◌, ◌∷◌, [], ap, sym, ◌∙◌, arith, length, length-append, append_assoc}
+use Rattle.std.proofs.Common.{◌++◌, ◌∷◌, [], ap, sym, ◌∙◌, arith, length, length-append, append_assoc}
 use Rattle.nest_memory.specs.Cut.{cut}
 use Rattle.nest_concat.proofs.Grown.{cut-more}
 use Rattle.nest_concat.proofs.bits.push_bits.Goals as goal

@@ -1,4 +1,4 @@
-use Rattle.std.proofs.Common.{◌≡◌, ◌+◌, ◌++◌, ◌≤◌, length, take, drop, map}
+use Rattle.std.proofs.Common.{◌≡◌, ◌+◌, ◌++◌, length}
 use Rattle.nest_memory.specs.Cut.{cut}
 use Rattle.nest_concat.proofs.bits.push_bits.Given as goal
 

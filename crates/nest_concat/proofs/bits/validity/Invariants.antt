@@ -1,4 +1,4 @@
-use Rattle.std.proofs.Common.{◌≡◌, ◌+◌, ◌++◌, ◌≤◌, length, take, drop, map}
+use Rattle.std.proofs.Common.{◌≡◌, length, take}
 use Rattle.std.specs.List.{flat_map, sum_by}
 use Rattle.nest_concat.specs.Windows.{bits_in, count_of}
 use Rattle.nest_concat.proofs.bits.validity.Given as goal

@@ -1,4 +1,4 @@
-use Rattle.std.proofs.Common.{◌≡◌, ◌*◌, ap, sym, ◌∙◌, arith, length}
+use Rattle.std.proofs.Common.{◌*◌, ap, sym, ◌∙◌, arith, length}
 use Rattle.nest_memory.specs.TypeTree.{size_of}
 use Rattle.nest_model.specs.Accessors.{bytes_of}
 use Rattle.nest_model.specs.Layout.{layout_type}

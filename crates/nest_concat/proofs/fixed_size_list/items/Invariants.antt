@@ -1,4 +1,4 @@
-use Rattle.std.proofs.Common.{◌≡◌, ◌+◌, ◌++◌, ◌≤◌, length, take, drop, map}
+use Rattle.std.proofs.Common.{◌≡◌, ◌≤◌, length, take, map}
 use Rattle.std.specs.Prelude.{vec_capacity}
 use Rattle.nest_concat.specs.Joined.{AreArrays}
 use Rattle.nest_concat.specs.Windows.{blocks_of}

@@ -1,4 +1,3 @@
-use Rattle.std.proofs.Common.{◌∙◌}
 use Rattle.nest_memory.specs.TypeOf.{type_of}
 use Rattle.nest_concat.proofs.Flats.{primitive-joined}
 use Rattle.nest_concat.proofs.Made.{made-memory, made-ok, of-kind}

@@ -1,4 +1,4 @@
-use Rattle.std.proofs.Common.{◌≡◌, ap, sym, ◌∙◌, subst, arith, length}
+use Rattle.std.proofs.Common.{ap, ◌∙◌, subst, arith, length}
 use Rattle.std.proofs.lemmas.List.{length-map}
 use Rattle.nest_model.specs.Accessors.{natives_of}
 use Rattle.nest_model.specs.Array.{TopFits}

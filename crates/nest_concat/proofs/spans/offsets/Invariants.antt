@@ -1,4 +1,4 @@
-use Rattle.std.proofs.Common.{◌≡◌, ◌+◌, ◌++◌, ◌≤◌, length, take, drop, map}
+use Rattle.std.proofs.Common.{◌≡◌, take}
 use Rattle.std.specs.List.{flat_map, sum_by}
 use Rattle.nest_memory.specs.Rising.{last_of}
 use Rattle.nest_concat.specs.Windows.{count_items, extents_in}

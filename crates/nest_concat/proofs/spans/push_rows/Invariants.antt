@@ -1,4 +1,4 @@
-use Rattle.std.proofs.Common.{◌≡◌, ◌+◌, ◌++◌, ◌≤◌, length, take, drop, map}
+use Rattle.std.proofs.Common.{◌≡◌, ◌+◌, ◌++◌}
 use Rattle.nest_memory.specs.Rising.{ends_from, last_of}
 use Rattle.nest_model.specs.Part.{begin}
 use Rattle.nest_concat.specs.Windows.{extents}

@@ -1,7 +1,4 @@
-use Rattle.std.proofs.Common.{◌≡◌, ap, sym, ◌∙◌, arith}
-use Rattle.nest_array.specs.WindowParts.{window_parts}
-use Rattle.nest_model.specs.Accessors.{child_at, children_of}
-use Rattle.nest_model.specs.Layout.{count_layouts}
+use Rattle.std.proofs.Common.{ap, ◌∙◌, arith}
 use Rattle.nest_model.specs.Meaning.{len}
 use Rattle.nest_concat.proofs.Records.{field-there}
 use Rattle.nest_concat.proofs.struct_.field_of_window.Goals as goal

@@ -1,0 +1,201 @@
+//! Streams of flat arrays of every kind, message by message, by types that are named here; and written again.
+use crate::samples::Sample;
+use crate::samples_flat::{READ_FLAT, REFUSED_FLAT};
+use crate::samples_read::bytes_of;
+use crate::texts::put_rows;
+use ipc_batch::{BatchMetadata, read_batch};
+use ipc_layout::{Left, place_columns, put_columns, read_columns};
+use ipc_message::next_message;
+use ipc_model::{Fault, NoForm};
+use nest_array::any::AnyArray;
+use nest_memory::datatypes::{DataType, IntervalUnit, TimeUnit};
+use std::alloc::Global;
+
+// A timestamp's type with a zone.
+fn zoned(alloc: Global, unit: TimeUnit, zone: &str) -> Result<DataType, Fault> {
+    let mut name = String::new(alloc);
+    name.push_str(zone)?;
+    Ok(DataType::Timestamp(unit, Some(name)))
+}
+
+fn times(alloc: Global) -> Result<Vec<DataType>, Fault> {
+    let mut types = Vec::new(alloc);
+    types.push(DataType::Timestamp(TimeUnit::Second, None))?;
+    types.push(zoned(alloc, TimeUnit::Millisecond, "")?)?;
+    types.push(zoned(alloc, TimeUnit::Microsecond, "UTC")?)?;
+    types.push(zoned(alloc, TimeUnit::Nanosecond, "Europe/Oslo")?)?;
+    types.push(DataType::Duration(TimeUnit::Second))?;
+    types.push(DataType::Duration(TimeUnit::Millisecond))?;
+    types.push(DataType::Duration(TimeUnit::Microsecond))?;
+    types.push(DataType::Duration(TimeUnit::Nanosecond))?;
+    Ok(types)
+}
+
+fn dates(alloc: Global) -> Result<Vec<DataType>, Fault> {
+    let types = vec![in alloc;
+        DataType::Date32,
+        DataType::Date64,
+        DataType::Time32(TimeUnit::Second),
+        DataType::Time32(TimeUnit::Millisecond),
+        DataType::Time64(TimeUnit::Microsecond),
+        DataType::Time64(TimeUnit::Nanosecond)
+    ]?;
+    Ok(types)
+}
+
+// The types of a sample's columns.
+fn types_of(alloc: Global, name: &str) -> Result<Vec<DataType>, Fault> {
+    let types = match name {
+        "null" => vec![in alloc; DataType::Null]?,
+        "boolean" => vec![in alloc; DataType::Boolean, DataType::Boolean]?,
+        "boolean_16" => vec![in alloc; DataType::Boolean]?,
+        "binary" => vec![in alloc; DataType::Binary, DataType::LargeBinary]?,
+        "utf8" => vec![in alloc; DataType::Utf8, DataType::LargeUtf8]?,
+        "decimals" => vec![in alloc;
+            DataType::Decimal(38, 2),
+            DataType::Decimal256(76, 5),
+            DataType::Decimal(5, 0)
+        ]?,
+        "intervals" => vec![in alloc;
+            DataType::Interval(IntervalUnit::YearMonth),
+            DataType::Interval(IntervalUnit::DayTime),
+            DataType::Interval(IntervalUnit::MonthDayNano)
+        ]?,
+        "dates_times" => dates(alloc)?,
+        "timestamps_durations" => times(alloc)?,
+        "fixed_size_binary" => vec![in alloc;
+            DataType::FixedSizeBinary(3),
+            DataType::FixedSizeBinary(1)
+        ]?,
+        "bad_text_cut_inside" => vec![in alloc; DataType::Utf8]?,
+        _ => vec![in alloc; DataType::Int32, DataType::Utf8]?,
+    };
+    Ok(types)
+}
+
+// The columns that the first batch of a stream spells, and its rows.
+fn columns_of(alloc: Global, sample: &Sample) -> Result<(usize, Vec<AnyArray>), Fault> {
+    let bytes = bytes_of(alloc, sample)?;
+    let types = types_of(alloc, sample.name)?;
+    let (_schema, rest) = next_message(&bytes)?;
+    match next_message(rest)? {
+        (None, _) => Err(Fault::Truncated),
+        (Some(message), _) => {
+            let root = message.root;
+            let batch = read_batch(
+                alloc,
+                message.metadata,
+                root.header,
+                root.left,
+                root.body_length,
+            )?;
+            let columns = read_by(alloc, &types, &batch, message.body)?;
+            Ok((batch.rows, columns))
+        }
+    }
+}
+
+fn read_by(
+    alloc: Global,
+    types: &[DataType],
+    batch: &BatchMetadata,
+    body: &[u8],
+) -> Result<Vec<AnyArray>, Fault> {
+    let left = Left {
+        nodes: &batch.nodes,
+        regions: &batch.regions,
+    };
+    read_columns(alloc, types, batch.rows, body, left)
+}
+
+fn answer(alloc: Global, sample: &Sample) -> Result<String, Fault> {
+    let mut text = String::new(alloc);
+    match columns_of(alloc, sample) {
+        Err(fault) => write!(text, "fault {fault:?}\n")?,
+        Ok((rows, columns)) => put_rows(&mut text, rows, &columns)?,
+    }
+    Ok(text)
+}
+
+#[test]
+fn each_kind_is_read(rt: HostRuntime) {
+    for sample in &READ_FLAT {
+        let text = answer(rt.alloc(), sample).expect(&rt, "no text");
+        assert!(rt; text.as_str() == sample.answer, "{}: {text}", sample.name);
+    }
+}
+
+#[test]
+fn each_fault_of_flat_arrays(rt: HostRuntime) {
+    for sample in &REFUSED_FLAT {
+        let text = answer(rt.alloc(), sample).expect(&rt, "no text");
+        assert!(rt; text.as_str() == sample.answer, "{}: {text}", sample.name);
+    }
+}
+
+// What is written of columns, as it is read back.
+fn again(
+    alloc: Global,
+    types: &[DataType],
+    rows: usize,
+    columns: &[AnyArray],
+) -> Result<Result<Vec<AnyArray>, Fault>, NoForm> {
+    let placed = place_columns(alloc, columns)?;
+    let mut body = Vec::new(alloc);
+    put_columns(&mut body, columns)?;
+    let left = Left {
+        nodes: &placed.nodes,
+        regions: &placed.regions,
+    };
+    Ok(read_columns(alloc, types, rows, &body, left))
+}
+
+#[test]
+fn each_kind_is_written_again(rt: HostRuntime) {
+    let alloc = rt.alloc();
+    for sample in &READ_FLAT {
+        let (rows, columns) = columns_of(alloc, sample).expect(&rt, "no columns");
+        let types = types_of(alloc, sample.name).expect(&rt, "no types");
+        let read = again(alloc, &types, rows, &columns)
+            .expect(&rt, "no body")
+            .expect(&rt, "no columns");
+        assert!(rt; read.len() == columns.len());
+        for i in 0..columns.len() {
+            assert!(rt; read[i] == columns[i], "{}", sample.name);
+        }
+    }
+}
+
+// Whether each window of columns is read back as it was.
+fn windows_are_same(alloc: Global, sample: &Sample) -> Result<bool, Fault> {
+    let types = types_of(alloc, sample.name)?;
+    let (rows, _) = columns_of(alloc, sample)?;
+    for start in 0..rows {
+        for count in 0..rows - start + 1 {
+            let (_, mut columns) = columns_of(alloc, sample)?;
+            for column in &mut columns {
+                column.slice(start, count);
+            }
+            match again(alloc, &types, count, &columns) {
+                Err(_) => return Ok(false),
+                Ok(read) => {
+                    let read = read?;
+                    for i in 0..columns.len() {
+                        if read[i] != columns[i] {
+                            return Ok(false);
+                        }
+                    }
+                }
+            }
+        }
+    }
+    Ok(true)
+}
+
+#[test]
+fn each_window_is_read_back(rt: HostRuntime) {
+    for sample in &READ_FLAT {
+        let same = windows_are_same(rt.alloc(), sample).expect(&rt, "no columns");
+        assert!(rt; same, "{}", sample.name);
+    }
+}
