@@ -1,18 +1,23 @@
-//! Arrow IPC. For every sequence of bytes the reader answers just the stream that the bytes spell, or the first fault in the order
-//! of reading, want of memory aside; what is written of a schema and batches spells them, so that reading gives them back; and
-//! nothing is written just where there is a reason, of which the first is told. So far of columns of whole numbers.
+//! Arrow IPC. For every sequence of bytes the readers answer just the stream, or the file, that the bytes spell, or the first fault
+//! in the order of reading, want of memory aside; what is written of a schema and batches, in either form, spells them, so that
+//! reading gives them back; and nothing is written just where there is a reason, of which the first is told. So far of columns of
+//! whole numbers.
 #![tactic(auto)]
 
-ghost use Rattle.std.specs.Prelude.{◌≡◌, ◌++◌, List, ℕ, None, Ok, map, length, IfErr, IfOk, OnOk};
+ghost use Rattle.std.specs.Prelude.{◌≡◌, ◌<◌, ◌⊎◌, ◌++◌, List, ℕ, None, Ok, map, length, IfErr, IfOk, OnOk};
 ghost use Rattle.std.specs.List.{AllByRecursion};
 ghost use Rattle.std.specs.Option.{option_map};
 ghost use Rattle.ipc_model.specs.Reading.{Gives};
 ghost use Rattle.ipc_schema.specs.Schemas.{schema_of};
 ghost use Rattle.ipc.specs.Streams.{arrays_of, stream_in, stream_of};
 ghost use Rattle.ipc.specs.Readers.{next_of, reader_in, spent};
+ghost use Rattle.ipc.specs.Files.{batch_of_file, file_in, file_of, file_reader_in};
+ghost use Rattle.ipc.specs.WrittenFiles.{file_bytes, file_refusal, shown_file};
 ghost use Rattle.ipc.specs.Written.{IsRefused, IsSameBatch, shown_arrays, shown_stream, stream_bytes, stream_refusal};
 
-use ipc::{Batch, Stream, StreamReader, read_stream, write_stream};
+use ipc::{
+    Batch, File, FileReader, Stream, StreamReader, read_file, read_stream, write_file, write_stream,
+};
 use ipc_model::{Fault, NoForm};
 use ipc_schema::Schema;
 use std::alloc::Global;
@@ -61,5 +66,79 @@ pub fn written_and_read(alloc: Global, schema: &Schema, batches: &[Batch]) -> Re
     match read_stream(alloc, &bytes) {
         Ok(stream) => Ok(stream),
         Err(_) => Err(NoForm::Memory),
+    }
+}
+
+/// The file that bytes spell, or their first fault.
+pub fn file_of_bytes(alloc: Global, bytes: &[u8]) -> Result<File, Fault>
+    ensures { Gives file_of result (file_in bytes.now) }
+{
+    read_file(alloc, bytes)
+}
+
+/// A reader of a file begins with its footer and its dictionaries.
+pub fn file_reader_of_bytes(alloc: Global, bytes: &[u8]) -> Result<FileReader<'_>, Fault>
+    ensures { Gives (λ r. r) result (file_reader_in bytes.now) }
+{
+    FileReader::new(alloc, bytes)
+}
+
+/// It gives the batch at each place in the order of the footer, or its first fault, whenever it is asked for.
+pub fn batch_of_file_reader(
+    alloc: Global,
+    reader: &FileReader<'_>,
+    i: usize,
+) -> Result<Batch, Fault>
+    requires { i < length reader.now.blocks }
+    ensures { Gives arrays_of result (batch_of_file reader.now i) }
+{
+    reader.batch(alloc, i)
+}
+
+/// What is written as a file spells the schema and the batches; nothing is written just where there is a reason.
+pub fn bytes_of_file(alloc: Global, schema: &Schema, batches: &[Batch]) -> Result<Vec<u8>, NoForm>
+    ensures bytes { IfOk result (λ out. out.items ≡ file_bytes (schema_of schema.now) (map arrays_of batches.now)) }
+    ensures again { IfOk result (λ out. file_in out.items ≡ Ok (shown_file (schema_of schema.now) (map arrays_of batches.now))) }
+    ensures same { OnOk result (AllByRecursion IsSameBatch (map arrays_of batches.now)) }
+    ensures form { OnOk result (file_refusal (schema_of schema.now) (map arrays_of batches.now) ≡ None) }
+    ensures err { IfErr result (IsRefused (file_refusal (schema_of schema.now) (map arrays_of batches.now))) }
+{
+    write_file(alloc, schema, batches)
+}
+
+/// What is written as a file is read back: an equal schema, as many batches, of each the same rows and the same arrays.
+pub fn file_written_and_read(
+    alloc: Global,
+    schema: &Schema,
+    batches: &[Batch],
+) -> Result<File, NoForm>
+    ensures schema { IfOk result (λ r. schema_of r.schema ≡ schema_of schema.now) }
+    ensures batches { IfOk result (λ r. map arrays_of r.batches.items ≡ map shown_arrays (map arrays_of batches.now)) }
+    ensures same { OnOk result (AllByRecursion IsSameBatch (map arrays_of batches.now)) }
+    ensures err { IfErr result (IsRefused (file_refusal (schema_of schema.now) (map arrays_of batches.now))) }
+{
+    let bytes = write_file(alloc, schema, batches)?;
+    match read_file(alloc, &bytes) {
+        Ok(file) => Ok(file),
+        Err(_) => Err(NoForm::Memory),
+    }
+}
+
+/// The stream and the file of a schema and batches are read as equal schemas, and as the same batches.
+pub fn both_forms(
+    alloc: Global,
+    schema: &Schema,
+    batches: &[Batch],
+) -> Result<(Stream, File), NoForm>
+    ensures schema { IfOk result (λ r. schema_of r.0.schema ≡ schema_of r.1.schema) }
+    ensures batches { IfOk result (λ r. map arrays_of r.0.batches.items ≡ map arrays_of r.1.batches.items) }
+    ensures err { IfErr result (λ why. IsRefused (stream_refusal (schema_of schema.now) (map arrays_of batches.now)) why ⊎ IsRefused (file_refusal (schema_of schema.now) (map arrays_of batches.now)) why) }
+{
+    match written_and_read(alloc, schema, batches) {
+        Err(why) => Err(why),
+        Ok(stream) => match file_written_and_read(alloc, schema, batches) {
+            Err(why) => Err(why),
+            Ok(file) => Ok((stream, file)),
+        },
     }
 }

@@ -1,4 +1,4 @@
-//! Tests of `ipc_words`, `ipc_message`, `ipc_schema`, `ipc_batch`, `ipc_layout` and `ipc`: their public calls, as a crate above sees them.
+//! Tests of `ipc_words`, `ipc_message`, `ipc_schema`, `ipc_batch`, `ipc_footer`, `ipc_layout` and `ipc`: their public calls, as a crate above sees them.
 //! They are run, not proved.
 //!
 //! | What the row shows | Test |
@@ -15,6 +15,8 @@
 //! | Flat arrays of each kind byte by byte, and each of their faults | `flat_written` |
 //! | Streams that are written, and read back: windows, nothing, streams of others, rows without columns; each reason not to | `streams_written` |
 //! | Each fault once | `faults` |
+//! | Files of another program, streams of others as files, blocks in another order, batches in any order, and files that are written | `files` |
+//! | Each fault of files once; each beginning of a file, and each of its bytes changed, is answered, by `read_file` and by a reader alike | `file_faults` |
 //! | Each beginning of ten streams, and each byte of three changed, is answered, by `read_stream` and by a reader alike | `hostile` |
 #![tactic(auto)]
 
@@ -24,6 +26,12 @@ mod bodies;
 mod columns;
 #[cfg(test)]
 mod faults;
+#[cfg(test)]
+mod file_faults;
+#[cfg(test)]
+mod file_samples;
+#[cfg(test)]
+mod files;
 #[cfg(test)]
 mod flat_read;
 #[cfg(test)]

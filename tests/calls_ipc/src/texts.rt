@@ -1,7 +1,8 @@
 //! What a reader answers, as the text that stands beside the samples.
 use crate::type_texts::put_schema;
-use ipc::{Batch, Stream, StreamReader, read_stream};
+use ipc::{Batch, FileReader, StreamReader, read_file, read_stream};
 use ipc_model::Fault;
+use ipc_schema::Schema;
 use nest_array::any::AnyArray;
 use nest_flat::any_native::AnyNative;
 use std::alloc::Global;
@@ -80,9 +81,10 @@ pub fn put_rows(text: &mut String, rows: usize, columns: &[AnyArray]) -> Result<
     Ok(())
 }
 
-fn put_stream(text: &mut String, stream: &Stream) -> Result<(), Fault> {
-    put_schema(text, &stream.schema)?;
-    for batch in &stream.batches {
+// A schema and batches.
+fn put_parts(text: &mut String, schema: &Schema, batches: &[Batch]) -> Result<(), Fault> {
+    put_schema(text, schema)?;
+    for batch in batches {
         put_batch(text, batch)?;
     }
     Ok(())
@@ -94,7 +96,7 @@ pub fn answer(alloc: Global, bytes: &[u8]) -> Result<String, Fault> {
     match read_stream(alloc, bytes) {
         Err(fault) => write!(text, "fault {fault:?}\n")?,
         Ok(stream) => {
-            put_stream(&mut text, &stream)?;
+            put_parts(&mut text, &stream.schema, &stream.batches)?;
             if stream.read < bytes.len() {
                 write!(text, "unread {}\n", bytes.len() - stream.read)?;
             }
@@ -141,6 +143,50 @@ pub fn is_read(alloc: Global, bytes: &[u8]) -> Option<bool> {
     let mut whole = String::new(alloc);
     let read = put_read(&mut one_by_one, alloc, bytes);
     if read != put_whole(&mut whole, alloc, bytes) || read.is_ok() && one_by_one != whole {
+        return None;
+    }
+    Some(read.is_ok())
+}
+
+/// What a file is, or its fault.
+pub fn file_answer(alloc: Global, bytes: &[u8]) -> Result<String, Fault> {
+    let mut text = String::new(alloc);
+    match read_file(alloc, bytes) {
+        Err(fault) => write!(text, "fault {fault:?}\n")?,
+        Ok(file) => put_parts(&mut text, &file.schema, &file.batches)?,
+    }
+    Ok(text)
+}
+
+// The batches that a reader of a file gives, each asked for when the one behind it was.
+fn put_asked(text: &mut String, reader: &FileReader<'_>, alloc: Global) -> Result<(), Fault> {
+    for i in 0..reader.len() {
+        let _last = reader.batch(alloc, reader.len() - 1 - i);
+        let batch = reader.batch(alloc, i)?;
+        put_batch(text, &batch)?;
+    }
+    Ok(())
+}
+
+fn put_file_read(text: &mut String, alloc: Global, bytes: &[u8]) -> Result<(), Fault> {
+    let reader = FileReader::new(alloc, bytes)?;
+    put_asked(text, &reader, alloc)
+}
+
+fn put_file(text: &mut String, alloc: Global, bytes: &[u8]) -> Result<(), Fault> {
+    let file = read_file(alloc, bytes)?;
+    for batch in &file.batches {
+        put_batch(text, batch)?;
+    }
+    Ok(())
+}
+
+/// Whether a file is read, by `read_file` and by a reader alike. None where they differ.
+pub fn is_file_read(alloc: Global, bytes: &[u8]) -> Option<bool> {
+    let mut one_by_one = String::new(alloc);
+    let mut whole = String::new(alloc);
+    let read = put_file_read(&mut one_by_one, alloc, bytes);
+    if read != put_file(&mut whole, alloc, bytes) || read.is_ok() && one_by_one != whole {
         return None;
     }
     Some(read.is_ok())

@@ -1,6 +1,6 @@
-use Rattle.std.proofs.Common.{◌≡◌, [], List, map, length, Ok, ap}
+use Rattle.std.proofs.Common.{◌≡◌, [], map, length, Ok, ap}
 use Rattle.ipc_schema.specs.Schemas.{schema_of}
-use Rattle.ipc.specs.Streams.{Arrays, StreamTree, arrays_of, stream_in, stream_of}
+use Rattle.ipc.specs.Streams.{StreamTree, arrays_of, stream_in, stream_of}
 use Rattle.ipc.specs.Written.{shown_stream}
 use Rattle.promises_ipc.proofs.Again.{one_stream}
 use Rattle.promises_ipc.proofs.written_and_read.Goals as goal

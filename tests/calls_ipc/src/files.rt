@@ -1,0 +1,196 @@
+//! Files: those of another program, streams as files, and what is written.
+use crate::file_samples::{READ_FILES, REFUSED_FILES};
+use crate::samples::{READ, Sample};
+use crate::samples_read::bytes_of;
+use crate::streams::WORKED;
+use crate::texts::{answer, file_answer, is_file_read, put_batch};
+use ipc::{FileReader, read_file, read_stream, write_file};
+use ipc_footer::{Block, Footer, read_footer, write_footer};
+use ipc_message::{Kind, next_message};
+use ipc_model::Fault;
+use ipc_schema::read_schema;
+use std::alloc::Global;
+
+#[test]
+fn each_that_is_read(rt: HostRuntime) {
+    for sample in &READ_FILES {
+        let bytes = bytes_of(rt.alloc(), sample).expect(&rt, "no bytes");
+        let text = file_answer(rt.alloc(), &bytes).expect(&rt, "no text");
+        assert!(rt; text.as_str() == sample.answer, "{}: {text}", sample.name);
+    }
+}
+
+#[test]
+fn each_that_is_refused(rt: HostRuntime) {
+    for sample in &REFUSED_FILES {
+        let bytes = bytes_of(rt.alloc(), sample).expect(&rt, "no bytes");
+        let text = file_answer(rt.alloc(), &bytes).expect(&rt, "no text");
+        assert!(rt; text.as_str() == sample.answer, "{}: {text}", sample.name);
+    }
+}
+
+/// Where the batches of a stream lie in the file of it, in their order.
+pub fn blocks_of(alloc: Global, stream: &[u8]) -> Result<Vec<Block>, Fault> {
+    let mut blocks = Vec::new(alloc);
+    let mut rest = stream;
+    for _ in 0..stream.len() {
+        let offset = 8 + stream.len() - rest.len();
+        let (next, behind) = next_message(rest)?;
+        rest = behind;
+        match next {
+            None => return Ok(blocks),
+            Some(message) => {
+                if message.root.kind != Kind::Schema {
+                    blocks.push(Block {
+                        offset: offset as i64,
+                        metadata_length: 8 + message.metadata.len() as i32,
+                        body_length: message.body.len() as i64,
+                    })?;
+                }
+            }
+        }
+    }
+    Ok(blocks)
+}
+
+/// The file of a stream, whose footer has these blocks.
+pub fn file_with(
+    alloc: Global,
+    stream: &[u8],
+    dictionaries: &[Block],
+    batches: &[Block],
+) -> Result<Vec<u8>, Fault> {
+    let mut out = Vec::new(alloc);
+    out.extend_from_slice(b"ARROW1\0\0")?;
+    out.extend_from_slice(stream)?;
+    let (schema, _) = read_schema(alloc, stream)?;
+    match write_footer(alloc, &mut out, &schema, dictionaries, batches) {
+        Ok(()) => Ok(out),
+        Err(_) => Err(Fault::Memory),
+    }
+}
+
+// What the file of a stream is; its blocks in another order, if asked.
+fn as_file(alloc: Global, stream: &[u8]) -> Result<String, Fault> {
+    let blocks = blocks_of(alloc, stream)?;
+    let file = file_with(alloc, stream, &[], &blocks)?;
+    file_answer(alloc, &file)
+}
+
+#[test]
+fn streams_as_files(rt: HostRuntime) {
+    let alloc = rt.alloc();
+    let mut count = 0;
+    for sample in &READ {
+        let bytes = bytes_of(alloc, sample).expect(&rt, "bytes");
+        let text = as_file(alloc, &bytes).expect(&rt, "a file");
+        if !sample.answer.contains("unread") {
+            assert!(rt; text.as_str() == sample.answer, "{}: {text}", sample.name);
+            count = count + 1;
+        }
+    }
+    assert!(rt; count > 5);
+}
+
+// What a stream says, once it was read and written as a file.
+fn written_again(alloc: Global, bytes: &[u8]) -> Result<String, Fault> {
+    let stream = read_stream(alloc, bytes)?;
+    match write_file(alloc, &stream.schema, &stream.batches) {
+        Ok(written) => file_answer(alloc, &written),
+        Err(_) => Err(Fault::Memory),
+    }
+}
+
+#[test]
+fn streams_of_others_are_written_as_files(rt: HostRuntime) {
+    let alloc = rt.alloc();
+    for sample in &READ {
+        let bytes = bytes_of(alloc, sample).expect(&rt, "bytes");
+        let again = written_again(alloc, &bytes).expect(&rt, "a file");
+        if !sample.answer.contains("unread") {
+            assert!(rt; again.as_str() == sample.answer, "{}: {again}", sample.name);
+        }
+    }
+    let again = written_again(alloc, &WORKED).expect(&rt, "a file");
+    assert!(rt; again.as_str() == answer(alloc, &WORKED).expect(&rt, "a text").as_str());
+}
+
+// The file of the sample with three batches or more.
+fn three_batches(alloc: Global) -> Result<Vec<u8>, Fault> {
+    let mut stream = Vec::new(alloc);
+    stream.extend_from_slice(&WORKED[..288])?;
+    stream.extend_from_slice(&WORKED[128..288])?;
+    stream.extend_from_slice(&WORKED[128..])?;
+    stream[288 + 152] = 8;
+    stream[448 + 152] = 9;
+    Ok(stream)
+}
+
+// The batches of a reader, in the order in which they are asked for.
+fn asked(alloc: Global, bytes: &[u8], order: &[usize]) -> Result<String, Fault> {
+    let reader = FileReader::new(alloc, bytes)?;
+    let mut text = String::new(alloc);
+    for i in order {
+        let batch = reader.batch(alloc, *i)?;
+        put_batch(&mut text, &batch)?;
+    }
+    Ok(text)
+}
+
+#[test]
+fn batches_in_any_order(rt: HostRuntime) {
+    let alloc = rt.alloc();
+    let stream = three_batches(alloc).expect(&rt, "a stream");
+    let blocks = blocks_of(alloc, &stream).expect(&rt, "blocks");
+    assert!(rt; blocks.len() == 3);
+    let file = file_with(alloc, &stream, &[], &blocks).expect(&rt, "a file");
+    let text = asked(alloc, &file, &[2, 0, 1, 2]).expect(&rt, "a text");
+    assert!(rt;
+        text.as_str() == "batch 2\nrow 9\nrow N\nbatch 2\nrow 7\nrow N\nbatch 2\nrow 8\nrow N\nbatch 2\nrow 9\nrow N\n"
+    );
+}
+
+#[test]
+fn batches_in_the_order_of_the_footer(rt: HostRuntime) {
+    let alloc = rt.alloc();
+    let stream = three_batches(alloc).expect(&rt, "a stream");
+    let blocks = blocks_of(alloc, &stream).expect(&rt, "blocks");
+    let file = file_with(alloc, &stream, &[], &[blocks[1], blocks[0]]).expect(&rt, "a file");
+    let text = file_answer(alloc, &file).expect(&rt, "a text");
+    assert!(rt;
+        text.as_str() == "metadata 0\nfield .a 1 0 i4\nbatch 2\nrow 8\nrow N\nbatch 2\nrow 7\nrow N\n"
+    );
+}
+
+// A schema's stream whose messages aren't looked at: what stands between is anything.
+#[test]
+fn what_no_block_names_is_not_read(rt: HostRuntime) {
+    let alloc = rt.alloc();
+    let stream = three_batches(alloc).expect(&rt, "a stream");
+    let blocks = blocks_of(alloc, &stream).expect(&rt, "blocks");
+    let mut file = file_with(alloc, &stream, &[], &blocks[2..]).expect(&rt, "a file");
+    for i in 6..456usize {
+        file[i] = 255;
+    }
+    let text = file_answer(alloc, &file).expect(&rt, "a text");
+    assert!(rt;
+        text.as_str() == "metadata 0\nfield .a 1 0 i4\nbatch 2\nrow 9\nrow N\n"
+    );
+}
+
+#[test]
+fn the_footer_of_a_file(rt: HostRuntime) {
+    let alloc = rt.alloc();
+    let bytes = bytes_of(alloc, &READ_FILES[1]).expect(&rt, "no bytes");
+    let footer = read_footer(alloc, &bytes).expect(&rt, "no footer");
+    assert!(rt; footer.schema.fields.is_empty() && footer.dictionaries.is_empty());
+    assert!(rt; footer.batches.len() == 1);
+    assert!(rt;
+        footer.batches[0]
+            == Block {
+                offset: 64,
+                metadata_length: 88,
+                body_length: 0
+            }
+    );
+}
