@@ -1,4 +1,4 @@
-//! Streams and files of the Arrow IPC format: read as a schema and batches, and written. Of types, those of whole numbers.
+//! Streams and files of the Arrow IPC format: read as a schema and batches, and written. Of arrays, flat ones.
 #![tactic(auto)]
 
 mod batch;

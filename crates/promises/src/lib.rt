@@ -40,7 +40,7 @@
 //! Of every data type without a fault there are null and empty arrays: [`empties`].
 //!
 //! *What is read of bytes in the Arrow IPC format is what they spell, or the first fault, and what is written is read back*: `stream_of_bytes`,
-//! `bytes_of_stream`, `written_and_read` in [`streams`], so far of columns of whole numbers.
+//! `bytes_of_stream`, `written_and_read` in [`streams`], so far of columns that are flat arrays.
 //!
 //! # Below and above
 //!

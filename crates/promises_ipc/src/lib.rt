@@ -1,7 +1,7 @@
 //! Arrow IPC. For every sequence of bytes the readers answer just the stream, or the file, that the bytes spell, or the first fault
 //! in the order of reading, want of memory aside; what is written of a schema and batches, in either form, spells them, so that
-//! reading gives them back; and nothing is written just where there is a reason, of which the first is told. So far of columns of
-//! whole numbers.
+//! reading gives them back; and nothing is written just where there is a reason, of which the first is told. So far of columns
+//! that are flat arrays.
 #![tactic(auto)]
 
 ghost use Rattle.std.specs.Prelude.{◌≡◌, ◌<◌, ◌⊎◌, ◌++◌, List, ℕ, None, Ok, map, length, IfErr, IfOk, OnOk};

@@ -1,11 +1,15 @@
-//! Nested columnar arrays in the Arrow format: one door to all crates of them, `use tiekvorn::{AnyArray, ListArray, take, ..}`.
+//! Nested columnar arrays in the Arrow format, and streams and files of them: one door to all crates of them, `use tiekvorn::{AnyArray, ListArray, take, ..}`.
 //! What each call promises stands at its own crate, and so do the words of contracts: `ghost use Rattle.nest_array.specs.Words`.
 #![tactic(auto)]
 
 pub use ipc::Batch;
+pub use ipc::File;
+pub use ipc::FileReader;
 pub use ipc::Stream;
 pub use ipc::StreamReader;
+pub use ipc::read_file;
 pub use ipc::read_stream;
+pub use ipc::write_file;
 pub use ipc::write_stream;
 pub use ipc_model::Fault;
 pub use ipc_model::NoForm;
