@@ -102,7 +102,7 @@ block_again s b front behind whole ok are e =
     let read : message_at (batch_bytes b) ≡ Ok (Some ok.parts, []) = subst (λ (x : List ℕ). message_at x ≡ Ok (Some ok.parts, [])) (append-nil (batch_bytes b)) (ok.message.again []) in
     let metadata = same_number (8 + length ok.parts.metadata) (length (batch_head b)) ok.message.metadata in
     let body = same_number (length ok.parts.body) (length (columns_body b.columns)) ok.message.body in
-    rw (bytes, read, metadata, body, ok.message.kind, ok.message.columns (types_of s) are) refl
+    rw (bytes, read, metadata, body, ok.message.kind, ok.message.version, ok.message.columns (types_of s) are) refl
 
 batches_again : (s : SchemaTree) (bs : List Arrays) (front behind whole : List ℕ) → AllByRecursion IsReadAgain bs → AllByRecursion (λ b. are_columns (types_of s) b.rows b.columns ≡ true) bs → whole ≡ front ++ (flat_map batch_bytes bs ++ behind)
     → batches_at s whole (blocks_from (length front) bs) ≡ Ok (map shown_arrays bs)

@@ -9,8 +9,9 @@ use Rattle.ipc_message.specs.MessageBytes.{tag_of}
 use Rattle.ipc_message.specs.declared.message.Kind.{Kind}
 use Rattle.ipc_message.specs.declared.message.Kind.TheVariants.{DictionaryBatch, RecordBatch}
 use Rattle.ipc_schema.specs.Schemas.{SchemaTree, schema_of}
+use Rattle.ipc_schema.specs.Unions.{have_union, in_version}
 use Rattle.ipc_footer.specs.declared.footer.Block.{Block}
-use Rattle.ipc_footer.specs.Footers.{block_bytes, in_version, file_footer_in}
+use Rattle.ipc_footer.specs.Footers.{block_bytes, file_footer_in}
 use Rattle.ipc.specs.Streams.{Arrays, arrays_of, record_batch_in, dictionary_in, types_of}
 use Rattle.ipc.specs.Readers.{coded_schema}
 use Rattle.ipc.specs.declared.file.File.{File}
@@ -28,7 +29,7 @@ block_in kind schema bytes b = do
   next ← message_at (block_bytes bytes b)
   m ← of_block b next.0
   same ← check (tag_of m.root.kind == tag_of kind) faults.HeaderType
-  allowed ← in_version m.root.version schema
+  allowed ← in_version m.root.version (have_union schema.fields)
   Ok m
 
 -- the batch of a block

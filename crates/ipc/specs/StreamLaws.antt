@@ -1,15 +1,16 @@
 -- What follows from the definitions of `Streams`.
-use Rattle.std.specs.Prelude.{◌≡◌, ℕ, zero, suc, ◌<◌, ◌≤◌, Bool, true, false, ◌==◌, List, [], ◌∷◌, length, take, drop, Option, Some, None, Result, Ok, Err, IfOk, IfSome, nat_le, if◌then◌else◌, refl}
+use Rattle.std.specs.Prelude.{◌≡◌, ℕ, zero, suc, ◌<◌, ◌≤◌, Bool, true, false, ◌==◌, List, [], ◌∷◌, length, take, drop, Option, Some, None, Result, Ok, Err, IfOk, IfSome, nat_le, if◌then◌else◌, refl, map, ◌||◌}
 use Rattle.std.proofs.Common.{ap, ◌∙◌, arith, length-drop}
 use Rattle.std.specs.Int.{w32, from_le_bytes, cast_signed}
-use Rattle.nest_memory.specs.TypeTree.{TypeTree}
+use Rattle.nest_memory.specs.TypeTree.{TypeTree, FieldTree, field_type}
 use Rattle.ipc_model.specs.Reading.{◌>>=◌, check}
 use Rattle.ipc_model.specs.declared.fault.Fault.{Fault}
 use Rattle.ipc_model.specs.declared.fault.Fault.TheVariants.{Truncated, Continuation, MetadataLength}
 use Rattle.ipc_words.specs.Words.{natural}
 use Rattle.ipc_message.specs.Messages.{Parts, root_at, front, behind_mark, parts_at, sized_at, message_at}
 use Rattle.ipc_schema.specs.Schemas.{schema_parts, schema_at, stream_schema_at}
-use Rattle.ipc.specs.Streams.{Arrays, batch_in, next_in, with_others, batches_within, batches_in, first_and_others}
+use Rattle.ipc_schema.specs.Unions.{field_has_union, have_union, in_version}
+use Rattle.ipc.specs.Streams.{Arrays, types_have_union, batch_in, next_in, with_others, batches_within, batches_in, first_and_others}
 
 -- ---- what stands behind a part has fewer bytes
 
@@ -128,7 +129,8 @@ unfolding stream_schema_at
 schema_leaves bytes =
     if_ok_bind (Leaves (length bytes)) (Leaves (length bytes)) (message_at bytes) _ (leaves_of_goes (length bytes) (message_at bytes) (message_goes bytes))
     (λ first h. if_ok_then (Leaves (length bytes)) (schema_parts first.0) _
-    (λ parts. if_ok_then (Leaves (length bytes)) (schema_at parts.metadata parts.root.header parts.root.left) _ (λ schema. h)))
+    (λ parts. if_ok_then (Leaves (length bytes)) (schema_at parts.metadata parts.root.header parts.root.left) _
+    (λ schema. if_ok_then (Leaves (length bytes)) (in_version parts.root.version (have_union schema.0.fields)) _ (λ allowed. h))))
 
 others_leave : (f : List ℕ → Result (List Arrays × List ℕ) Fault) (n : ℕ) (next : Option Arrays) (behind : List ℕ) → length behind ≤ n → ((bytes : List ℕ) → IfOk (f bytes) (Leaves (length bytes))) → IfOk (with_others f next behind) (Leaves n)
 others_leave f n None behind le h = le
@@ -143,3 +145,11 @@ within_leaves (suc most) types bytes =
 
 pub batches_leave : (types : List TypeTree) (bytes : List ℕ) → IfOk (batches_in types bytes) (Leaves (length bytes))
 batches_leave types bytes = within_leaves (length bytes) types bytes
+
+-- ---- unions
+
+-- fields have a union where columns of their types have one
+pub unions_are : (fields : List FieldTree) → have_union fields ≡ types_have_union (map field_type fields)
+unfolding field_has_union
+unions_are [] = refl
+unions_are (f ∷ fields) = rw (unions_are fields) refl

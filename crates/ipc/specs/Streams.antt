@@ -1,5 +1,6 @@
 -- The stream that bytes spell: "IPC Streaming Format" of the Arrow columnar format, in the order of reading.
-use Rattle.std.specs.Prelude.{ℕ, zero, suc, ◌-◌, pos, List, [], ◌∷◌, map, length, Option, Some, None, Result, Ok, Err}
+use Rattle.std.specs.Prelude.{ℕ, zero, suc, ◌-◌, pos, List, [], ◌∷◌, map, length, Option, Some, None, Result, Ok, Err, Bool, ◌||◌}
+use Rattle.std.specs.List.{list_any}
 use Rattle.std.specs.Int.{w64}
 use Rattle.nest_memory.specs.TypeTree.{TypeTree, field_type}
 use Rattle.nest_model.specs.Layout.{Layout}
@@ -12,6 +13,8 @@ use Rattle.ipc_message.specs.Messages.{Parts, message_at}
 use Rattle.ipc_message.specs.declared.message.Kind.{Kind}
 use Rattle.ipc_message.specs.declared.message.Kind.TheVariants.{Schema, DictionaryBatch, RecordBatch}
 use Rattle.ipc_schema.specs.Schemas.{SchemaTree, schema_of, stream_schema_at}
+use Rattle.ipc_schema.specs.Types.{children_of}
+use Rattle.ipc_schema.specs.Unions.{is_union, field_has_union, in_version}
 use Rattle.ipc_batch.specs.Batches.{batch_at}
 use Rattle.ipc_layout.specs.Columns.{columns_in}
 use Rattle.ipc.specs.declared.batch.Batch.{Batch}
@@ -46,9 +49,13 @@ of_kind RecordBatch types m = record_batch_in types m
 
 -- ---- streams
 
+-- whether there is a union anywhere in columns of these types
+abbrev pub types_have_union : List TypeTree → Bool
+types_have_union types = list_any (λ t. is_union t || list_any (field_has_union 63) (children_of t)) types
+
 abbrev pub batch_in : List TypeTree → Option Parts → Result (Option Arrays) Fault
 batch_in types None = Ok None
-batch_in types (Some m) = of_kind m.root.kind types m >>= λ batch. Ok (Some batch)
+batch_in types (Some m) = in_version m.root.version (types_have_union types) >>= λ allowed. of_kind m.root.kind types m >>= λ batch. Ok (Some batch)
 
 -- the next batch of columns of these types, and what stands behind its message; none where the stream ends
 unfoldable pub next_in : List TypeTree → List ℕ → Result (Option Arrays × List ℕ) Fault

@@ -73,7 +73,7 @@ batch_again b message body =
 -- a batch that is read back is the next one of a stream
 pub next_again : (b : Arrays) → IsReadAgain b → (types : List TypeTree) (rest : List ℕ) → are_columns types b.rows b.columns ≡ true → next_in types (batch_bytes b ++ rest) ≡ Ok (Some (shown_arrays b), rest)
 unfolding next_in record_batch_in
-next_again b ok types rest are = rw (ok.message.again rest, ok.message.kind, ok.message.columns types are) refl
+next_again b ok types rest are = rw (ok.message.again rest, ok.message.version, ok.message.kind, ok.message.columns types are) refl
 
 -- arrays that pass each limit are written
 pub none_refuses : (b : Arrays) → no_form b.columns ≡ None → b.rows < 2 ^ 63 → metadata_size (batch_head b) < 2 ^ 31 → arrays_refusal b ≡ None

@@ -11,10 +11,10 @@ ghost use Rattle.ipc.specs.Files.{of_block as of_block_lem, block_in, dictionari
 
 use crate::batch::Batch;
 use crate::reading::{dictionary, record_batch};
-use ipc_footer::{Block, Footer, block_bytes, in_version, read_footer};
+use ipc_footer::{Block, Footer, block_bytes, read_footer};
 use ipc_message::{Kind, Message, next_message};
 use ipc_model::Fault;
-use ipc_schema::Schema;
+use ipc_schema::{Schema, in_version};
 use std::alloc::Global;
 use std::marker::Model;
 
@@ -73,7 +73,7 @@ fn block_message<'a>(
     if !is_kind(message.root.kind, kind) {
         return Err(Fault::HeaderType);
     }
-    in_version(message.root.version, schema)?;
+    in_version(message.root.version, &schema.fields)?;
     Ok(message)
 }
 

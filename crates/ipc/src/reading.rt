@@ -14,6 +14,7 @@ use ipc_batch::read_batch;
 use ipc_layout::{Left, read_columns};
 use ipc_message::{Kind, Message, next_message};
 use ipc_model::Fault;
+use ipc_schema::in_version;
 use ipc_words::{i64_field, visit_table};
 use nest_array::any::AnyArray;
 use nest_memory::datatypes::Field;
@@ -78,7 +79,7 @@ fn batch_of(alloc: Global, fields: &[Field], message: Message<'_>) -> Result<Bat
 }
 
 /// The next batch of columns of these fields, and what stands behind its message; `None` where the stream ends.
-#[tactic(auto, unfolding(crate::specs::Streams::next_in))]
+#[tactic(auto, unfolding(crate::specs::Streams::next_in), using(crate::specs::StreamLaws::unions_are))]
 pub fn next_batch<'a>(
     alloc: Global,
     fields: &[Field],
@@ -89,9 +90,12 @@ pub fn next_batch<'a>(
     let (next, rest) = next_message(bytes)?;
     match next {
         None => Ok((None, rest)),
-        Some(message) => match batch_of(alloc, fields, message) {
-            Err(fault) => Err(fault),
-            Ok(batch) => Ok((Some(batch), rest)),
-        },
+        Some(message) => {
+            in_version(message.root.version, fields)?;
+            match batch_of(alloc, fields, message) {
+                Err(fault) => Err(fault),
+                Ok(batch) => Ok((Some(batch), rest)),
+            }
+        }
     }
 }

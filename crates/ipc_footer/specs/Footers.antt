@@ -9,8 +9,8 @@ use Rattle.ipc_model.specs.declared.fault.Fault.TheVariants.{Truncated, Magic, F
 use Rattle.ipc_words.specs.Words.{natural, signed_at, offset_at, field, offset_field, visit_table, vector_at}
 use Rattle.ipc_words.specs.declared.tables.Table.{Table}
 use Rattle.ipc_message.specs.Messages.{version_of}
-use Rattle.ipc_message.specs.declared.message.Version.{Version}
 use Rattle.ipc_schema.specs.Schemas.{SchemaTree, schema_at, schema_of}
+use Rattle.ipc_schema.specs.Unions.{have_union, in_version}
 use Rattle.ipc_schema.specs.declared.schema.Schema.{Schema}
 use Rattle.ipc_footer.specs.declared.footer.Block.{Block}
 use Rattle.ipc_footer.specs.declared.footer.Footer.{Footer}
@@ -35,10 +35,6 @@ abbrev pub schema_place : Option ℕ → Result ℕ Fault
 schema_place None = Err NoSchema
 schema_place (Some place) = Ok place
 
--- metadata of V4 is not read of a schema that has a union. No type that is read is a union
-abbrev pub in_version : Version → SchemaTree → Result (Unit {0}) Fault
-in_version version schema = Ok tt
-
 -- the blocks in a field of a footer's table
 unfoldable pub blocks_in : List ℕ → Table → ℕ → ℕ → Result (List Block × ℕ) Fault
 blocks_in bytes table id left = do
@@ -62,7 +58,7 @@ footer_at bytes = do
   to ← offset_field bytes table.0 1
   there ← schema_place to
   schema ← schema_at bytes there table.1
-  allowed ← in_version version schema.0
+  allowed ← in_version version (have_union schema.0.fields)
   lists ← lists_at bytes table.0 schema.1
   Ok (record { schema = schema.0; dictionaries = lists.0; batches = lists.1 })
 

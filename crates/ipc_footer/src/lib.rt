@@ -9,5 +9,5 @@ mod writing;
 
 pub use blocks::block_bytes;
 pub use footer::{Block, Footer};
-pub use reading::{in_version, read_footer};
+pub use reading::read_footer;
 pub use writing::write_footer;

@@ -4,13 +4,13 @@ ghost use Rattle.std.specs.List.{list_all};
 ghost use Rattle.ipc_model.specs.Reading.{Gives};
 ghost use Rattle.ipc_words.specs.Words.{structs_at};
 ghost use Rattle.ipc_schema.specs.Schemas.{schema_of};
-ghost use Rattle.ipc_footer.specs.Footers.{block_at as block_at_lem, schema_place as schema_place_lem, blocks_in as blocks_in_lem, lists_at as lists_at_lem, check_ends as check_ends_lem, placed as placed_lem, in_version as in_version_lem, footer_at as footer_at_lem, has_magic as has_magic_lem, footer_length as footer_length_lem, footer_place, file_footer_in, footer_of, block_before};
+ghost use Rattle.ipc_footer.specs.Footers.{block_at as block_at_lem, schema_place as schema_place_lem, blocks_in as blocks_in_lem, lists_at as lists_at_lem, check_ends as check_ends_lem, placed as placed_lem, footer_at as footer_at_lem, has_magic as has_magic_lem, footer_length as footer_length_lem, footer_place, file_footer_in, footer_of, block_before};
 
 use crate::blocks::blocks_before;
 use crate::footer::{Block, Footer};
-use ipc_message::{Version, version_of};
+use ipc_message::version_of;
 use ipc_model::Fault;
-use ipc_schema::{Schema, schema_at};
+use ipc_schema::{in_version, schema_at};
 use ipc_words::{
     Items, Table, i16_field, i32_at, i64_at, items_at, natural, offset_at, offset_field,
     visit_table,
@@ -72,13 +72,6 @@ fn schema_place(to: Option<usize>) -> Result<usize, Fault>
     }
 }
 
-/// That metadata of this version is read of a schema.
-pub fn in_version(_version: Version, _schema: &Schema) -> Result<(), Fault>
-    ensures { result ≡ in_version_lem _version (schema_of _schema.now) }
-{
-    Ok(())
-}
-
 #[tactic(auto, unfolding(crate::specs::Footers::lists_at))]
 fn lists_at(
     alloc: Global,
@@ -107,7 +100,7 @@ fn footer_at(alloc: Global, bytes: &[u8]) -> Result<Footer, Fault>
     let version = version_of(i16_field(bytes, table, 0, 0)?)?;
     let place = schema_place(offset_field(bytes, table, 1)?)?;
     let (schema, left) = schema_at(alloc, bytes, place, left)?;
-    match in_version(version, &schema) {
+    match in_version(version, &schema.fields) {
         Err(fault) => Err(fault),
         Ok(_) => match lists_at(alloc, bytes, table, left) {
             Err(fault) => Err(fault),

@@ -1,2 +1,4 @@
 pub mod Maps
 pub mod Fields
+pub mod Levels
+pub mod Signs

@@ -1,20 +1,22 @@
 -- A field that is written is read back.
-use Rattle.std.proofs.Common.{◌≡◌, ℕ, ◌+◌, ◌-◌, ◌*◌, ◌^◌, ◌<◌, ◌≤◌, Bool, true, false, List, [], ◌∷◌, ◌++◌, map, length, drop, Some, None, Ok, refl, ap, ◌∙◌, append_assoc, arith}
-use Rattle.std.specs.Int.{w8, w32, from_bool}
+use Rattle.std.proofs.Common.{◌≡◌, ℕ, zero, suc, ◌+◌, ◌-◌, ◌*◌, ◌^◌, ◌<◌, ◌≤◌, Bool, true, false, List, [], ◌∷◌, ◌++◌, map, length, drop, Some, None, Result, Ok, refl, ap, ◌∙◌, append_assoc, arith}
+use Rattle.std.specs.Int.{w8, from_bool}
 use Rattle.std.specs.List.{AllByRecursion}
 use Rattle.std.specs.Str.{is_utf8}
-use Rattle.std.proofs.lemmas.List.{length-append}
+use Rattle.std.proofs.lemmas.List.{length-append, length-map}
 use Rattle.nest_memory.specs.TypeTree.{Letters, Entries, TypeTree, FieldTree, field, field_type}
-use Rattle.ipc_words.specs.Words.{number_at, offset_at, field_place, visit_table, visit_string, visit_vector, text_at, items_at}
-use Rattle.ipc_words.specs.Bytes.{u32_bytes, string_bytes, together}
-use Rattle.ipc_words.specs.Laws.{From, From-length, From_next, number_in, vector_is}
+use Rattle.ipc_model.specs.declared.fault.Fault.{Fault}
+use Rattle.ipc_model.specs.declared.fault.NoForm.{NoForm}
+use Rattle.ipc_words.specs.Words.{number_at, offset_at, field_place, visit_table, visit_string, text_at, items_at}
+use Rattle.ipc_words.specs.Bytes.{u32_bytes, string_bytes, together, row_bytes}
+use Rattle.ipc_words.specs.Laws.{From, From-length, From_next, number_in}
 use Rattle.ipc_words.specs.PartLaws.{From_at, offset_in, table_in, visit_in, field_in, field_out, flag_back, string_long, string_again}
-use Rattle.ipc_words.specs.RowLaws.{IsRead, AreRead}
-use Rattle.ipc_schema.specs.Types.{type_at}
-use Rattle.ipc_schema.specs.Schemas.{has_key, extension_name, metadata_at, field_at}
-use Rattle.ipc_schema.specs.Forms.{type_form, field_form, fields_form}
-use Rattle.ipc_schema.specs.SchemaBytes.{type_bytes, type_number, field_head, field_parts, no_tables, parts_of_field, field_bytes, entries_bytes}
-use Rattle.ipc_schema.specs.TypeLaws.{TypeFits, both, type_cost, TypeIs, type_is, type_pays}
+use Rattle.ipc_words.specs.RowLaws.{IsRead, AreRead, row_again, row_is_long}
+use Rattle.ipc_schema.specs.Types.{shape_at, children_of}
+use Rattle.ipc_schema.specs.Schemas.{has_key, extension_name, metadata_at, field_over, field_at}
+use Rattle.ipc_schema.specs.Forms.{type_form, own_form, each_form, field_form, fields_form}
+use Rattle.ipc_schema.specs.SchemaBytes.{type_bytes, type_number, field_head, field_parts, parts_of_field, field_bytes, entries_bytes}
+use Rattle.ipc_schema.specs.TypeLaws.{TypeFits, both, own_shape, type_cost, TypeIs, type_is, type_pays}
 use Rattle.ipc_schema.specs.MetadataLaws.{AreTexts, IsRising, entries_cost, entries_pay, metadata_again}
 
 -- ---- which fields are written
@@ -24,75 +26,171 @@ pub record IsPlain (type : TypeTree) (entries : Entries) : Type 0 where
   pub own : has_key extension_name entries ≡ false
   pub form : type_form type ≡ Ok tt
 
-plain_is : (name : Letters) (type : TypeTree) (nullable : Bool) (entries : Entries) → field_form (field name type nullable entries) ≡ Ok tt → IsPlain type entries
-unfolding field_form
+plain_is : (name : Letters) (type : TypeTree) (nullable : Bool) (entries : Entries) → own_form (field name type nullable entries) ≡ Ok tt → IsPlain type entries
+unfolding own_form
 plain_is name type nullable entries h = by_key (has_key extension_name entries) refl
   where
     by_key : (b : Bool) → has_key extension_name entries ≡ b → IsPlain type entries
     by_key true e = absurd (cc (h, e))
     by_key false e = record { own = e; form = rw e at h }
 
--- what a field of the code has
-abbrev pub FieldFits : FieldTree → Type 0
-FieldFits (field name type nullable entries) = (is_utf8 name ≡ true) × TypeFits type × AreTexts entries × IsRising entries
+-- what a field of the code has, and those inside of it, to a depth
+unfoldable pub FieldFits : ℕ → FieldTree → Type 0
+FieldFits zero f = Unit {0}
+FieldFits (suc depth) (field name type nullable entries) = (is_utf8 name ≡ true) × TypeFits type × AreTexts entries × IsRising entries × AllByRecursion (FieldFits depth) (children_of type)
 
 abbrev pub AllFit : List FieldTree → Type 0
-AllFit fields = AllByRecursion FieldFits fields
+AllFit fields = AllByRecursion (FieldFits 64) fields
 
 -- ---- fields
 
-unfoldable pub field_cost : FieldTree → ℕ
-field_cost (field name type nullable entries) = 16 + length name + type_cost type + entries_cost entries
+-- what reading fields takes of the budget, by what one of them takes
+unfoldable pub costs : (FieldTree → ℕ) → List FieldTree → ℕ
+costs cost [] = 0
+costs cost (f ∷ fs) = cost f + costs cost fs
 
-field_in_place : (name : Letters) (type : TypeTree) (nullable : Bool) (entries : Entries) (whole : List ℕ) (p q left : ℕ) (after : List ℕ) → IsPlain type entries → TypeIs type → FieldFits (field name type nullable entries)
-    → From whole p (parts_of_field nullable type name entries ++ after) → length whole < 2 ^ 32 → q ≡ p + 24 → 16 + length name + type_cost type + entries_cost entries ≤ left
-    → field_at whole q left ≡ Ok (field name type nullable entries, left - (16 + length name + type_cost type + entries_cost entries))
-unfolding field_at field_parts field_head u32_bytes text_at items_at
-field_in_place name type nullable entries whole p q left after plain is fits h small at le =
-    let table : List ℕ = type_bytes type in
-    let n : ℕ = length table in
-    let text : List ℕ = string_bytes name in
-    let metadata : List ℕ = entries_bytes entries in
-    let part : List ℕ = parts_of_field nullable type name entries ++ after in
-    let ends = From-length whole p part h in
-    let texts = string_long name in
-    let tail : List ℕ = no_tables ++ (text ++ (metadata ++ after)) in
-    let behind_type : drop 48 part ≡ table ++ tail = append_assoc table (no_tables ++ (text ++ metadata)) after ∙ ap (λ (r : List ℕ). table ++ (no_tables ++ r)) (append_assoc text metadata after) in
-    let inner : From whole (p + 48) (table ++ tail) = From_at whole p (p + 48) 48 part (table ++ tail) h (omega arith) refl behind_type in
-    let more : From whole (p + 48 + n) tail = From_next whole (p + 48) table tail inner in
-    let long = From-length whole (p + 48 + n) tail more in
-    let all : length tail ≡ 8 + length text + length metadata + length after = omega (arith, length-append text (metadata ++ after), length-append metadata after) in
-    let v : visit_table whole (p + 24) left ≡ Ok (table_in p 24 18, left - 8) = visit_in whole p part 24 18 left h (omega arith) (omega arith) (omega arith) (omega arith) refl refl refl (omega arith) in
-    let f0 : field_place whole (table_in p 24 18) 0 ≡ Ok (Some (p + 24 + 4)) = field_in whole p part 24 18 0 4 h (omega arith) (omega arith) (omega arith) refl in
-    let f1 : field_place whole (table_in p 24 18) 1 ≡ Ok (Some (p + 24 + 20)) = field_in whole p part 24 18 1 20 h (omega arith) (omega arith) (omega arith) refl in
-    let f2 : field_place whole (table_in p 24 18) 2 ≡ Ok (Some (p + 24 + 21)) = field_in whole p part 24 18 2 21 h (omega arith) (omega arith) (omega arith) refl in
-    let f3 : field_place whole (table_in p 24 18) 3 ≡ Ok (Some (p + 24 + 8)) = field_in whole p part 24 18 3 8 h (omega arith) (omega arith) (omega arith) refl in
-    let f4 : field_place whole (table_in p 24 18) 4 ≡ Ok None = field_out whole p part 24 18 4 h (omega arith) (omega arith) refl in
-    let f5 : field_place whole (table_in p 24 18) 5 ≡ Ok (Some (p + 24 + 12)) = field_in whole p part 24 18 5 12 h (omega arith) (omega arith) (omega arith) refl in
-    let f6 : field_place whole (table_in p 24 18) 6 ≡ Ok (Some (p + 24 + 16)) = field_in whole p part 24 18 6 16 h (omega arith) (omega arith) (omega arith) refl in
-    let o0 : offset_at whole (p + 24 + 4) ≡ Ok (p + 24 + 4 + (20 + (n + 8))) = offset_in whole p part 28 (p + 24 + 4) (20 + (n + 8)) h (omega arith) (omega arith) (omega arith) refl in
-    let o3 : offset_at whole (p + 24 + 8) ≡ Ok (p + 24 + 8 + 28) = offset_in whole p part 32 (p + 24 + 8) 28 h (omega arith) (omega arith) (omega arith) refl in
-    let o5 : offset_at whole (p + 24 + 12) ≡ Ok (p + 24 + 12 + (12 + n)) = offset_in whole p part 36 (p + 24 + 12) (12 + n) h (omega arith) (omega arith) (omega arith) refl in
-    let o6 : offset_at whole (p + 24 + 16) ≡ Ok (p + 24 + 16 + (8 + (n + 8 + length text))) = offset_in whole p part 40 (p + 24 + 16) (8 + (n + 8 + length text)) h (omega arith) (omega arith) (omega arith) refl in
-    let b : number_at w8 whole (p + 24 + 20) ≡ Ok (from_bool nullable) = number_in w8 whole p part 44 (p + 24 + 20) h (omega arith) (omega arith) in
-    let g : number_at w8 whole (p + 24 + 21) ≡ Ok (type_number type) = number_in w8 whole p part 45 (p + 24 + 21) h (omega arith) (omega arith) in
-    let none : number_at w32 whole (p + 24 + 12 + (12 + n)) ≡ Ok 0 = number_in w32 whole (p + 48 + n) tail 0 (p + 24 + 12 + (12 + n)) more (omega arith) (omega arith) in
-    let names : From whole (p + 24 + 4 + (20 + (n + 8))) (text ++ (metadata ++ after)) = From_at whole (p + 48 + n) (p + 24 + 4 + (20 + (n + 8))) 8 tail (text ++ (metadata ++ after)) more (omega arith) (omega arith) refl in
-    let behind : From whole (p + 24 + 4 + (20 + (n + 8)) + length text) (metadata ++ after) = From_next whole (p + 24 + 4 + (20 + (n + 8))) text (metadata ++ after) names in
-    let there : p + 24 + 16 + (8 + (n + 8 + length text)) ≡ p + 24 + 4 + (20 + (n + 8)) + length text = omega arith in
-    let s : visit_string whole (p + 24 + 4 + (20 + (n + 8))) (left - 8) ≡ Ok (name, left - 8 - (4 + length name)) = string_again name whole (p + 24 + 4 + (20 + (n + 8))) (left - 8) (metadata ++ after) fits.0 names small (omega arith) in
-    let rest : ℕ = left - 8 - (4 + length name) in
-    let c : visit_vector 4 whole (p + 24 + 12 + (12 + n)) rest ≡ Ok (record { first = p + 24 + 12 + (12 + n) + 4; count = 0 }, rest - (4 + 0 * 4)) = vector_is 4 whole (p + 24 + 12 + (12 + n)) rest 0 none (omega arith) (omega arith) in
-    let i : type_at is.tag whole (p + 24 + 8 + 28) (rest - (4 + 0 * 4)) ≡ Ok (type, rest - (4 + 0 * 4) - type_cost type) = is.read.law whole (p + 48) (p + 24 + 8 + 28) (rest - (4 + 0 * 4)) tail inner small (omega arith) (omega arith) in
-    let m : metadata_at whole (Some (p + 24 + 4 + (20 + (n + 8)) + length text)) (rest - (4 + 0 * 4) - type_cost type) ≡ Ok (entries, rest - (4 + 0 * 4) - type_cost type - entries_cost entries) =
-    metadata_again entries whole (p + 24 + 4 + (20 + (n + 8)) + length text) (rest - (4 + 0 * 4) - type_cost type) after fits.2 fits.3 behind small (omega arith) in
-    let spent : rest - (4 + 0 * 4) - type_cost type - entries_cost entries ≡ left - (16 + length name + type_cost type + entries_cost entries) = omega arith in
-    rw (at, v, f0, o0, s, f1, b, f2, g, f3, o3, is.number, f5, o5, c, i, f4, f6, o6, there, m, plain.own, flag_back nullable, spent) refl
+-- what a field takes, of whose children reading takes so much
+abbrev pub own_cost : Letters → TypeTree → Entries → ℕ → ℕ
+own_cost name type entries inner = 16 + length name + 4 * length (children_of type) + type_cost type + inner + entries_cost entries
+
+unfoldable pub field_cost : ℕ → FieldTree → ℕ
+field_cost zero f = 0
+field_cost (suc depth) (field name type nullable entries) = own_cost name type entries (costs (field_cost depth) (children_of type))
 
 pub field_parts_long : (nullable : Bool) (tag : ℕ) (type children name metadata : List ℕ) → length (field_parts nullable tag type children name metadata) ≡ 48 + length type + length children + length name + length metadata
 unfolding field_parts field_head u32_bytes
 field_parts_long nullable tag type children name metadata =
     omega (arith, length-append type (children ++ (name ++ metadata)), length-append children (name ++ metadata), length-append name metadata)
+
+-- one level, whose children are read from their bytes
+module _ (read : List ℕ → ℕ → ℕ → Result (FieldTree × ℕ) Fault) (bodies : List (List ℕ)) (inner : ℕ) (name : Letters) (type : TypeTree) (nullable : Bool) (entries : Entries) where
+  level_again : (whole : List ℕ) (p q left : ℕ) (after : List ℕ) → IsPlain type entries → TypeIs type (length bodies) → AreRead read 24 bodies (children_of type) inner → length bodies ≡ length (children_of type)
+      → is_utf8 name ≡ true → AreTexts entries → IsRising entries → From whole p (parts_of_field nullable type (row_bytes 24 bodies) name entries ++ after) → length whole < 2 ^ 32 → q ≡ p + 24 → own_cost name type entries inner ≤ left
+      → field_over (read whole) whole q left ≡ Ok (field name type nullable entries, left - own_cost name type entries inner)
+  unfolding field_parts field_head u32_bytes text_at items_at
+  level_again whole p q left after plain is are many utf8 pairs rising h small at le =
+      let table : List ℕ = type_bytes type in
+      let row : List ℕ = row_bytes 24 bodies in
+      let n : ℕ = length table in
+      let m : ℕ = length row in
+      let k : ℕ = length bodies in
+      let text : List ℕ = string_bytes name in
+      let metadata : List ℕ = entries_bytes entries in
+      let part : List ℕ = parts_of_field nullable type row name entries ++ after in
+      let ends = From-length whole p part h in
+      let texts = string_long name in
+      let rows = row_is_long 24 bodies in
+      let behind_row : List ℕ = text ++ (metadata ++ after) in
+      let tail : List ℕ = row ++ behind_row in
+      let behind_type : drop 48 part ≡ table ++ tail =
+      append_assoc table (row ++ (text ++ metadata)) after ∙ ap (λ (r : List ℕ). table ++ r) (append_assoc row (text ++ metadata) after) ∙ ap (λ (r : List ℕ). table ++ (row ++ r)) (append_assoc text metadata after) in
+      let types : From whole (p + 48) (table ++ tail) = From_at whole p (p + 48) 48 part (table ++ tail) h (omega arith) refl behind_type in
+      let below : From whole (p + 48 + n) tail = From_next whole (p + 48) table tail types in
+      let names : From whole (p + 48 + n + m) behind_row = From_next whole (p + 48 + n) row behind_row below in
+      let long = From-length whole (p + 48 + n + m) behind_row names in
+      let all : length behind_row ≡ length text + length metadata + length after = omega (arith, length-append text (metadata ++ after), length-append metadata after) in
+      let v : visit_table whole (p + 24) left ≡ Ok (table_in p 24 18, left - 8) = visit_in whole p part 24 18 left h (omega arith) (omega arith) (omega arith) (omega arith) refl refl refl (omega arith) in
+      let f0 : field_place whole (table_in p 24 18) 0 ≡ Ok (Some (p + 24 + 4)) = field_in whole p part 24 18 0 4 h (omega arith) (omega arith) (omega arith) refl in
+      let f1 : field_place whole (table_in p 24 18) 1 ≡ Ok (Some (p + 24 + 20)) = field_in whole p part 24 18 1 20 h (omega arith) (omega arith) (omega arith) refl in
+      let f2 : field_place whole (table_in p 24 18) 2 ≡ Ok (Some (p + 24 + 21)) = field_in whole p part 24 18 2 21 h (omega arith) (omega arith) (omega arith) refl in
+      let f3 : field_place whole (table_in p 24 18) 3 ≡ Ok (Some (p + 24 + 8)) = field_in whole p part 24 18 3 8 h (omega arith) (omega arith) (omega arith) refl in
+      let f4 : field_place whole (table_in p 24 18) 4 ≡ Ok None = field_out whole p part 24 18 4 h (omega arith) (omega arith) refl in
+      let f5 : field_place whole (table_in p 24 18) 5 ≡ Ok (Some (p + 24 + 12)) = field_in whole p part 24 18 5 12 h (omega arith) (omega arith) (omega arith) refl in
+      let f6 : field_place whole (table_in p 24 18) 6 ≡ Ok (Some (p + 24 + 16)) = field_in whole p part 24 18 6 16 h (omega arith) (omega arith) (omega arith) refl in
+      let o0 : offset_at whole (p + 24 + 4) ≡ Ok (p + 24 + 4 + (20 + (n + m))) = offset_in whole p part 28 (p + 24 + 4) (20 + (n + m)) h (omega arith) (omega arith) (omega arith) refl in
+      let o3 : offset_at whole (p + 24 + 8) ≡ Ok (p + 24 + 8 + 28) = offset_in whole p part 32 (p + 24 + 8) 28 h (omega arith) (omega arith) (omega arith) refl in
+      let o5 : offset_at whole (p + 24 + 12) ≡ Ok (p + 24 + 12 + (12 + n)) = offset_in whole p part 36 (p + 24 + 12) (12 + n) h (omega arith) (omega arith) (omega arith) refl in
+      let o6 : offset_at whole (p + 24 + 16) ≡ Ok (p + 24 + 16 + (8 + (n + m + length text))) = offset_in whole p part 40 (p + 24 + 16) (8 + (n + m + length text)) h (omega arith) (omega arith) (omega arith) refl in
+      let b : number_at w8 whole (p + 24 + 20) ≡ Ok (from_bool nullable) = number_in w8 whole p part 44 (p + 24 + 20) h (omega arith) (omega arith) in
+      let g : number_at w8 whole (p + 24 + 21) ≡ Ok (type_number type) = number_in w8 whole p part 45 (p + 24 + 21) h (omega arith) (omega arith) in
+      let name_place : p + 24 + 4 + (20 + (n + m)) ≡ p + 48 + n + m = omega arith in
+      let row_place : p + 24 + 12 + (12 + n) ≡ p + 48 + n = omega arith in
+      let metadata_place : p + 24 + 16 + (8 + (n + m + length text)) ≡ p + 48 + n + m + length text = omega arith in
+      let s : visit_string whole (p + 48 + n + m) (left - 8) ≡ Ok (name, left - 8 - (4 + length name)) = string_again name whole (p + 48 + n + m) (left - 8) (metadata ++ after) utf8 names small (omega arith) in
+      let rest : ℕ = left - 8 - (4 + length name) in
+      let c = row_again read 24 bodies (children_of type) inner whole (p + 48 + n) rest behind_row are below small (omega arith) in
+      let i : shape_at is.tag k whole (p + 24 + 8 + 28) (rest - (4 + k * 4)) ≡ Ok (own_shape type, rest - (4 + k * 4) - type_cost type) = is.read.law whole (p + 48) (p + 24 + 8 + 28) (rest - (4 + k * 4)) tail types small (omega arith) (omega arith) in
+      let c' = row_again read 24 bodies (children_of type) inner whole (p + 48 + n) (rest - type_cost type) behind_row are below small (omega arith) in
+      let turned : rest - (4 + k * 4) - type_cost type ≡ rest - type_cost type - (4 + k * 4) = omega arith in
+      let last : ℕ = rest - type_cost type - (4 + k * 4) - inner in
+      let behind : From whole (p + 48 + n + m + length text) (metadata ++ after) = From_next whole (p + 48 + n + m) text (metadata ++ after) names in
+      let w : metadata_at whole (Some (p + 48 + n + m + length text)) last ≡ Ok (entries, last - entries_cost entries) = metadata_again entries whole (p + 48 + n + m + length text) last after pairs rising behind small (omega arith) in
+      let spent : last - entries_cost entries ≡ left - own_cost name type entries inner = omega arith in
+      rw (at, v, f0, o0, name_place, s, f1, b, f2, g, f3, o3, is.number, f5, o5, row_place, c.vector, i, f4, is.counted, turned, c'.tables, f6, o6, metadata_place, w, plain.own, is.back, flag_back nullable, spent) refl
+
+  pub level_is : IsPlain type entries → TypeIs type (length bodies) → AreRead read 24 bodies (children_of type) inner → length bodies ≡ length (children_of type) → is_utf8 name ≡ true → AreTexts entries → IsRising entries
+      → IsRead (λ whole. field_over (read whole) whole) 24 (parts_of_field nullable type (row_bytes 24 bodies) name entries) (field name type nullable entries) (own_cost name type entries inner)
+  level_is plain is are many utf8 pairs rising = record {
+    law = λ whole p q left after h small at le. level_again whole p q left after plain is are many utf8 pairs rising h small at le;
+    long = omega (arith, field_parts_long nullable (type_number type) (type_bytes type) (row_bytes 24 bodies) (string_bytes name) (entries_bytes entries));
+  }
+
+-- ---- rows of fields
+
+-- the first of fields that are written, and the rest
+pub split : (form : FieldTree → Result (Unit {0}) NoForm) (f : FieldTree) (fs : List FieldTree) → each_form form (f ∷ fs) ≡ Ok tt → (form f ≡ Ok tt) × (each_form form fs ≡ Ok tt)
+unfolding each_form
+split form f fs h = both (form f) (each_form form fs) h
+
+-- fields are read where one is
+each_again : (depth : ℕ) → ((f : FieldTree) → field_form depth f ≡ Ok tt → FieldFits depth f → IsRead (field_at depth) 24 (field_bytes depth f) f (field_cost depth f))
+    → (fs : List FieldTree) → each_form (field_form depth) fs ≡ Ok tt → AllByRecursion (FieldFits depth) fs → AreRead (field_at depth) 24 (map (field_bytes depth) fs) fs (costs (field_cost depth) fs)
+unfolding costs
+each_again depth one [] form fits = refl
+each_again depth one (f ∷ fs) form fits =
+    let s = split (field_form depth) f fs form in
+    (field_cost depth f, costs (field_cost depth) fs, one f s.0 fits.0, each_again depth one fs s.1 fits.1, refl)
+
+-- the parts of a form: a field's own, and those of its children
+pub own_and_inner : (depth : ℕ) (f : FieldTree) → field_form (suc depth) f ≡ Ok tt → (own_form f ≡ Ok tt) × (each_form (field_form depth) (children_of (field_type f)) ≡ Ok tt)
+unfolding field_form
+own_and_inner depth f form = both (own_form f) (each_form (field_form depth) (children_of (field_type f))) form
+
+no_depth : (f : FieldTree) → field_form 0 f ≡ Ok tt → ⊥
+unfolding field_form
+no_depth f form = cc form
+
+pub field_again : (depth : ℕ) (f : FieldTree) → field_form depth f ≡ Ok tt → FieldFits depth f → IsRead (field_at depth) 24 (field_bytes depth f) f (field_cost depth f)
+unfolding field_at field_bytes field_cost FieldFits
+field_again zero f form fits = absurd (no_depth f form)
+field_again (suc depth) (field name type nullable entries) form fits =
+    let parts = own_and_inner depth (field name type nullable entries) form in
+    let plain = plain_is name type nullable entries parts.0 in
+    let cs : List FieldTree = children_of type in
+    let many : length (map (field_bytes depth) cs) ≡ length cs = length-map cs (field_bytes depth) in
+    level_is (field_at depth) (map (field_bytes depth) cs) (costs (field_cost depth) cs) name type nullable entries plain (type_is type (length (map (field_bytes depth) cs)) many plain.form fits.1)
+    (each_again depth (field_again depth) cs parts.1 fits.4) many fits.0 fits.2 fits.3
+
+pub fields_again : (fs : List FieldTree) → fields_form fs ≡ Ok tt → AllFit fs → AreRead (field_at 64) 24 (map (field_bytes 64) fs) fs (costs (field_cost 64) fs)
+fields_again fs form fits = each_again 64 (field_again 64) fs form fits
+
+-- ---- what reading takes
+
+each_pays : (depth : ℕ) → ((f : FieldTree) → field_form depth f ≡ Ok tt → FieldFits depth f → field_cost depth f ≤ length (field_bytes depth f))
+    → (fs : List FieldTree) → each_form (field_form depth) fs ≡ Ok tt → AllByRecursion (FieldFits depth) fs → costs (field_cost depth) fs ≤ length (together (map (field_bytes depth) fs))
+unfolding costs together
+each_pays depth one [] form fits = omega arith
+each_pays depth one (f ∷ fs) form fits =
+    let s = split (field_form depth) f fs form in
+    omega (arith, one f s.0 fits.0, each_pays depth one fs s.1 fits.1, length-append (field_bytes depth f) (together (map (field_bytes depth) fs)))
+
+pub field_pays : (depth : ℕ) (f : FieldTree) → field_form depth f ≡ Ok tt → FieldFits depth f → field_cost depth f ≤ length (field_bytes depth f)
+unfolding field_bytes field_cost FieldFits
+field_pays zero f form fits = absurd (no_depth f form)
+field_pays (suc depth) (field name type nullable entries) form fits =
+    let parts = own_and_inner depth (field name type nullable entries) form in
+    let plain = plain_is name type nullable entries parts.0 in
+    let cs : List FieldTree = children_of type in
+    let bodies : List (List ℕ) = map (field_bytes depth) cs in
+    let many : length bodies ≡ length cs = length-map cs (field_bytes depth) in
+    let is = type_is type (length cs) refl plain.form fits.1 in
+    let inner = each_pays depth (field_pays depth) cs parts.1 fits.4 in
+    omega (arith, many, inner, row_is_long 24 bodies, field_parts_long nullable (type_number type) (type_bytes type) (row_bytes 24 bodies) (string_bytes name) (entries_bytes entries), string_long name, type_pays type (length cs) is plain.form, entries_pay entries)
+
+pub fields_pay : (fs : List FieldTree) → fields_form fs ≡ Ok tt → AllFit fs → costs (field_cost 64) fs ≤ length (together (map (field_bytes 64) fs))
+fields_pay fs form fits = each_pays 64 (field_pays 64) fs form fits
+
+-- ---- the parts of a field
 
 abbrev pub name_of : FieldTree → Letters
 name_of (field name type nullable entries) = name
@@ -103,53 +201,13 @@ nullable_of (field name type nullable entries) = nullable
 abbrev pub own_entries : FieldTree → Entries
 own_entries (field name type nullable entries) = entries
 
-pub bytes_are : (f : FieldTree) → field_bytes f ≡ parts_of_field (nullable_of f) (field_type f) (name_of f) (own_entries f)
+pub bytes_are : (depth : ℕ) (f : FieldTree) → field_bytes (suc depth) f ≡ parts_of_field (nullable_of f) (field_type f) (row_bytes 24 (map (field_bytes depth) (children_of (field_type f)))) (name_of f) (own_entries f)
 unfolding field_bytes
-bytes_are (field name type nullable entries) = refl
+bytes_are depth (field name type nullable entries) = refl
 
-pub form_is : (f : FieldTree) → field_form f ≡ Ok tt → type_form (field_type f) ≡ Ok tt
+pub form_is : (f : FieldTree) → own_form f ≡ Ok tt → type_form (field_type f) ≡ Ok tt
 form_is (field name type nullable entries) form = (plain_is name type nullable entries form).form
 
-pub fits_are : (f : FieldTree) → is_utf8 (name_of f) ≡ true → TypeFits (field_type f) → AreTexts (own_entries f) → IsRising (own_entries f) → FieldFits f
-fits_are (field name type nullable entries) utf8 fits texts rising = (utf8, fits, texts, rising)
-
-pub field_again : (f : FieldTree) → field_form f ≡ Ok tt → FieldFits f → IsRead field_at 24 (field_bytes f) f (field_cost f)
-unfolding field_cost field_bytes
-field_again (field name type nullable entries) form fits =
-    let plain = plain_is name type nullable entries form in
-    record {
-      law = λ whole p q left after h small at le. field_in_place name type nullable entries whole p q left after plain (type_is type plain.form fits.1) fits h small at le;
-      long = omega (arith, field_parts_long nullable (type_number type) (type_bytes type) no_tables (string_bytes name) (entries_bytes entries));
-    }
-
-pub field_pays : (f : FieldTree) → field_form f ≡ Ok tt → FieldFits f → field_cost f ≤ length (field_bytes f)
-unfolding field_cost field_bytes
-field_pays (field name type nullable entries) form fits =
-    let plain = plain_is name type nullable entries form in
-    let is = type_is type plain.form fits.1 in
-    omega (arith, field_parts_long nullable (type_number type) (type_bytes type) no_tables (string_bytes name) (entries_bytes entries), string_long name, type_pays type is, entries_pay entries)
-
--- ---- rows of fields
-
-unfoldable pub fields_cost : List FieldTree → ℕ
-fields_cost [] = 0
-fields_cost (f ∷ fs) = field_cost f + fields_cost fs
-
--- the first of fields that are written, and the rest
-pub split : (f : FieldTree) (fs : List FieldTree) → fields_form (f ∷ fs) ≡ Ok tt → (field_form f ≡ Ok tt) × (fields_form fs ≡ Ok tt)
-unfolding fields_form
-split f fs h = both (field_form f) (fields_form fs) h
-
-pub fields_again : (fs : List FieldTree) → fields_form fs ≡ Ok tt → AllFit fs → AreRead field_at 24 (map field_bytes fs) fs (fields_cost fs)
-unfolding fields_cost
-fields_again [] form fits = refl
-fields_again (f ∷ fs) form fits =
-    let s = split f fs form in
-    (field_cost f, fields_cost fs, field_again f s.0 fits.0, fields_again fs s.1 fits.1, refl)
-
-pub fields_pay : (fs : List FieldTree) → fields_form fs ≡ Ok tt → AllFit fs → fields_cost fs ≤ length (together (map field_bytes fs))
-unfolding fields_cost together
-fields_pay [] form fits = omega arith
-fields_pay (f ∷ fs) form fits =
-    let s = split f fs form in
-    omega (arith, field_pays f s.0 fits.0, fields_pay fs s.1 fits.1, length-append (field_bytes f) (together (map field_bytes fs)))
+pub fits_are : (depth : ℕ) (f : FieldTree) → is_utf8 (name_of f) ≡ true → TypeFits (field_type f) → AreTexts (own_entries f) → IsRising (own_entries f) → AllByRecursion (FieldFits depth) (children_of (field_type f)) → FieldFits (suc depth) f
+unfolding FieldFits
+fits_are depth (field name type nullable entries) utf8 fits texts rising inner = (utf8, fits, texts, rising, inner)

@@ -1,12 +1,12 @@
 -- Which schemas are written.
-use Rattle.std.specs.Prelude.{◌≡◌, ℕ, ◌^◌, ◌≤◌, ◌⊎◌, Bool, true, false, not, nat_lt, ◌==◌, List, [], ◌∷◌, Result, Ok, Err, if◌then◌else◌}
+use Rattle.std.specs.Prelude.{◌≡◌, ℕ, zero, suc, ◌^◌, ◌≤◌, ◌⊎◌, Bool, true, false, not, nat_lt, ◌==◌, List, [], ◌∷◌, Result, Ok, Err, if◌then◌else◌}
 use Rattle.std.proofs.Common.{inl, inr, arith}
 use Rattle.nest_memory.specs.TypeTree as types
-use Rattle.nest_memory.specs.TypeTree.{TypeTree, FieldTree, field}
+use Rattle.nest_memory.specs.TypeTree.{TypeTree, FieldTree, field, field_type, count_fields, is_pair}
 use Rattle.ipc_model.specs.declared.fault.NoForm.{NoForm}
 use Rattle.ipc_model.specs.declared.fault.NoForm.TheVariants as reasons
 use Rattle.ipc_words.specs.Writes.{IsTooLong}
-use Rattle.ipc_schema.specs.Types.{is_coarse}
+use Rattle.ipc_schema.specs.Types.{is_coarse, are_ids, children_of}
 use Rattle.ipc_schema.specs.Schemas.{has_key, extension_name}
 
 abbrev pub then_form : {A B : Type 0} → Result A NoForm → Result B NoForm → Result B NoForm
@@ -26,7 +26,7 @@ number_form n = unless (nat_lt n (2 ^ 31)) reasons.Size
 abbrev pub size_form : ℕ → Result (Unit {0}) NoForm
 size_form n = then_form (unless (not (n == 0)) reasons.Type) (number_form n)
 
--- the first reason why a type is not written
+-- the first reason why a type is not written, its children aside
 abbrev pub type_form : TypeTree → Result (Unit {0}) NoForm
 type_form types.null = Ok tt
 type_form types.boolean = Ok tt
@@ -53,18 +53,33 @@ type_form (types.fixed_size_binary size) = size_form size
 type_form types.large_binary = Ok tt
 type_form types.utf8 = Ok tt
 type_form types.large_utf8 = Ok tt
+type_form (types.list f) = Ok tt
+type_form (types.fixed_size_list f size) = size_form size
+type_form (types.large_list f) = Ok tt
+type_form (types.struct fs) = unless (not (count_fields fs == 0)) reasons.Type
+type_form (types.union fs ids mode) = unless (are_ids ids (count_fields fs)) reasons.Type
+type_form (types.map f sorted) = unless (is_pair (field_type f)) reasons.Type
 type_form (types.decimal digits after) = then_form (number_form digits) (number_form after)
 type_form (types.decimal256 digits after) = then_form (number_form digits) (number_form after)
 type_form t = Err reasons.Type
 
 -- the same of a field, whose own metadata spells no extension
-unfoldable pub field_form : FieldTree → Result (Unit {0}) NoForm
-field_form (field name type nullable entries) = if has_key extension_name entries then Err reasons.Extension else type_form type
+unfoldable pub own_form : FieldTree → Result (Unit {0}) NoForm
+own_form (field name type nullable entries) = if has_key extension_name entries then Err reasons.Extension else type_form type
 
--- the first reason why fields are not written
-unfoldable pub fields_form : List FieldTree → Result (Unit {0}) NoForm
-fields_form [] = Ok tt
-fields_form (f ∷ fs) = then_form (field_form f) (fields_form fs)
+-- the first reason of fields, by the reason of one
+unfoldable pub each_form : (FieldTree → Result (Unit {0}) NoForm) → List FieldTree → Result (Unit {0}) NoForm
+each_form form [] = Ok tt
+each_form form (f ∷ fs) = then_form (form f) (each_form form fs)
+
+-- the first reason why a field is not written, which is to be so deep at most: its own comes before those of its children
+unfoldable pub field_form : ℕ → FieldTree → Result (Unit {0}) NoForm
+field_form zero f = Err reasons.Depth
+field_form (suc depth) f = then_form (own_form f) (each_form (field_form depth) (children_of (field_type f)))
+
+-- the first reason why the fields of a schema are not written
+abbrev pub fields_form : List FieldTree → Result (Unit {0}) NoForm
+fields_form fs = each_form (field_form 64) fs
 
 -- why a schema is not written: for want of memory, for a field, or since its message of so many bytes passes 2^31 - 1
 abbrev pub IsUnwritten : List FieldTree → ℕ → NoForm → Type 0

@@ -1,6 +1,8 @@
 -- What contracts cite.
 pub mod Types
 pub mod Leaves
+pub mod Shapes
+pub mod Unions
 pub mod Schemas
 pub mod Forms
 pub mod SchemaBytes
@@ -10,3 +12,4 @@ pub mod FieldLaws
 pub mod SchemaLaws
 pub mod Examples
 pub mod TypeExamples
+pub mod NestedExamples

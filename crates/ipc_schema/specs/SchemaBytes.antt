@@ -1,5 +1,5 @@
 -- The bytes of a schema that is written. Each table's vtable stands at its head, what the table names behind it, and all parts are multiples of 8.
-use Rattle.std.specs.Prelude.{ℕ, ◌+◌, Bool, List, [], ◌∷◌, ◌++◌, map, length, Option, Some, None}
+use Rattle.std.specs.Prelude.{ℕ, zero, suc, ◌+◌, ◌-◌, ◌*◌, ℤ, Bool, List, [], ◌∷◌, ◌++◌, map, length, Option, Some, None}
 use Rattle.std.specs.Int.{from_bool}
 use Rattle.nest_memory.specs.TypeTree as types
 use Rattle.nest_memory.specs.TypeTree.{Letters, Entries, TypeTree, FieldTree, field}
@@ -7,9 +7,12 @@ use Rattle.nest_memory.specs.declared.datatypes.TimeUnit.{TimeUnit}
 use Rattle.nest_memory.specs.declared.datatypes.TimeUnit.TheVariants.{Second, Millisecond, Microsecond, Nanosecond}
 use Rattle.nest_memory.specs.declared.datatypes.IntervalUnit.{IntervalUnit}
 use Rattle.nest_memory.specs.declared.datatypes.IntervalUnit.TheVariants.{YearMonth, DayTime, MonthDayNano}
-use Rattle.ipc_words.specs.Bytes.{u32_bytes, string_bytes, row_bytes}
+use Rattle.nest_memory.specs.declared.datatypes.UnionMode.{UnionMode}
+use Rattle.nest_memory.specs.declared.datatypes.UnionMode.TheVariants.{Dense, Sparse}
+use Rattle.ipc_words.specs.Bytes.{u32_bytes, i32_bytes, string_bytes, row_bytes, vector_bytes, vector_len, zeros}
 use Rattle.ipc_message.specs.MessageBytes.{message_bytes}
 use Rattle.ipc_message.specs.declared.message.Kind.TheVariants as kinds
+use Rattle.ipc_schema.specs.Types.{children_of}
 use Rattle.ipc_schema.specs.Schemas.{SchemaTree}
 
 -- `KeyValue`, at 8
@@ -56,6 +59,19 @@ unfoldable pub timestamp_bytes : TimeUnit → Option Letters → List ℕ
 timestamp_bytes unit None = one_field (unit_number unit)
 timestamp_bytes unit (Some zone) = two_fields (unit_number unit) 4 ++ string_bytes zone
 
+abbrev pub mode_number : UnionMode → ℕ
+mode_number Sparse = 0
+mode_number Dense = 1
+
+-- a vector of ids, up to a multiple of 8
+unfoldable pub ids_bytes : List ℤ → List ℕ
+ids_bytes ids = vector_bytes i32_bytes ids ++ zeros (vector_len (length ids) - (4 + 4 * length ids))
+
+-- `Union`; its ids stand behind it
+unfoldable pub union_bytes : Option (List ℤ) → UnionMode → List ℕ
+union_bytes None mode = one_field (mode_number mode)
+union_bytes (Some ids) mode = two_fields (mode_number mode) 4 ++ ids_bytes ids
+
 -- the table of a type, by the fields that differ from their defaults; of one that is not written nothing
 unfoldable pub type_bytes : TypeTree → List ℕ
 type_bytes types.null = no_field
@@ -80,6 +96,12 @@ type_bytes (types.fixed_size_binary size) = one_field size
 type_bytes types.large_binary = no_field
 type_bytes types.utf8 = no_field
 type_bytes types.large_utf8 = no_field
+type_bytes (types.list f) = no_field
+type_bytes (types.fixed_size_list f size) = one_field size
+type_bytes (types.large_list f) = no_field
+type_bytes (types.struct fs) = no_field
+type_bytes (types.union fs ids mode) = union_bytes ids mode
+type_bytes (types.map f sorted) = one_field (from_bool sorted)
 type_bytes (types.decimal digits after) = two_fields digits after
 type_bytes (types.decimal256 digits after) = three_fields digits after 256
 type_bytes t = []
@@ -108,6 +130,12 @@ type_number (types.fixed_size_binary size) = 15
 type_number types.large_binary = 19
 type_number types.utf8 = 5
 type_number types.large_utf8 = 20
+type_number (types.list f) = 12
+type_number (types.fixed_size_list f size) = 16
+type_number (types.large_list f) = 21
+type_number (types.struct fs) = 13
+type_number (types.union fs ids mode) = 14
+type_number (types.map f sorted) = 17
 type_number (types.decimal digits after) = 7
 type_number (types.decimal256 digits after) = 7
 type_number t = 0
@@ -124,18 +152,17 @@ unfoldable pub field_parts : Bool → ℕ → List ℕ → List ℕ → List ℕ
 field_parts nullable tag type children name metadata =
     field_head nullable tag (length type) (length type + length children) (length type + length children + length name) ++ (type ++ (children ++ (name ++ metadata)))
 
--- a vector of no tables
-abbrev pub no_tables : List ℕ
-no_tables = 0 ∷ 0 ∷ 0 ∷ 0 ∷ 0 ∷ 0 ∷ 0 ∷ 0 ∷ []
+-- a field whose children have these bytes
+abbrev pub parts_of_field : Bool → TypeTree → List ℕ → Letters → Entries → List ℕ
+parts_of_field nullable type children name entries = field_parts nullable (type_number type) (type_bytes type) children (string_bytes name) (entries_bytes entries)
 
-abbrev pub parts_of_field : Bool → TypeTree → Letters → Entries → List ℕ
-parts_of_field nullable type name entries = field_parts nullable (type_number type) (type_bytes type) no_tables (string_bytes name) (entries_bytes entries)
-
-unfoldable pub field_bytes : FieldTree → List ℕ
-field_bytes (field name type nullable entries) = parts_of_field nullable type name entries
+-- a field and those inside of it, so deep at most
+unfoldable pub field_bytes : ℕ → FieldTree → List ℕ
+field_bytes zero f = []
+field_bytes (suc depth) (field name type nullable entries) = parts_of_field nullable type (row_bytes 24 (map (field_bytes depth) (children_of type))) name entries
 
 abbrev pub fields_bytes : List FieldTree → List ℕ
-fields_bytes fields = row_bytes 24 (map field_bytes fields)
+fields_bytes fields = row_bytes 24 (map (field_bytes 64) fields)
 
 -- `Schema`, at 16
 unfoldable pub schema_bytes : List ℕ → List ℕ → List ℕ

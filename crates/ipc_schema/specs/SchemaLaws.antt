@@ -14,7 +14,7 @@ use Rattle.ipc_schema.specs.Schemas.{SchemaTree, metadata_at, field_at, schema_a
 use Rattle.ipc_schema.specs.Forms.{fields_form}
 use Rattle.ipc_schema.specs.SchemaBytes.{field_bytes, fields_bytes, entries_bytes, schema_bytes, schema_message}
 use Rattle.ipc_schema.specs.MetadataLaws.{AreTexts, IsRising, entries_cost, entries_pay, metadata_again}
-use Rattle.ipc_schema.specs.FieldLaws.{AllFit, fields_cost, fields_again, fields_pay}
+use Rattle.ipc_schema.specs.FieldLaws.{AllFit, costs, field_cost, fields_again, fields_pay}
 
 -- what a schema of the code has, and that it is written
 pub record SchemaFits (s : SchemaTree) : Type 0 where
@@ -25,7 +25,7 @@ pub record SchemaFits (s : SchemaTree) : Type 0 where
 
 -- what reading the rows takes of the budget
 abbrev pub row_cost : SchemaTree → ℕ
-row_cost s = 4 + length (map field_bytes s.fields) * 4 + fields_cost s.fields
+row_cost s = 4 + length (map (field_bytes 64) s.fields) * 4 + costs (field_cost 64) s.fields
 
 unfoldable pub schema_cost : SchemaTree → ℕ
 schema_cost s = 8 + row_cost s + entries_cost s.metadata
@@ -47,7 +47,7 @@ message_long s =
 
 pub schema_pays : (s : SchemaTree) → SchemaFits s → schema_cost s ≤ length (part_of s)
 unfolding schema_cost
-schema_pays s fits = omega (arith, part_long s, fields_pay s.fields fits.form fits.fields, row_is_long 24 (map field_bytes s.fields), entries_pay s.metadata)
+schema_pays s fits = omega (arith, part_long s, fields_pay s.fields fits.form fits.fields, row_is_long 24 (map (field_bytes 64) s.fields), entries_pay s.metadata)
 
 schema_again : (s : SchemaTree) (whole : List ℕ) (p q left : ℕ) (after : List ℕ) → SchemaFits s → From whole p (part_of s ++ after) → length whole < 2 ^ 32 → q ≡ p + 16 → schema_cost s ≤ left → schema_at whole q left ≡ Ok (s, left - schema_cost s)
 unfolding schema_at schema_bytes u32_bytes items_at schema_cost
@@ -55,7 +55,7 @@ schema_again s whole p q left after fits h small at le =
     let row : List ℕ = fields_bytes s.fields in
     let metadata : List ℕ = entries_bytes s.metadata in
     let part : List ℕ = part_of s ++ after in
-    let n : ℕ = length (map field_bytes s.fields) in
+    let n : ℕ = length (map (field_bytes 64) s.fields) in
     let ends = From-length whole p part h in
     let long : 32 + length row + length metadata ≤ length part = omega (arith, length-append (row ++ metadata) after, length-append row metadata) in
     let v : visit_table whole (p + 16) left ≡ Ok (table_in p 16 10, left - 8) = visit_in whole p part 16 10 left h (omega arith) (omega arith) (omega arith) (omega arith) refl refl refl (omega arith) in
@@ -67,8 +67,8 @@ schema_again s whole p q left after fits h small at le =
     let first : From whole (p + 16 + 4 + 12) (row ++ (metadata ++ after)) = From_at whole p (p + 16 + 4 + 12) 32 part (row ++ (metadata ++ after)) h (omega arith) (omega arith) (append_assoc row metadata after) in
     let second : From whole (p + 16 + 4 + 12 + length row) (metadata ++ after) = From_next whole (p + 16 + 4 + 12) row (metadata ++ after) first in
     let there : p + 16 + 8 + (8 + length row) ≡ p + 16 + 4 + 12 + length row = omega arith in
-    let r = row_again field_at 24 (map field_bytes s.fields) s.fields (fields_cost s.fields) whole (p + 16 + 4 + 12) (left - 8) (metadata ++ after) (fields_again s.fields fits.form fits.fields) first small (omega arith) in
-    let rest : ℕ = left - 8 - (4 + n * 4) - fields_cost s.fields in
+    let r = row_again (field_at 64) 24 (map (field_bytes 64) s.fields) s.fields (costs (field_cost 64) s.fields) whole (p + 16 + 4 + 12) (left - 8) (metadata ++ after) (fields_again s.fields fits.form fits.fields) first small (omega arith) in
+    let rest : ℕ = left - 8 - (4 + n * 4) - costs (field_cost 64) s.fields in
     let m : metadata_at whole (Some (p + 16 + 4 + 12 + length row)) rest ≡ Ok (s.metadata, rest - entries_cost s.metadata) = metadata_again s.metadata whole (p + 16 + 4 + 12 + length row) rest after fits.texts fits.rising second small (omega arith) in
     let spent : rest - entries_cost s.metadata ≡ left - (8 + row_cost s + entries_cost s.metadata) = omega arith in
     rw (at, v, f0, f1, o1, r.vector, r.tables, f2, o2, there, m, spent) refl

@@ -1,5 +1,5 @@
 -- The schema that metadata spells: `Schema`, `Field`, `Int` and `KeyValue` of `Schema.fbs` of the Arrow format, in the order of reading.
-use Rattle.std.specs.Prelude.{ℕ, pos, Bool, true, false, ◌&&◌, not, List, [], ◌∷◌, map, codes, Option, Some, None, is_some, Result, Ok, Err, nat_lt, ◌==◌, if◌then◌else◌}
+use Rattle.std.specs.Prelude.{ℕ, zero, suc, pos, Bool, true, false, ◌&&◌, not, List, [], ◌∷◌, map, codes, Option, Some, None, is_some, Result, Ok, Err, nat_lt, ◌==◌, if◌then◌else◌}
 use Rattle.std.specs.Map.{lookup}
 use Rattle.std.specs.BTreeMap.{insert_entry}
 use Rattle.std.specs.Cmp.Lexicographic.{slice_cmp}
@@ -7,17 +7,18 @@ use Rattle.std.specs.Ordering.{nat_cmp, int_eq}
 use Rattle.std.specs.Int.{w8, w16}
 use Rattle.std.specs.Str.{bytes_eq}
 use Rattle.nest_memory.specs.TypeOf.{entries_of, field_of}
-use Rattle.nest_memory.specs.TypeTree.{Letters, Entries, FieldTree, field}
+use Rattle.nest_memory.specs.TypeTree.{Letters, Entries, TypeTree, FieldTree, field}
 use Rattle.ipc_model.specs.Reading.{◌>>=◌, check}
 use Rattle.ipc_model.specs.declared.fault.Fault.{Fault}
-use Rattle.ipc_model.specs.declared.fault.Fault.TheVariants.{NoSchema, BodyLength, Endianness, UnsupportedType, ChildCount, Metadata}
+use Rattle.ipc_model.specs.declared.fault.Fault.TheVariants.{NoSchema, BodyLength, Endianness, Depth, UnsupportedType, ChildCount, Metadata}
 use Rattle.ipc_words.specs.Words as words
 use Rattle.ipc_words.specs.Words.{number_at, signed_at, offset_field, visit_table, text_at, items_at, tables_at}
 use Rattle.ipc_message.specs.Messages.{Parts, message_at}
 use Rattle.ipc_message.specs.declared.message.Kind.{Kind}
 use Rattle.ipc_message.specs.declared.message.Kind.TheVariants as kinds
 use Rattle.ipc_schema.specs.declared.schema.Schema.{Schema}
-use Rattle.ipc_schema.specs.Types.{type_place, type_at}
+use Rattle.ipc_schema.specs.Types.{type_place, shape_at, can_have, with_children}
+use Rattle.ipc_schema.specs.Unions.{have_union, in_version}
 unfoldable pub use Rattle.ipc_schema.specs.Types.{integer_at}
 
 -- ---- metadata of users
@@ -55,13 +56,13 @@ extension_name = codes "ARROW:extension:name"
 abbrev pub has_key : Letters → Entries → Bool
 has_key key entries = is_some (lookup (λ other. bytes_eq key other) entries)
 
--- a type that is read is not by a dictionary, and has no children
-abbrev pub plain : Option ℕ → ℕ → Result (Unit {0}) Fault
-plain (Some dictionary) children = Err UnsupportedType
-plain None children = check (children == 0) ChildCount
+-- a field of a type that is read
+abbrev pub field_of_type : Letters → Bool → Entries → Result TypeTree Fault → Result FieldTree Fault
+field_of_type name nullable entries type = type >>= λ t. Ok (field name t nullable entries)
 
-unfoldable pub field_at : List ℕ → ℕ → ℕ → Result (FieldTree × ℕ) Fault
-field_at bytes place left = do
+-- a field whose children are read by read
+abbrev pub field_over : (ℕ → ℕ → Result (FieldTree × ℕ) Fault) → List ℕ → ℕ → ℕ → Result (FieldTree × ℕ) Fault
+field_over read bytes place left = do
   table ← visit_table bytes place left
   to ← offset_field bytes table.0 0
   name ← text_at bytes to table.1
@@ -71,13 +72,21 @@ field_at bytes place left = do
   kind ← type_place tag to
   to ← offset_field bytes table.0 5
   children ← items_at 4 bytes to name.1
-  type ← type_at kind.0 bytes kind.1 children.1
+  shape ← shape_at kind.0 children.0.count bytes kind.1 children.1
   dictionary ← offset_field bytes table.0 4
-  alone ← plain dictionary children.0.count
+  alone ← check (not (is_some dictionary)) UnsupportedType
+  counted ← check (can_have shape.0 children.0.count) ChildCount
+  fields ← tables_at read bytes children.0.count children.0.first shape.1
   to ← offset_field bytes table.0 6
-  metadata ← metadata_at bytes to type.1
+  metadata ← metadata_at bytes to fields.1
   own ← check (not (has_key extension_name metadata.0)) UnsupportedType
-  Ok (field name.0 type.0 (nat_lt 0 nullable) metadata.0, metadata.1)
+  whole ← field_of_type name.0 (nat_lt 0 nullable) metadata.0 (with_children shape.0 fields.0)
+  Ok (whole, metadata.1)
+
+-- a field and those inside of it, so deep at most
+unfoldable pub field_at : ℕ → List ℕ → ℕ → ℕ → Result (FieldTree × ℕ) Fault
+field_at zero bytes place left = Err Depth
+field_at (suc depth) bytes place left = field_over (field_at depth bytes) bytes place left
 
 -- ---- schemas
 
@@ -93,7 +102,7 @@ schema_at bytes place left = do
   little ← check (int_eq endianness (pos 0)) Endianness
   to ← offset_field bytes table.0 1
   items ← items_at 4 bytes to table.1
-  fields ← tables_at (field_at bytes) bytes items.0.count items.0.first items.1
+  fields ← tables_at (field_at 64 bytes) bytes items.0.count items.0.first items.1
   to ← offset_field bytes table.0 2
   metadata ← metadata_at bytes to fields.1
   Ok (record { fields = fields.0; metadata = metadata.0 }, metadata.1)
@@ -114,6 +123,7 @@ stream_schema_at bytes = do
   first ← message_at bytes
   parts ← schema_parts first.0
   schema ← schema_at parts.metadata parts.root.header parts.root.left
+  allowed ← in_version parts.root.version (have_union schema.0.fields)
   Ok (schema.0, first.1)
 
 -- a schema of the code

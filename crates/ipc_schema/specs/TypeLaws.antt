@@ -1,13 +1,17 @@
 -- A type that is written is read back.
-use Rattle.std.proofs.Common.{◌≡◌, ℕ, ◌+◌, ◌-◌, ◌^◌, ◌<◌, ◌≤◌, Bool, true, false, ltb, eqb, List, [], ◌∷◌, ◌++◌, length, drop, Option, Some, None, Result, Ok, Err, refl, ap, ◌∙◌, arith}
-use Rattle.std.specs.Prelude.{pos, not}
-use Rattle.std.specs.Int.{w8, w16, w32, from_le_bytes, cast_signed}
+use Rattle.std.proofs.Common.{◌≡◌, ℕ, suc, ◌+◌, ◌-◌, ◌*◌, ◌^◌, ◌<◌, ◌≤◌, Bool, true, false, ltb, eqb, List, [], ◌∷◌, ◌++◌, length, drop, Option, Some, None, Result, Ok, Err, refl, ap, ◌∙◌, append_assoc, arith}
+use Rattle.std.specs.Prelude.{ℤ, pos, negsuc, not, ◌&&◌}
+use Rattle.std.specs.Int.{w8, w16, w32, from_le_bytes, cast_signed, from_bool}
+use Rattle.std.specs.Int.RustNames.{FitsSigned}
+use Rattle.std.specs.List.{flat_map, list_all, AllByRecursion}
 use Rattle.std.specs.Str.{is_utf8}
-use Rattle.std.proofs.lemmas.Bool.{ltb-true}
+use Rattle.std.proofs.lemmas.Bool.{ltb-true, eqb-true}
 use Rattle.std.proofs.lemmas.Int.{ints}
+use Rattle.std.proofs.lemmas.List.{length-append}
 use Rattle.std.proofs.lemmas.Nat.{from_le_bytes-to_le_bytes_2, from_le_bytes-to_le_bytes_4}
 use Rattle.nest_memory.specs.TypeTree as types
-use Rattle.nest_memory.specs.TypeTree.{Letters, TypeTree}
+use Rattle.nest_memory.specs.TypeOf.{field_trees}
+use Rattle.nest_memory.specs.TypeTree.{Letters, TypeTree, FieldTree, FieldTrees, no_fields, more_fields, count_fields, field_type, is_pair}
 use Rattle.nest_memory.specs.Physical.{integer_tree}
 use Rattle.nest_memory.specs.declared.datatypes.IntegerType.{IntegerType}
 use Rattle.nest_memory.specs.declared.datatypes.IntegerType.TheVariants.{Int8, Int16, Int32, Int64, UInt8, UInt16, UInt32, UInt64}
@@ -15,18 +19,22 @@ use Rattle.nest_memory.specs.declared.datatypes.TimeUnit.{TimeUnit}
 use Rattle.nest_memory.specs.declared.datatypes.TimeUnit.TheVariants.{Second, Millisecond, Microsecond, Nanosecond}
 use Rattle.nest_memory.specs.declared.datatypes.IntervalUnit.{IntervalUnit}
 use Rattle.nest_memory.specs.declared.datatypes.IntervalUnit.TheVariants.{YearMonth, DayTime, MonthDayNano}
+use Rattle.nest_memory.specs.declared.datatypes.UnionMode.{UnionMode}
+use Rattle.nest_memory.specs.declared.datatypes.UnionMode.TheVariants.{Dense, Sparse}
 use Rattle.ipc_model.specs.declared.fault.NoForm.{NoForm}
 use Rattle.ipc_model.specs.declared.fault.NoForm.TheVariants as reasons
-use Rattle.ipc_words.specs.Words.{number_at, signed_at, offset_at, field_place, visit_table, visit_string}
-use Rattle.ipc_words.specs.Bytes.{u32_bytes, string_bytes}
+use Rattle.ipc_words.specs.Words.{number_at, signed_at, offset_at, field_place, visit_table, visit_string, vector_at}
+use Rattle.ipc_words.specs.Bytes.{u32_bytes, i32_bytes, string_bytes, vector_bytes, vector_len, zeros}
 use Rattle.ipc_words.specs.Laws.{From, number_is, offset_is, field_is_past}
-use Rattle.ipc_words.specs.PartLaws.{From_at, table_in, visit_in, field_in, string_long, string_again}
-use Rattle.ipc_words.specs.RowLaws.{IsRead}
+use Rattle.ipc_words.specs.PartLaws.{From_at, table_in, visit_in, field_in, i32_in, flag_back, string_long, string_again}
+use Rattle.ipc_words.specs.RowLaws.{IsRead, IsStruct, structs_long, vector_again}
+use Rattle.ipc_schema.specs.declared.tags.LeafTag.{LeafTag}
+use Rattle.ipc_schema.specs.declared.tags.LeafTag.TheVariants as leaves
 use Rattle.ipc_schema.specs.declared.tags.Tag.{Tag}
 use Rattle.ipc_schema.specs.declared.tags.Tag.TheVariants as tags
-use Rattle.ipc_schema.specs.Types.{tag_of, bare_at, integer_of, integer_at, decimal_at, date_of, date_at, unit_of, is_coarse, time_of, time_at, zone_at, timestamp_at, interval_of, interval_at, duration_at, fixed_size_binary_at, type_at}
-use Rattle.ipc_schema.specs.Forms.{unless, number_form, type_form, then_form}
-use Rattle.ipc_schema.specs.SchemaBytes.{no_field, one_field, two_fields, three_fields, unit_number, interval_number, timestamp_bytes, type_bytes, type_number}
+use Rattle.ipc_schema.specs.Types.{tag_of, bare_at, integer_of, integer_at, decimal_at, date_of, date_at, unit_of, is_coarse, time_of, time_at, zone_at, timestamp_at, interval_of, interval_at, duration_at, fixed_size_binary_at, Shape, leaf, list, large_list, fixed_size_list, struct, map as map_shape, union, fixed_size_list_at, map_at, ids_at, mode_of, is_id, are_ids, union_at, type_at, shape_at, field_list, children_of, can_have, with_children}
+use Rattle.ipc_schema.specs.Forms.{unless, number_form, size_form, type_form, then_form}
+use Rattle.ipc_schema.specs.SchemaBytes.{no_field, one_field, two_fields, three_fields, unit_number, interval_number, timestamp_bytes, mode_number, ids_bytes, union_bytes, type_bytes, type_number}
 
 -- ---- what the code has
 
@@ -34,6 +42,11 @@ use Rattle.ipc_schema.specs.SchemaBytes.{no_field, one_field, two_fields, three_
 abbrev pub IsZone : Option Letters → Type 0
 IsZone None = Unit {0}
 IsZone (Some zone) = is_utf8 zone ≡ true
+
+-- ids of at most 127 fields
+abbrev pub AreFew : Option (List ℤ) → Type 0
+AreFew None = Unit {0}
+AreFew (Some ids) = length ids < 128
 
 abbrev pub TypeFits : TypeTree → Type 0
 TypeFits (types.timestamp unit zone) = IsZone zone
@@ -152,7 +165,7 @@ three_long a b c = omega arith
 
 -- ---- each table
 
-bare_read : (type : TypeTree) → IsRead (bare_at type) 12 no_field type 8
+bare_read : {A : Type 0} (type : A) → IsRead (bare_at type) 12 no_field type 8
 unfolding bare_at no_field
 bare_read type = record {
   law = λ whole p q left after h small at le.
@@ -162,7 +175,7 @@ bare_read type = record {
   long = omega arith;
 }
 
-integer_read : (integer : IntegerType) (bits sign : ℕ) → bits < 2 ^ 31 → sign < 2 ^ 8 → integer_of bits (ltb 0 sign) ≡ Ok integer → IsRead (type_at tags.Int) 12 (two_fields bits sign) (integer_tree integer) 8
+integer_read : (integer : IntegerType) (bits sign : ℕ) → bits < 2 ^ 31 → sign < 2 ^ 8 → integer_of bits (ltb 0 sign) ≡ Ok integer → IsRead (type_at leaves.Int) 12 (two_fields bits sign) (integer_tree integer) 8
 unfolding integer_at
 integer_read integer bits sign small few is = record {
   law = λ whole p q left after h within at le.
@@ -286,6 +299,98 @@ timestamp_read unit (Some zone) fits = record {
   long = omega (arith, string_long zone);
 }
 
+-- ---- nested types
+
+and_both : (a b : Bool) → (a && b) ≡ true → (a ≡ true) × (b ≡ true)
+and_both true b h = (refl, h)
+and_both false b h = absurd (cc h)
+
+list_size_read : (size : ℕ) → size < 2 ^ 31 → 0 < size → IsRead fixed_size_list_at 12 (one_field size) (fixed_size_list size) 8
+unfolding fixed_size_list_at
+list_size_read size small some = record {
+  law = λ whole p q left after h within at le.
+      let t = one_is size whole p left after small h le in
+      let is : eqb size 0 ≡ false = grind arith in
+      rw (at, t.visit, t.first, t.number.word, is) refl;
+  long = one_long size;
+}
+
+bit_small : (b : Bool) → from_bool b < 2 ^ 8
+bit_small true = omega arith
+bit_small false = omega arith
+
+map_read : (sorted : Bool) → IsRead map_at 12 (one_field (from_bool sorted)) (map_shape sorted) 8
+unfolding map_at
+map_read sorted = record {
+  law = λ whole p q left after h within at le.
+      let t = one_is (from_bool sorted) whole p left after (omega (arith, bit_small sorted)) h le in
+      rw (at, t.visit, t.first, t.number.byte (bit_small sorted), flag_back sorted) refl;
+  long = one_long (from_bool sorted);
+}
+
+mode_small : (mode : UnionMode) → mode_number mode < 2 ^ 15
+mode_small Sparse = omega arith
+mode_small Dense = omega arith
+
+mode_back : (mode : UnionMode) → mode_of (mode_number mode) ≡ Ok mode
+mode_back Sparse = refl
+mode_back Dense = refl
+
+id_fits : (id : ℤ) → is_id id ≡ true → FitsSigned w32 id
+id_fits (pos n) is = let small : n < 128 = ltb-true _ _ is in omega (arith, ints)
+id_fits (negsuc n) is = cc
+
+id_is : (id : ℤ) → is_id id ≡ true → IsStruct (signed_at w32) 4 i32_bytes id
+unfolding i32_bytes
+id_is id is = record {
+  law = λ whole p after h. i32_in whole p (i32_bytes id ++ after) 0 p id h (omega arith) (omega arith) (id_fits id is) refl;
+  long = refl;
+}
+
+each_is : (ids : List ℤ) → list_all is_id ids ≡ true → AllByRecursion (IsStruct (signed_at w32) 4 i32_bytes) ids
+each_is [] all = tt
+each_is (id ∷ ids) all = let h = and_both (is_id id) (list_all is_id ids) all in (id_is id h.0, each_is ids h.1)
+
+-- what reading ids takes of the budget
+unfoldable pub ids_cost : Option (List ℤ) → ℕ
+ids_cost None = 8
+ids_cost (Some ids) = 12 + length ids * 4
+
+ids_long : (ids : List ℤ) → list_all is_id ids ≡ true → 4 + length ids * 4 ≤ length (ids_bytes ids)
+unfolding ids_bytes vector_bytes u32_bytes
+ids_long ids all =
+    omega (arith, structs_long (signed_at w32) 4 i32_bytes ids (each_is ids all), length-append (flat_map i32_bytes ids) (zeros (vector_len (length ids) - (4 + 4 * length ids))))
+
+are_few : (ids : List ℤ) (count : ℕ) → are_ids (Some ids) count ≡ true → (length ids < 128) × (list_all is_id ids ≡ true)
+are_few ids count fit =
+    let h = and_both (ltb count 128) (eqb (length ids) count && list_all is_id ids) fit in
+    let g = and_both (eqb (length ids) count) (list_all is_id ids) h.1 in
+    let few : count < 128 = ltb-true _ _ h.0 in
+    let same : length ids ≡ count = eqb-true _ _ g.0 in
+    (omega arith, g.1)
+
+union_read : (ids : Option (List ℤ)) (mode : UnionMode) (count : ℕ) → are_ids ids count ≡ true → IsRead (union_at count) 12 (union_bytes ids mode) (union ids mode) (ids_cost ids)
+unfolding union_at ids_at union_bytes ids_cost ids_bytes two_fields u32_bytes
+union_read None mode count fit = record {
+  law = λ whole p q left after h within at le.
+      let t = one_is (mode_number mode) whole p left after (omega (arith, mode_small mode)) h le in
+      rw (at, t.visit, t.first, t.number.short (mode_small mode), t.others 1 (omega arith), mode_back mode, fit) refl;
+  long = one_long (mode_number mode);
+}
+union_read (Some ids) mode count fit = record {
+  law = λ whole p q left after h within at le.
+      let part : List ℕ = union_bytes (Some ids) mode ++ after in
+      let few = are_few ids count fit in
+      let gap : List ℕ = zeros (vector_len (length ids) - (4 + 4 * length ids)) in
+      let t = two_are (mode_number mode) 4 whole p left (ids_bytes ids ++ after) (omega (arith, mode_small mode)) (omega arith) h (omega arith) in
+      let behind : From whole (p + 12 + 8 + 4) (vector_bytes i32_bytes ids ++ (gap ++ after)) = From_at whole p (p + 12 + 8 + 4) 24 part (vector_bytes i32_bytes ids ++ (gap ++ after)) h (omega arith) (omega arith) (append_assoc (vector_bytes i32_bytes ids) gap after) in
+      let v : vector_at (signed_at w32 whole) 4 whole (Some (p + 12 + 8 + 4)) (left - 8) ≡ Ok (ids, left - 8 - (4 + length ids * 4)) =
+      vector_again (signed_at w32) 4 i32_bytes ids whole (p + 12 + 8 + 4) (left - 8) (gap ++ after) (each_is ids few.1) behind within (omega (arith, few.0)) (omega arith) in
+      let spent : left - 8 - (4 + length ids * 4) ≡ left - (12 + length ids * 4) = omega arith in
+      rw (at, t.visit, t.first, t.number.short (mode_small mode), t.second, t.next.offset, v, mode_back mode, fit, spent) refl;
+  long = omega (arith, ids_long ids (are_few ids count fit).1);
+}
+
 -- ---- which types are written
 
 passes : (b : Bool) (why : NoForm) → unless b why ≡ Ok tt → b ≡ true
@@ -303,71 +408,125 @@ not_back false h = refl
 number_small : (n : ℕ) → number_form n ≡ Ok tt → n < 2 ^ 31
 number_small n form = ltb-true _ _ (passes (ltb n (2 ^ 31)) reasons.Size form)
 
+-- ---- children
+
+pub trees_back : (fs : FieldTrees) → field_trees (field_list fs) ≡ fs
+trees_back no_fields = refl
+trees_back (more_fields f fs) = ap (more_fields f) (trees_back fs)
+
+pub list_back : (fs : List FieldTree) → field_list (field_trees fs) ≡ fs
+list_back [] = refl
+list_back (f ∷ fs) = ap (λ (l : List FieldTree). f ∷ l) (list_back fs)
+
+trees_counted : (fs : FieldTrees) → length (field_list fs) ≡ count_fields fs
+trees_counted no_fields = refl
+trees_counted (more_fields f fs) = ap suc (trees_counted fs)
+
+-- a type without its children
+abbrev pub own_shape : TypeTree → Shape
+own_shape (types.list f) = list
+own_shape (types.large_list f) = large_list
+own_shape (types.fixed_size_list f size) = fixed_size_list size
+own_shape (types.struct fs) = struct
+own_shape (types.map f sorted) = map_shape sorted
+own_shape (types.union fs ids mode) = union ids mode
+own_shape type = leaf type
+
 -- ---- each type
 
 -- what reading a type takes of the budget
 unfoldable pub type_cost : TypeTree → ℕ
 type_cost (types.timestamp unit zone) = zone_cost zone
+type_cost (types.union fs ids mode) = ids_cost ids
 type_cost type = 8
 
--- a type has a tag that is read, and is read from its bytes
-pub record TypeIs (type : TypeTree) : Type 0 where
+-- a type has a tag that is read, is read from its bytes, of a field with as many children, and is put together with them
+pub record TypeIs (type : TypeTree) (count : ℕ) : Type 0 where
   pub tag : Tag
   pub number : tag_of (type_number type) ≡ Ok tag
-  pub read : IsRead (type_at tag) 12 (type_bytes type) type (type_cost type)
+  pub read : IsRead (shape_at tag count) 12 (type_bytes type) (own_shape type) (type_cost type)
+  pub counted : can_have (own_shape type) count ≡ true
+  pub back : with_children (own_shape type) (children_of type) ≡ Ok type
 
-pub type_is : (type : TypeTree) → type_form type ≡ Ok tt → TypeFits type → TypeIs type
-unfolding type_number type_bytes type_cost
-type_is types.null form fits = record { tag = tags.Null; number = refl; read = bare_read types.null }
-type_is types.boolean form fits = record { tag = tags.Bool; number = refl; read = bare_read types.boolean }
-type_is types.int8 form fits = record { tag = tags.Int; number = refl; read = integer_read Int8 8 1 (omega arith) (omega arith) refl }
-type_is types.int16 form fits = record { tag = tags.Int; number = refl; read = integer_read Int16 16 1 (omega arith) (omega arith) refl }
-type_is types.int32 form fits = record { tag = tags.Int; number = refl; read = integer_read Int32 32 1 (omega arith) (omega arith) refl }
-type_is types.int64 form fits = record { tag = tags.Int; number = refl; read = integer_read Int64 64 1 (omega arith) (omega arith) refl }
-type_is types.uint8 form fits = record { tag = tags.Int; number = refl; read = integer_read UInt8 8 0 (omega arith) (omega arith) refl }
-type_is types.uint16 form fits = record { tag = tags.Int; number = refl; read = integer_read UInt16 16 0 (omega arith) (omega arith) refl }
-type_is types.uint32 form fits = record { tag = tags.Int; number = refl; read = integer_read UInt32 32 0 (omega arith) (omega arith) refl }
-type_is types.uint64 form fits = record { tag = tags.Int; number = refl; read = integer_read UInt64 64 0 (omega arith) (omega arith) refl }
-type_is types.float16 form fits = absurd (cc form)
-type_is types.float32 form fits = absurd (cc form)
-type_is types.float64 form fits = absurd (cc form)
-type_is (types.timestamp unit zone) form fits = record { tag = tags.Timestamp; number = refl; read = timestamp_read unit zone fits }
-type_is types.date32 form fits = record { tag = tags.Date; number = refl; read = date_read 0 types.date32 (omega arith) refl }
-type_is types.date64 form fits = record { tag = tags.Date; number = refl; read = date_read 1 types.date64 (omega arith) refl }
-type_is (types.time32 unit) form fits =
-    let coarse = passes (is_coarse unit) reasons.Unit form in
-    record { tag = tags.Time; number = refl; read = time_read unit 32 (types.time32 unit) (omega arith) (rw coarse refl) }
-type_is (types.time64 unit) form fits =
-    let fine = not_back (is_coarse unit) (passes (not (is_coarse unit)) reasons.Unit form) in
-    record { tag = tags.Time; number = refl; read = time_read unit 64 (types.time64 unit) (omega arith) (rw fine refl) }
-type_is (types.duration unit) form fits = record { tag = tags.Duration; number = refl; read = duration_read unit }
-type_is (types.interval unit) form fits = record { tag = tags.Interval; number = refl; read = interval_read unit }
-type_is types.binary form fits = record { tag = tags.Binary; number = refl; read = bare_read types.binary }
-type_is (types.fixed_size_binary size) form fits =
+leaf_read : (tag : LeafTag) (count : ℕ) (body : List ℕ) (type : TypeTree) (cost : ℕ) → IsRead (type_at tag) 12 body type cost → IsRead (shape_at (tags.Leaf tag) count) 12 body (leaf type) cost
+leaf_read tag count body type cost r = record {
+  law = λ whole p q left after h within at le. rw (r.law whole p q left after h within at le) refl;
+  long = r.long;
+}
+
+sized : (size : ℕ) → size_form size ≡ Ok tt → (size < 2 ^ 31) × (0 < size)
+sized size form =
     let h = both (unless (not (eqb size 0)) reasons.Type) (number_form size) form in
-    let some : 0 < size = grind (arith, passes (not (eqb size 0)) reasons.Type h.0) in
-    record { tag = tags.FixedSizeBinary; number = refl; read = size_read size (number_small size h.1) some }
-type_is types.large_binary form fits = record { tag = tags.LargeBinary; number = refl; read = bare_read types.large_binary }
-type_is types.utf8 form fits = record { tag = tags.Utf8; number = refl; read = bare_read types.utf8 }
-type_is types.large_utf8 form fits = record { tag = tags.LargeUtf8; number = refl; read = bare_read types.large_utf8 }
-type_is (types.list a) form fits = absurd (cc form)
-type_is (types.fixed_size_list a b) form fits = absurd (cc form)
-type_is (types.large_list a) form fits = absurd (cc form)
-type_is (types.struct a) form fits = absurd (cc form)
-type_is (types.union a b c) form fits = absurd (cc form)
-type_is (types.map a b) form fits = absurd (cc form)
-type_is (types.dictionary a b c) form fits = absurd (cc form)
-type_is (types.decimal digits after) form fits =
-    let h = both (number_form digits) (number_form after) form in
-    record { tag = tags.Decimal; number = refl; read = decimal_read digits after (number_small digits h.0) (number_small after h.1) }
-type_is (types.decimal256 digits after) form fits =
-    let h = both (number_form digits) (number_form after) form in
-    record { tag = tags.Decimal; number = refl; read = decimal256_read digits after (number_small digits h.0) (number_small after h.1) }
-type_is (types.extension a b c) form fits = absurd (cc form)
+    (number_small size h.1, grind (arith, passes (not (eqb size 0)) reasons.Type h.0))
+
+numbers : (a b : ℕ) → then_form (number_form a) (number_form b) ≡ Ok tt → (a < 2 ^ 31) × (b < 2 ^ 31)
+numbers a b form =
+    let h = both (number_form a) (number_form b) form in
+    (number_small a h.0, number_small b h.1)
+
+pub type_is : (type : TypeTree) (count : ℕ) → count ≡ length (children_of type) → type_form type ≡ Ok tt → TypeFits type → TypeIs type count
+unfolding type_number type_bytes type_cost
+type_is types.null count are form fits = record { tag = tags.Leaf leaves.Null; number = refl; read = leaf_read leaves.Null count _ types.null 8 (bare_read types.null); counted = rw are refl; back = refl }
+type_is types.boolean count are form fits = record { tag = tags.Leaf leaves.Bool; number = refl; read = leaf_read leaves.Bool count _ types.boolean 8 (bare_read types.boolean); counted = rw are refl; back = refl }
+type_is types.int8 count are form fits = record { tag = tags.Leaf leaves.Int; number = refl; read = leaf_read leaves.Int count _ types.int8 8 (integer_read Int8 8 1 (omega arith) (omega arith) refl); counted = rw are refl; back = refl }
+type_is types.int16 count are form fits = record { tag = tags.Leaf leaves.Int; number = refl; read = leaf_read leaves.Int count _ types.int16 8 (integer_read Int16 16 1 (omega arith) (omega arith) refl); counted = rw are refl; back = refl }
+type_is types.int32 count are form fits = record { tag = tags.Leaf leaves.Int; number = refl; read = leaf_read leaves.Int count _ types.int32 8 (integer_read Int32 32 1 (omega arith) (omega arith) refl); counted = rw are refl; back = refl }
+type_is types.int64 count are form fits = record { tag = tags.Leaf leaves.Int; number = refl; read = leaf_read leaves.Int count _ types.int64 8 (integer_read Int64 64 1 (omega arith) (omega arith) refl); counted = rw are refl; back = refl }
+type_is types.uint8 count are form fits = record { tag = tags.Leaf leaves.Int; number = refl; read = leaf_read leaves.Int count _ types.uint8 8 (integer_read UInt8 8 0 (omega arith) (omega arith) refl); counted = rw are refl; back = refl }
+type_is types.uint16 count are form fits = record { tag = tags.Leaf leaves.Int; number = refl; read = leaf_read leaves.Int count _ types.uint16 8 (integer_read UInt16 16 0 (omega arith) (omega arith) refl); counted = rw are refl; back = refl }
+type_is types.uint32 count are form fits = record { tag = tags.Leaf leaves.Int; number = refl; read = leaf_read leaves.Int count _ types.uint32 8 (integer_read UInt32 32 0 (omega arith) (omega arith) refl); counted = rw are refl; back = refl }
+type_is types.uint64 count are form fits = record { tag = tags.Leaf leaves.Int; number = refl; read = leaf_read leaves.Int count _ types.uint64 8 (integer_read UInt64 64 0 (omega arith) (omega arith) refl); counted = rw are refl; back = refl }
+type_is (types.timestamp unit zone) count are form fits = record { tag = tags.Leaf leaves.Timestamp; number = refl; read = leaf_read leaves.Timestamp count _ (types.timestamp unit zone) (zone_cost zone) (timestamp_read unit zone fits); counted = rw are refl; back = refl }
+type_is types.date32 count are form fits = record { tag = tags.Leaf leaves.Date; number = refl; read = leaf_read leaves.Date count _ types.date32 8 (date_read 0 types.date32 (omega arith) refl); counted = rw are refl; back = refl }
+type_is types.date64 count are form fits = record { tag = tags.Leaf leaves.Date; number = refl; read = leaf_read leaves.Date count _ types.date64 8 (date_read 1 types.date64 (omega arith) refl); counted = rw are refl; back = refl }
+type_is (types.time32 unit) count are form fits = record { tag = tags.Leaf leaves.Time; number = refl; read = leaf_read leaves.Time count _ (types.time32 unit) 8 (time_read unit 32 (types.time32 unit) (omega arith) (rw (passes (is_coarse unit) reasons.Unit form) refl)); counted = rw are refl; back = refl }
+type_is (types.time64 unit) count are form fits = record { tag = tags.Leaf leaves.Time; number = refl; read = leaf_read leaves.Time count _ (types.time64 unit) 8 (time_read unit 64 (types.time64 unit) (omega arith) (rw (not_back (is_coarse unit) (passes (not (is_coarse unit)) reasons.Unit form)) refl)); counted = rw are refl; back = refl }
+type_is (types.duration unit) count are form fits = record { tag = tags.Leaf leaves.Duration; number = refl; read = leaf_read leaves.Duration count _ (types.duration unit) 8 (duration_read unit); counted = rw are refl; back = refl }
+type_is (types.interval unit) count are form fits = record { tag = tags.Leaf leaves.Interval; number = refl; read = leaf_read leaves.Interval count _ (types.interval unit) 8 (interval_read unit); counted = rw are refl; back = refl }
+type_is types.binary count are form fits = record { tag = tags.Leaf leaves.Binary; number = refl; read = leaf_read leaves.Binary count _ types.binary 8 (bare_read types.binary); counted = rw are refl; back = refl }
+type_is (types.fixed_size_binary size) count are form fits = record { tag = tags.Leaf leaves.FixedSizeBinary; number = refl; read = leaf_read leaves.FixedSizeBinary count _ (types.fixed_size_binary size) 8 (size_read size (sized size form).0 (sized size form).1); counted = rw are refl; back = refl }
+type_is types.large_binary count are form fits = record { tag = tags.Leaf leaves.LargeBinary; number = refl; read = leaf_read leaves.LargeBinary count _ types.large_binary 8 (bare_read types.large_binary); counted = rw are refl; back = refl }
+type_is types.utf8 count are form fits = record { tag = tags.Leaf leaves.Utf8; number = refl; read = leaf_read leaves.Utf8 count _ types.utf8 8 (bare_read types.utf8); counted = rw are refl; back = refl }
+type_is types.large_utf8 count are form fits = record { tag = tags.Leaf leaves.LargeUtf8; number = refl; read = leaf_read leaves.LargeUtf8 count _ types.large_utf8 8 (bare_read types.large_utf8); counted = rw are refl; back = refl }
+type_is (types.decimal digits after) count are form fits = record { tag = tags.Leaf leaves.Decimal; number = refl; read = leaf_read leaves.Decimal count _ (types.decimal digits after) 8 (decimal_read digits after (numbers digits after form).0 (numbers digits after form).1); counted = rw are refl; back = refl }
+type_is (types.decimal256 digits after) count are form fits = record { tag = tags.Leaf leaves.Decimal; number = refl; read = leaf_read leaves.Decimal count _ (types.decimal256 digits after) 8 (decimal256_read digits after (numbers digits after form).0 (numbers digits after form).1); counted = rw are refl; back = refl }
+type_is types.float16 count are form fits = absurd (cc form)
+type_is types.float32 count are form fits = absurd (cc form)
+type_is types.float64 count are form fits = absurd (cc form)
+type_is (types.dictionary a b c) count are form fits = absurd (cc form)
+type_is (types.extension a b c) count are form fits = absurd (cc form)
+type_is (types.list f) count are form fits = record { tag = tags.List; number = refl; read = bare_read list; counted = rw are refl; back = refl }
+type_is (types.large_list f) count are form fits = record { tag = tags.LargeList; number = refl; read = bare_read large_list; counted = rw are refl; back = refl }
+type_is (types.fixed_size_list f size) count are form fits = record { tag = tags.FixedSizeList; number = refl; read = list_size_read size (sized size form).0 (sized size form).1; counted = rw are refl; back = refl }
+type_is (types.struct fs) count are form fits = record {
+  tag = tags.Struct;
+  number = refl;
+  read = bare_read struct;
+  counted = rw (are, trees_counted fs) (passes (not (eqb (count_fields fs) 0)) reasons.Type form);
+  back = ap (λ (l : FieldTrees). Ok (types.struct l)) (trees_back fs);
+}
+type_is (types.union fs ids mode) count are form fits =
+    let same : count ≡ count_fields fs = are ∙ trees_counted fs in
+    record {
+      tag = tags.Union;
+      number = refl;
+      read = union_read ids mode count (rw same (passes (are_ids ids (count_fields fs)) reasons.Type form));
+      counted = refl;
+      back = ap (λ (l : FieldTrees). Ok (types.union l ids mode)) (trees_back fs);
+    }
+type_is (types.map f sorted) count are form fits = record {
+  tag = tags.Map;
+  number = refl;
+  read = map_read sorted;
+  counted = rw are refl;
+  back = rw (passes (is_pair (field_type f)) reasons.Type form) refl;
+}
 
 -- what reading a type takes is no more than its bytes, of those that are written
-pub type_pays : (type : TypeTree) → TypeIs type → type_cost type ≤ length (type_bytes type)
-unfolding type_cost type_bytes zone_cost timestamp_bytes no_field one_field two_fields three_fields u32_bytes
-type_pays (types.timestamp unit None) is = omega arith
-type_pays (types.timestamp unit (Some zone)) is = omega (arith, string_long zone)
-type_pays type is = omega (arith, is.read.long)
+pub type_pays : (type : TypeTree) (count : ℕ) → TypeIs type count → type_form type ≡ Ok tt → type_cost type ≤ length (type_bytes type)
+unfolding type_cost type_bytes zone_cost timestamp_bytes ids_cost union_bytes no_field one_field two_fields three_fields u32_bytes
+type_pays (types.timestamp unit None) count is form = omega arith
+type_pays (types.timestamp unit (Some zone)) count is form = omega (arith, string_long zone)
+type_pays (types.union fs None mode) count is form = omega arith
+type_pays (types.union fs (Some ids) mode) count is form = omega (arith, ids_long ids (are_few ids (count_fields fs) (passes (are_ids (Some ids) (count_fields fs)) reasons.Type form)).1)
+type_pays type count is form = omega (arith, is.read.long)

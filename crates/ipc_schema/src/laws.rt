@@ -2,6 +2,7 @@
 ghost use Rattle.std.specs.Prelude.{◌≡◌, ◌<◌, ◌^◌, ◌++◌, List, ℕ, [], Ok};
 ghost use Rattle.ipc_message.specs.MessageBytes.{metadata_size};
 ghost use Rattle.ipc_schema.specs.Examples.{worked_message, worked_tree};
+ghost use Rattle.ipc_schema.specs.NestedExamples.{AreNested, AreMaps, AreUnions};
 ghost use Rattle.ipc_schema.specs.TypeExamples.{AreDecimals, AreTimes, AreZones, AreIntervals, AreSizes};
 ghost use Rattle.ipc_schema.specs.Schemas.{SchemaTree, stream_schema_at};
 ghost use Rattle.ipc_schema.specs.SchemaBytes.{schema_message};
@@ -19,6 +20,13 @@ pub fn types_are_read()
     ensures zones { AreZones }
     ensures intervals { AreIntervals }
     ensures sizes { AreSizes }
+{}
+
+/// So do nested ones: lists of each kind, maps, unions with ids and without.
+pub fn nested_types_are_read()
+    ensures fields { AreNested }
+    ensures maps { AreMaps }
+    ensures unions { AreUnions }
 {}
 
 /// The message of a schema that is written is read back, with anything behind it.

@@ -1,18 +1,20 @@
 //! Reads the schema that a stream begins with.
-ghost use Rattle.std.specs.Prelude.{◌≡◌, ◌<◌, ◌≤◌, ◌^◌, ◌+◌, ◌*◌, map, length, IfOk, IfSome, Ok};
+ghost use Rattle.std.specs.Prelude.{◌≡◌, ◌<◌, ◌≤◌, ◌^◌, ◌+◌, ◌*◌, map, length, IfOk, IfSome, Ok, not, is_some};
 ghost use Rattle.nest_memory.specs.TypeOf.{entries_of, field_of};
-ghost use Rattle.nest_memory.specs.TypeTree.{field};
-ghost use Rattle.ipc_model.specs.Reading.{Gives, Spells};
+ghost use Rattle.ipc_model.specs.Reading.{Gives, Spells, check};
+ghost use Rattle.ipc_model.specs.declared.fault.Fault.TheVariants.{UnsupportedType, ChildCount};
 ghost use Rattle.ipc_words.specs.Words.{tables_at};
 ghost use Rattle.ipc_message.specs.Messages.{parts_of, message_of};
-ghost use Rattle.ipc_schema.specs.Leaves.{leaf_tree};
-ghost use Rattle.ipc_schema.specs.Schemas.{plain as plain_lem, field_at as field_at_lem, schema_at as schema_at_lem, schema_parts, stream_schema_at, schema_of};
+ghost use Rattle.ipc_schema.specs.Types.{can_have as can_have_lem, with_children as with_children_lem};
+ghost use Rattle.ipc_schema.specs.Shapes.{shape_tree};
+ghost use Rattle.ipc_schema.specs.Schemas.{extension_name, has_key as has_key_lem, field_of_type, field_over as field_over_lem, field_at as field_at_lem, schema_at as schema_at_lem, schema_parts, stream_schema_at, schema_of};
 
-use crate::leaves::{Leaf, data_type_of};
 use crate::metadata::{has_key, metadata_at};
+use crate::nested::shape_at;
 use crate::schema::Schema;
+use crate::shapes::{Shape, can_have, with_children};
 use crate::tags::type_place;
-use crate::types::type_at;
+use crate::unions::in_version;
 use ipc_message::{Kind, Message, next_message};
 use ipc_model::Fault;
 use ipc_words::{
@@ -21,34 +23,51 @@ use ipc_words::{
 use nest_memory::datatypes::{Field, Metadata};
 use std::alloc::Global;
 
-// That a field is not by a dictionary and has no children.
-fn plain(dictionary: Option<usize>, children: usize) -> Result<(), Fault>
-    ensures { result ≡ plain_lem dictionary children }
+// That a field is not by a dictionary.
+fn plain(dictionary: Option<usize>) -> Result<(), Fault>
+    ensures { result ≡ check (not (is_some dictionary)) UnsupportedType }
 {
     match dictionary {
         Some(_) => Err(Fault::UnsupportedType),
-        None => {
-            if children == 0 {
-                Ok(())
-            } else {
-                Err(Fault::ChildCount)
-            }
-        }
+        None => Ok(()),
     }
 }
 
-// A field with a name and a type of its own.
+// That a type may have so many children.
+fn counted(shape: &Shape<'_>, count: usize) -> Result<(), Fault>
+    ensures { result ≡ check (can_have_lem (shape_tree shape.now) count) ChildCount }
+{
+    if can_have(shape, count) {
+        Ok(())
+    } else {
+        Err(Fault::ChildCount)
+    }
+}
+
+// That a field's own metadata spells no extension.
+fn unextended(metadata: &Metadata) -> Result<(), Fault>
+    ensures { result ≡ check (not (has_key_lem extension_name (entries_of metadata.now.entries))) UnsupportedType }
+{
+    if has_key(metadata, "ARROW:extension:name") {
+        Err(Fault::UnsupportedType)
+    } else {
+        Ok(())
+    }
+}
+
+// A field of its parts, with a name of its own.
 fn field_with(
     alloc: Global,
     name: &str,
-    leaf: Leaf<'_>,
+    shape: Shape<'_>,
+    fields: Vec<Field>,
     is_nullable: bool,
     metadata: Metadata,
 ) -> Result<Field, Fault>
-    ensures { Gives field_of result (Ok (field name.now (leaf_tree leaf.entry) is_nullable (entries_of metadata.entries))) }
+    ensures { Gives field_of result (field_of_type name.now is_nullable (entries_of metadata.entries) (with_children_lem (shape_tree shape.entry) (map field_of fields.items))) }
 {
+    let data_type = with_children(alloc, shape, fields)?;
     let name = String::from_str(alloc, name)?;
-    let data_type = data_type_of(alloc, leaf)?;
     Ok(Field {
         name,
         data_type,
@@ -57,10 +76,17 @@ fn field_with(
     })
 }
 
-#[tactic(auto, unfolding(crate::specs::Schemas::field_at))]
-fn field_at(alloc: Global, bytes: &[u8], place: usize, left: usize) -> Result<(Field, usize), Fault>
+// A field, whose children may be so deep.
+#[cycle(fields)]
+fn field_over(
+    alloc: Global,
+    depth: u8,
+    bytes: &[u8],
+    place: usize,
+    left: usize,
+) -> Result<(Field, usize), Fault>
     requires { length bytes.now < 2 ^ 32 }
-    ensures { Gives (λ x. (field_of x.0, x.1)) result (field_at_lem bytes.now place left) }
+    ensures { Gives (λ x. (field_of x.0, x.1)) result (field_over_lem (field_at_lem depth bytes.now) bytes.now place left) }
 {
     let (table, left) = visit_table(bytes, place, left)?;
     let (name, left) = text_at(bytes, offset_field(bytes, table, 0)?, left)?;
@@ -68,32 +94,52 @@ fn field_at(alloc: Global, bytes: &[u8], place: usize, left: usize) -> Result<(F
     let number = u8_field(bytes, table, 2)?;
     let (tag, place) = type_place(number, offset_field(bytes, table, 3)?)?;
     let (children, left) = items_at(4, bytes, offset_field(bytes, table, 5)?, left)?;
-    let (leaf, left) = type_at(tag, bytes, place, left)?;
-    plain(offset_field(bytes, table, 4)?, children.count)?;
+    let (shape, left) = shape_at(alloc, tag, children.count, bytes, place, left)?;
+    plain(offset_field(bytes, table, 4)?)?;
+    counted(&shape, children.count)?;
+    let (fields, left) = fields_at(alloc, depth, bytes, children, left)?;
     let (metadata, left) = metadata_at(alloc, bytes, offset_field(bytes, table, 6)?, left)?;
-    if has_key(&metadata, "ARROW:extension:name") {
-        return Err(Fault::UnsupportedType);
-    }
-    let field = field_with(alloc, name, leaf, is_nullable, metadata)?;
+    unextended(&metadata)?;
+    let field = field_with(alloc, name, shape, fields, is_nullable, metadata)?;
     Ok((field, left))
 }
 
+// A field and those inside of it, so deep at most.
+#[cycle(fields)]
+fn field_at(
+    alloc: Global,
+    depth: u8,
+    bytes: &[u8],
+    place: usize,
+    left: usize,
+) -> Result<(Field, usize), Fault>
+    requires { length bytes.now < 2 ^ 32 }
+    ensures { Gives (λ x. (field_of x.0, x.1)) result (field_at_lem depth bytes.now place left) }
+{
+    if depth == 0 {
+        return Err(Fault::Depth);
+    }
+    field_over(alloc, depth - 1, bytes, place, left)
+}
+
 // The fields that offsets in a row point to.
+#[cycle(fields)]
 fn fields_at(
     alloc: Global,
+    depth: u8,
     bytes: &[u8],
     items: Items,
     left: usize,
 ) -> Result<(Vec<Field>, usize), Fault>
     requires length { length bytes.now < 2 ^ 32 }
     requires within { items.first + items.count * 4 ≤ length bytes.now }
-    ensures { Gives (λ x. (map field_of x.0.items, x.1)) result (tables_at (field_at_lem bytes.now) bytes.now items.count items.first left) }
+    ensures { Gives (λ x. (map field_of x.0.items, x.1)) result (tables_at (field_at_lem depth bytes.now) bytes.now items.count items.first left) }
 {
     let mut fields = Vec::new(alloc);
     let mut rest = left;
     for i in 0..items.count {
         let place = offset_at(bytes, items.first + 4 * i)?;
-        let (field, after) = field_at(alloc, bytes, place, rest)?;
+        let (field, after) = field_at(alloc, depth, bytes, place, rest)?;
         fields.push(field)?;
         rest = after;
     }
@@ -116,7 +162,7 @@ pub fn schema_at(
         return Err(Fault::Endianness);
     }
     let (items, left) = items_at(4, bytes, offset_field(bytes, table, 1)?, left)?;
-    let (fields, left) = fields_at(alloc, bytes, items, left)?;
+    let (fields, left) = fields_at(alloc, 64, bytes, items, left)?;
     let to = offset_field(bytes, table, 2)?;
     let (metadata, left) = metadata_at(alloc, bytes, to, left)?;
     Ok((Schema { fields, metadata }, left))
@@ -151,5 +197,8 @@ pub fn read_schema(alloc: Global, bytes: &[u8]) -> Result<(Schema, &[u8]), Fault
     let message = schema_message(first)?;
     let root = message.root;
     let (schema, _) = schema_at(alloc, message.metadata, root.header, root.left)?;
-    Ok((schema, rest))
+    match in_version(root.version, &schema.fields) {
+        Err(fault) => Err(fault),
+        Ok(_) => Ok((schema, rest)),
+    }
 }

@@ -4,9 +4,9 @@ ghost use Rattle.ipc_schema.specs.Types.{known_tag as known_tag_lem, tag_of as t
 
 use ipc_model::Fault;
 
-/// The types that are read, by their names in the union `Type` of `Schema.fbs` of the Arrow format.
+/// The types without children, by their names in the union `Type` of `Schema.fbs` of the Arrow format.
 #[derive(Clone, Copy, Debug, PartialEq, Eq)]
-pub enum Tag {
+pub enum LeafTag {
     Null,
     Int,
     Binary,
@@ -23,24 +23,42 @@ pub enum Tag {
     LargeUtf8,
 }
 
+/// The types that are read.
+#[derive(Clone, Copy, Debug, PartialEq, Eq)]
+pub enum Tag {
+    Leaf(LeafTag),
+    List,
+    LargeList,
+    FixedSizeList,
+    Struct,
+    Map,
+    Union,
+}
+
 fn known_tag(number: u8) -> Result<Tag, Fault>
     ensures { result ≡ known_tag_lem number }
 {
     match number {
-        1 => Ok(Tag::Null),
-        2 => Ok(Tag::Int),
-        4 => Ok(Tag::Binary),
-        5 => Ok(Tag::Utf8),
-        6 => Ok(Tag::Bool),
-        7 => Ok(Tag::Decimal),
-        8 => Ok(Tag::Date),
-        9 => Ok(Tag::Time),
-        10 => Ok(Tag::Timestamp),
-        11 => Ok(Tag::Interval),
-        15 => Ok(Tag::FixedSizeBinary),
-        18 => Ok(Tag::Duration),
-        19 => Ok(Tag::LargeBinary),
-        20 => Ok(Tag::LargeUtf8),
+        1 => Ok(Tag::Leaf(LeafTag::Null)),
+        2 => Ok(Tag::Leaf(LeafTag::Int)),
+        4 => Ok(Tag::Leaf(LeafTag::Binary)),
+        5 => Ok(Tag::Leaf(LeafTag::Utf8)),
+        6 => Ok(Tag::Leaf(LeafTag::Bool)),
+        7 => Ok(Tag::Leaf(LeafTag::Decimal)),
+        8 => Ok(Tag::Leaf(LeafTag::Date)),
+        9 => Ok(Tag::Leaf(LeafTag::Time)),
+        10 => Ok(Tag::Leaf(LeafTag::Timestamp)),
+        11 => Ok(Tag::Leaf(LeafTag::Interval)),
+        12 => Ok(Tag::List),
+        13 => Ok(Tag::Struct),
+        14 => Ok(Tag::Union),
+        15 => Ok(Tag::Leaf(LeafTag::FixedSizeBinary)),
+        16 => Ok(Tag::FixedSizeList),
+        17 => Ok(Tag::Map),
+        18 => Ok(Tag::Leaf(LeafTag::Duration)),
+        19 => Ok(Tag::Leaf(LeafTag::LargeBinary)),
+        20 => Ok(Tag::Leaf(LeafTag::LargeUtf8)),
+        21 => Ok(Tag::LargeList),
         _ => Err(Fault::UnsupportedType),
     }
 }

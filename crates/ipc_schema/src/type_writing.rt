@@ -1,17 +1,22 @@
 //! The tables of types, as they are written.
-ghost use Rattle.std.specs.Prelude.{◌≡◌, ◌<◌, ◌^◌, ◌++◌, length, OnOk, IfErr, Ok};
-ghost use Rattle.nest_memory.specs.TypeOf.{type_of, text_of};
+ghost use Rattle.std.specs.Prelude.{◌≡◌, ◌<◌, ◌^◌, ◌++◌, length, map, option_map, OnOk, IfErr, Ok};
+ghost use Rattle.std.specs.List.{flat_map};
+ghost use Rattle.nest_memory.specs.TypeOf.{type_of, text_of, field_of};
+ghost use Rattle.ipc_words.specs.Bytes.{i32_bytes};
 ghost use Rattle.ipc_words.specs.Writes.{IsTooLong};
-ghost use Rattle.ipc_model.specs.declared.fault.NoForm.TheVariants.{«Unit» as NoUnit};
-ghost use Rattle.ipc_schema.specs.Forms.{then_form, unless, number_form as number_form_lem, size_form as size_form_lem, type_form as type_form_lem};
-ghost use Rattle.ipc_schema.specs.SchemaBytes.{no_field, one_field, two_fields, three_fields, unit_number as unit_number_lem, interval_number as interval_number_lem, timestamp_bytes, type_bytes, type_number as type_number_lem};
-ghost use Rattle.ipc_schema.specs.TypeLaws.{IsZone, TypeFits};
+ghost use Rattle.ipc_schema.specs.Types.{children_of as children_of_lem};
+ghost use Rattle.ipc_schema.specs.Forms.{then_form, unless as unless_lem, number_form as number_form_lem, size_form as size_form_lem, type_form as type_form_lem};
+ghost use Rattle.ipc_schema.specs.SchemaBytes.{no_field, one_field, two_fields, three_fields, unit_number as unit_number_lem, interval_number as interval_number_lem, mode_number as mode_number_lem, ids_bytes, union_bytes, timestamp_bytes, type_bytes, type_number as type_number_lem};
+ghost use Rattle.ipc_schema.specs.TypeLaws.{IsZone, TypeFits, AreFew};
 
+use crate::nested::are_ids;
+use crate::shapes::is_pair;
 use crate::types::is_coarse;
 use ipc_model::NoForm;
-use ipc_words::{put_string, put_u32};
-use nest_memory::datatypes::{DataType, IntervalUnit, TimeUnit};
+use ipc_words::{put_i32, put_string, put_u32, put_zeros};
+use nest_memory::datatypes::{DataType, Field, IntervalUnit, TimeUnit, UnionMode};
 use std::alloc::AllocError;
+use std::slice;
 
 fn number_form(number: usize) -> Result<(), NoForm>
     ensures { result ≡ number_form_lem number }
@@ -40,7 +45,29 @@ fn decimal_form(digits: usize, after: usize) -> Result<(), NoForm>
     number_form(after)
 }
 
-/// The first reason why a type is not written.
+// A reason, unless a test passes.
+fn unless(passes: bool, why: NoForm) -> Result<(), NoForm>
+    ensures { result ≡ unless_lem passes why }
+{
+    if passes { Ok(()) } else { Err(why) }
+}
+
+/// The fields that a type holds as children of its own.
+pub fn children_of(data_type: &DataType) -> &[Field]
+    ensures { map field_of result.now ≡ children_of_lem (type_of data_type.now) }
+{
+    match data_type {
+        DataType::List(field)
+        | DataType::LargeList(field)
+        | DataType::FixedSizeList(field, _)
+        | DataType::Map(field, _) => slice::from_ref(field),
+        DataType::Struct(fields) => fields,
+        DataType::Union(fields, _, _) => fields,
+        _ => &[],
+    }
+}
+
+/// The first reason why a type is not written, its children aside.
 pub fn type_form(data_type: &DataType) -> Result<(), NoForm>
     ensures { result ≡ type_form_lem (type_of data_type.now) }
 {
@@ -63,29 +90,21 @@ pub fn type_form(data_type: &DataType) -> Result<(), NoForm>
         | DataType::Binary
         | DataType::LargeBinary
         | DataType::Utf8
-        | DataType::LargeUtf8 => Ok(()),
+        | DataType::LargeUtf8
+        | DataType::List(_)
+        | DataType::LargeList(_) => Ok(()),
         DataType::Float16 | DataType::Float32 | DataType::Float64 => Err(NoForm::Float),
-        DataType::Time32(unit) => coarse_form(is_coarse(*unit)),
-        DataType::Time64(unit) => coarse_form(!is_coarse(*unit)),
-        DataType::FixedSizeBinary(size) => size_form(*size),
+        DataType::Time32(unit) => unless(is_coarse(*unit), NoForm::Unit),
+        DataType::Time64(unit) => unless(!is_coarse(*unit), NoForm::Unit),
+        DataType::FixedSizeBinary(size) | DataType::FixedSizeList(_, size) => size_form(*size),
+        DataType::Struct(fields) => unless(fields.len() != 0, NoForm::Type),
+        DataType::Union(fields, ids, _) => unless(are_ids(ids, fields.len()), NoForm::Type),
+        DataType::Map(field, _) => unless(is_pair(&field.data_type), NoForm::Type),
         DataType::Decimal(digits, after) | DataType::Decimal256(digits, after) => {
             decimal_form(*digits, *after)
         }
-        DataType::List(_)
-        | DataType::FixedSizeList(_, _)
-        | DataType::LargeList(_)
-        | DataType::Struct(_)
-        | DataType::Union(_, _, _)
-        | DataType::Map(_, _)
-        | DataType::Dictionary(_, _, _)
-        | DataType::Extension(_, _, _) => Err(NoForm::Type),
+        DataType::Dictionary(_, _, _) | DataType::Extension(_, _, _) => Err(NoForm::Type),
     }
-}
-
-fn coarse_form(has_unit: bool) -> Result<(), NoForm>
-    ensures { result ≡ unless has_unit NoUnit }
-{
-    if has_unit { Ok(()) } else { Err(NoForm::Unit) }
 }
 
 /// The tag of a type, in the union `Type` of `Schema.fbs` of the Arrow format.
@@ -111,19 +130,19 @@ pub fn type_number(data_type: &DataType) -> u8
         DataType::Time32(_) | DataType::Time64(_) => 9,
         DataType::Timestamp(_, _) => 10,
         DataType::Interval(_) => 11,
+        DataType::List(_) => 12,
+        DataType::Struct(_) => 13,
+        DataType::Union(_, _, _) => 14,
         DataType::FixedSizeBinary(_) => 15,
+        DataType::FixedSizeList(_, _) => 16,
+        DataType::Map(_, _) => 17,
         DataType::Duration(_) => 18,
         DataType::LargeBinary => 19,
         DataType::LargeUtf8 => 20,
+        DataType::LargeList(_) => 21,
         DataType::Float16
         | DataType::Float32
         | DataType::Float64
-        | DataType::List(_)
-        | DataType::FixedSizeList(_, _)
-        | DataType::LargeList(_)
-        | DataType::Struct(_)
-        | DataType::Union(_, _, _)
-        | DataType::Map(_, _)
         | DataType::Dictionary(_, _, _)
         | DataType::Extension(_, _, _) => 0,
     }
@@ -205,6 +224,50 @@ fn put_timestamp(out: &mut Vec<u8>, unit: TimeUnit, zone: &Option<String>) -> Re
     }
 }
 
+fn mode_number(mode: UnionMode) -> u32
+    ensures { result ≡ mode_number_lem mode }
+{
+    match mode {
+        UnionMode::Sparse => 0,
+        UnionMode::Dense => 1,
+    }
+}
+
+fn put_each_id(out: &mut Vec<u8>, ids: &[i32]) -> Result<(), AllocError>
+    ensures { OnOk result (out.new.items ≡ out.old.items ++ flat_map i32_bytes ids.now) }
+{
+    for id in ids {
+        put_i32(out, *id)?;
+    }
+    Ok(())
+}
+
+// Appends a vector of ids.
+#[tactic(auto, unfolding(crate::specs::SchemaBytes::ids_bytes, ipc_words::specs::Bytes::vector_bytes))]
+fn put_ids(out: &mut Vec<u8>, ids: &[i32]) -> Result<(), AllocError>
+    requires { length ids.now < 128 }
+    ensures { OnOk result (out.new.items ≡ out.old.items ++ ids_bytes ids.now) }
+{
+    let count = ids.len();
+    put_u32(out, count as u32)?;
+    put_each_id(out, ids)?;
+    put_zeros(out, 8 * (count / 2 + 1) - (4 + 4 * count))
+}
+
+#[tactic(auto, unfolding(crate::specs::SchemaBytes::union_bytes))]
+fn put_union(out: &mut Vec<u8>, ids: &Option<Vec<i32>>, mode: UnionMode) -> Result<(), AllocError>
+    requires { AreFew (option_map (λ v. v.items) ids.now) }
+    ensures { OnOk result (out.new.items ≡ out.old.items ++ union_bytes (option_map (λ v. v.items) ids.now) mode) }
+{
+    match ids {
+        None => put_one_field(out, mode_number(mode)),
+        Some(ids) => {
+            put_two_fields(out, mode_number(mode), 4)?;
+            put_ids(out, ids)
+        }
+    }
+}
+
 /// Appends the table of a type that is written.
 #[tactic(auto, unfolding(crate::specs::SchemaBytes::type_bytes))]
 pub fn put_type(out: &mut Vec<u8>, data_type: &DataType) -> Result<(), NoForm>
@@ -219,7 +282,10 @@ pub fn put_type(out: &mut Vec<u8>, data_type: &DataType) -> Result<(), NoForm>
         | DataType::Binary
         | DataType::LargeBinary
         | DataType::Utf8
-        | DataType::LargeUtf8 => put_no_field(out)?,
+        | DataType::LargeUtf8
+        | DataType::List(_)
+        | DataType::LargeList(_)
+        | DataType::Struct(_) => put_no_field(out)?,
         DataType::Int8 => put_two_fields(out, 8, 1)?,
         DataType::Int16 => put_two_fields(out, 16, 1)?,
         DataType::Int32 => put_two_fields(out, 32, 1)?,
@@ -235,7 +301,11 @@ pub fn put_type(out: &mut Vec<u8>, data_type: &DataType) -> Result<(), NoForm>
         DataType::Time64(unit) => put_two_fields(out, unit_number(*unit), 64)?,
         DataType::Duration(unit) => put_one_field(out, unit_number(*unit))?,
         DataType::Interval(unit) => put_one_field(out, interval_number(*unit))?,
-        DataType::FixedSizeBinary(size) => put_one_field(out, *size as u32)?,
+        DataType::FixedSizeBinary(size) | DataType::FixedSizeList(_, size) => {
+            put_one_field(out, *size as u32)?
+        }
+        DataType::Map(_, sorted) => put_one_field(out, *sorted as u32)?,
+        DataType::Union(_, ids, mode) => put_union(out, ids, *mode)?,
         DataType::Decimal(digits, after) => put_two_fields(out, *digits as u32, *after as u32)?,
         DataType::Decimal256(digits, after) => {
             put_three_fields(out, *digits as u32, *after as u32, 256)?
@@ -243,12 +313,6 @@ pub fn put_type(out: &mut Vec<u8>, data_type: &DataType) -> Result<(), NoForm>
         DataType::Float16
         | DataType::Float32
         | DataType::Float64
-        | DataType::List(_)
-        | DataType::FixedSizeList(_, _)
-        | DataType::LargeList(_)
-        | DataType::Struct(_)
-        | DataType::Union(_, _, _)
-        | DataType::Map(_, _)
         | DataType::Dictionary(_, _, _)
         | DataType::Extension(_, _, _) => {}
     }

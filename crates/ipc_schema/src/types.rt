@@ -1,11 +1,11 @@
-//! The tables of types, as they are read.
+//! The tables of types without children, as they are read.
 ghost use Rattle.std.specs.Prelude.{◌≡◌, ◌<◌, ◌^◌, length, option_map};
 ghost use Rattle.ipc_model.specs.Reading.{Spells};
 ghost use Rattle.ipc_schema.specs.Leaves.{leaf_tree};
 ghost use Rattle.ipc_schema.specs.Types.{bare_at as bare_at_lem, integer_of as integer_of_lem, integer_at as integer_at_lem, decimal_of as decimal_of_lem, decimal_at as decimal_at_lem, date_of as date_of_lem, date_at as date_at_lem, unit_of as unit_of_lem, is_coarse as is_coarse_lem, time_of as time_of_lem, time_at as time_at_lem, zone_at as zone_at_lem, timestamp_at as timestamp_at_lem, interval_of as interval_of_lem, interval_at as interval_at_lem, duration_at as duration_at_lem, size_of as size_of_lem, fixed_size_binary_at as fixed_size_binary_at_lem, type_at as type_at_lem};
 
 use crate::leaves::Leaf;
-use crate::tags::Tag;
+use crate::tags::LeafTag;
 use ipc_model::Fault;
 use ipc_words::{i16_field, i32_field, natural, offset_field, u8_field, visit_string, visit_table};
 use nest_memory::datatypes::{IntegerType, IntervalUnit, TimeUnit};
@@ -229,7 +229,8 @@ fn duration_at(bytes: &[u8], place: usize, left: usize) -> Result<(Leaf<'_>, usi
     Ok((Leaf::Duration(unit), left))
 }
 
-fn size_of(number: usize) -> Result<usize, Fault>
+/// A size of slots, which is no 0.
+pub fn size_of(number: usize) -> Result<usize, Fault>
     ensures { result ≡ size_of_lem number }
 {
     if number == 0 {
@@ -250,9 +251,9 @@ fn fixed_size_binary_at(bytes: &[u8], place: usize, left: usize) -> Result<(Leaf
     Ok((Leaf::FixedSizeBinary(size), left))
 }
 
-/// The type that a table of this tag spells, and what is left to spend.
+/// The type without children that a table of this tag spells, and what is left to spend.
 pub fn type_at(
-    tag: Tag,
+    tag: LeafTag,
     bytes: &[u8],
     place: usize,
     left: usize,
@@ -261,22 +262,22 @@ pub fn type_at(
     ensures { Spells (λ x. (leaf_tree x.0, x.1)) result (type_at_lem tag bytes.now place left) }
 {
     match tag {
-        Tag::Null => bare_at(Leaf::Null, bytes, place, left),
-        Tag::Int => {
+        LeafTag::Null => bare_at(Leaf::Null, bytes, place, left),
+        LeafTag::Int => {
             let (integer, left) = integer_at(bytes, place, left)?;
             Ok((Leaf::Integer(integer), left))
         }
-        Tag::Binary => bare_at(Leaf::Binary, bytes, place, left),
-        Tag::Utf8 => bare_at(Leaf::Utf8, bytes, place, left),
-        Tag::Bool => bare_at(Leaf::Boolean, bytes, place, left),
-        Tag::Decimal => decimal_at(bytes, place, left),
-        Tag::Date => date_at(bytes, place, left),
-        Tag::Time => time_at(bytes, place, left),
-        Tag::Timestamp => timestamp_at(bytes, place, left),
-        Tag::Interval => interval_at(bytes, place, left),
-        Tag::FixedSizeBinary => fixed_size_binary_at(bytes, place, left),
-        Tag::Duration => duration_at(bytes, place, left),
-        Tag::LargeBinary => bare_at(Leaf::LargeBinary, bytes, place, left),
-        Tag::LargeUtf8 => bare_at(Leaf::LargeUtf8, bytes, place, left),
+        LeafTag::Binary => bare_at(Leaf::Binary, bytes, place, left),
+        LeafTag::Utf8 => bare_at(Leaf::Utf8, bytes, place, left),
+        LeafTag::Bool => bare_at(Leaf::Boolean, bytes, place, left),
+        LeafTag::Decimal => decimal_at(bytes, place, left),
+        LeafTag::Date => date_at(bytes, place, left),
+        LeafTag::Time => time_at(bytes, place, left),
+        LeafTag::Timestamp => timestamp_at(bytes, place, left),
+        LeafTag::Interval => interval_at(bytes, place, left),
+        LeafTag::FixedSizeBinary => fixed_size_binary_at(bytes, place, left),
+        LeafTag::Duration => duration_at(bytes, place, left),
+        LeafTag::LargeBinary => bare_at(Leaf::LargeBinary, bytes, place, left),
+        LeafTag::LargeUtf8 => bare_at(Leaf::LargeUtf8, bytes, place, left),
     }
 }

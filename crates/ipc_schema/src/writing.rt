@@ -1,6 +1,7 @@
 //! Writes the message of a schema.
 ghost use Rattle.std.specs.Prelude.{◌≡◌, ◌<◌, ◌≤◌, ◌^◌, ◌+◌, ◌++◌, ◌⊎◌, List, ℕ, map, true, length, IfOk, OnOk, IfErr, Ok, Err, string_bytes};
 ghost use Rattle.std.specs.BTreeMap.{IsOrdered};
+ghost use Rattle.std.specs.List.{AllByRecursion};
 ghost use Rattle.std.specs.Str.{is_utf8};
 ghost use Rattle.std.specs.String.{string_cmp};
 ghost use Rattle.nest_memory.specs.TypeOf.{type_of, field_of, entries_of};
@@ -9,26 +10,26 @@ ghost use Rattle.ipc_words.specs.Writes.{IsTooLong};
 ghost use Rattle.ipc_message.specs.MessageBytes.{metadata_size};
 ghost use Rattle.ipc_words.specs.RowLaws.{IsRead};
 ghost use Rattle.ipc_schema.specs.Schemas.{schema_of, schema_at, stream_schema_at};
-ghost use Rattle.ipc_schema.specs.Forms.{type_form as type_form_lem, field_form as field_form_lem, fields_form, IsUnwritten};
+ghost use Rattle.ipc_schema.specs.Forms.{type_form as type_form_lem, own_form as own_form_lem, each_form as each_form_lem, field_form as field_form_lem, fields_form, IsUnwritten};
 ghost use Rattle.ipc_schema.specs.SchemaBytes.{field_head, entries_bytes, parts_of_field, field_bytes, field_parts, schema_bytes, schema_message};
 ghost use Rattle.ipc_schema.specs.MetadataLaws.{AreTexts};
 ghost use Rattle.ipc_schema.specs.TypeLaws.{TypeFits};
-ghost use Rattle.ipc_schema.specs.FieldLaws.{FieldFits, AllFit, name_of, nullable_of, own_entries};
+ghost use Rattle.ipc_schema.specs.FieldLaws.{FieldFits, name_of, nullable_of, own_entries};
 ghost use Rattle.ipc_schema.specs.SchemaLaws.{SchemaFits, part_of, schema_cost};
 
 use crate::metadata::{has_key, put_metadata};
 use crate::schema::Schema;
-use crate::type_writing::{put_type, type_form, type_number};
+use crate::type_writing::{children_of, put_type, type_form, type_number};
 use ipc_message::{Kind, put_message};
 use ipc_model::NoForm;
 use ipc_words::{put_offset, put_row, put_string};
 use nest_memory::datatypes::{DataType, Field, Metadata};
 use std::alloc::Global;
 
-// The first reason why a field is not written.
-#[tactic(auto, unfolding(crate::specs::Forms::field_form))]
-fn field_form(field: &Field) -> Result<(), NoForm>
-    ensures { result ≡ field_form_lem (field_of field.now) }
+// The first reason why a field is not written, its children aside.
+#[tactic(auto, unfolding(crate::specs::Forms::own_form))]
+fn own_form(field: &Field) -> Result<(), NoForm>
+    ensures { result ≡ own_form_lem (field_of field.now) }
 {
     if has_key(&field.metadata, "ARROW:extension:name") {
         return Err(NoForm::Extension);
@@ -36,12 +37,25 @@ fn field_form(field: &Field) -> Result<(), NoForm>
     type_form(&field.data_type)
 }
 
-// The first reason why fields are not written.
-fn check_fields(fields: &[Field]) -> Result<(), NoForm>
-    ensures { result ≡ fields_form (map field_of fields.now) }
+// The first reason why a field is not written, which is to be so deep at most.
+#[cycle(forms)]
+fn field_form(depth: u8, field: &Field) -> Result<(), NoForm>
+    ensures { result ≡ field_form_lem depth (field_of field.now) }
+{
+    if depth == 0 {
+        return Err(NoForm::Depth);
+    }
+    own_form(field)?;
+    each_form(depth - 1, children_of(field.data_type()))
+}
+
+// The first reason why one of fields is not written.
+#[cycle(forms)]
+fn each_form(depth: u8, fields: &[Field]) -> Result<(), NoForm>
+    ensures { result ≡ each_form_lem (field_form_lem depth) (map field_of fields.now) }
 {
     for field in fields {
-        field_form(field)?;
+        field_form(depth, field)?;
     }
     Ok(())
 }
@@ -112,13 +126,14 @@ fn parts_together(
     name: &String,
     is_nullable: bool,
     data_type: &DataType,
+    children: &[u8],
     own: &Metadata,
 ) -> Result<Vec<u8>, NoForm>
     requires { type_form_lem (type_of data_type.now) ≡ Ok tt }
-    ensures ok { IfOk result (λ part. part.items ≡ parts_of_field is_nullable (type_of data_type.now) (string_bytes name.now) (entries_of own.now.entries)) }
+    ensures ok { IfOk result (λ part. part.items ≡ parts_of_field is_nullable (type_of data_type.now) children.now (string_bytes name.now) (entries_of own.now.entries)) }
     ensures fits { OnOk result ((is_utf8 (string_bytes name.now) ≡ true) × TypeFits (type_of data_type.now) × AreTexts (entries_of own.now.entries)) }
     ensures rising { IsOrdered string_cmp own.now }
-    ensures size { IfErr result (λ why. IsTooLong why (length (parts_of_field is_nullable (type_of data_type.now) (string_bytes name.now) (entries_of own.now.entries)))) }
+    ensures size { IfErr result (λ why. IsTooLong why (length (parts_of_field is_nullable (type_of data_type.now) children.now (string_bytes name.now) (entries_of own.now.entries)))) }
 {
     let _len = own.len();
     let mut table = Vec::new(alloc);
@@ -127,14 +142,13 @@ fn parts_together(
     put_string(&mut text, name.as_str())?;
     let mut metadata = Vec::new(alloc);
     put_metadata(alloc, &mut metadata, own)?;
-    let children = [0u8, 0, 0, 0, 0, 0, 0, 0];
     let mut out = Vec::new(alloc);
     put_field(
         &mut out,
         is_nullable,
         type_number(data_type),
         &table,
-        &children,
+        children,
         &text,
         &metadata,
     )?;
@@ -159,32 +173,38 @@ fn own_metadata(field: &Field) -> &Metadata
     &field.metadata
 }
 
-// The same of a field that is written.
-fn field_part(alloc: Global, field: &Field) -> Result<Vec<u8>, NoForm>
-    requires { field_form_lem (field_of field.now) ≡ Ok tt }
-    ensures ok { IfOk result (λ part. part.items ≡ field_bytes (field_of field.now)) }
-    ensures fits { OnOk result (FieldFits (field_of field.now)) }
-    ensures size { IfErr result (λ why. IsTooLong why (length (field_bytes (field_of field.now)))) }
+// A field that is written as a table, with all that is inside of it.
+#[cycle(parts)]
+fn field_part(alloc: Global, depth: u8, field: &Field) -> Result<Vec<u8>, NoForm>
+    requires { field_form_lem depth (field_of field.now) ≡ Ok tt }
+    ensures ok { IfOk result (λ part. part.items ≡ field_bytes depth (field_of field.now)) }
+    ensures fits { OnOk result (FieldFits depth (field_of field.now)) }
+    ensures size { IfErr result (λ why. IsTooLong why (length (field_bytes depth (field_of field.now)))) }
 {
+    let parts = field_parts_of(alloc, depth - 1, children_of(field.data_type()))?;
+    let mut children = Vec::new(alloc);
+    put_row(&mut children, 24, &parts)?;
     parts_together(
         alloc,
         field_name(field),
         is_nullable(field),
         field.data_type(),
+        &children,
         own_metadata(field),
     )
 }
 
 // Each field as a table.
-fn field_parts_of(alloc: Global, fields: &[Field]) -> Result<Vec<Vec<u8>>, NoForm>
-    requires { fields_form (map field_of fields.now) ≡ Ok tt }
-    ensures ok { IfOk result (λ parts. parts_of parts.items ≡ map field_bytes (map field_of fields.now)) }
-    ensures fits { OnOk result (AllFit (map field_of fields.now)) }
-    ensures size { IfErr result (λ why. IsTooLong why (length (together (map field_bytes (map field_of fields.now))))) }
+#[cycle(parts)]
+fn field_parts_of(alloc: Global, depth: u8, fields: &[Field]) -> Result<Vec<Vec<u8>>, NoForm>
+    requires { each_form_lem (field_form_lem depth) (map field_of fields.now) ≡ Ok tt }
+    ensures ok { IfOk result (λ parts. parts_of parts.items ≡ map (field_bytes depth) (map field_of fields.now)) }
+    ensures fits { OnOk result (AllByRecursion (FieldFits depth) (map field_of fields.now)) }
+    ensures size { IfErr result (λ why. IsTooLong why (length (together (map (field_bytes depth) (map field_of fields.now))))) }
 {
     let mut parts = Vec::new(alloc);
     for field in fields {
-        let part = field_part(alloc, field)?;
+        let part = field_part(alloc, depth, field)?;
         parts.push(part)?;
     }
     Ok(parts)
@@ -214,7 +234,7 @@ fn schema_bytes_of(alloc: Global, schema: &Schema) -> Result<Vec<u8>, NoForm>
     ensures size { IfErr result (λ why. IsTooLong why (length (part_of (schema_of schema.now)))) }
 {
     let mut fields = Vec::new(alloc);
-    let parts = field_parts_of(alloc, &schema.fields)?;
+    let parts = field_parts_of(alloc, 64, &schema.fields)?;
     put_row(&mut fields, 24, &parts)?;
     let mut metadata = Vec::new(alloc);
     put_metadata(alloc, &mut metadata, &schema.metadata)?;
@@ -231,7 +251,7 @@ pub fn schema_table(alloc: Global, schema: &Schema) -> Result<Vec<u8>, NoForm>
     ensures fits { OnOk result (SchemaFits (schema_of schema.now)) }
     ensures err { IfErr result (IsUnwritten (schema_of schema.now).fields (length (part_of (schema_of schema.now)))) }
 {
-    check_fields(&schema.fields)?;
+    each_form(64, &schema.fields)?;
     let part = schema_bytes_of(alloc, schema)?;
     Ok(part)
 }

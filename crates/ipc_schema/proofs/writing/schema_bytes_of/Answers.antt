@@ -16,7 +16,7 @@ pub returns-in_err-parts-clause-size : goal.returns-in_err-parts-clause-size
 returns-in_err-parts-clause-size c =
     let p = err_from_is_err_and c.from_residual.result c.from_residual.ensures.1 in
     let s : SchemaTree = schema_of c.args.schema.now in
-    let le : length (together (map field_bytes s.fields)) ≤ length (part_of s) = omega (arith, part_long s, row_is_long 24 (map field_bytes s.fields)) in
+    let le : length (together (map (field_bytes 64) s.fields)) ≤ length (part_of s) = omega (arith, part_long s, row_is_long 24 (map (field_bytes 64) s.fields)) in
     let e = rw c.deref.ensures.value at c.in_err-parts.ensures.size in
     rw (p.1, p.2) (too_long_more _ _ _ le e)
 
@@ -24,7 +24,7 @@ pub returns-in_err-put_row-clause-size : goal.returns-in_err-put_row-clause-size
 returns-in_err-put_row-clause-size c =
     let p = err_from_is_err_and c.from_residual-in_err-put_row.result c.from_residual-in_err-put_row.ensures.1 in
     let s : SchemaTree = schema_of c.args.schema.now in
-    let rows : parts_of c.deref-2.result.now ≡ map field_bytes s.fields = rw (c.deref-2.ensures.value, c.in_ok-parts.ensures.ok, c.deref.ensures.value) refl in
+    let rows : parts_of c.deref-2.result.now ≡ map (field_bytes 64) s.fields = rw (c.deref-2.ensures.value, c.in_ok-parts.ensures.ok, c.deref.ensures.value) refl in
     rw (p.1, p.2) (too_long_more _ _ _ (omega (arith, ap (λ (l : List (List ℕ)). length (row_bytes 24 l)) rows, part_long s)) c.in_err-put_row.ensures.size)
 
 pub returns-in_err-put_metadata-clause-size : goal.returns-in_err-put_metadata-clause-size
@@ -37,7 +37,7 @@ pub returns-in_err-put_schema-clause-size : goal.returns-in_err-put_schema-claus
 returns-in_err-put_schema-clause-size c =
     let p = err_from_is_err_and c.from_residual-in_err-put_schema.result c.from_residual-in_err-put_schema.ensures.1 in
     let s : SchemaTree = schema_of c.args.schema.now in
-    let rows : parts_of c.deref-2.result.now ≡ map field_bytes s.fields = rw (c.deref-2.ensures.value, c.in_ok-parts.ensures.ok, c.deref.ensures.value) refl in
+    let rows : parts_of c.deref-2.result.now ≡ map (field_bytes 64) s.fields = rw (c.deref-2.ensures.value, c.in_ok-parts.ensures.ok, c.deref.ensures.value) refl in
     let fields : c.deref-3.result.now ≡ fields_bytes s.fields = rw (c.deref-3.ensures.value, c.in_ok-put_row.ensures.ok, c.new-fields.ensures.items, rows) refl in
     let metadata : c.deref-4.result.now ≡ entries_bytes s.metadata = rw (c.deref-4.ensures.value, c.in_ok-put_metadata.ensures.ok, c.new-metadata.ensures.items) refl in
     let same : schema_bytes c.deref-3.result.now c.deref-4.result.now ≡ part_of s = rw (fields, metadata) refl in
@@ -46,7 +46,7 @@ returns-in_err-put_schema-clause-size c =
 pub returns-clause-ok : goal.returns-clause-ok
 returns-clause-ok c =
     let s : SchemaTree = schema_of c.args.schema.now in
-    let rows : parts_of c.deref-2.result.now ≡ map field_bytes s.fields = rw (c.deref-2.ensures.value, c.in_ok-parts.ensures.ok, c.deref.ensures.value) refl in
+    let rows : parts_of c.deref-2.result.now ≡ map (field_bytes 64) s.fields = rw (c.deref-2.ensures.value, c.in_ok-parts.ensures.ok, c.deref.ensures.value) refl in
     let fields : c.deref-3.result.now ≡ fields_bytes s.fields = rw (c.deref-3.ensures.value, c.in_ok-put_row.ensures.ok, c.new-fields.ensures.items, rows) refl in
     let metadata : c.deref-4.result.now ≡ entries_bytes s.metadata = rw (c.deref-4.ensures.value, c.in_ok-put_metadata.ensures.ok, c.new-metadata.ensures.items) refl in
     rw (c.in_ok-put_schema.ensures.ok, c.new-part.ensures.items, fields, metadata) refl

@@ -1,0 +1,26 @@
+use Rattle.std.proofs.Common.{rules, ◌≡◌, ℕ, Bool, List, Option, length, eqb, ap, sym, ◌∙◌}
+use Rattle.std.specs.Prelude.{ℤ, not}
+use Rattle.std.specs.Option.{option_map}
+use Rattle.nest_memory.specs.TypeOf.{type_of, field_list_of, count_fields-field_list_of}
+use Rattle.nest_memory.specs.TypeTree.{count_fields}
+use Rattle.nest_memory.specs.declared.datatypes.DataType.{the_lemmas}
+use Rattle.ipc_model.specs.declared.fault.NoForm.TheVariants as reasons
+use Rattle.ipc_schema.specs.Types.{are_ids}
+use Rattle.ipc_schema.specs.Forms.{unless, type_form}
+use Rattle.ipc_schema.proofs.type_writing.type_form.Goals as goal
+
+pub returns-in-Struct : goal.returns-in-Struct
+returns-in-Struct c =
+    let e : c.len.result ≡ length c.in-Struct.fields.items = search rules in
+    let f : type_form (type_of c.args.data_type.now) ≡ unless (not (eqb (count_fields (field_list_of c.in-Struct.fields.items)) 0)) reasons.Type = search (rules, the_lemmas) in
+    c.unless-in-Struct.ensures ∙ ap (λ (n : ℕ). unless (not (eqb n 0)) reasons.Type) (e ∙ sym (count_fields-field_list_of c.in-Struct.fields.items)) ∙ sym f
+
+pub returns-in-Union : goal.returns-in-Union
+returns-in-Union c =
+    let ids : Option (List ℤ) = option_map (λ v. v.items) c.in-Union.ids in
+    let e : c.len-in-Union.result ≡ length c.in-Union.fields.items = search rules in
+    let f : type_form (type_of c.args.data_type.now) ≡ unless (are_ids ids (count_fields (field_list_of c.in-Union.fields.items))) reasons.Type = search (rules, the_lemmas) in
+    c.unless-in-Union.ensures
+    ∙ ap (λ (b : Bool). unless b reasons.Type) c.are_ids.ensures
+    ∙ ap (λ (n : ℕ). unless (are_ids ids n) reasons.Type) (e ∙ sym (count_fields-field_list_of c.in-Union.fields.items))
+    ∙ sym f
