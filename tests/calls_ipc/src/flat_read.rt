@@ -199,3 +199,69 @@ fn each_window_is_read_back(rt: HostRuntime) {
         assert!(rt; same, "{}", sample.name);
     }
 }
+
+// Whether columns are read of each beginning of a batch's body, and of each body that differs from it in one byte: an answer comes,
+// and what is read is written and read back.
+fn are_answered(alloc: Global, sample: &Sample) -> Result<usize, Fault> {
+    let bytes = bytes_of(alloc, sample)?;
+    let types = types_of(alloc, sample.name)?;
+    let (_schema, rest) = next_message(&bytes)?;
+    let (Some(message), _) = next_message(rest)? else {
+        return Err(Fault::Truncated);
+    };
+    let root = message.root;
+    let batch = read_batch(
+        alloc,
+        message.metadata,
+        root.header,
+        root.left,
+        root.body_length,
+    )?;
+    let mut body = Vec::new(alloc);
+    body.extend_from_slice(message.body)?;
+    let mut count = 0;
+    for size in 0..body.len() {
+        count += is_read(alloc, &types, &batch, &body[..size])?;
+    }
+    for place in 0..body.len() {
+        let old = body[place];
+        for new in [0, 128, 255, old.wrapping_add(1)] {
+            body[place] = new;
+            count += is_read(alloc, &types, &batch, &body)?;
+        }
+        body[place] = old;
+    }
+    Ok(count)
+}
+
+// 1 where the columns are read, and then read back of what is written of them.
+fn is_read(
+    alloc: Global,
+    types: &[DataType],
+    batch: &BatchMetadata,
+    body: &[u8],
+) -> Result<usize, Fault> {
+    let Ok(columns) = read_by(alloc, types, batch, body) else {
+        return Ok(0);
+    };
+    match again(alloc, types, batch.rows, &columns) {
+        Err(_) => Err(Fault::Memory),
+        Ok(read) => {
+            let read = read?;
+            for i in 0..columns.len() {
+                if read[i] != columns[i] {
+                    return Err(Fault::Memory);
+                }
+            }
+            Ok(1)
+        }
+    }
+}
+
+#[test]
+fn each_beginning_and_each_byte(rt: HostRuntime) {
+    for sample in &READ_FLAT {
+        let count = are_answered(rt.alloc(), sample).expect(&rt, "columns that are not read back");
+        assert!(rt; count > 0 || sample.name == "null", "{}", sample.name);
+    }
+}

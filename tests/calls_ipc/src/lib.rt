@@ -11,7 +11,7 @@
 //! | Each word of flatbuffers once | `words` |
 //! | A column is read from a body, of each kind of whole numbers; each of its faults once | `columns` |
 //! | Columns that are written, byte by byte, of windows too, and read back; kinds that are not written | `bodies` |
-//! | Flat arrays of every kind, of another program: read, or refused; each window of them written and read back | `flat_read` |
+//! | Flat arrays of every kind, of another program: read, or refused; each window written and read back; each beginning of their bodies, and each byte changed | `flat_read` |
 //! | Flat arrays of each kind byte by byte, and each of their faults | `flat_written` |
 //! | Streams that are written, and read back: windows, nothing, streams of others, rows without columns; each reason not to | `streams_written` |
 //! | Each fault once | `faults` |

@@ -1,9 +1,12 @@
-//! A stream that is read, whole and batch by batch, and written again.
+//! A stream that is read, whole and batch by batch, and written again; flat columns that are written into a body and read.
 
 use crate::trial::Trial;
 use drawn_builders::wrong::{Wrong, expect};
 use ipc::{StreamReader, read_stream, write_stream};
+use ipc_layout::{Left, place_columns, put_columns, read_columns};
 use ipc_model::{Fault, NoForm};
+use nest_array::nulls::new_null_array;
+use nest_memory::datatypes::DataType;
 use nest_memory::error::Error;
 use std::alloc::{AllocError, Global};
 
@@ -60,11 +63,38 @@ fn first_batch(alloc: Global) -> Result<usize, Error> {
     }
 }
 
+/// How many columns are read of a body, once they were written: three nulls of each flat kind.
+fn columns(alloc: Global) -> Result<usize, Error> {
+    let types = [
+        DataType::Null,
+        DataType::Boolean,
+        DataType::Decimal256(9, 2),
+        DataType::FixedSizeBinary(5),
+        DataType::Binary,
+        DataType::LargeUtf8,
+    ];
+    let mut columns = Vec::new(alloc);
+    for data_type in &types {
+        columns.push(new_null_array(alloc, data_type.clone(alloc)?, 3)?)?;
+    }
+    let placed = place_columns(alloc, &columns).map_err(unwritten)?;
+    let mut body = Vec::new(alloc);
+    put_columns(&mut body, &columns).map_err(unwritten)?;
+    let left = Left {
+        nodes: &placed.nodes,
+        regions: &placed.regions,
+    };
+    let read = read_columns(alloc, &types, 3, &body, left).map_err(refused)?;
+    Ok(read.len())
+}
+
 pub fn both_ways(trial: &mut Trial, alloc: Global) -> Result<(), Wrong> {
     let batches = trial.again(|| whole(alloc))?;
     expect(batches == 1, "another number of batches")?;
     let rows = trial.again(|| first_batch(alloc))?;
     expect(rows == 2, "another number of rows")?;
     let bytes = trial.again(|| written(alloc))?;
-    expect(bytes > 0 && bytes % 8 == 0, "another number of bytes")
+    expect(bytes > 0 && bytes % 8 == 0, "another number of bytes")?;
+    let read = trial.again(|| columns(alloc))?;
+    expect(read == 6, "another number of columns")
 }
