@@ -97,7 +97,7 @@ fn tell_rows<T: Copy, R: Clock + Print + AllocGlobal>(
     item: T,
     measured: bool,
 ) -> Result<()> {
-    let all = raw::rows(rt.alloc(), size.arrays, size.rows, item)?;
+    let all = raw::made_rows(rt.alloc(), size.arrays, size.rows, item)?;
     drop(raw::join_rows(rt.alloc(), &all)?);
     let begun = begin(rt, measured)?;
     let joined = raw::join_rows(rt.alloc(), &all)?;

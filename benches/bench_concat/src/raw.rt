@@ -39,7 +39,7 @@ pub fn join_vectors<T: Copy>(alloc: Global, all: &[Vec<T>]) -> Result<Vec<T>, Al
 }
 
 /// Some vectors of n rows of eight items each.
-pub fn rows<T: Copy>(
+pub fn made_rows<T: Copy>(
     alloc: Global,
     count: usize,
     n: usize,

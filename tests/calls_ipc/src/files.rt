@@ -5,10 +5,10 @@ use crate::samples_read::bytes_of;
 use crate::streams::WORKED;
 use crate::texts::{answer, file_answer, is_file_read, put_batch};
 use ipc::{FileReader, read_file, read_stream, write_file};
-use ipc_footer::{Block, Footer, read_footer, write_footer};
-use ipc_message::{Kind, next_message};
+use ipc_footer::{Block, block_bytes, read_footer, write_footer};
+use ipc_message::{Kind, Version, next_message, version_of};
 use ipc_model::Fault;
-use ipc_schema::read_schema;
+use ipc_schema::{in_version, read_schema, schema_at, schema_table};
 use std::alloc::Global;
 
 #[test]
@@ -70,7 +70,7 @@ pub fn file_with(
     }
 }
 
-// What the file of a stream is; its blocks in another order, if asked.
+// What the file of a stream is.
 fn as_file(alloc: Global, stream: &[u8]) -> Result<String, Fault> {
     let blocks = blocks_of(alloc, stream)?;
     let file = file_with(alloc, stream, &[], &blocks)?;
@@ -115,7 +115,7 @@ fn streams_of_others_are_written_as_files(rt: HostRuntime) {
     assert!(rt; again.as_str() == answer(alloc, &WORKED).expect(&rt, "a text").as_str());
 }
 
-// The file of the sample with three batches or more.
+// A stream of three batches, of 7, 8 and 9, each with a null.
 fn three_batches(alloc: Global) -> Result<Vec<u8>, Fault> {
     let mut stream = Vec::new(alloc);
     stream.extend_from_slice(&WORKED[..288])?;
@@ -144,6 +144,10 @@ fn batches_in_any_order(rt: HostRuntime) {
     let blocks = blocks_of(alloc, &stream).expect(&rt, "blocks");
     assert!(rt; blocks.len() == 3);
     let file = file_with(alloc, &stream, &[], &blocks).expect(&rt, "a file");
+    let message = block_bytes(&file, blocks[2]);
+    assert!(rt; message.len() == 160 && message[152] == 9);
+    let reader = FileReader::new(alloc, &file).expect(&rt, "a reader");
+    assert!(rt; reader.len() == 3 && reader.schema().fields.len() == 1);
     let text = asked(alloc, &file, &[2, 0, 1, 2]).expect(&rt, "a text");
     assert!(rt;
         text.as_str() == "batch 2\nrow 9\nrow N\nbatch 2\nrow 7\nrow N\nbatch 2\nrow 8\nrow N\nbatch 2\nrow 9\nrow N\n"
@@ -162,7 +166,6 @@ fn batches_in_the_order_of_the_footer(rt: HostRuntime) {
     );
 }
 
-// A schema's stream whose messages aren't looked at: what stands between is anything.
 #[test]
 fn what_no_block_names_is_not_read(rt: HostRuntime) {
     let alloc = rt.alloc();
@@ -193,4 +196,17 @@ fn the_footer_of_a_file(rt: HostRuntime) {
                 body_length: 0
             }
     );
+}
+
+#[test]
+fn the_table_of_a_schema(rt: HostRuntime) {
+    let alloc = rt.alloc();
+    let (schema, _) = read_schema(alloc, &WORKED).expect(&rt, "a schema");
+    let part = schema_table(alloc, &schema).expect(&rt, "a table");
+    let (again, left) = schema_at(alloc, &part, 16, 64 * part.len()).expect(&rt, "a schema");
+    assert!(rt; left < 64 * part.len());
+    assert!(rt; again.fields.len() == 1 && again.fields[0].name.as_str() == "a");
+    assert!(rt; version_of(3) == Ok(Version::V4));
+    assert!(rt; version_of(5) == Err(Fault::Version));
+    assert!(rt; in_version(Version::V4, &again.fields) == Ok(()));
 }
