@@ -7,20 +7,21 @@ use Rattle.std.proofs.lemmas.List.{drop-map, map-append, take-map}
 use Rattle.std.proofs.lemmas.List.Sums.{sum_by-cons}
 use Rattle.nest_memory.specs.Cut.{cut}
 use Rattle.nest_memory.specs.Physical.{physical_type}
-use Rattle.nest_memory.specs.TypeTree.{TypeTree, size_of}
+use Rattle.nest_memory.specs.TypeTree.{TypeTree, logical_type, size_of}
 use Rattle.nest_memory.specs.declared.datatypes.physical_type.PhysicalType.TheVariants as physical
 use Rattle.nest_memory.specs.declared.datatypes.physical_type.PrimitiveType.{PrimitiveType}
 use Rattle.nest_model.specs.Accessors.{validity_of, bits_of, natives_of, bytes_of}
 use Rattle.nest_model.specs.Array.{TopFits}
 use Rattle.nest_model.specs.Fits.{Fits, ValidityFits}
 use Rattle.nest_model.specs.Layout.{Layout, null, boolean, primitive, fixed_size_binary, layout_type}
-use Rattle.nest_model.specs.Meaning.{len, slot}
+use Rattle.nest_model.specs.Meaning.{len, slot, where_valid}
 use Rattle.nest_model.specs.Part.{Validity}
 use Rattle.nest_model.specs.Runs.{cut-cut, length-cut, product-end, product-exact, product-fits}
 use Rattle.nest_model.specs.Slot as slots
 use Rattle.nest_array.specs.WindowParts.{WindowParts}
 use Rattle.nest_concat.specs.Joined.{AreWithin, IsJoined}
 use Rattle.nest_concat.specs.Windows.{blocks_in, count_of, count_slots, joined_validity, natives_in, truths_in}
+use Rattle.nest_concat.proofs.Logical.{kind-alike, size-alike}
 use Rattle.nest_concat.proofs.Pieces.{AreLong, cut-flat, flat-length}
 use Rattle.nest_concat.proofs.Shapes.{null-shape, boolean-shape, primitive-shape, fixed_size_binary-shape}
 use Rattle.nest_concat.proofs.Windows.{joined-fits, joined-slots, nowhere, place_of, same-slot, validity-at, values-at, values-count, window}
@@ -33,7 +34,7 @@ null-joined t u ws n h p e c = (
     slots = joined-slots t (null u n) ws h c (λ k j l m.
         let w = window ws k in
         let f = h k nowhere l in
-        sym (ap (λ z. slot z (w.offset + j)) (null-shape w.array f.is_array (ap physical_type f.same_type ∙ p))));
+        sym (ap (λ z. slot z (w.offset + j)) (null-shape w.array f.is_array (kind-alike (layout_type w.array) t _ f.same_type p))));
     same_type = e;
   },
 )
@@ -64,8 +65,8 @@ boolean-core : (t : TypeTree) (ws : List WindowParts) → AreWithin t ws → phy
 boolean-core t ws h p =
     let bs = flat_map truths_in ws in
     let v = joined_validity ws in
-    let shape : (w : WindowParts) → TopFits w.array → layout_type w.array ≡ t → w.array ≡ boolean (layout_type w.array) (bits_of w.array) (validity_of w.array)
-    = λ w f e. boolean-shape w.array f (ap physical_type e ∙ p) in
+    let shape : (w : WindowParts) → TopFits w.array → logical_type (layout_type w.array) ≡ logical_type t → w.array ≡ boolean (layout_type w.array) (bits_of w.array) (validity_of w.array)
+    = λ w f e. boolean-shape w.array f (kind-alike (layout_type w.array) t _ e p) in
     let inside : All (λ w. w.offset + w.count ≤ length (bits_of w.array)) ws = λ i d l.
     let f = h i d l in
     omega (arith, f.within, ap len (shape (get_or ws i d) f.is_array f.same_type)) in
@@ -93,8 +94,8 @@ primitive-core : (q : PrimitiveType) (t : TypeTree) (ws : List WindowParts) → 
 primitive-core q t ws h p =
     let vs = flat_map natives_in ws in
     let v = joined_validity ws in
-    let shape : (w : WindowParts) → TopFits w.array → layout_type w.array ≡ t → w.array ≡ primitive q (layout_type w.array) (natives_of w.array) (validity_of w.array)
-    = λ w f e. primitive-shape q w.array f (ap physical_type e ∙ p) in
+    let shape : (w : WindowParts) → TopFits w.array → logical_type (layout_type w.array) ≡ logical_type t → w.array ≡ primitive q (layout_type w.array) (natives_of w.array) (validity_of w.array)
+    = λ w f e. primitive-shape q w.array f (kind-alike (layout_type w.array) t _ e p) in
     let inside : All (λ w. w.offset + w.count ≤ length (natives_of w.array)) ws = λ i d l.
     let f = h i d l in
     omega (arith, f.within, ap len (shape (get_or ws i d) f.is_array f.same_type)) in
@@ -156,12 +157,13 @@ fixed-core t ws h p z =
     let s = size_of t in
     let bs = flat_map (blocks_in s) ws in
     let v = joined_validity ws in
-    let shape : (w : WindowParts) → TopFits w.array → layout_type w.array ≡ t → w.array ≡ fixed_size_binary t (bytes_of w.array) (validity_of w.array)
-    = λ w f e. fixed_size_binary-shape w.array f (ap physical_type e ∙ p) ∙ ap (λ y. fixed_size_binary y (bytes_of w.array) (validity_of w.array)) e in
+    let shape : (w : WindowParts) → TopFits w.array → logical_type (layout_type w.array) ≡ logical_type t → w.array ≡ fixed_size_binary (layout_type w.array) (bytes_of w.array) (validity_of w.array)
+    = λ w f e. fixed_size_binary-shape w.array f (kind-alike (layout_type w.array) t _ e p) in
     let inside : All (λ w. w.offset * s + w.count * s ≤ length (bytes_of w.array)) ws = λ i d l.
     let f = h i d l in
     let w = get_or ws i d in
-    product-fits w.offset w.count (length (bytes_of w.array)) s (omega (arith, f.within, ap len (shape w f.is_array f.same_type))) in
+    let z = ap (λ n. length (bytes_of w.array) / n) (size-alike (layout_type w.array) t f.same_type) in
+    product-fits w.offset w.count (length (bytes_of w.array)) s (omega (arith, f.within, ap len (shape w f.is_array f.same_type), z)) in
     let c = blocks-count s (λ (w : WindowParts). bytes_of w.array) ws inside in
     let n : length bs / s ≡ count_slots ws = ap (λ x. x / s) c ∙ mul-div_cancel (count_slots ws) z in
     let m : length bs % s ≡ 0 = ap (λ x. x % s) c ∙ product-exact (count_slots ws) s in (
@@ -171,6 +173,7 @@ fixed-core t ws h p z =
             let w = window ws k in
             let f = h k nowhere l in
             same-slot _ _ _ _ (validity-at t ws k j h l q) (ap slots.bytes (block-at s (λ (x : WindowParts). bytes_of x.array) ws k j inside l q))
+            ∙ sym (ap (λ n. where_valid (validity_of w.array) (w.offset + j) (slots.bytes (cut (bytes_of w.array) ((w.offset + j) * n) n))) (size-alike (layout_type w.array) t f.same_type))
             ∙ sym (ap (λ y. slot y (w.offset + j)) (shape w f.is_array f.same_type)));
         same_type = refl;
       },

@@ -1,18 +1,19 @@
 -- What one window, or one row, more adds.
-use Rattle.std.specs.Prelude.{OnOk, Some, slice_get, List, [], ◌∷◌, ◌++◌, ◌||◌, is_some, map, length, get_or}
+use Rattle.std.specs.Prelude.{ℤ, pos, ◌⊎◌, IfErr, IfOk, IsOkUnless, Some, slice_get, List, [], ◌∷◌, ◌++◌, ◌||◌, is_some, map, length, get_or}
 use Rattle.std.specs.List.{flat_map, sum_by}
-use Rattle.std.proofs.Common.{◌≡◌, ℕ, Result, Ok, Err, sum, zero, suc, ◌+◌, ◌-◌, ◌<◌, ◌≤◌, Bool, true, false, take, drop, refl, ap, sym, ◌∙◌, arith, length-append, length-drop, append-nil, append_assoc}
-use Rattle.std.proofs.lemmas.List.{drop_all, drop_more, flat_map_more, get_or-drop, get_or_push, map_more, take_all, take_more}
-use Rattle.std.proofs.lemmas.List.Sums.{sum_by-cons, sum_by_more, sum_by_more_le}
+use Rattle.std.proofs.lemmas.Bool.{le-leb}
+use Rattle.std.proofs.Common.{inl, inr, leb, ◌≡◌, ℕ, Result, Ok, Err, sum, zero, suc, ◌+◌, ◌-◌, ◌<◌, ◌≤◌, Bool, true, false, take, drop, refl, ap, sym, ◌∙◌, arith, length-drop, append_assoc}
+use Rattle.std.proofs.lemmas.List.{map-append, drop_all, drop_more, flat_map_more, get_or-drop, map_more, take_all, take_more}
+use Rattle.std.proofs.lemmas.List.Sums.{sum_by-append, sum_by-cons, sum_by_more, sum_by_more_le}
 use Rattle.std.proofs.lemmas.Option.{get_or_from_slice_get}
 use Rattle.nest_memory.specs.Cut.{cut}
-use Rattle.nest_memory.specs.Rising.{ends_from, last_of}
+use Rattle.nest_memory.specs.Rising.{are_offsets, ends_from, numbers, rises_from, to_nat}
 use Rattle.nest_model.specs.Array.{AreOffsets}
 use Rattle.nest_model.specs.Part.{begin, extent, count_rows}
 use Rattle.nest_model.specs.Accessors.{offsets_of, validity_of}
 use Rattle.nest_array.specs.WindowParts.{WindowParts}
 use Rattle.nest_concat.specs.Windows.{count_items, extents, extents_in, have_bits}
-use Rattle.nest_concat.proofs.Pieces.{ends, ends-last, extents-length, extents-sum}
+use Rattle.nest_concat.proofs.Pieces.{begin-rises, ends, extents-length, extents-sum}
 
 -- one more
 pub flat-more : {X A : Type 0} (f : X → List A) (xs : List X) (i : ℕ) (x : X) → i < length xs → x ≡ get_or xs i x → flat_map f (take (i + 1) xs) ≡ flat_map f (take i xs) ++ f x
@@ -32,11 +33,6 @@ pub map-more : {X Y : Type 0} (f : X → Y) (xs : List X) (i : ℕ) (x : X) → 
 map-more f xs i x h e = map_more f xs i x h ∙ ap (λ y. map f (take i xs) ++ f y ∷ []) (sym e)
 
 -- offsets
-pub last-push : (ns : List ℕ) (n : ℕ) → last_of (ns ++ n ∷ []) ≡ n
-last-push ns n =
-    let e : length (ns ++ n ∷ []) - 1 ≡ length ns = omega (arith, length-append ns (n ∷ [])) in
-    ap (λ i. get_or (ns ++ n ∷ []) i 0) e ∙ get_or_push ns n 0 (length ns) refl
-
 from-append : (a : ℕ) (ls ms : List ℕ) → ends_from a (ls ++ ms) ≡ ends_from a ls ++ ends_from (a + sum ls) ms
 from-append a [] ms = let e : a ≡ a + sum [] = omega arith in ap (λ z. ends_from z ms) e
 from-append a (l ∷ ls) ms =
@@ -56,32 +52,81 @@ extents-all os o n h l =
     let f = ap sum (take_all n (extents os o n) (omega (arith, extents-length os o n))) in
     omega (arith, e, f)
 
--- one row more behind others
-pub rows-more : (old es os : List ℕ) (o i m : ℕ) → AreOffsets os → o + i + 1 ≤ count_rows os → es ≡ old ++ ends_from (last_of old) (extents os o i)
-    → last_of es + begin os o ≡ last_of old + begin os (o + i) → m ≡ extent os (o + i) → es ++ (last_of es + m) ∷ [] ≡ old ++ ends_from (last_of old) (extents os o (i + 1))
-rows-more old es os o i m h l e f g =
-    let a = extents-all os o i h (omega arith) in
-    let b : last_of es + m ≡ last_of old + sum (extents os o i) + extent os (o + i) = omega (arith, a, f, g) in
-    ap (λ z. es ++ z ∷ []) b
-    ∙ ap (λ zs. zs ++ (last_of old + sum (extents os o i) + extent os (o + i)) ∷ []) e
-    ∙ append_assoc old (ends_from (last_of old) (extents os o i)) ((last_of old + sum (extents os o i) + extent os (o + i)) ∷ [])
-    ∙ ap (λ zs. old ++ zs) (sym (from-append (last_of old) (extents os o i) (extent os (o + i) ∷ [])))
-    ∙ ap (λ zs. old ++ ends_from (last_of old) zs) (sym (extents-more os o i))
+-- the end of one row more
+pub ends-row : (a : ℕ) (os : List ℕ) (o i n : ℕ) → AreOffsets os → o + i + 1 ≤ count_rows os → n + begin os o ≡ a + begin os (o + i + 1) → ends_from a (extents os o (i + 1)) ≡ ends_from a (extents os o i) ++ n ∷ []
+ends-row a os o i n h l e =
+    let one : List ℕ = extent os (o + i) ∷ [] in
+    let all = extents-all os o (i + 1) h (omega arith) in
+    let place : o + (i + 1) ≡ o + i + 1 = omega arith in
+    let parts : sum (extents os o (i + 1)) ≡ sum (extents os o i) + sum one = ap sum (extents-more os o i) ∙ sum_by-append (λ (z : ℕ). z) (extents os o i) one in
+    let last : sum one ≡ extent os (o + i) = omega (arith, sum_by-cons (λ (z : ℕ). z) (extent os (o + i)) []) in
+    let b : a + sum (extents os o i) + extent os (o + i) ≡ n = omega (arith, all, ap (begin os) place, parts, last, e) in
+    ap (ends_from a) (extents-more os o i) ∙ from-append a (extents os o i) one ∙ ap (λ z. ends_from a (extents os o i) ++ z ∷ []) b
 
-pub no-rows : (old os : List ℕ) (o : ℕ) → old ≡ old ++ ends_from (last_of old) (extents os o 0)
-no-rows old os o = sym (append-nil old)
+-- a window's rows have as many items as it has
+pub rows-sum : (w : WindowParts) (os : List ℕ) (o n : ℕ) → AreOffsets os → o + n ≤ count_rows os → os ≡ offsets_of w.array → o ≡ w.offset → n ≡ w.count → count_items w ≡ sum (extents_in w)
+rows-sum w os o n h l e f k =
+    let all = extents-all os o n h l in
+    let items : begin os (o + n) - begin os o ≡ count_items w = ap (λ s. begin s (o + n) - begin s o) e ∙ ap (λ z. begin (offsets_of w.array) (z + n) - begin (offsets_of w.array) z) f ∙ ap (λ z. begin (offsets_of w.array) (w.offset + z) - begin (offsets_of w.array) w.offset) k in
+    let rows : sum (extents os o n) ≡ sum (extents_in w) = ap (λ s. sum (extents s o n)) e ∙ ap (λ z. sum (extents (offsets_of w.array) z n)) f ∙ ap (λ z. sum (extents (offsets_of w.array) w.offset z)) k in
+    omega (arith, all, items, rows)
+
+-- the end of a row lies within what its window ends with
+pub end-within : (os : List ℕ) (o i n a b base largest : ℕ) → AreOffsets os → i < n → o + n ≤ count_rows os → a ≡ begin os o → begin os (o + i + 1) ≡ b → base + begin os (o + n) ≤ largest + begin os o
+    → (a ≤ b) × (base + (b - a) ≤ largest)
+end-within os o i n a b base largest h l m e f r =
+    let before = begin-rises os o (i + 1) h (omega arith) in
+    let place : o + (i + 1) ≡ o + i + 1 = omega arith in
+    let behind = begin-rises os (o + i + 1) (n - i - 1) h (omega arith) in
+    let end : o + i + 1 + (n - i - 1) ≡ o + n = omega arith in
+    (omega (arith, before, ap (begin os) place, e, f), omega (arith, before, ap (begin os) place, behind, ap (begin os) end, e, f, r))
+
+-- offsets behind others, and one more behind them
+pub offset-more : {A : Type 0} (f : A → ℤ) (old es new : List A) (x : A) (ns ms : List ℕ) (n : ℕ) → map f es ≡ map f old ++ map (λ k. pos k) ns → new ≡ es ++ x ∷ [] → f x ≡ pos n → ms ≡ ns ++ n ∷ []
+    → map f new ≡ map f old ++ map (λ k. pos k) ms
+offset-more f old es new x ns ms n h e k m =
+    ap (map f) e
+    ∙ map-append f es (x ∷ [])
+    ∙ ap (λ z. map f es ++ z ∷ []) k
+    ∙ ap (λ zs. zs ++ pos n ∷ []) h
+    ∙ append_assoc (map f old) (map (λ k. pos k) ns) (pos n ∷ [])
+    ∙ ap (λ zs. map f old ++ zs) (sym (map-append (λ k. pos k) ns (n ∷ [])) ∙ ap (map (λ k. pos k)) (sym m))
 
 -- the rows of one window more
-pub ends-more : (ws : List WindowParts) (es new : List ℕ) (i : ℕ) (w : WindowParts) → i < length ws → w ≡ get_or ws i w → es ≡ ends (flat_map extents_in (take i ws))
-    → new ≡ es ++ ends_from (last_of es) (extents_in w) → new ≡ ends (flat_map extents_in (take (i + 1) ws))
-ends-more ws es new i w h s e f =
+pub ends-more : {A : Type 0} (f : A → ℤ) (ws : List WindowParts) (es new : List A) (i a : ℕ) (w : WindowParts) → i < length ws → w ≡ get_or ws i w → map f es ≡ map (λ k. pos k) (ends (flat_map extents_in (take i ws)))
+    → a ≡ sum (flat_map extents_in (take i ws)) → map f new ≡ map f es ++ map (λ k. pos k) (ends_from a (extents_in w)) → map f new ≡ map (λ k. pos k) (ends (flat_map extents_in (take (i + 1) ws)))
+ends-more f ws es new i a w h s e g k =
     let ls = flat_map extents_in (take i ws) in
-    let a : last_of es ≡ 0 + sum ls = omega (arith, ap last_of e, ends-last ls) in
-    f
-    ∙ ap (λ z. es ++ ends_from z (extents_in w)) a
-    ∙ ap (λ zs. zs ++ ends_from (0 + sum ls) (extents_in w)) e
-    ∙ ap (λ zs. 0 ∷ zs) (sym (from-append 0 ls (extents_in w)))
-    ∙ ap ends (sym (flat-more extents_in ws i w h s))
+    let start : 0 + sum ls ≡ a = omega (arith, g) in
+    let more : ends (flat_map extents_in (take (i + 1) ws)) ≡ ends ls ++ ends_from a (extents_in w) =
+    ap ends (flat-more extents_in ws i w h s) ∙ ap (λ zs. 0 ∷ zs) (from-append 0 ls (extents_in w) ∙ ap (λ z. ends_from 0 ls ++ ends_from z (extents_in w)) start) in
+    k
+    ∙ ap (λ zs. zs ++ map (λ k. pos k) (ends_from a (extents_in w))) e
+    ∙ sym (map-append (λ k. pos k) (ends ls) (ends_from a (extents_in w)))
+    ∙ ap (map (λ k. pos k)) (sym more)
+
+-- offsets that are ends of rows, from 0 on, never fall
+ends-rise : (low a : ℕ) (ls : List ℕ) → low ≤ a → rises_from low (map (λ k. pos k) (ends_from a ls)) ≡ true
+ends-rise low a [] h = refl
+ends-rise low a (l ∷ ls) h =
+    let first : leb low (a + l) ≡ true = le-leb _ _ (omega arith) in
+    rw (first, ends-rise (a + l) (a + l) ls (omega arith)) refl
+
+pub ends-are-offsets : {A : Type 0} (f : A → ℤ) (es : List A) (ls : List ℕ) → map f es ≡ map (λ k. pos k) (ends ls) → are_offsets (map f es) ≡ true
+unfolding are_offsets
+ends-are-offsets f es ls h = rw (h, ends-rise 0 0 ls (omega arith)) refl
+
+numbers-of : (ns : List ℕ) → map to_nat (map (λ k. pos k) ns) ≡ ns
+numbers-of [] = refl
+numbers-of (n ∷ ns) = ap (λ zs. n ∷ zs) (numbers-of ns)
+
+numbers-read : {A : Type 0} (f : A → ℤ) (es : List A) → map (λ x. to_nat (f x)) es ≡ map to_nat (map f es)
+numbers-read f [] = refl
+numbers-read f (x ∷ es) = ap (λ zs. to_nat (f x) ∷ zs) (numbers-read f es)
+
+pub ends-are-numbers : {A : Type 0} (f : A → ℤ) (es : List A) (ns : List ℕ) → map f es ≡ map (λ k. pos k) ns → numbers f es ≡ ns
+unfolding numbers
+ends-are-numbers f es ns h = numbers-read f es ∙ ap (map to_nat) h ∙ numbers-of ns
 
 -- bits of validities
 pub have-more : (ws : List WindowParts) (i : ℕ) (w : WindowParts) (b : Bool) → i < length ws → w ≡ get_or ws i w → have_bits (drop i ws) ≡ have_bits ws → b ≡ is_some (validity_of w.array)
@@ -105,14 +150,12 @@ cut-more xs o n x h e =
 pub read-offset : (os : List ℕ) (i n : ℕ) → slice_get os i ≡ Some n → begin os i ≡ n
 read-offset os i n e = get_or_from_slice_get os i n 0 e
 
--- the last offset after the rows of a window
-pub window-last : (w : WindowParts) (os : List ℕ) (o n a b : ℕ) → os ≡ offsets_of w.array → o ≡ w.offset → n ≡ w.count → begin os o ≤ begin os (o + n)
-    → a + begin os o ≡ b + begin os (o + n) → a ≡ b + count_items w
-window-last w os o n a b e f g h k =
-    let p = ap (λ s. begin s o) e ∙ ap (begin (offsets_of w.array)) f in
-    let q = ap (λ s. begin s (o + n)) e ∙ ap (λ x. begin (offsets_of w.array) (x + n)) f ∙ ap (λ x. begin (offsets_of w.array) (w.offset + x)) g in
-    omega (arith, p, q, h, k)
+pub if-ok : {A E : Type 0} (r : Result A E) (P Q : A → Type 0) → ((x : A) → P x → Q x) → IfOk r P → IfOk r Q
+if-ok (Ok x) P Q f h = f x h
+if-ok (Err e) P Q f h = tt
 
-pub on-ok : {A E : Type 0} (r : Result A E) (P Q : Type 0) → (P → Q) → OnOk r P → OnOk r Q
-on-ok (Ok x) P Q f h = f h
-on-ok (Err e) P Q f h = tt
+-- of two errors the one that can't come
+pub one-error : {A E : Type 0} (r : Result A E) (a b : E) → (r ≡ Err a → ⊥) → IfErr r (λ e. (e ≡ a) ⊎ (e ≡ b)) → IsOkUnless r b
+one-error (Ok x) a b n h = tt
+one-error (Err e) a b n (inl h) = absurd (n (ap Err h))
+one-error (Err e) a b n (inr h) = h

@@ -14,10 +14,11 @@ use Rattle.nest_model.specs.Array.{TopFits}
 use Rattle.nest_model.specs.FactLaws.{binary-facts, fixed_size_binary-facts, fixed_size_list-facts, list-facts, map-facts, struct-facts, text-facts}
 use Rattle.nest_model.specs.Decide.{pass-no_fault}
 use Rattle.nest_model.specs.Fits.{Fits, FirstFault, checks}
-use Rattle.nest_model.specs.Layout.{Layout, Layouts, boolean, binary, text, fixed_size_binary, fixed_size_list, list, map as map_of, struct, layout_type}
+use Rattle.nest_model.specs.Layout.{Layout, Layouts, boolean, binary, text, fixed_size_binary, fixed_size_list, list, map as map_of, struct, union, layout_type, dictionary}
 use Rattle.nest_model.specs.Part.{Validity}
 use Rattle.nest_concat.specs.Joined.{AreOfKind, AreWithin, IsJoined, RefusesJoin, first_array}
 use Rattle.nest_concat.specs.Limits.{PassesLength, PassesLimits, PassesOffsets}
+use Rattle.nest_concat.proofs.Logical.{kind-alike}
 
 -- the first window is over the first array
 pub first-is : (ws : List WindowParts) (w : WindowParts) → 0 < length ws → w ≡ get_or ws 0 w → first_array ws ≡ w.array
@@ -25,7 +26,7 @@ first-is [] w h e = absurd (omega arith)
 first-is (x ∷ ws) w h e = sym (ap (λ z. z.array) e)
 
 pub of-kind : (t : TypeTree) (p : PhysicalType) (ws : List WindowParts) → AreWithin t ws → physical_type t ≡ p → AreOfKind p ws
-of-kind t p ws h e = λ i d l. ap physical_type (h i d l).same_type ∙ e
+of-kind t p ws h e = λ i d l. kind-alike (layout_type (get_or ws i d).array) t p (h i d l).same_type e
 
 pub passes-length : (a : Layout) (ws : List WindowParts) → PassesLength ws → PassesLimits a ws
 passes-length (binary l t os bs va) ws h = inl h
@@ -34,10 +35,12 @@ passes-length (fixed_size_list t c va) ws h = inl h
 passes-length (list l t os c va) ws h = inl h
 passes-length (map_of t os c va) ws h = inl h
 passes-length (struct t cs va) ws h = inl h
+passes-length (union t ks cs os start) ws h = inl h
+passes-length (dictionary t ks c) ws h = inl h
 passes-length a ws h = h
 
 pub refuses-length : (e : Error) (a : Layout) (ws : List WindowParts) → e ≡ Overflow → PassesLength ws → RefusesJoin e a ws
-refuses-length e a ws o h = inr (inl (o, passes-length a ws h))
+refuses-length e a ws o h = inr (o, passes-length a ws h)
 
 -- what is joined of the first array's kind is joined
 pub arm-ok : (r : Result AnyArray Error) (a f : Layout) (ws : List WindowParts) → f ≡ a → IfOk r (λ b. IsJoined (layout_type a) ws (layout_of b)) → IfOk r (λ b. IsJoined (layout_type f) ws (layout_of b))
@@ -72,20 +75,20 @@ made-memory (Err e) p t ws h f = absurd (pass-no_fault (checks p) e f.0 h)
 pub bytes-refuse : (large : Bool) (e : Error) (a : Layout) (t : TypeTree) (os bs : List ℕ) (va : Validity) (ws : List WindowParts) → a ≡ binary large t os bs va
     → (e ≡ Memory alloc_error) ⊎ ((e ≡ Overflow) × PassesOffsets large ws) → RefusesJoin e a ws
 bytes-refuse large e a t os bs va ws k (inl m) = inl m
-bytes-refuse large e a t os bs va ws k (inr p) = inr (inl (p.0, subst (λ z. PassesLimits z ws) (sym k) (inr p.1)))
+bytes-refuse large e a t os bs va ws k (inr p) = inr (p.0, subst (λ z. PassesLimits z ws) (sym k) (inr p.1))
 
 pub texts-refuse : (large : Bool) (e : Error) (a : Layout) (t : TypeTree) (os bs : List ℕ) (va : Validity) (ws : List WindowParts) → a ≡ text large t os bs va
     → (e ≡ Memory alloc_error) ⊎ ((e ≡ Overflow) × PassesOffsets large ws) → RefusesJoin e a ws
 texts-refuse large e a t os bs va ws k (inl m) = inl m
-texts-refuse large e a t os bs va ws k (inr p) = inr (inl (p.0, subst (λ z. PassesLimits z ws) (sym k) (inr p.1)))
+texts-refuse large e a t os bs va ws k (inr p) = inr (p.0, subst (λ z. PassesLimits z ws) (sym k) (inr p.1))
 
 pub lists-refuse : (large : Bool) (e : Error) (a : Layout) (t : TypeTree) (os : List ℕ) (c : Layout) (va : Validity) (ws : List WindowParts) → a ≡ list large t os c va
     → e ≡ Overflow → PassesOffsets large ws → RefusesJoin e a ws
-lists-refuse large e a t os c va ws k o p = inr (inl (o, subst (λ z. PassesLimits z ws) (sym k) (inr (inl p))))
+lists-refuse large e a t os c va ws k o p = inr (o, subst (λ z. PassesLimits z ws) (sym k) (inr (inl p)))
 
 pub maps-refuse : (e : Error) (a : Layout) (t : TypeTree) (os : List ℕ) (c : Layout) (va : Validity) (ws : List WindowParts) → a ≡ map_of t os c va
     → e ≡ Overflow → PassesOffsets false ws → RefusesJoin e a ws
-maps-refuse e a t os c va ws k o p = inr (inl (o, subst (λ z. PassesLimits z ws) (sym k) (inr (inl p))))
+maps-refuse e a t os c va ws k o p = inr (o, subst (λ z. PassesLimits z ws) (sym k) (inr (inl p)))
 
 -- where a number is not past its type, memory alone was wanting
 pub only-memory : {T : Type 0} (e : Error) (m n : ℕ) → (IsErrOf {T = T} {E = Error} (Err e) Overflow → m < n) → n ≤ m → (e ≡ Overflow) ⊎ (e ≡ Memory alloc_error) → e ≡ Memory alloc_error

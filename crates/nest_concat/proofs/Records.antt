@@ -3,9 +3,10 @@ use Rattle.std.specs.Prelude.{List, map, length, get_or}
 use Rattle.std.specs.List.{All, flat_map}
 use Rattle.std.proofs.Common.{◌≡◌, ℕ, zero, suc, ◌+◌, ◌<◌, ◌≤◌, inl, inr, refl, ap, sym, ◌∙◌, subst, arith}
 use Rattle.std.proofs.lemmas.List.Folds.{flat_map-map}
+use Rattle.nest_memory.specs.Cut.{cut}
 use Rattle.nest_memory.specs.Physical.{physical_type}
 use Rattle.nest_memory.specs.TypeTree as types
-use Rattle.nest_memory.specs.TypeTree.{TypeTree, FieldTrees, no_fields, more_fields, field_type, fields_of, count_fields}
+use Rattle.nest_memory.specs.TypeTree.{TypeTree, logical_type, FieldTrees, no_fields, more_fields, field_type, fields_of, count_fields}
 use Rattle.nest_memory.specs.declared.datatypes.physical_type.PhysicalType.TheVariants as physical
 use Rattle.nest_memory.specs.declared.error.Error.{Error}
 use Rattle.nest_model.specs.Accessors.{validity_of, children_of, child_at}
@@ -19,21 +20,23 @@ use Rattle.nest_model.specs.Part.{Validity}
 use Rattle.nest_model.specs.Reads.{slots-length, slot-place}
 use Rattle.nest_model.specs.Slot as slots
 use Rattle.nest_model.specs.Slot.{Slot}
-use Rattle.nest_array.specs.WindowParts.{WindowParts, window_slots}
-use Rattle.nest_concat.specs.Joined.{AreArrays, AreWithin, EachJoined, IsJoined, IsWithin, RefusesEach, RefusesJoin, first_array}
-use Rattle.nest_concat.specs.Limits.{HasOther, PassesLimits, SomeHasOther, SomePasses}
+use Rattle.nest_array.specs.WindowParts.{WindowParts, window_parts, window_slots}
+use Rattle.nest_concat.specs.Joined.{AreArrays, AreWithin, EachJoined, HasFields, IsJoined, IsWithin, RefusesEach, RefusesJoin, first_array}
+use Rattle.nest_concat.specs.Limits.{PassesLimits, SomePasses}
+use Rattle.nest_concat.specs.Parts.{part_of}
 use Rattle.nest_concat.specs.Windows.{count_of, count_slots, field_of, joined_validity}
+use Rattle.nest_concat.proofs.Logical.{fields-alike, kind-alike}
 use Rattle.nest_concat.proofs.Nested.{children-within, first-of-map, first-within, place-below}
 use Rattle.nest_concat.proofs.Shapes.{struct-shape}
-use Rattle.nest_concat.proofs.Windows.{joined-fits, joined-slots, nowhere, place_of, same-slot, validity-at, values-at, values-count, window}
+use Rattle.nest_concat.proofs.Windows.{flat-ext, joined-fits, joined-slots, nowhere, place_of, same-slot, validity-at, values-at, values-count, window}
 
 -- the data type of field f
-abbrev type_at : FieldTrees → ℕ → TypeTree
+abbrev pub type_at : FieldTrees → ℕ → TypeTree
 type_at no_fields f = types.null
 type_at (more_fields x xs) zero = field_type x
 type_at (more_fields x xs) (suc f) = type_at xs f
 
-each-type-at : (fs : FieldTrees) (cs : Layouts) (f : ℕ) → EachType fs cs → f < count_layouts cs → layout_type (child_at cs f) ≡ type_at fs f
+pub each-type-at : (fs : FieldTrees) (cs : Layouts) (f : ℕ) → EachType fs cs → f < count_layouts cs → layout_type (child_at cs f) ≡ type_at fs f
 each-type-at no_fields no_layouts f h l = absurd (omega arith)
 each-type-at no_fields (more_layouts c cs) f h l = absurd h
 each-type-at (more_fields x xs) no_layouts f h l = absurd h
@@ -54,13 +57,13 @@ each-ext (more_layouts d ds) (more_layouts b bs) x i e h =
     let r = each-ext ds bs x i (omega arith) (λ g l. h (suc g) (omega arith)) in
     ap (λ s. slots.more_slots s (each ds x)) a ∙ ap (slots.more_slots (slot b i)) r
 
-joined-count : (cs : Layouts) (f : ℕ) (ws : List WindowParts) (ds : Layouts) → EachJoined cs f ws ds → count_layouts ds ≡ count_layouts cs
+pub joined-count : (cs : Layouts) (f : ℕ) (ws : List WindowParts) (ds : Layouts) → EachJoined cs f ws ds → count_layouts ds ≡ count_layouts cs
 joined-count no_layouts f ws no_layouts h = refl
 joined-count no_layouts f ws (more_layouts d ds) h = absurd h
 joined-count (more_layouts c cs) f ws no_layouts h = absurd h
 joined-count (more_layouts c cs) f ws (more_layouts d ds) h = ap suc (joined-count cs (suc f) ws ds h.1)
 
-joined-at : (cs : Layouts) (f : ℕ) (ws : List WindowParts) (ds : Layouts) (g : ℕ) → EachJoined cs f ws ds → g < count_layouts ds
+pub joined-at : (cs : Layouts) (f : ℕ) (ws : List WindowParts) (ds : Layouts) (g : ℕ) → EachJoined cs f ws ds → g < count_layouts ds
     → IsJoined (layout_type (child_at cs g)) (map (field_of (f + g)) ws) (child_at ds g)
 joined-at no_layouts f ws no_layouts g h l = absurd (omega arith)
 joined-at no_layouts f ws (more_layouts d ds) g h l = absurd h
@@ -70,7 +73,7 @@ joined-at (more_layouts c cs) f ws (more_layouts d ds) (suc g) h l =
     let z : suc f + g ≡ f + suc g = omega arith in
     subst (λ n. IsJoined (layout_type (child_at cs g)) (map (field_of n) ws) (child_at ds g)) z (joined-at cs (suc f) ws ds g h.1 (omega arith))
 
-joined-types : (fs : FieldTrees) (cs : Layouts) (f : ℕ) (ws : List WindowParts) (ds : Layouts) → EachType fs cs → EachJoined cs f ws ds → EachType fs ds
+pub joined-types : (fs : FieldTrees) (cs : Layouts) (f : ℕ) (ws : List WindowParts) (ds : Layouts) → EachType fs cs → EachJoined cs f ws ds → EachType fs ds
 joined-types no_fields no_layouts f ws no_layouts t h = tt
 joined-types no_fields no_layouts f ws (more_layouts d ds) t h = absurd h
 joined-types no_fields (more_layouts c cs) f ws ds t h = absurd t
@@ -87,19 +90,47 @@ first-len-is no_layouts n h l = absurd (omega arith)
 first-len-is (more_layouts d ds) n h l = h.0
 
 -- what is known of the records of a window
-record-is : (t : TypeTree) (w : WindowParts) → physical_type t ≡ physical.Struct → IsWithin t w → w.array ≡ struct t (children_of w.array) (validity_of w.array)
-record-is t w p f = struct-shape w.array f.is_array (ap physical_type f.same_type ∙ p) ∙ ap (λ y. struct y (children_of w.array) (validity_of w.array)) f.same_type
+record-is : (t : TypeTree) (w : WindowParts) → physical_type t ≡ physical.Struct → IsWithin t w → w.array ≡ struct (layout_type w.array) (children_of w.array) (validity_of w.array)
+record-is t w p f = struct-shape w.array f.is_array (kind-alike (layout_type w.array) t _ f.same_type p)
+
+array-facts : (t : TypeTree) (a : Layout) → physical_type t ≡ physical.Struct → TopFits a → logical_type (layout_type a) ≡ logical_type t → IsStruct t (children_of a) (validity_of a)
+array-facts t a p f e =
+    let k = struct-shape a f (kind-alike (layout_type a) t _ e p) in
+    let r = struct-facts (layout_type a) (children_of a) (validity_of a) (subst TopFits k f) in
+    let z = fields-alike (layout_type a) t e in
+    record {
+      typed = p;
+      some_field = subst (λ fs. 0 < count_fields fs) z r.some_field;
+      as_many = r.as_many ∙ ap count_fields z;
+      each_type = subst (λ fs. EachType fs (children_of a)) z r.each_type;
+      each_len = r.each_len;
+      bits = r.bits;
+    }
 
 record-facts : (t : TypeTree) (w : WindowParts) → physical_type t ≡ physical.Struct → IsWithin t w → IsStruct t (children_of w.array) (validity_of w.array)
-record-facts t w p f = struct-facts t (children_of w.array) (validity_of w.array) (subst TopFits (record-is t w p f) f.is_array)
+record-facts t w p f = array-facts t w.array p f.is_array f.same_type
 
-array-facts : (t : TypeTree) (a : Layout) → physical_type t ≡ physical.Struct → TopFits a → layout_type a ≡ t → IsStruct t (children_of a) (validity_of a)
-array-facts t a p f e =
-    let k = struct-shape a f (ap physical_type e ∙ p) ∙ ap (λ y. struct y (children_of a) (validity_of a)) e in
-    struct-facts t (children_of a) (validity_of a) (subst TopFits k f)
+-- a type of the same logical type has fields too
+pub fields-kept : (t u : TypeTree) → logical_type t ≡ logical_type u → HasFields u → HasFields t
+fields-kept t u e (inl p) = inl (kind-alike t u physical.Struct e p)
+fields-kept t u e (inr p) = inr (kind-alike t u physical.Union e p)
 
 abbrev pub child_in : ℕ → Layout → Layout
 child_in f a = child_at (children_of a) f
+
+-- a record's slots lie in its children at their own places
+abbrev own_slots : ℕ → WindowParts → List Slot
+own_slots f w = cut (slots_of (child_in f w.array)) w.offset w.count
+
+pub field-part : (t : TypeTree) (f : ℕ) (w : WindowParts) → physical_type t ≡ physical.Struct → IsWithin t w → part_of f w.array w.offset w.count ≡ (w.offset, w.count)
+field-part t f w p x = ap (λ a. part_of f a w.offset w.count) (record-is t w p x)
+
+pub record-field : (w : WindowParts) (a c : Layout) (f : ℕ) → a ≡ w.array → TopFits a → w.offset + w.count ≤ len w.array → physical_type (layout_type w.array) ≡ physical.Struct
+    → c ≡ child_at (children_of a) f → window_parts c w.offset w.count ≡ field_of f w
+record-field w a c f e h i p k =
+    let x : IsWithin (layout_type w.array) w = record { is_array = subst TopFits e h; within = i; same_type = refl } in
+    let z = field-part (layout_type w.array) f w p x in
+    ap (λ d. window_parts d w.offset w.count) (k ∙ ap (λ b. child_at (children_of b) f) e) ∙ ap (λ q. window_parts (child_at (children_of w.array) f) q.0 q.1) (sym z)
 
 field-inside : (t : TypeTree) (f : ℕ) (ws : List WindowParts) → AreWithin t ws → physical_type t ≡ physical.Struct → f < count_fields (fields_of t) → All (λ w. w.offset + w.count ≤ len (child_in f w.array)) ws
 field-inside t f ws h p l = λ i d q.
@@ -123,15 +154,18 @@ pub record-children : (t : TypeTree) (f : ℕ) (ws cws : List WindowParts) → A
     → (0 < length cws) × AreWithin (layout_type (first_array cws)) cws
 record-children t f ws cws h p s l e r =
     let x = first-within t ws h s in
-    let type : (a : Layout) → TopFits a → layout_type a ≡ t → layout_type (child_in f a) ≡ type_at (fields_of t) f = λ a y z.
+    let type : (a : Layout) → TopFits a → logical_type (layout_type a) ≡ logical_type t → layout_type (child_in f a) ≡ type_at (fields_of t) f = λ a y z.
     let q = array-facts t a p y z in
     each-type-at (fields_of t) (children_of a) f q.each_type (omega (arith, q.as_many)) in
     children-within (field_of f) (child_in f) t ws cws (λ w. refl) h s e r
-    (λ a y z. type a y z ∙ sym (type (first_array ws) x.0 x.1))
-    (field-inside t f ws h p l)
+    (λ a y z. ap logical_type (type a y z ∙ sym (type (first_array ws) x.0 x.1)))
+    (λ i d q. let w = get_or ws i d in let b = field-part t f w p (h i d q) in omega (arith, field-inside t f ws h p l i d q, ap (λ z. z.0) b, ap (λ z. z.1) b))
 
-field-slots : (f : ℕ) (ct : TypeTree) (ws : List WindowParts) (d : Layout) → IsJoined ct (map (field_of f) ws) d → slots_of d ≡ flat_map (λ w. window_slots (field_of f w)) ws
-field-slots f ct ws d g = g.slots ∙ flat_map-map window_slots (field_of f) ws
+field-slots : (t : TypeTree) (f : ℕ) (ct : TypeTree) (ws : List WindowParts) (d : Layout) → AreWithin t ws → physical_type t ≡ physical.Struct → IsJoined ct (map (field_of f) ws) d → slots_of d ≡ flat_map (own_slots f) ws
+field-slots t f ct ws d h p g =
+    g.slots
+    ∙ flat_map-map window_slots (field_of f) ws
+    ∙ flat-ext (λ w. window_slots (field_of f w)) (own_slots f) ws (λ i e l. let w = get_or ws i e in ap (λ q. cut (slots_of (child_in f w.array)) q.0 q.1) (field-part t f w p (h i e l)))
 
 field-within : (t : TypeTree) (f : ℕ) (ws : List WindowParts) → AreWithin t ws → physical_type t ≡ physical.Struct → f < count_fields (fields_of t) → All (λ w. w.offset + w.count ≤ length (slots_of (child_in f w.array))) ws
 field-within t f ws h p l = λ i d q. let w = get_or ws i d in omega (arith, field-inside t f ws h p l i d q, slots-length (child_in f w.array))
@@ -139,7 +173,7 @@ field-within t f ws h p l = λ i d q. let w = get_or ws i d in omega (arith, fie
 field-len : (t : TypeTree) (f : ℕ) (ct : TypeTree) (ws : List WindowParts) (d : Layout) → AreWithin t ws → physical_type t ≡ physical.Struct → f < count_fields (fields_of t)
     → IsJoined ct (map (field_of f) ws) d → len d ≡ count_slots ws
 field-len t f ct ws d h p l g =
-    sym (slots-length d) ∙ ap length (field-slots f ct ws d g) ∙ values-count (λ (w : WindowParts). slots_of (child_in f w.array)) ws (field-within t f ws h p l)
+    sym (slots-length d) ∙ ap length (field-slots t f ct ws d h p g) ∙ values-count (λ (w : WindowParts). slots_of (child_in f w.array)) ws (field-within t f ws h p l)
 
 field-slot : (t : TypeTree) (f : ℕ) (ct : TypeTree) (ws : List WindowParts) (d : Layout) (k j : ℕ) → AreWithin t ws → physical_type t ≡ physical.Struct → f < count_fields (fields_of t)
     → IsJoined ct (map (field_of f) ws) d → k < length ws → j < count_of (window ws k) → slot d (place_of ws k j) ≡ slot (child_in f (window ws k).array) ((window ws k).offset + j)
@@ -148,7 +182,7 @@ field-slot t f ct ws d k j h p l g m n =
     let c : WindowParts → List Slot = λ x. slots_of (child_in f x.array) in
     let x = place_of ws k j in
     sym (slot-place d x slots.null (omega (arith, place-below ws k j m n, field-len t f ct ws d h p l g)))
-    ∙ ap (λ ss. get_or ss x slots.null) (field-slots f ct ws d g)
+    ∙ ap (λ ss. get_or ss x slots.null) (field-slots t f ct ws d h p g)
     ∙ values-at c ws k j slots.null (field-within t f ws h p l) m n
     ∙ slot-place (child_in f w.array) (w.offset + j) slots.null (omega (arith, field-inside t f ws h p l k nowhere m))
 
@@ -194,15 +228,9 @@ passes-at (more_layouts c cs) f (suc g) ws l h =
     let z : f + suc g ≡ suc f + g = omega arith in
     inr (passes-at cs (suc f) g ws (omega arith) (subst (λ n. PassesLimits (child_at cs g) (map (field_of n) ws)) z h))
 
-other-at : (cs : Layouts) (g : ℕ) → g < count_layouts cs → HasOther (child_at cs g) → SomeHasOther cs
-other-at no_layouts g l h = absurd (omega arith)
-other-at (more_layouts c cs) zero l h = inl h
-other-at (more_layouts c cs) (suc g) l h = inr (other-at cs g (omega arith) h)
-
 refuses-child : (e : Error) (cs : Layouts) (g : ℕ) (ws : List WindowParts) → g < count_layouts cs → RefusesJoin e (child_at cs g) (map (field_of g) ws) → RefusesEach e cs ws
 refuses-child e cs g ws l (inl m) = inl m
-refuses-child e cs g ws l (inr (inl p)) = let z : g ≡ 0 + g = omega arith in inr (inl (p.0, passes-at cs 0 g ws l (subst (λ n. PassesLimits (child_at cs g) (map (field_of n) ws)) z p.1)))
-refuses-child e cs g ws l (inr (inr p)) = inr (inr (p.0, other-at cs g l p.1))
+refuses-child e cs g ws l (inr p) = let z : g ≡ 0 + g = omega arith in inr ((p.0, passes-at cs 0 g ws l (subst (λ n. PassesLimits (child_at cs g) (map (field_of n) ws)) z p.1)))
 
 -- field f of the first array
 pub field-first : (f : ℕ) (cs : Layouts) (ws cws : List WindowParts) → cs ≡ children_of (first_array ws) → 0 < length ws → cws ≡ map (field_of f) ws → first_array cws ≡ child_at cs f
@@ -219,8 +247,7 @@ record-refuses e a t cs va ws k r = subst (λ y. RefusesJoin e y ws) (sym k) (go
   where
     go : RefusesEach e cs ws → RefusesJoin e (struct t cs va) ws
     go (inl m) = inl m
-    go (inr (inl p)) = inr (inl (p.0, inr p.1))
-    go (inr (inr p)) = inr (inr (p.0, p.1))
+    go (inr p) = inr (p.0, inr p.1)
 
 pub record-lighter : (a : Layout) (t : TypeTree) (cs : Layouts) (va : Validity) → a ≡ struct t cs va → weight_all cs < weight a
 record-lighter a t cs va k = omega (arith, ap weight k)

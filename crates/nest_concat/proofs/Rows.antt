@@ -11,13 +11,14 @@ use Rattle.nest_model.specs.Accessors.{validity_of, bytes_of, offsets_of}
 use Rattle.nest_model.specs.Array.{TopFits}
 use Rattle.nest_model.specs.FactLaws.{binary-facts, text-facts}
 use Rattle.nest_model.specs.Fits.{Fits, ValidityFits}
-use Rattle.nest_model.specs.Layout.{binary, text}
+use Rattle.nest_model.specs.Layout.{binary, text, layout_type}
 use Rattle.nest_model.specs.Meaning.{len, slot}
 use Rattle.nest_model.specs.Part.{Validity, begin, extent, count_rows}
 use Rattle.nest_model.specs.Slot as slots
 use Rattle.nest_array.specs.WindowParts.{WindowParts}
 use Rattle.nest_concat.specs.Joined.{AreWithin, IsJoined, IsWithin}
 use Rattle.nest_concat.specs.Windows.{bytes_in, count_items, count_of, count_slots, extents_in, joined_validity}
+use Rattle.nest_concat.proofs.Logical.{kind-alike}
 use Rattle.nest_concat.proofs.Pieces.{AreLong, AreSpans, ends, ends-last, ends-rows, extents-length, flat-length, row-cut, span-items, span-sum, sum-all}
 use Rattle.nest_concat.proofs.Shapes.{binary-shape, text-shape}
 use Rattle.nest_concat.proofs.Windows.{joined-fits, joined-slots, locate, nowhere, place_of, same-slot, validity-at, window}
@@ -51,15 +52,15 @@ pub span-at : {A : Type 0} (xs : WindowParts → List A) (ws : List WindowParts)
 span-at xs ws k j h l m = row-cut (λ (w : WindowParts). offsets_of w.array) xs (λ (w : WindowParts). w.offset) (λ (w : WindowParts). w.count) ws k j nowhere h l m
 
 -- bytes
-binary-is : (large : Bool) (t : TypeTree) (w : WindowParts) → physical_type t ≡ binary_of_width large → IsWithin t w → w.array ≡ binary large t (offsets_of w.array) (bytes_of w.array) (validity_of w.array)
+binary-is : (large : Bool) (t : TypeTree) (w : WindowParts) → physical_type t ≡ binary_of_width large → IsWithin t w → w.array ≡ binary large (layout_type w.array) (offsets_of w.array) (bytes_of w.array) (validity_of w.array)
 binary-is large t w p f =
-    binary-shape large w.array f.is_array (ap physical_type f.same_type ∙ p) ∙ ap (λ y. binary large y (offsets_of w.array) (bytes_of w.array) (validity_of w.array)) f.same_type
+    binary-shape large w.array f.is_array (kind-alike (layout_type w.array) t _ f.same_type p)
 
 binary-spans : (large : Bool) (t : TypeTree) (ws : List WindowParts) → AreWithin t ws → physical_type t ≡ binary_of_width large → SpansOf (λ (w : WindowParts). bytes_of w.array) ws
 binary-spans large t ws h p = λ i d l.
     let w = get_or ws i d in
     let e = binary-is large t w p (h i d l) in
-    let f = binary-facts large t (offsets_of w.array) (bytes_of w.array) (validity_of w.array) (subst TopFits e (h i d l).is_array) in
+    let f = binary-facts large (layout_type w.array) (offsets_of w.array) (bytes_of w.array) (validity_of w.array) (subst TopFits e (h i d l).is_array) in
     record { rising = f.rising; inside = omega (arith, (h i d l).within, ap len e); covered = f.within }
 
 binary-core : (large : Bool) (t : TypeTree) (ws : List WindowParts) → AreWithin t ws → physical_type t ≡ binary_of_width large
@@ -88,15 +89,15 @@ binary-joined large t u ws es bs v h p e f g q =
     subst (λ z. Fits z × IsJoined t ws z) y (binary-core large t ws h p)
 
 -- texts
-text-is : (large : Bool) (t : TypeTree) (w : WindowParts) → physical_type t ≡ text_of_width large → IsWithin t w → w.array ≡ text large t (offsets_of w.array) (bytes_of w.array) (validity_of w.array)
+text-is : (large : Bool) (t : TypeTree) (w : WindowParts) → physical_type t ≡ text_of_width large → IsWithin t w → w.array ≡ text large (layout_type w.array) (offsets_of w.array) (bytes_of w.array) (validity_of w.array)
 text-is large t w p f =
-    text-shape large w.array f.is_array (ap physical_type f.same_type ∙ p) ∙ ap (λ y. text large y (offsets_of w.array) (bytes_of w.array) (validity_of w.array)) f.same_type
+    text-shape large w.array f.is_array (kind-alike (layout_type w.array) t _ f.same_type p)
 
 text-spans : (large : Bool) (t : TypeTree) (ws : List WindowParts) → AreWithin t ws → physical_type t ≡ text_of_width large → SpansOf (λ (w : WindowParts). bytes_of w.array) ws
 text-spans large t ws h p = λ i d l.
     let w = get_or ws i d in
     let e = text-is large t w p (h i d l) in
-    let f = text-facts large t (offsets_of w.array) (bytes_of w.array) (validity_of w.array) (subst TopFits e (h i d l).is_array) in
+    let f = text-facts large (layout_type w.array) (offsets_of w.array) (bytes_of w.array) (validity_of w.array) (subst TopFits e (h i d l).is_array) in
     record { rising = f.rising; inside = omega (arith, (h i d l).within, ap len e); covered = f.within }
 
 text-core : (large : Bool) (t : TypeTree) (ws : List WindowParts) → AreWithin t ws → physical_type t ≡ text_of_width large
@@ -115,7 +116,7 @@ text-core large t ws h p =
               let r = locate ws i (omega arith) in
               let w = window ws r.k in
               let e = text-is large t w p (h r.k nowhere r.window_there) in
-              let f = text-facts large t (offsets_of w.array) (bytes_of w.array) (validity_of w.array) (subst TopFits e (h r.k nowhere r.window_there).is_array) in
+              let f = text-facts large (layout_type w.array) (offsets_of w.array) (bytes_of w.array) (validity_of w.array) (subst TopFits e (h r.k nowhere r.window_there).is_array) in
               let g = f.texts (w.offset + r.j) (omega (arith, (h r.k nowhere r.window_there).within, ap len e, r.slot_there)) in
               subst IsUtf8 (sym (ap (λ z. cut bs (begin es z) (extent es z)) r.is ∙ span-at bytes ws r.k r.j s r.window_there r.slot_there)) g,
           (subst (ValidityFits v) (sym n) (joined-fits t ws h), (p, tt)),

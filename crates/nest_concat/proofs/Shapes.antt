@@ -4,10 +4,11 @@ use Rattle.std.proofs.Common.{◌≡◌, ℕ, refl, ap, sym, ◌∙◌, arith}
 use Rattle.nest_memory.specs.Physical.{physical_type, list_of_width, binary_of_width, text_of_width}
 use Rattle.nest_memory.specs.TypeTree as types
 use Rattle.nest_memory.specs.TypeTree.{TypeTree}
+use Rattle.nest_memory.specs.declared.datatypes.IntegerType.{IntegerType}
 use Rattle.nest_memory.specs.declared.datatypes.physical_type.PhysicalType.{PhysicalType}
 use Rattle.nest_memory.specs.declared.datatypes.physical_type.PhysicalType.TheVariants as physical
 use Rattle.nest_memory.specs.declared.datatypes.physical_type.PrimitiveType.{PrimitiveType}
-use Rattle.nest_model.specs.Accessors.{validity_of, bits_of, natives_of, bytes_of, offsets_of, child_of, children_of}
+use Rattle.nest_model.specs.Accessors.{validity_of, bits_of, natives_of, bytes_of, offsets_of, child_of, children_of, types_of, union_offsets_of, start_of, keys_of}
 use Rattle.nest_model.specs.Array.{TopFits}
 use Rattle.nest_model.specs.Fits.{is_dictionary}
 use Rattle.nest_model.specs.Layout.{Layout, null, boolean, primitive, binary, text, fixed_size_binary, fixed_size_list, list, map, struct, union, dictionary, layout_type}
@@ -133,6 +134,14 @@ list-shape large a h p = absurd (omega (arith, shape-number a h, ap physical_num
 pub map-shape : (a : Layout) → TopFits a → physical_type (layout_type a) ≡ physical.Map → a ≡ map (layout_type a) (offsets_of a) (child_of a) (validity_of a)
 map-shape (map t os c va) h p = refl
 map-shape a h p = absurd (omega (arith, shape-number a h, ap physical_number p))
+
+pub union-shape : (a : Layout) → TopFits a → physical_type (layout_type a) ≡ physical.Union → a ≡ union (layout_type a) (types_of a) (children_of a) (union_offsets_of a) (start_of a)
+union-shape (union t ks cs os start) h p = refl
+union-shape a h p = absurd (omega (arith, shape-number a h, ap physical_number p))
+
+pub dictionary-shape : (k : IntegerType) (a : Layout) → TopFits a → physical_type (layout_type a) ≡ physical.Dictionary k → a ≡ dictionary (layout_type a) (keys_of a) (child_of a)
+dictionary-shape k (dictionary t ks c) h p = refl
+dictionary-shape k a h p = absurd (omega (arith, shape-number a h, ap physical_number p))
 
 pub struct-shape : (a : Layout) → TopFits a → physical_type (layout_type a) ≡ physical.Struct → a ≡ struct (layout_type a) (children_of a) (validity_of a)
 struct-shape (struct t cs va) h p = refl

@@ -4,7 +4,7 @@ use Rattle.std.specs.List.{All, flat_map}
 use Rattle.std.proofs.Common.{◌≡◌, ℕ, zero, suc, false, ◌==◌, ◌+◌, ◌<◌, ◌≤◌, take, Result, Ok, Err, inr, refl, ap, sym, ◌∙◌, subst, arith}
 use Rattle.std.proofs.lemmas.List.Elements.{All-cons, All-map, All-more, All-tail}
 use Rattle.std.proofs.lemmas.List.{take_all}
-use Rattle.nest_memory.specs.TypeTree.{TypeTree}
+use Rattle.nest_memory.specs.TypeTree.{TypeTree, logical_type}
 use Rattle.nest_array.specs.Seen.{layout_of}
 use Rattle.nest_memory.specs.declared.error.Error.{Error}
 use Rattle.nest_array.specs.WindowParts.{WindowParts, window_slots}
@@ -88,5 +88,5 @@ wholes-within (x ∷ xs) ws e f g =
     let t = layout_type (layout_of x) in
     let tops : All (λ a. TopFits (layout_of a)) (x ∷ xs) = of-map whole_of (λ w. TopFits w.array) (x ∷ xs) (subst AreArrays e f) in
     let types = all-from-one t (x ∷ xs) x (omega arith) refl refl g in
-    let w : AreWithin t (map whole_of (x ∷ xs)) = All-map (IsWithin t) whole_of (x ∷ xs) (λ k d l. record { is_array = tops k d l; within = omega arith; same_type = types k d l }) in
+    let w : AreWithin t (map whole_of (x ∷ xs)) = All-map (IsWithin t) whole_of (x ∷ xs) (λ k d l. record { is_array = tops k d l; within = omega arith; same_type = ap logical_type (types k d l) }) in
     subst (λ z. AreWithin (layout_type (first_array z)) z) (sym e) w

@@ -1,19 +1,22 @@
 -- What joining windows over arrays owes (of this project).
-use Rattle.std.specs.Prelude.{◌≡◌, ◌⊎◌, ◌+◌, ◌≤◌, ℕ, suc, List, [], ◌∷◌, map, alloc_error}
+use Rattle.std.specs.Prelude.{◌≡◌, ◌⊎◌, ◌+◌, ◌≤◌, ℕ, suc, Bool, IsTrue, List, [], ◌∷◌, map, alloc_error}
 use Rattle.std.specs.List.{All, flat_map}
 use Rattle.nest_memory.specs.TypeTree as types
-use Rattle.nest_memory.specs.TypeTree.{TypeTree}
+use Rattle.nest_memory.specs.TypeTree.{TypeTree, logical_type}
 use Rattle.nest_memory.specs.declared.error.Error.{Error}
-use Rattle.nest_memory.specs.declared.error.Error.TheVariants.{InvalidArgumentError, Memory, NotYetImplemented, Overflow}
+use Rattle.nest_memory.specs.declared.error.Error.TheVariants.{InvalidArgumentError, Memory, Overflow}
 use Rattle.nest_memory.specs.declared.error.Argument.TheVariants.{ItemType}
 use Rattle.nest_memory.specs.Physical.{physical_type}
 use Rattle.nest_memory.specs.declared.datatypes.physical_type.PhysicalType.{PhysicalType}
+use Rattle.nest_memory.specs.declared.datatypes.physical_type.PhysicalType.TheVariants as physical
 use Rattle.nest_model.specs.Array.{TopFits}
 use Rattle.nest_model.specs.Layout as layouts
 use Rattle.nest_model.specs.Layout.{Layout, Layouts, no_layouts, more_layouts, layout_type}
 use Rattle.nest_model.specs.Meaning.{len, slots_of}
+use Rattle.nest_array.specs.Kinds.{IsKeyed}
 use Rattle.nest_array.specs.WindowParts.{WindowParts, window_parts, window_slots}
-use Rattle.nest_concat.specs.Limits.{HasOther, PassesLimits, SomeHasOther, SomePasses}
+use Rattle.nest_concat.specs.Limits.{PassesLength, PassesLimits, SomePasses}
+use Rattle.nest_concat.specs.Lookups.{KeysPass, values_in}
 use Rattle.nest_concat.specs.Windows.{field_of}
 
 -- b has the slots of the windows, one window after another, under this data type
@@ -21,11 +24,11 @@ pub record IsJoined (t : TypeTree) (ws : List WindowParts) (b : Layout) : Type 0
   pub slots : slots_of b ≡ flat_map window_slots ws
   pub same_type : layout_type b ≡ t
 
--- it lies within an array of this data type
+-- it lies within an array of this data type, but for outer extensions
 pub record IsWithin (t : TypeTree) (w : WindowParts) : Type 0 where
   pub is_array : TopFits w.array
   pub within : w.offset + w.count ≤ len w.array
-  pub same_type : layout_type w.array ≡ t
+  pub same_type : logical_type (layout_type w.array) ≡ logical_type t
 
 -- all of them do
 abbrev pub AreWithin : TypeTree → List WindowParts → Type 0
@@ -42,7 +45,7 @@ first_array (w ∷ ws) = w.array
 
 -- memory was wanting, too much was joined somewhere, or a kind below is not joined yet
 abbrev pub RefusesJoin : Error → Layout → List WindowParts → Type 0
-RefusesJoin e a ws = (e ≡ Memory alloc_error) ⊎ (((e ≡ Overflow) × PassesLimits a ws) ⊎ ((e ≡ NotYetImplemented) × HasOther a))
+RefusesJoin e a ws = (e ≡ Memory alloc_error) ⊎ ((e ≡ Overflow) × PassesLimits a ws)
 
 -- ds are the children from field f on, each joined of that field's windows; cs are those of the first array
 abbrev pub EachJoined : Layouts → ℕ → List WindowParts → Layouts → Type 0
@@ -53,11 +56,23 @@ EachJoined (more_layouts c cs) f ws (more_layouts d ds) = IsJoined (layout_type 
 
 -- the same refusal, of the children of the first array
 abbrev pub RefusesEach : Error → Layouts → List WindowParts → Type 0
-RefusesEach e cs ws = (e ≡ Memory alloc_error) ⊎ (((e ≡ Overflow) × SomePasses cs 0 ws) ⊎ ((e ≡ NotYetImplemented) × SomeHasOther cs))
+RefusesEach e cs ws = (e ≡ Memory alloc_error) ⊎ ((e ≡ Overflow) × SomePasses cs 0 ws)
+
+-- its children are fields: it is of records or of unions
+abbrev pub HasFields : TypeTree → Type 0
+HasFields t = (physical_type t ≡ physical.Struct) ⊎ (physical_type t ≡ physical.Union)
 
 -- each has a data type of this physical type
 abbrev pub AreOfKind : PhysicalType → List WindowParts → Type 0
 AreOfKind p ws = All (λ w. physical_type (layout_type w.array) ≡ p) ws
+
+-- each lies over a dictionary
+abbrev pub AreKeyed : List WindowParts → Type 0
+AreKeyed ws = All (λ w. IsKeyed (physical_type (layout_type w.array))) ws
+
+-- no keys of windows: memory was wanting or, where they are moved, a key is none of the first n, or the values are too many
+abbrev pub RefusesKeys : Bool → Error → ℕ → List WindowParts → Type 0
+RefusesKeys moved e n ws = (e ≡ Memory alloc_error) ⊎ ((e ≡ Overflow) × (IsTrue moved × (KeysPass n 0 ws ⊎ PassesLength (map values_in ws))))
 
 -- the window over all slots of an array
 abbrev pub whole : Layout → WindowParts

@@ -1,5 +1,11 @@
+pub mod Examples
+pub mod Interleaved
 pub mod Joined
 pub mod JoinedLaws
+pub mod KeyedExamples
 pub mod Limits
+pub mod Moved
+pub mod Parts
+pub mod Lookups
 pub mod Windows
 pub mod Words

@@ -1,11 +1,13 @@
 -- When the rows that are joined at some level of arrays are more than their layout can name (of this project).
-use Rattle.std.specs.Prelude.{ℕ, suc, ◌<◌, ◌≤◌, ◌^◌, ◌⊎◌, Bool, false, List, map}
+use Rattle.std.specs.Prelude.{ℕ, suc, ℤ, ◌<◌, ◌≤◌, ◌^◌, ◌⊎◌, Bool, false, List, map, Option, Some, None}
 use Rattle.std.specs.List.{sum_by}
 use Rattle.nest_memory.specs.TypeTree.{size_of}
 use Rattle.nest_memory.specs.Rising.{largest_offset}
-use Rattle.nest_model.specs.Layout.{Layout, Layouts, binary, text, fixed_size_list, list, map as map_of, struct, union, dictionary, no_layouts, more_layouts}
+use Rattle.nest_model.specs.Checks.{most_picks}
+use Rattle.nest_model.specs.Layout.{Layout, Layouts, binary, text, fixed_size_list, list, map as map_of, struct, union, dictionary, no_layouts, more_layouts, count_layouts}
 use Rattle.nest_array.specs.WindowParts.{WindowParts}
 use Rattle.nest_concat.specs.Windows.{count_slots, count_items, items_in, blocks_of, field_of}
+use Rattle.nest_concat.specs.Lookups.{HaveValues, KeysPass, most_keys, values_in}
 
 -- a length can't be as many
 abbrev pub PassesLength : List WindowParts → Type 0
@@ -15,7 +17,13 @@ PassesLength ws = 2 ^ 64 ≤ count_slots ws
 abbrev pub PassesOffsets : Bool → List WindowParts → Type 0
 PassesOffsets large ws = largest_offset large < sum_by count_items ws
 
+-- Union Layout, dense: the parts of a field have more slots than offsets of 32 bits can name
+abbrev pub PassesPicks : Option (List ℤ) → ℕ → List WindowParts → Type 0
+PassesPicks None n ws = ⊥
+PassesPicks (Some os) n ws = (f : ℕ) × (f < n) × (most_picks < count_slots (map (field_of f) ws))
+
 -- In some array of the tree the slots or items of the windows pass a length or an offset. The first array tells the kinds.
+-- Of dictionaries whose values aren't all equal, a key passes its type, or the values of all arrays pass.
 abbrev mutual
   pub PassesLimits : Layout → List WindowParts → Type 0
   PassesLimits (binary large t os bs va) ws = PassesLength ws ⊎ PassesOffsets large ws
@@ -24,24 +32,11 @@ abbrev mutual
   PassesLimits (list large t os c va) ws = PassesLength ws ⊎ (PassesOffsets large ws ⊎ PassesLimits c (map items_in ws))
   PassesLimits (map_of t os c va) ws = PassesLength ws ⊎ (PassesOffsets false ws ⊎ PassesLimits c (map items_in ws))
   PassesLimits (struct t cs va) ws = PassesLength ws ⊎ SomePasses cs 0 ws
+  PassesLimits (union t ks cs os start) ws = PassesLength ws ⊎ (PassesPicks os (count_layouts cs) ws ⊎ SomePasses cs 0 ws)
+  PassesLimits (dictionary t ks c) ws = PassesLength ws ⊎ ((HaveValues c ws → ⊥) × (KeysPass (most_keys t) 0 ws ⊎ PassesLimits c (map values_in ws)))
   PassesLimits a ws = PassesLength ws
 
   -- of the children from field f on
   pub SomePasses : Layouts → ℕ → List WindowParts → Type 0
   SomePasses no_layouts f ws = ⊥
   SomePasses (more_layouts c cs) f ws = PassesLimits c (map (field_of f) ws) ⊎ SomePasses cs (suc f) ws
-
--- a union or a dictionary is in the tree: those are not joined yet
-abbrev mutual
-  pub HasOther : Layout → Type 0
-  HasOther (fixed_size_list t c va) = HasOther c
-  HasOther (list large t os c va) = HasOther c
-  HasOther (map_of t os c va) = HasOther c
-  HasOther (struct t cs va) = SomeHasOther cs
-  HasOther (union t ks cs os start) = Unit {0}
-  HasOther (dictionary t ks c) = Unit {0}
-  HasOther a = ⊥
-
-  pub SomeHasOther : Layouts → Type 0
-  SomeHasOther no_layouts = ⊥
-  SomeHasOther (more_layouts c cs) = HasOther c ⊎ SomeHasOther cs

@@ -5,6 +5,7 @@ use Rattle.nest_memory.specs.Cut.{cut}
 use Rattle.nest_model.specs.Accessors.{validity_of, bits_of, natives_of, bytes_of, offsets_of, child_of, children_of, child_at}
 use Rattle.nest_model.specs.Part.{Validity, begin, extent}
 use Rattle.nest_array.specs.WindowParts.{WindowParts, window_parts}
+use Rattle.nest_concat.specs.Parts.{part_of}
 
 abbrev pub count_of : WindowParts → ℕ
 count_of w = w.count
@@ -65,6 +66,6 @@ items_in w = window_parts (child_of w.array) (first_item w) (count_items w)
 abbrev pub blocks_of : ℕ → WindowParts → WindowParts
 blocks_of n w = window_parts (child_of w.array) (w.offset * n) (w.count * n)
 
--- Struct Layout: the same slots of child f
+-- Struct Layout and Union Layout: the window over the part of child f that the slots lie in
 abbrev pub field_of : ℕ → WindowParts → WindowParts
-field_of f w = window_parts (child_at (children_of w.array) f) w.offset w.count
+field_of f w = window_parts (child_at (children_of w.array) f) (part_of f w.array w.offset w.count).0 (part_of f w.array w.offset w.count).1

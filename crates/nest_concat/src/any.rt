@@ -5,7 +5,8 @@ ghost use Rattle.nest_flat.specs.AnyPrimitive.{primitive_layout};
 ghost use Rattle.nest_concat.specs.Words.{AreWithin, IsJoined, Overflow, PassesLength, RefusesJoin, count_slots, first_array, layout_type};
 
 use crate::{
-    binary, boolean, fixed_size_binary, fixed_size_list, list, map, null, primitive, struct_, utf8,
+    binary, boolean, dictionary, fixed_size_binary, fixed_size_list, list, map, null, primitive,
+    struct_, union, utf8,
 };
 use nest_array::{AnyArray, Window};
 use nest_memory::error::Error;
@@ -25,7 +26,7 @@ pub(crate) fn count(windows: &[Window<'_>]) -> Result<usize, Error>
     Ok(count)
 }
 
-/// The slots of windows over arrays of one data type, one window after another.
+/// The slots of windows over arrays of one data type but for outer extensions, one window after another.
 #[cycle(join)]
 pub(crate) fn join(alloc: Global, windows: &[Window<'_>]) -> Result<AnyArray, Error>
     requires some { 0 < length windows.now }
@@ -48,13 +49,7 @@ pub(crate) fn join(alloc: Global, windows: &[Window<'_>]) -> Result<AnyArray, Er
         AnyArray::LargeList(array) => list::join_large_lists(alloc, array, windows, total),
         AnyArray::Struct(array) => struct_::join_records(alloc, array, windows, total),
         AnyArray::Map(array) => map::join_maps(alloc, array, windows, total),
-        AnyArray::Union(array) => {
-            array.known();
-            Err(Error::NotYetImplemented)
-        }
-        AnyArray::Dictionary(array) => {
-            array.known();
-            Err(Error::NotYetImplemented)
-        }
+        AnyArray::Union(array) => union::join_unions(alloc, array, windows, total),
+        AnyArray::Dictionary(array) => dictionary::join_keyed(alloc, array, windows, total),
     }
 }

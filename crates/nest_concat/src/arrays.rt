@@ -30,7 +30,7 @@ fn have_type(arrays: &[AnyArray], data_type: &DataType) -> bool
 }
 
 /// Whether there is an array, and all have the data type of the first.
-fn are_of_one_type(arrays: &[AnyArray]) -> bool
+pub(crate) fn are_of_one_type(arrays: &[AnyArray]) -> bool
     ensures { IsTrue result ↔ AreOfOneType (map layout_of arrays.now) }
 {
     if arrays.is_empty() {
@@ -55,10 +55,14 @@ fn windows(alloc: Global, arrays: &[AnyArray]) -> Result<Vec<Window<'_>>, Error>
 
 /// The slots of arrays of one data type, one array after another, under that data type. The arrays stay as they are.
 ///
+/// Dictionaries whose values are all equal keep them, in memory that they share with the first; those of other values have the
+/// values of all arrays, one array after another, and keys behind them. A raw key under a null is 0.
+///
 /// # Errors
 /// `InvalidArgumentError(ItemType)` where there is no array, or one has another data type than the first. Else
-/// `NotYetImplemented` where a union or a dictionary is in them; `Overflow` where in some array of the tree the slots are more
-/// than a length can be, or the items or bytes more than an offset can name; `Memory`.
+/// `Overflow` where in some array of the tree the slots are more than a length can be, the items or bytes more than an offset
+/// can name, what dense unions pick of a field, each from the lowest slot to the highest, more than 2^31 slots, or a key that
+/// isn't null is past its type behind the values of other arrays; `Memory`.
 pub fn concatenate(alloc: Global, arrays: &[AnyArray]) -> Result<AnyArray, Error>
     ensures ok { IfOk result (λ a. IsConcatenated (map layout_of arrays.now) (layout_of a)) }
     ensures types { IsErrOf result (InvalidArgumentError ItemType) ↔ (AreOfOneType (map layout_of arrays.now) → ⊥) }

@@ -1,12 +1,15 @@
 //! Worked examples: what windows have, and rows that are just not too many, beside the first that are.
-ghost use Rattle.std.specs.Prelude.{◌≡◌, ◌⊎◌, ◌^◌, ◌-◌, true, false, List, [], ◌∷◌, Some, None, alloc_error};
+ghost use Rattle.std.specs.Prelude.{◌≡◌, ◌⊎◌, ◌^◌, ◌-◌, true, false, List, [], ◌∷◌, Some, None, alloc_error, map, pos};
 ghost use Rattle.std.specs.List.{flat_map};
 ghost use Rattle.nest_memory.specs.TypeTree as types;
 ghost use Rattle.nest_memory.specs.declared.error.Error.{Error};
-ghost use Rattle.nest_model.specs.Examples.{a_field, both, dictionaries, ints, list_type, lists, number, numbers, texts, truths, two_fields};
+ghost use Rattle.nest_model.specs.Examples.{a_field, both, dictionaries, in_turn, ints, list_type, lists, number, numbers, texts, truths, two_fields};
 ghost use Rattle.nest_model.specs.Layout as layouts;
 ghost use Rattle.nest_model.specs.Layout.{Layout};
-ghost use Rattle.nest_concat.specs.Words.{AreOfOneType, HasOther, InvalidArgumentError, ItemType, Memory, NotYetImplemented, Overflow, PassesLength, PassesLimits, PassesOffsets, RefusesConcatenate, blocks_of, bytes_in, extents_in, field_of, items_in, joined_validity, slots_of, whole, window_parts};
+ghost use Rattle.nest_concat.specs.Words.{AreOfOneType, InvalidArgumentError, ItemType, Memory, Overflow, PassesLength, PassesLimits, PassesOffsets, PassesPicks, RefusesConcatenate, blocks_of, bytes_in, count_slots, extents_in, field_of, items_in, joined_validity, moved_offsets, slots_of, whole, window_parts, KeysPass, joined_keys, slot_windows};
+ghost use Rattle.nest_concat.specs.Interleaved.{IsPlaceOf, slot_of};
+ghost use Rattle.nest_concat.specs.Examples.{dense, four, sparse_from};
+ghost use Rattle.nest_concat.specs.KeyedExamples.{one_key};
 
 /// The slots of two arrays; rows of a window, their bytes, and the window over their items, not before or behind them.
 pub fn windows()
@@ -35,10 +38,42 @@ pub fn offsets()
     ensures length_past { PassesLength (window_parts (ints []) 0 (2 ^ 63) ∷ window_parts (ints []) 0 (2 ^ 63) ∷ []) }
 {}
 
-/// A union or a dictionary anywhere in the tree is not joined yet.
-pub fn others()
-    ensures keyed { HasOther (lists types.utf8 (0 ∷ 0 ∷ []) (dictionaries [] None (texts (0 ∷ []) []))) }
-    ensures number { HasOther (lists types.int32 (0 ∷ 0 ∷ []) (ints [])) → ⊥ }
+/// The parts of fields that the slots of a union lie in: of a sparse one from where its own window begins, of a dense one from
+/// the lowest place that is picked to the highest. So offsets move, and one slot more than offsets can name is too many.
+pub fn parts()
+    ensures sparse { field_of 1 (window_parts (sparse_from 2 (pos 0 ∷ pos 1 ∷ [])) 1 1) ≡ window_parts four 3 1 }
+    ensures empty { field_of 1 (window_parts (sparse_from 2 (pos 0 ∷ pos 1 ∷ [])) 1 0) ≡ window_parts four 0 0 }
+    ensures dense { field_of 0 (whole (dense (pos 0 ∷ pos 1 ∷ pos 0 ∷ []) (pos 3 ∷ pos 0 ∷ pos 1 ∷ []))) ≡ window_parts four 1 3 }
+    ensures one { field_of 0 (window_parts (dense (pos 0 ∷ pos 1 ∷ pos 0 ∷ []) (pos 3 ∷ pos 0 ∷ pos 1 ∷ [])) 1 2) ≡ window_parts four 1 1 }
+    ensures no_pick { field_of 1 (window_parts (dense (pos 0 ∷ pos 1 ∷ pos 0 ∷ []) (pos 3 ∷ pos 0 ∷ pos 1 ∷ [])) 2 1) ≡ window_parts four 0 0 }
+    ensures moved { moved_offsets (whole (dense (pos 0 ∷ pos 1 ∷ pos 0 ∷ []) (pos 3 ∷ pos 2 ∷ pos 1 ∷ [])) ∷ whole (dense (pos 1 ∷ pos 0 ∷ []) (pos 0 ∷ pos 2 ∷ [])) ∷ []) ≡ pos 2 ∷ pos 0 ∷ pos 0 ∷ pos 1 ∷ pos 3 ∷ [] }
+    ensures last { PassesPicks (Some []) 1 (whole (dense (pos 0 ∷ pos 0 ∷ []) (pos 0 ∷ pos (2 ^ 31 - 1) ∷ [])) ∷ []) → ⊥ }
+    ensures past { PassesPicks (Some []) 2 (whole (dense (pos 0 ∷ pos 0 ∷ []) (pos 0 ∷ pos (2 ^ 31 - 1) ∷ [])) ∷ whole (dense (pos 0 ∷ []) (pos 0 ∷ [])) ∷ []) }
+{}
+
+/// Slots of arrays by array and place: the slots, what names none, and the windows over them.
+pub fn places()
+    ensures slots { map (slot_of (ints (7 ∷ []) ∷ ints (8 ∷ 9 ∷ []) ∷ [])) ((1, 1) ∷ (0, 0) ∷ (1, 1) ∷ []) ≡ number 9 ∷ number 7 ∷ number 9 ∷ [] }
+    ensures there { IsPlaceOf (ints (7 ∷ []) ∷ ints (8 ∷ 9 ∷ []) ∷ []) (1, 1) }
+    ensures past_slots { IsPlaceOf (ints (7 ∷ []) ∷ ints (8 ∷ 9 ∷ []) ∷ []) (0, 1) → ⊥ }
+    ensures past_arrays { IsPlaceOf (ints (7 ∷ []) ∷ ints (8 ∷ 9 ∷ []) ∷ []) (2, 0) → ⊥ }
+    ensures windows { slot_windows (ints (7 ∷ []) ∷ ints (8 ∷ 9 ∷ []) ∷ []) ((1, 1) ∷ []) ≡ window_parts (ints (7 ∷ [])) 0 0 ∷ window_parts (ints (8 ∷ 9 ∷ [])) 1 1 ∷ [] }
+{}
+
+/// Keys of two dictionaries: behind the values of the first, the key under a null is 0; as they are; of a cut.
+pub fn moved_keys()
+    ensures behind { joined_keys true (whole (dictionaries (1 ∷ 7 ∷ []) (Some (true ∷ false ∷ [])) (texts (0 ∷ 1 ∷ 2 ∷ []) (97 ∷ 98 ∷ []))) ∷ whole (dictionaries (0 ∷ 1 ∷ []) None (texts (0 ∷ 1 ∷ 1 ∷ []) (99 ∷ []))) ∷ []) ≡ pos 1 ∷ pos 0 ∷ pos 2 ∷ pos 3 ∷ [] }
+    ensures kept { joined_keys false (whole (dictionaries (1 ∷ 7 ∷ []) (Some (true ∷ false ∷ [])) (texts (0 ∷ 1 ∷ 2 ∷ []) (97 ∷ 98 ∷ []))) ∷ whole (dictionaries (0 ∷ 1 ∷ []) None (texts (0 ∷ 1 ∷ 2 ∷ []) (97 ∷ 98 ∷ []))) ∷ []) ≡ pos 1 ∷ pos 0 ∷ pos 0 ∷ pos 1 ∷ [] }
+    ensures cut { joined_keys true (window_parts (dictionaries (1 ∷ 0 ∷ []) None (texts (0 ∷ 1 ∷ 2 ∷ []) (97 ∷ 98 ∷ []))) 1 0 ∷ whole (dictionaries (0 ∷ []) None (texts (0 ∷ 1 ∷ []) (99 ∷ []))) ∷ []) ≡ pos 2 ∷ [] }
+{}
+
+/// Keys of 8 bits: 127 values may stand before a key, and not 128, but before a null; equal values are kept, behind which no key moves.
+pub fn last_keys()
+    ensures last { KeysPass 128 0 (whole (one_key true 0 127) ∷ whole (one_key true 0 1) ∷ []) → ⊥ }
+    ensures past { KeysPass 128 0 (whole (one_key true 0 128) ∷ whole (one_key true 0 1) ∷ []) }
+    ensures null_key { KeysPass 128 0 (whole (one_key true 0 128) ∷ whole (one_key false 0 1) ∷ []) → ⊥ }
+    ensures limit { PassesLimits (one_key true 0 128) (whole (one_key true 0 128) ∷ whole (one_key true 0 1) ∷ []) }
+    ensures equal { PassesLimits (one_key true 127 128) (whole (one_key true 127 128) ∷ whole (one_key true 127 128) ∷ []) → ⊥ }
 {}
 
 /// What is refused: no array, and one of another type; else want of memory, and what the windows say.

@@ -1,5 +1,5 @@
 //! Windows over rows between offsets: what bytes, texts, lists and maps share.
-ghost use Rattle.std.specs.Prelude.{◌≡◌, ◌+◌, ◌<◌, ◌≤◌, ◌^◌, ◌++◌, ◌∷◌, ℕ, false, true, IfOk, IsOkUnless, MatchResult, OnOk, alloc_error, length, map};
+ghost use Rattle.std.specs.Prelude.{◌≡◌, ◌+◌, ◌<◌, ◌≤◌, ◌^◌, ◌++◌, ◌∷◌, ℕ, pos, false, true, IfOk, IsOkUnless, MatchResult, OnOk, alloc_error, length, map, sum};
 ghost use Rattle.std.specs.List.{flat_map, sum_by};
 ghost use Rattle.nest_memory.specs.declared.datatypes.physical_type.PhysicalType.{PhysicalType};
 ghost use Rattle.nest_memory.specs.declared.datatypes.physical_type.PhysicalType.TheVariants as physical;
@@ -10,7 +10,7 @@ use nest_array::{AnyArray, Window};
 use nest_memory::buffer::Buffer;
 use nest_memory::error::Error;
 use nest_memory::offset::Offset;
-use nest_memory::offsets::{Offsets, OffsetsBuffer};
+use nest_memory::offsets::OffsetsBuffer;
 use std::alloc::Global;
 
 /// A kind of arrays whose rows lie between offsets.
@@ -48,6 +48,7 @@ fn offset_at<O: Offset>(offsets: &OffsetsBuffer<O>, i: usize) -> usize
     requires { i ≤ count_rows offsets.now }
     ensures offset { result ≡ begin offsets.now i }
     ensures within { result ≤ last_of offsets.now }
+    ensures small { O.largest < 2 ^ 63 }
 {
     offsets.known();
     if i < offsets.len_proxy() {
@@ -96,42 +97,59 @@ pub(crate) fn count<O: Offset, K: Spanned<O>>(windows: &[Window<'_>]) -> Result<
     Ok(count)
 }
 
-/// Adds n rows of others, from row `start` on.
+/// The offset of so many items.
+fn offset_of<O: Offset>(n: usize) -> O
+    requires { n ≤ O.largest }
+    ensures { O.value result ≡ pos n }
+{
+    match O::from_usize(n) {
+        Some(offset) => offset,
+        None => unreachable!(),
+    }
+}
+
+// Each end is told by the offset that it comes from, and not by the end before it: so none waits for another.
+/// Adds where n rows of others end, from row `start` on, where the first of them begins at `base`.
 fn push_rows<O: Offset>(
-    ends: &mut Offsets<O>,
+    ends: &mut Vec<O>,
     offsets: &OffsetsBuffer<O>,
     start: usize,
     n: usize,
+    base: usize,
 ) -> Result<(), Error>
     requires within { start + n ≤ count_rows offsets.now }
-    requires room { last_of ends.old + begin offsets.now (start + n) ≤ O.largest + begin offsets.now start }
-    ensures ok { OnOk result (ends.new ≡ ends.old ++ ends_from (last_of ends.old) (extents offsets.now start n)) }
-    ensures last { OnOk result (last_of ends.new + begin offsets.now start ≡ last_of ends.old + begin offsets.now (start + n)) }
+    requires room { base + begin offsets.now (start + n) ≤ O.largest + begin offsets.now start }
+    ensures ok { OnOk result (map O.value ends.new.items ≡ map O.value ends.old.items ++ map (λ n. pos n) (ends_from base (extents offsets.now start n))) }
     ensures err { IsOkUnless result (Memory alloc_error) }
 {
     offsets.known();
+    let first = offset_at(offsets, start);
     for i in 0..n {
-        let (from, to) = offsets.start_end(start + i);
-        ends.try_push_usize(to - from)?;
+        let (_, to) = offsets.start_end(start + i);
+        ends.push(offset_of(base + (to - first)))?;
     }
     Ok(())
 }
 
-/// Adds the rows of a window.
+/// Adds where the rows of a window end, the first of which begins at `base`, and tells where the last one ends.
 fn push_window<O: Offset, K: Spanned<O>>(
-    ends: &mut Offsets<O>,
+    ends: &mut Vec<O>,
     window: &Window<'_>,
-) -> Result<(), Error>
+    base: usize,
+) -> Result<usize, Error>
     requires kind { physical_type (layout_type window.now.array) ≡ K.kind }
-    requires room { last_of ends.old + count_items window.now ≤ O.largest }
-    ensures ok { OnOk result (ends.new ≡ ends.old ++ ends_from (last_of ends.old) (extents_in window.now)) }
-    ensures last { OnOk result (last_of ends.new ≡ last_of ends.old + count_items window.now) }
+    requires room { base + count_items window.now ≤ O.largest }
+    ensures ok { OnOk result (map O.value ends.new.items ≡ map O.value ends.old.items ++ map (λ n. pos n) (ends_from base (extents_in window.now))) }
+    ensures end { IfOk result (λ n. n ≡ base + count_items window.now) }
+    ensures rows { IfOk result (λ n. n ≡ base + sum (extents_in window.now)) }
     ensures err { IsOkUnless result (Memory alloc_error) }
 {
     window.known();
+    let (_, count) = range::<O, K>(window);
     let offsets = K::offsets(window.array());
     offsets.known();
-    push_rows(ends, offsets, window.offset(), window.len())
+    push_rows(ends, offsets, window.offset(), window.len(), base)?;
+    Ok(base + count)
 }
 
 /// The offsets of the rows of windows, from 0 on, of so many rows in all.
@@ -145,12 +163,13 @@ pub(crate) fn offsets<O: Offset, K: Spanned<O>>(
     ensures ok { IfOk result (λ b. b ≡ 0 ∷ ends_from 0 (flat_map extents_in windows.now)) }
     ensures err { IsOkUnless result (Memory alloc_error) }
 {
-    let mut ends = Offsets::new(alloc)?;
-    ends.reserve(total)?;
+    let mut ends = Vec::with_capacity(alloc, total.saturating_add(1))?;
+    ends.push(offset_of(0))?;
+    let mut base = 0;
     for window in windows {
-        push_window::<O, K>(&mut ends, window)?;
+        base = push_window::<O, K>(&mut ends, window, base)?;
     }
-    ends.freeze()
+    OffsetsBuffer::try_new(alloc, ends)
 }
 
 /// The bytes of a window.

@@ -6,10 +6,10 @@ ghost use Rattle.nest_model.specs.Accessors.{child_at};
 ghost use Rattle.nest_model.specs.Layout as layouts;
 ghost use Rattle.nest_model.specs.Layout.{count_layouts};
 ghost use Rattle.nest_array.specs.Seen.{layout_of, layouts_of};
-ghost use Rattle.nest_concat.specs.Words.{AreArrays, AreWithin, EachJoined, Fits, IsJoined, IsWithin, Memory, RefusesEach, RefusesJoin, TopFits, children_of, count_slots, field_of, first_array, layout_type, physical_type, type_of};
+ghost use Rattle.nest_concat.specs.Words.{AreArrays, AreWithin, EachJoined, Fits, HasFields, IsJoined, IsWithin, Memory, RefusesEach, RefusesJoin, TopFits, children_of, count_slots, field_of, first_array, layout_type, physical_type, type_of};
 
 use crate::any::join;
-use crate::bits;
+use crate::{bits, union};
 use nest_array::{AnyArray, StructArray, Window};
 use nest_memory::bitmap::immutable::Bitmap;
 use nest_memory::datatypes::DataType;
@@ -17,11 +17,10 @@ use nest_memory::error::Error;
 use std::alloc::Global;
 
 /// Child f.
-fn child(array: &StructArray, f: usize) -> &AnyArray
-    requires { f < count_layouts (children_of array.now) }
-    ensures { layout_of result.now ≡ child_at (children_of array.now) f }
+pub(crate) fn child(children: &[AnyArray], f: usize) -> &AnyArray
+    requires { f < length children.now }
+    ensures { layout_of result.now ≡ child_at (layouts_of children.now) f }
 {
-    let children = array.values();
     &children[f]
 }
 
@@ -37,15 +36,29 @@ fn field_of_window<'a>(window: &Window<'a>, f: usize) -> Window<'a>
         unreachable!()
     };
     array.known();
-    let child = child(array, f);
+    let child = child(array.values(), f);
     child.known();
     let _len = child.len();
     Window::new(child, window.offset(), window.len())
 }
 
-/// The same slots of child f of windows over records of one data type.
+/// The part of child f that a window over records or unions lies in.
+fn part_of_window<'a>(window: &Window<'a>, f: usize) -> Window<'a>
+    requires kind { HasFields (layout_type window.now.array) }
+    requires field { f < count_fields (fields_of (layout_type window.now.array)) }
+    ensures parts { result ≡ field_of f window.now }
+    ensures fits { TopFits result.array }
+{
+    if window.array().as_struct().is_some() {
+        field_of_window(window, f)
+    } else {
+        union::field_of_window(window, f)
+    }
+}
+
+/// The parts of child f of windows over records, or over unions, of one data type.
 fn field<'a>(alloc: Global, windows: &[Window<'a>], f: usize) -> Result<Vec<Window<'a>>, Error>
-    requires kind { physical_type (layout_type (first_array windows.now)) ≡ physical.Struct }
+    requires kind { HasFields (layout_type (first_array windows.now)) }
     requires within { AreWithin (layout_type (first_array windows.now)) windows.now }
     requires field { f < count_fields (fields_of (layout_type (first_array windows.now))) }
     ensures ok { IfOk result (λ v. v.items ≡ map (field_of f) windows.now) }
@@ -54,7 +67,7 @@ fn field<'a>(alloc: Global, windows: &[Window<'a>], f: usize) -> Result<Vec<Wind
 {
     let mut fields = Vec::with_capacity(alloc, windows.len())?;
     for window in windows {
-        fields.push_reserved(field_of_window(window, f));
+        fields.push_reserved(part_of_window(window, f));
     }
     Ok(fields)
 }
@@ -83,15 +96,15 @@ pub(crate) fn join_records(
     }
 }
 
-/// Each child of windows over records; `children` are those of the first array.
+/// Each child of windows over records or unions; `children` are those of the first array.
 #[cycle(join)]
-fn join_fields(
+pub(crate) fn join_fields(
     alloc: Global,
     children: &[AnyArray],
     windows: &[Window<'_>],
 ) -> Result<Vec<AnyArray>, Error>
     requires some { 0 < length windows.now }
-    requires kind { physical_type (layout_type (first_array windows.now)) ≡ physical.Struct }
+    requires kind { HasFields (layout_type (first_array windows.now)) }
     requires within { AreWithin (layout_type (first_array windows.now)) windows.now }
     requires children { layouts_of children.now ≡ children_of (first_array windows.now) }
     ensures ok { IfOk result (λ v. EachJoined (layouts_of children.now) 0 windows.now (layouts_of v.items)) }

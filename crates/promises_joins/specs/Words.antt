@@ -7,3 +7,4 @@ pub use Rattle.nest_model.specs.Layout.{Layout}
 pub use Rattle.nest_model.specs.Meaning.{len}
 pub use Rattle.nest_model.specs.SameArray.{IsSameArray}
 pub use Rattle.nest_concat.specs.Joined.{AreOfOneType, IsConcatenated, RefusesConcatenate}
+pub use Rattle.nest_concat.specs.Interleaved.{ArePlacesOf, IsInterleaved, RefusesInterleave}

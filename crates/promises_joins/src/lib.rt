@@ -1,9 +1,10 @@
 //! Arrays one after another. What is concatenated has the slots of all arrays in their order, under the data type of the first;
-//! arrays of different data types are refused, and rows, items or bytes that are too many.
+//! arrays of different data types are refused, and rows, items or bytes that are too many. Of several arrays the slots that are
+//! named by array and place are given in that order.
 #![tactic(auto)]
 
 ghost use Rattle.std.specs.Prelude.{◌∷◌, ◌++◌, ◌<◌, ◌≤◌, ◌-◌, ◌↔◌, ℕ, List, [], IfErr, IfOk, IsErrOf, length, map};
-ghost use Rattle.promises_joins.specs.Words.{AreOfOneType, InvalidArgumentError, IsConcatenated, IsSameArray, ItemType, Layout, RefusesConcatenate, cut_layout, layout_of, len};
+ghost use Rattle.promises_joins.specs.Words.{AreOfOneType, ArePlacesOf, InvalidArgumentError, IsConcatenated, IsInterleaved, IsSameArray, ItemType, Layout, RefusesConcatenate, RefusesInterleave, cut_layout, layout_of, len};
 
 use nest_array::AnyArray;
 use nest_memory::error::Error;
@@ -16,6 +17,20 @@ pub fn slots_of_all(alloc: Global, arrays: &[AnyArray]) -> Result<AnyArray, Erro
     ensures err { IfErr result (λ e. RefusesConcatenate e (map layout_of arrays.now)) }
 {
     nest_concat::concatenate(alloc, arrays)
+}
+
+/// Slots of arrays, each by its array and its place there.
+pub fn slots_by_array_and_place(
+    alloc: Global,
+    arrays: &[AnyArray],
+    places: &[(usize, usize)],
+) -> Result<AnyArray, Error>
+    requires { ArePlacesOf (map layout_of arrays.now) places.now }
+    ensures ok { IfOk result (λ a. IsInterleaved (map layout_of arrays.now) places.now (layout_of a)) }
+    ensures types { IsErrOf result (InvalidArgumentError ItemType) ↔ (AreOfOneType (map layout_of arrays.now) → ⊥) }
+    ensures err { IfErr result (λ e. RefusesInterleave e (map layout_of arrays.now) places.now) }
+{
+    nest_concat::interleave(alloc, arrays, places)
 }
 
 /// One array gives an equal array.

@@ -65,6 +65,7 @@ pub use nest_build::push::TryExtendFromSelf;
 pub use nest_build::push::TryPush;
 pub use nest_build::tried::push_all;
 pub use nest_concat::concatenate;
+pub use nest_concat::interleave;
 pub use nest_flat::any_native::AnyNative;
 pub use nest_flat::any_primitive::AnyPrimitive;
 pub use nest_flat::any_primitive::Native;

@@ -1,23 +1,32 @@
-//! Tests of `concatenate` over arrays of every kind, as a crate above `nest_concat` sees it.
+//! Tests of `concatenate` over arrays of every kind, and of `interleave`, as a crate above `nest_concat` sees them.
 //!
 //! | What the row shows | Test |
 //! |---|---|
-//! | An array of each kind, cut at each place: the cuts one after the other are the array | `flat_cuts`, `cuts_of_lists`, `cuts_of_records` |
+//! | An array of each kind, cut at each place: the cuts one after the other are the array | `flat_cuts`, `cuts_of_lists`, `cuts_of_records`, `cuts_of_unions`, `cuts_of_nested_unions` |
 //! | Lists whose items don't begin at 0, an empty array, a null row; a validity of one of two arrays | `lists_one_after_another`, `a_validity_of_one` |
-//! | No array, and one of another data type; a union and a dictionary | `no_array`, `other_types`, `kinds_left_out` |
-//! | Lists of twice 2^31 - 1 nulls; more nulls than a length can be | `too_many` |
-//! | Any one request for memory refused: the call answers `Memory` | `refused_memory` |
+//! | Dense unions: offsets that fall, only what is picked of a field is joined; an empty sparse union | `parts_of_fields`, `an_empty_union` |
+//! | No array, and one of another data type, unions of both modes | `no_array`, `other_types` |
+//! | Unions of dictionaries, and dictionaries of unions | `unions_and_dictionaries` |
+//! | Lists of twice 2^31 - 1 nulls; more nulls than a length can be; 2^31 picks of a field, and one more | `too_many`, `too_many_picks` |
+//! | Slots of several arrays, in any order, some twice, none of one; of unions and of no array | `slots_by_array_and_place`, `picks_by_array_and_place`, `of_no_array` |
+//! | Dictionaries: keys behind other values, and over equal ones as they are; of cuts, of an empty one too, the values whole | `dictionaries::other_values`, `dictionaries::equal_values`, `dictionaries::cuts_have_all_values`, `dictionaries::cuts_of_dictionaries` |
+//! | Lists of dictionaries, dictionaries of lists and of dictionaries; values of an extension beside plain ones | `dictionaries::nested`, `dictionaries::values_of_an_extension` |
+//! | Each width of keys; the last key of 8 bits and the first that isn't; nulls behind too many values; values that are too many | `dictionaries::each_width`, `dictionaries::the_last_keys`, `dictionaries::too_many_values` |
+//! | Any one request for memory refused: the call answers `Memory` | `refused_memory`, `refused_memory_of_places`, `dictionaries::refused_memory` |
+
+mod dictionaries;
 
 use crate::take::arrays::{
     Made, are_same, bytes, cut, keyed, lists, maps, nulls, numbers, picks, records, refusal, sized,
     sized_bytes, texts, truths, two, wide_bytes, wide_lists, wide_texts,
 };
-use nest_concat::concatenate;
+use nest_array::AnyArray;
+use nest_concat::{concatenate, interleave};
 use nest_memory::error::{Argument, Error};
 use std::alloc::{AllocError, Global};
 
 /// The slots of both, one after the other.
-fn joined(alloc: Global, first: Made, second: Made) -> Made {
+pub fn joined(alloc: Global, first: Made, second: Made) -> Made {
     match two(alloc, first, second) {
         Ok(arrays) => {
             let joined = concatenate(alloc, arrays.as_slice());
@@ -29,7 +38,7 @@ fn joined(alloc: Global, first: Made, second: Made) -> Made {
 }
 
 /// Whether an array of so many slots is its cuts, at each place.
-fn is_its_cuts<F: Fn() -> Made>(alloc: Global, len: usize, array: F) -> bool {
+pub fn is_its_cuts<F: Fn() -> Made>(alloc: Global, len: usize, array: F) -> bool {
     for k in 0..len + 1 {
         let found = joined(alloc, cut(array(), 0, k), cut(array(), k, len - k));
         if !are_same(found, array()) {
@@ -102,6 +111,71 @@ fn cuts_of_records(rt: HostRuntime) {
 }
 
 #[test]
+fn cuts_of_unions(rt: HostRuntime) {
+    let alloc = rt.alloc();
+    let words = [Some("a"), None, Some(""), Some("bcd")];
+    assert!(rt; is_its_cuts(alloc, 4, || picks(alloc, &[0, 1, 1, 0], None, ten(alloc), texts(alloc, &words))));
+    let offsets: Option<&[i32]> = Some(&[7, 0, 2, 1]);
+    assert!(rt; is_its_cuts(alloc, 4, || picks(alloc, &[0, 1, 1, 0], offsets, ten(alloc), texts(alloc, &words))));
+    let late = || cut(picks(alloc, &[1, 0, 1, 1, 0, 0, 1], None, ten(alloc), ten(alloc)), 2, 4);
+    assert!(rt; is_its_cuts(alloc, 4, late));
+}
+
+#[test]
+fn cuts_of_nested_unions(rt: HostRuntime) {
+    let alloc = rt.alloc();
+    let sparse = || picks(alloc, &[0, 1, 1, 0, 1, 0, 0, 1, 1, 0], None, ten(alloc), ten(alloc));
+    let offsets: Option<&[i32]> = Some(&[0, 1, 2, 3, 4, 5, 6, 7, 8, 9]);
+    let dense = || picks(alloc, &[0, 1, 1, 0, 1, 0, 0, 1, 1, 0], offsets, sparse(), ten(alloc));
+    assert!(rt; is_its_cuts(alloc, 4, || lists(alloc, dense(), &[1, 3, 5, 5, 9], BITS)));
+    assert!(rt; is_its_cuts(alloc, 5, || sized(alloc, sparse(), 2, None)));
+    assert!(rt; is_its_cuts(alloc, 10, || records(alloc, sparse(), dense(), None)));
+    let rows = || lists(alloc, ten(alloc), &[1, 3, 5, 5, 9], BITS);
+    assert!(rt; is_its_cuts(alloc, 4, || picks(alloc, &[1, 0, 1, 0], None, rows(), dense())));
+    assert!(rt; is_its_cuts(alloc, 3, || picks(alloc, &[1, 0, 1], Some(&[9, 3, 0]), rows(), dense())));
+}
+
+/// Whether it is a dense union with these offsets.
+fn has_offsets(array: &Made, expected: &[i32]) -> bool {
+    let Ok(AnyArray::Union(array)) = array else {
+        return false;
+    };
+    match array.offsets() {
+        Some(offsets) => offsets.as_slice() == expected,
+        None => false,
+    }
+}
+
+#[test]
+fn parts_of_fields(rt: HostRuntime) {
+    let alloc = rt.alloc();
+    let first = picks(alloc, &[0, 1, 0], Some(&[5, 1, 3]), ten(alloc), numbers(alloc, &[11, 12, 13], None));
+    let second = picks(alloc, &[1, 1], Some(&[2, 0]), ten(alloc), numbers(alloc, &[21, 22, 23], None));
+    let found = joined(alloc, first, second);
+    let expected = || {
+        picks(
+            alloc,
+            &[0, 1, 0, 1, 1],
+            Some(&[2, 0, 0, 3, 1]),
+            numbers(alloc, &[4, 5, 6], Some(&[true, true, true])),
+            numbers(alloc, &[12, 21, 22, 23], None),
+        )
+    };
+    assert!(rt; has_offsets(&found, &[2, 0, 0, 3, 1]));
+    assert!(rt; are_same(found, expected()));
+}
+
+#[test]
+fn an_empty_union(rt: HostRuntime) {
+    let alloc = rt.alloc();
+    let some = || picks(alloc, &[0, 1], None, ten(alloc), ten(alloc));
+    let none = || cut(picks(alloc, &[0, 1, 1], None, ten(alloc), ten(alloc)), 2, 0);
+    assert!(rt; are_same(joined(alloc, none(), some()), some()));
+    assert!(rt; are_same(joined(alloc, some(), none()), some()));
+    assert!(rt; are_same(joined(alloc, none(), none()), none()));
+}
+
+#[test]
 fn lists_one_after_another(rt: HostRuntime) {
     let alloc = rt.alloc();
     let first = lists(alloc, numbers(alloc, &[0, 1, 2, 3], None), &[1, 2, 3], None);
@@ -146,15 +220,21 @@ fn other_types(rt: HostRuntime) {
     assert!(rt; refusal(found) == TYPES);
     let found = joined(alloc, texts(alloc, &[]), wide_texts(alloc, &[]));
     assert!(rt; refusal(found) == TYPES);
+    let sparse = picks(alloc, &[0], None, ten(alloc), ten(alloc));
+    let dense = picks(alloc, &[0], Some(&[0]), ten(alloc), ten(alloc));
+    assert!(rt; refusal(joined(alloc, sparse, dense)) == TYPES);
 }
 
 #[test]
-fn kinds_left_out(rt: HostRuntime) {
+fn unions_and_dictionaries(rt: HostRuntime) {
     let alloc = rt.alloc();
+    let picked = || picks(alloc, &[0, 1], None, keyed(alloc, &[3, 0], None, ten(alloc)), ten(alloc));
+    assert!(rt; is_its_cuts(alloc, 2, picked));
     let both = || picks(alloc, &[0, 1], None, ten(alloc), ten(alloc));
-    assert!(rt; refusal(joined(alloc, both(), both())) == Some(Error::NotYetImplemented));
-    let found = || lists(alloc, keyed(alloc, &[3, 0], None, ten(alloc)), &[0, 2], None);
-    assert!(rt; refusal(joined(alloc, found(), found())) == Some(Error::NotYetImplemented));
+    let found = |values: Made| keyed(alloc, &[1, 0], None, values);
+    assert!(rt; is_its_cuts(alloc, 2, || found(both())));
+    let other = picks(alloc, &[1, 0], None, ten(alloc), ten(alloc));
+    assert!(rt; refusal(joined(alloc, found(both()), found(other))).is_none());
 }
 
 #[test]
@@ -165,6 +245,95 @@ fn too_many(rt: HostRuntime) {
     let found = joined(alloc, nulls(usize::MAX), nulls(1));
     assert!(rt; refusal(found) == Some(Error::Overflow));
     assert!(rt; are_same(joined(alloc, nulls(usize::MAX - 1), nulls(1)), nulls(usize::MAX)));
+}
+
+#[test]
+fn too_many_picks(rt: HostRuntime) {
+    let alloc = rt.alloc();
+    let widest = || picks(alloc, &[0, 0], Some(&[0, 2147483647]), nulls(2147483648), nulls(1));
+    let one = |field: i8| picks(alloc, &[field], Some(&[0]), nulls(1), nulls(1));
+    let expected = picks(alloc, &[0, 0, 1], Some(&[0, 2147483647, 0]), nulls(2147483648), nulls(1));
+    assert!(rt; are_same(joined(alloc, widest(), one(1)), expected));
+    assert!(rt; refusal(joined(alloc, widest(), one(0))) == Some(Error::Overflow));
+    assert!(rt; refusal(joined(alloc, one(0), widest())) == Some(Error::Overflow));
+}
+
+/// Slots of both, each by its array, 0 or 1, and its place there.
+fn interleaved(alloc: Global, first: Made, second: Made, places: &[(usize, usize)]) -> Made {
+    match two(alloc, first, second) {
+        Ok(arrays) => {
+            let found = interleave(alloc, arrays.as_slice(), places);
+            drop(arrays);
+            found
+        }
+        Err(error) => Err(error),
+    }
+}
+
+#[test]
+fn slots_by_array_and_place(rt: HostRuntime) {
+    let alloc = rt.alloc();
+    let bits: Option<&[bool]> = Some(&[false, true]);
+    let numbered = || numbers(alloc, &[7, 8], bits);
+    let places = [(1, 2), (0, 1), (1, 0), (0, 0), (1, 2)];
+    let found = interleaved(alloc, numbered(), numbers(alloc, &[1, 2, 3], None), &places);
+    let expected = numbers(alloc, &[3, 8, 1, 0, 3], Some(&[true, true, true, false, true]));
+    assert!(rt; are_same(found, expected));
+    let found = interleaved(alloc, numbered(), numbers(alloc, &[], None), &[(0, 1)]);
+    assert!(rt; are_same(found, numbers(alloc, &[8], None)));
+    let found = interleaved(alloc, numbered(), numbered(), &[]);
+    assert!(rt; are_same(found, numbers(alloc, &[], None)));
+    let rows = || lists(alloc, ten(alloc), &[1, 3, 5, 5, 9], BITS);
+    let found = interleaved(alloc, rows(), cut(rows(), 2, 2), &[(1, 0), (0, 0), (1, 1), (0, 1)]);
+    let bits: Option<&[bool]> = Some(&[true, true, true, false]);
+    let items = numbers(alloc, &[2, 3, 6, 7, 8, 9], Some(&[true, false, true, false, true, true]));
+    assert!(rt; are_same(found, lists(alloc, items, &[0, 0, 2, 6, 6], bits)));
+}
+
+#[test]
+fn picks_by_array_and_place(rt: HostRuntime) {
+    let alloc = rt.alloc();
+    let first = picks(alloc, &[0, 1, 0], Some(&[5, 1, 3]), ten(alloc), numbers(alloc, &[11, 12, 13], None));
+    let second = picks(alloc, &[1, 1], Some(&[2, 0]), ten(alloc), numbers(alloc, &[21, 22, 23], None));
+    let found = interleaved(alloc, first, second, &[(1, 1), (0, 2), (1, 0), (0, 1)]);
+    let expected = picks(
+        alloc,
+        &[1, 0, 1, 1],
+        Some(&[0, 0, 1, 2]),
+        numbers(alloc, &[4], Some(&[true])),
+        numbers(alloc, &[21, 23, 12], None),
+    );
+    assert!(rt; are_same(found, expected));
+}
+
+#[test]
+fn of_no_array(rt: HostRuntime) {
+    let alloc = rt.alloc();
+    assert!(rt; refusal(interleave(alloc, &[], &[])) == TYPES);
+    let found = interleaved(alloc, ten(alloc), truths(alloc, &[true], None), &[(1, 0)]);
+    assert!(rt; refusal(found) == TYPES);
+}
+
+// Passes whichever request for memory is refused.
+#[test]
+fn refused_memory_of_places(rt: HostRuntime) {
+    let alloc = rt.alloc();
+    let row = || picks(alloc, &[0, 1, 0], Some(&[5, 1, 3]), ten(alloc), numbers(alloc, &[11, 12, 13], None));
+    match row() {
+        Ok(expected) => match interleaved(alloc, cut(row(), 1, 2), cut(row(), 0, 1), &[(1, 0), (0, 0), (0, 1)]) {
+            Ok(found) => {
+                let same = found == expected;
+                drop(found);
+                drop(expected);
+                assert!(rt; same);
+            }
+            Err(error) => {
+                drop(expected);
+                assert!(rt; error == Error::Memory(AllocError));
+            }
+        },
+        Err(error) => assert!(rt; error == Error::Memory(AllocError)),
+    }
 }
 
 // Passes whichever request for memory is refused.

@@ -13,6 +13,7 @@
 //! | Iterators from both ends | `scans::both_ends` |
 //! | Slots at places, and by a mask | `takes` |
 //! | Slots of several arrays, one array after another | `joins::slots_of_arrays` |
+//! | The same of dictionaries of other values, and of the cuts of one | `joins::slots_of_dictionaries`, `joins::cuts_of_dictionaries` |
 #![tactic(auto)]
 
 #[cfg(test)]

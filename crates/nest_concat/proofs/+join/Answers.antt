@@ -1,15 +1,25 @@
-use Rattle.std.proofs.Common.{◌∷◌, [], length, length-append, true, false, refl, ap, sym, ◌∙◌, subst, arith}
+use Rattle.std.proofs.Common.{◌∷◌, [], length, length-append, true, false, inl, inr, refl, ap, sym, ◌∙◌, subst, arith}
 use Rattle.std.specs.Prelude.{map}
 use Rattle.nest_memory.specs.Physical.{physical_type}
 use Rattle.nest_model.specs.Accessors.{child_at, children_of}
 use Rattle.nest_model.specs.Layout.{layout_type, weight, weight_all}
 use Rattle.nest_concat.specs.Windows.{field_of}
 use Rattle.nest_array.specs.Seen.{layout_of, layouts_of}
-use Rattle.nest_concat.specs.Joined.{AreArrays, AreWithin, IsJoined, RefusesEach, first_array}
+use Rattle.nest_memory.specs.declared.datatypes.physical_type.PhysicalType.TheVariants as physical
+use Rattle.nest_model.specs.Accessors.{key_type_of}
+use Rattle.nest_model.specs.BuilderTree.{key_count}
+use Rattle.nest_array.specs.Keys.{keyed_by}
+use Rattle.nest_array.specs.SeenKeys.{keys_layout}
+use Rattle.std.proofs.lemmas.Result.{err_from_is_err_and}
+use Rattle.nest_concat.specs.Lookups.{AreJoinedKeys}
+use Rattle.nest_concat.specs.Joined.{AreArrays, AreWithin, IsJoined, RefusesEach, RefusesJoin, RefusesKeys, first_array}
 use Rattle.nest_concat.proofs.Children.{count-of, each-joined, one-more, weight-at}
-use Rattle.nest_concat.proofs.Made.{list-kind, map-kind, ok-joined, record-kind, sized-kind}
+use Rattle.nest_concat.proofs.Picked.{facts-of}
+use Rattle.nest_concat.proofs.Made.{list-kind, map-kind, of-kind, ok-joined, record-kind, sized-kind}
+use Rattle.nest_concat.proofs.Keyed.{are-keyed, keyed-kind, keyed-lighter, keys-refuse, moved-joined, others-not, values-children, values-refuse, width_of}
 use Rattle.nest_concat.proofs.Nested.{list-children, list-joined, list-lighter, list-refuses, map-children, map-joined, map-lighter, map-refuses, sized-children, sized-joined, sized-lighter, sized-refuses}
-use Rattle.nest_concat.proofs.Records.{field-first, field-joined, field-refuses, record-children, record-count, record-joined, record-lighter, record-refuses}
+use Rattle.nest_concat.proofs.Records.{field-first, field-joined, field-refuses, record-joined, record-lighter, record-refuses}
+use Rattle.nest_concat.proofs.Unions.{field-children, field-count, union-joined, union-kind, union-lighter, union-refuses}
 use Rattle.nest_concat.proofs.+join.Goals as goal
 
 pub list::join_lists-join-requires : goal.list::join_lists-join-requires
@@ -136,6 +146,93 @@ fixed_size_list::join_lists-returns-in-Err-clause-err t c =
     let e = c.deref.ensures.value ∙ c.in_ok-items.ensures.ok in
     sized-refuses c.in-Err.error c.args.array.now _ _ _ _ c.args.windows.now c.deref.result.now c.known.ensures.kind refl (c.requires.first, c.requires.some) e c.in-Err.ensures.err
 
+pub dictionary::join_keyed-have_values-requires : goal.dictionary::join_keyed-have_values-requires
+dictionary::join_keyed-have_values-requires t c =
+    let a = c.args.array.now in
+    let ws = c.args.windows.now in
+    are-keyed (width_of a) ws (of-kind (layout_type a) _ ws c.requires.within (keyed-kind a _ _ _ c.known.ensures.fits c.known.ensures.kind))
+
+pub dictionary::join_keyed-whole_values-requires : goal.dictionary::join_keyed-whole_values-requires
+dictionary::join_keyed-whole_values-requires t c =
+    let a = c.args.array.now in
+    let ws = c.args.windows.now in
+    are-keyed (width_of a) ws (of-kind (layout_type a) _ ws c.requires.within (keyed-kind a _ _ _ c.known.ensures.fits c.known.ensures.kind))
+
+pub dictionary::join_keyed-joined-requires-clause-kind : goal.dictionary::join_keyed-joined-requires-clause-kind
+dictionary::join_keyed-joined-requires-clause-kind t c =
+    let a = c.args.array.now in
+    let p = keyed-kind a _ _ _ c.known.ensures.fits c.known.ensures.kind ∙ ap (λ z. physical.Dictionary (keyed_by (key_type_of z))) (sym c.keys.ensures) in
+    of-kind (layout_type a) _ c.args.windows.now c.requires.within p
+
+pub dictionary::join_keyed-returns-in_err-keys-clause-err : goal.dictionary::join_keyed-returns-in_err-keys-clause-err
+dictionary::join_keyed-returns-in_err-keys-clause-err t c =
+    let a = c.args.array.now in
+    let ws = c.args.windows.now in
+    let p = err_from_is_err_and c.from_residual-in_err-keys.result c.from_residual-in_err-keys.ensures.1 in
+    let n = others-not _ _ c.args.windows.now c.values.ensures c.if-have_values.ensures in
+    let r = subst (λ z. RefusesKeys true c.in_err-keys.field-0.0 (key_count (keyed_by (key_type_of z))) ws) c.keys.ensures c.in_err-keys.ensures.err in
+    rw p.1 (subst (λ e. RefusesJoin e a ws) (sym p.2) (keys-refuse c.in_err-keys.field-0.0 a _ _ ws c.known.ensures.fits c.known.ensures.kind n r))
+
+pub dictionary::join_keyed-join-requires : goal.dictionary::join_keyed-join-requires
+dictionary::join_keyed-join-requires t c =
+    let a = c.args.array.now in
+    let ws = c.args.windows.now in
+    let p = keyed-kind a _ _ _ c.known.ensures.fits c.known.ensures.kind in
+    let e = c.deref.ensures.value ∙ c.in_ok-values.ensures.ok in
+    let r = values-children (width_of a) (layout_type a) ws c.deref.result.now c.requires.within p c.requires.some e (subst AreArrays (sym c.deref.ensures.value) c.in_ok-values.ensures.fit) in
+    let w = keyed-lighter a _ _ _ ws c.deref.result.now c.known.ensures.kind (c.requires.first, c.requires.some) e in
+    (omega (arith, w), r)
+
+pub dictionary::join_keyed-array_of-requires : goal.dictionary::join_keyed-array_of-requires
+dictionary::join_keyed-array_of-requires t c =
+    let a = c.args.array.now in
+    let ws = c.args.windows.now in
+    let e = c.deref.ensures.value ∙ c.in_ok-values.ensures.ok in
+    let g = subst (λ z. AreJoinedKeys true z ws (keys_layout c.in_ok-keys.keys)) c.keys.ensures c.in_ok-keys.ensures.ok in
+    (moved-joined a _ _ _ _ _ ws c.deref.result.now c.known.ensures.fits c.known.ensures.kind (c.requires.first, c.requires.some) c.requires.within e c.data_type.ensures g c.in-Ok.ensures.ok).0
+
+pub dictionary::join_keyed-returns-in-Ok-clause-ok : goal.dictionary::join_keyed-returns-in-Ok-clause-ok
+dictionary::join_keyed-returns-in-Ok-clause-ok t c =
+    let a = c.args.array.now in
+    let ws = c.args.windows.now in
+    let e = c.deref.ensures.value ∙ c.in_ok-values.ensures.ok in
+    let g = subst (λ z. AreJoinedKeys true z ws (keys_layout c.in_ok-keys.keys)) c.keys.ensures c.in_ok-keys.ensures.ok in
+    ok-joined c.array_of.result (layout_type a) _ ws c.array_of.ensures.ok
+    (moved-joined a _ _ _ _ _ ws c.deref.result.now c.known.ensures.fits c.known.ensures.kind (c.requires.first, c.requires.some) c.requires.within e c.data_type.ensures g c.in-Ok.ensures.ok).1
+
+pub dictionary::join_keyed-returns-clause-err : goal.dictionary::join_keyed-returns-clause-err
+dictionary::join_keyed-returns-clause-err t c =
+    let e = c.deref.ensures.value ∙ c.in_ok-values.ensures.ok in
+    let n = others-not _ _ c.args.windows.now c.values.ensures c.if-have_values.ensures in
+    values-refuse c.in-Err.error c.args.array.now _ _ _ c.args.windows.now c.deref.result.now c.known.ensures.kind (c.requires.first, c.requires.some) e n c.in-Err.ensures.err
+
+pub list::join_lists-count-requires : goal.list::join_lists-count-requires
+list::join_lists-count-requires t c = let a = c.args.array.now in record { kind = of-kind (layout_type a) _ c.args.windows.now c.requires.within (list-kind false a _ _ _ _ c.known.ensures.fits c.known.ensures.kind) }
+
+pub list::join_lists-offsets-requires-clause-kind : goal.list::join_lists-offsets-requires-clause-kind
+list::join_lists-offsets-requires-clause-kind t c = let a = c.args.array.now in of-kind (layout_type a) _ c.args.windows.now c.requires.within (list-kind false a _ _ _ _ c.known.ensures.fits c.known.ensures.kind)
+
+pub list::join_lists-items-requires : goal.list::join_lists-items-requires
+list::join_lists-items-requires t c = let a = c.args.array.now in record { kind = of-kind (layout_type a) _ c.args.windows.now c.requires.within (list-kind false a _ _ _ _ c.known.ensures.fits c.known.ensures.kind) }
+
+pub list::join_large_lists-count-requires : goal.list::join_large_lists-count-requires
+list::join_large_lists-count-requires t c = let a = c.args.array.now in record { kind = of-kind (layout_type a) _ c.args.windows.now c.requires.within (list-kind true a _ _ _ _ c.known.ensures.fits c.known.ensures.kind) }
+
+pub list::join_large_lists-offsets-requires-clause-kind : goal.list::join_large_lists-offsets-requires-clause-kind
+list::join_large_lists-offsets-requires-clause-kind t c = let a = c.args.array.now in of-kind (layout_type a) _ c.args.windows.now c.requires.within (list-kind true a _ _ _ _ c.known.ensures.fits c.known.ensures.kind)
+
+pub list::join_large_lists-items-requires : goal.list::join_large_lists-items-requires
+list::join_large_lists-items-requires t c = let a = c.args.array.now in record { kind = of-kind (layout_type a) _ c.args.windows.now c.requires.within (list-kind true a _ _ _ _ c.known.ensures.fits c.known.ensures.kind) }
+
+pub map::join_maps-count-requires : goal.map::join_maps-count-requires
+map::join_maps-count-requires t c = let a = c.args.array.now in record { kind = of-kind (layout_type a) _ c.args.windows.now c.requires.within (map-kind a _ _ _ _ c.known.ensures.fits c.known.ensures.kind) }
+
+pub map::join_maps-offsets-requires-clause-kind : goal.map::join_maps-offsets-requires-clause-kind
+map::join_maps-offsets-requires-clause-kind t c = let a = c.args.array.now in of-kind (layout_type a) _ c.args.windows.now c.requires.within (map-kind a _ _ _ _ c.known.ensures.fits c.known.ensures.kind)
+
+pub map::join_maps-items-requires : goal.map::join_maps-items-requires
+map::join_maps-items-requires t c = let a = c.args.array.now in record { kind = of-kind (layout_type a) _ c.args.windows.now c.requires.within (map-kind a _ _ _ _ c.known.ensures.fits c.known.ensures.kind) }
+
 pub struct_::join_records-join_fields-requires : goal.struct_::join_records-join_fields-requires
 struct_::join_records-join_fields-requires t c =
     let a = c.args.array.now in
@@ -147,7 +244,7 @@ struct_::join_records-join_fields-requires t c =
       (
         c.requires.some,
         (
-          ap (λ z. physical_type (layout_type z)) (sym c.requires.first) ∙ p,
+          inl (ap (λ z. physical_type (layout_type z)) (sym c.requires.first) ∙ p),
           (subst (λ z. AreWithin (layout_type z) ws) c.requires.first c.requires.within, c.values.ensures ∙ ap children_of c.requires.first),
         ),
       ),
@@ -176,7 +273,7 @@ struct_::join_records-returns-in-Err-clause-err t c =
 pub struct_::join_fields-field-requires : goal.struct_::join_fields-field-requires
 struct_::join_fields-field-requires t c =
     let ws = c.args.windows.now in
-    let n = record-count (layout_type (first_array ws)) _ ws c.requires.within c.requires.kind c.requires.some c.requires.children in
+    let n = field-count (layout_type (first_array ws)) _ ws c.requires.within c.requires.kind c.requires.some c.requires.children in
     record { kind = c.requires.kind; within = c.requires.within; field = omega (arith, n, count-of c.args.children.now) }
 
 pub struct_::join_fields-join-requires : goal.struct_::join_fields-join-requires
@@ -186,9 +283,9 @@ struct_::join_fields-join-requires t c =
     let f = c.loop-f.f in
     let cws = c.deref.result.now in
     let e = c.deref.ensures.value ∙ c.in_ok-slots.ensures.ok in
-    let n = record-count (layout_type (first_array ws)) cs ws c.requires.within c.requires.kind c.requires.some c.requires.children in
+    let n = field-count (layout_type (first_array ws)) cs ws c.requires.within c.requires.kind c.requires.some c.requires.children in
     let l = count-of c.args.children.now in
-    let r = record-children (layout_type (first_array ws)) f ws cws c.requires.within c.requires.kind c.requires.some (omega (arith, n, l)) e (subst AreArrays (sym c.deref.ensures.value) c.in_ok-slots.ensures.fit) in
+    let r = field-children (layout_type (first_array ws)) f ws cws c.requires.within c.requires.kind c.requires.some (omega (arith, n, l)) e (subst AreArrays (sym c.deref.ensures.value) c.in_ok-slots.ensures.fit) in
     let w = weight-at cs f (omega (arith, l)) in
     let z = ap weight (field-first f cs ws cws c.requires.children c.requires.some e) in
     (omega (arith, w, z), r)
@@ -216,3 +313,41 @@ struct_::join_fields-loop-f-preserved t c =
       room = omega (arith, c.push_reserved.ensures.capacity, i.room);
       done = rw e (one-more (λ k z. IsJoined (layout_type (child_at cs k)) (map (field_of k) ws) z) c.loop-f.joined.items c.loop-f.f y i.same_length i.done g);
     }
+
+pub union::join_unions-types-requires : goal.union::join_unions-types-requires
+union::join_unions-types-requires t c = let a = c.args.array.now in of-kind (layout_type a) _ c.args.windows.now c.requires.within (facts-of a c.known.ensures.fits c.known.ensures.kind).typed
+
+pub union::join_unions-join_fields-requires : goal.union::join_unions-join_fields-requires
+union::join_unions-join_fields-requires t c =
+    let a = c.args.array.now in
+    let ws = c.args.windows.now in
+    let p = union-kind a c.known.ensures.fits c.known.ensures.kind in
+    let w = union-lighter a _ _ _ _ _ _ c.known.ensures.kind c.fields.ensures in (
+      omega (arith, w),
+      (
+        c.requires.some,
+        (
+          inr (ap (λ z. physical_type (layout_type z)) (sym c.requires.first) ∙ p),
+          (subst (λ z. AreWithin (layout_type z) ws) c.requires.first c.requires.within, c.fields.ensures ∙ ap children_of c.requires.first),
+        ),
+      ),
+    )
+
+pub union::join_unions-array_of-requires : goal.union::join_unions-array_of-requires
+union::join_unions-array_of-requires t c =
+    let a = c.args.array.now in
+    let ws = c.args.windows.now in
+    let p = union-kind a c.known.ensures.fits c.known.ensures.kind in
+    (union-joined (layout_type a) _ a ws _ _ _ _ c.requires.within p c.requires.some c.requires.first c.fields.ensures c.in-Ok.ensures.ok c.data_type.ensures c.in_ok-types.ensures.ok c.in_ok-offsets.ensures.ok).0
+
+pub union::join_unions-returns-in-Ok-clause-ok : goal.union::join_unions-returns-in-Ok-clause-ok
+union::join_unions-returns-in-Ok-clause-ok t c =
+    let a = c.args.array.now in
+    let ws = c.args.windows.now in
+    let p = union-kind a c.known.ensures.fits c.known.ensures.kind in
+    ok-joined c.array_of.result (layout_type a) _ ws c.array_of.ensures.ok
+    (union-joined (layout_type a) _ a ws _ _ _ _ c.requires.within p c.requires.some c.requires.first c.fields.ensures c.in-Ok.ensures.ok c.data_type.ensures c.in_ok-types.ensures.ok c.in_ok-offsets.ensures.ok).1
+
+pub union::join_unions-returns-in-Err-clause-err : goal.union::join_unions-returns-in-Err-clause-err
+union::join_unions-returns-in-Err-clause-err t c =
+    union-refuses c.in-Err.error c.args.array.now _ _ _ _ _ _ c.args.windows.now c.known.ensures.kind c.fields.ensures c.in-Err.ensures.err

@@ -11,6 +11,9 @@ use Rattle.nest_concat.proofs.+join.Given as goal
 abbrev pub decreases-any::join : goal.decreases-any::join
 decreases-any::join l = 2 * weight (first_array l.windows.now) + 1
 
+abbrev pub decreases-dictionary::join_keyed : goal.decreases-dictionary::join_keyed
+decreases-dictionary::join_keyed l = 2 * weight l.array.now
+
 abbrev pub decreases-fixed_size_list::join_lists : goal.decreases-fixed_size_list::join_lists
 decreases-fixed_size_list::join_lists l = 2 * weight l.array.now
 
@@ -25,6 +28,9 @@ decreases-map::join_maps l = 2 * weight l.array.now
 
 abbrev pub decreases-struct_::join_records : goal.decreases-struct_::join_records
 decreases-struct_::join_records l = 2 * weight l.array.now
+
+abbrev pub decreases-union::join_unions : goal.decreases-union::join_unions
+decreases-union::join_unions l = 2 * weight l.array.now
 
 abbrev pub decreases-struct_::join_fields : goal.decreases-struct_::join_fields
 decreases-struct_::join_fields l = 2 * weight_all (layouts_of l.children.now)

@@ -1,0 +1,154 @@
+-- Keys that are added to others, and when one has no room.
+use Rattle.std.specs.Prelude.{◌⊎◌, Bool, IfErr, IfOk, MatchResult, List, [], ◌∷◌, ◌++◌, alloc_error, map, length, get_or}
+use Rattle.std.specs.List.{sum_by}
+use Rattle.std.proofs.Common.{◌≡◌, ℕ, ℤ, Result, Ok, Err, zero, suc, ◌+◌, ◌<◌, ◌≤◌, ◌^◌, true, false, take, drop, inl, inr, refl, ap, sym, ◌∙◌, subst, arith, append-nil, append_assoc}
+use Rattle.std.proofs.lemmas.List.{drop_all, drop_more, length-map, map-append}
+use Rattle.std.proofs.lemmas.List.Sums.{sum_by-cons}
+use Rattle.nest_memory.specs.declared.datatypes.IntegerType.{IntegerType}
+use Rattle.nest_memory.specs.declared.datatypes.IntegerType.TheVariants as integers
+use Rattle.nest_memory.specs.declared.datatypes.physical_type.PhysicalType.TheVariants as physical
+use Rattle.nest_memory.specs.declared.datatypes.physical_type.PrimitiveType.{PrimitiveType}
+use Rattle.nest_memory.specs.TypeTree.{TypeTree}
+use Rattle.nest_memory.specs.Physical.{physical_type}
+use Rattle.nest_memory.specs.declared.error.Error.{Error}
+use Rattle.nest_memory.specs.declared.error.Error.TheVariants.{Memory, Overflow}
+use Rattle.nest_model.specs.Accessors.{validity_of, keys_of, key_kind, key_type_of, natives_of, whole as number_of}
+use Rattle.nest_model.specs.Array.{TopFits}
+use Rattle.nest_model.specs.BuilderTree.{key_count}
+use Rattle.nest_model.specs.Decide.{pass-no_fault}
+use Rattle.nest_model.specs.Fits.{Fits, FirstFault, ValidityFits, checks}
+use Rattle.nest_model.specs.Layout.{Layout, primitive, layout_type}
+use Rattle.nest_model.specs.Part.{Validity, valid_at}
+use Rattle.nest_array.specs.WindowParts.{WindowParts}
+use Rattle.nest_concat.specs.Joined.{AreWithin, RefusesKeys}
+use Rattle.nest_concat.specs.Limits.{PassesLength}
+use Rattle.nest_concat.specs.Lookups.{AreJoinedKeys, IsPast, KeyPasses, KeysPass, SomePast, count_values, joined_keys, keys_in, moved_key, moved_keys, moved_run, values_in}
+use Rattle.nest_concat.specs.Windows.{count_of, count_slots, joined_validity}
+use Rattle.nest_concat.proofs.Grown.{sum-within}
+use Rattle.nest_concat.proofs.Keyed.{keys-long, moved-count}
+use Rattle.nest_concat.proofs.Pieces.{flat-length}
+use Rattle.nest_concat.proofs.Windows.{joined-fits}
+use Rattle.nest_concat.proofs.Shapes.{dictionary-shape}
+
+-- no type of keys has more than numbers of 64 bits
+pub keys-at-most : (k : IntegerType) → key_count k ≤ 2 ^ 64
+keys-at-most integers.Int8 = omega arith
+keys-at-most integers.Int16 = omega arith
+keys-at-most integers.Int32 = omega arith
+keys-at-most integers.Int64 = omega arith
+keys-at-most integers.UInt8 = omega arith
+keys-at-most integers.UInt16 = omega arith
+keys-at-most integers.UInt32 = omega arith
+keys-at-most integers.UInt64 = omega arith
+
+run-more : (s : ℕ) (ks : Layout) (o n : ℕ) → moved_run s ks o (n + 1) ≡ moved_run s ks o n ++ moved_key s ks (o + n) ∷ []
+run-more s ks o zero = let z : o ≡ o + 0 = omega arith in ap (λ i. moved_key s ks i ∷ []) z
+run-more s ks o (suc n) =
+    let z : suc n + 1 ≡ suc (n + 1) = omega arith in
+    let y : o + 1 + n ≡ o + suc n = omega arith in
+    ap (moved_run s ks o) z ∙ ap (λ zs. moved_key s ks o ∷ zs) (run-more s ks (o + 1) n ∙ ap (λ i. moved_run s ks (o + 1) n ++ moved_key s ks i ∷ []) y)
+
+-- the raw keys that native values are
+abbrev pub numbers_in : {T : Type 0} → (T → List ℤ) → List T → List ℤ
+numbers_in f xs = map number_of (map f xs)
+
+numbers-append : {T : Type 0} (f : T → List ℤ) (xs ys : List T) → numbers_in f (xs ++ ys) ≡ numbers_in f xs ++ numbers_in f ys
+numbers-append f xs ys = ap (map number_of) (map-append f xs ys) ∙ map-append number_of (map f xs) (map f ys)
+
+-- one key more
+pub keys-more : {T : Type 0} (f : T → List ℤ) (s : ℕ) (ks : Layout) (o n : ℕ) (first old new : List T) (x : T) → new ≡ old ++ x ∷ [] → numbers_in f old ≡ numbers_in f first ++ moved_run s ks o n
+    → number_of (f x) ≡ moved_key s ks (o + n) → numbers_in f new ≡ numbers_in f first ++ moved_run s ks o (n + 1)
+keys-more f s ks o n first old new x e g h =
+    ap (numbers_in f) e
+    ∙ numbers-append f old (x ∷ [])
+    ∙ ap (λ zs. zs ++ number_of (f x) ∷ []) g
+    ∙ append_assoc (numbers_in f first) (moved_run s ks o n) (number_of (f x) ∷ [])
+    ∙ ap (λ z. numbers_in f first ++ (moved_run s ks o n ++ z ∷ [])) h
+    ∙ ap (λ zs. numbers_in f first ++ zs) (sym (run-more s ks o n))
+
+pub some-past : (n s : ℕ) (ks : Layout) (o m j : ℕ) → j < m → IsPast n s ks (o + j) → SomePast n s ks o m
+some-past n s ks o m j h p = (j, (h, p))
+
+-- so it is in the window
+pub past-window : (k : IntegerType) (n s : ℕ) (w : WindowParts) (ks : Layout) (o m : ℕ) → TopFits w.array → physical_type (layout_type w.array) ≡ physical.Dictionary k → ks ≡ keys_of w.array → o ≡ w.offset → m ≡ w.count
+    → SomePast n s ks o m → (0 < s) × KeyPasses n s w
+past-window k n s w ks o m f p e g h past =
+    let v = ap validity_of (dictionary-shape k w.array f p) in
+    let here = subst (λ z. SomePast n s (keys_of w.array) w.offset z) h (subst (λ z. SomePast n s (keys_of w.array) z m) g (subst (λ z. SomePast n s z o m) e past)) in
+    let j = here.0 in
+    let r = here.1.1 in
+    (r.0, (j, (here.1.0, (ap (λ va. valid_at va (w.offset + j)) v ∙ r.1.0, r.1.1))))
+
+-- keys of the windows that are left
+pub keys-left : (ws : List WindowParts) (s i : ℕ) (w : WindowParts) → i < length ws → w ≡ get_or ws i w → moved_keys s (drop i ws) ≡ keys_in s w ++ moved_keys (s + count_values w) (drop (i + 1) ws)
+keys-left ws s i w h e = ap (moved_keys s) (drop_more ws i w h) ∙ ap (λ x. keys_in s x ++ moved_keys (s + count_values x) (drop (i + 1) ws)) (sym e)
+
+pub gathered-more : {T : Type 0} (f : T → List ℤ) (ws : List WindowParts) (s i t : ℕ) (w : WindowParts) (old new : List T) → i < length ws → w ≡ get_or ws i w → t ≡ s + count_values w
+    → numbers_in f new ≡ numbers_in f old ++ keys_in s w → numbers_in f old ++ moved_keys s (drop i ws) ≡ moved_keys 0 ws → numbers_in f new ++ moved_keys t (drop (i + 1) ws) ≡ moved_keys 0 ws
+gathered-more f ws s i t w old new h e z n g =
+    ap (λ zs. zs ++ moved_keys t (drop (i + 1) ws)) n
+    ∙ append_assoc (numbers_in f old) (keys_in s w) (moved_keys t (drop (i + 1) ws))
+    ∙ ap (λ y. numbers_in f old ++ (keys_in s w ++ moved_keys y (drop (i + 1) ws))) z
+    ∙ ap (λ zs. numbers_in f old ++ zs) (sym (keys-left ws s i w h e))
+    ∙ g
+
+pub gathered-all : {T : Type 0} (f : T → List ℤ) (ws : List WindowParts) (s i : ℕ) (xs : List T) → length ws ≤ i → numbers_in f xs ++ moved_keys s (drop i ws) ≡ moved_keys 0 ws → numbers_in f xs ≡ moved_keys 0 ws
+gathered-all f ws s i xs h g = sym (append-nil (numbers_in f xs)) ∙ ap (λ vs. numbers_in f xs ++ moved_keys s vs) (sym (drop_all i ws h)) ∙ g
+
+-- a key that passes in one of the windows that are left
+pub pass-left : (n : ℕ) (ws : List WindowParts) (s i : ℕ) (w : WindowParts) → i < length ws → w ≡ get_or ws i w → KeyPasses n s w ⊎ KeysPass n (s + count_values w) (drop (i + 1) ws) → KeysPass n s (drop i ws)
+pass-left n ws s i w h e p = subst (KeysPass n s) (sym (drop_more ws i w h)) (subst (λ x. KeyPasses n s x ⊎ KeysPass n (s + count_values x) (drop (i + 1) ws)) e p)
+
+-- values that are more than a length can be
+pub sum-values : (ws : List WindowParts) → count_slots (map values_in ws) ≡ sum_by count_values ws
+sum-values [] = refl
+sum-values (w ∷ ws) = omega (arith, sum_by-cons count_of (values_in w) (map values_in ws), sum_by-cons count_values w ws, sum-values ws)
+
+pub values-past : (ws : List WindowParts) (i s : ℕ) (w : WindowParts) → i < length ws → w ≡ get_or ws i w → s ≡ sum_by count_values (take i ws) → 2 ^ 64 ≤ s + count_values w → PassesLength (map values_in ws)
+values-past ws i s w h e z p = omega (arith, sum-within count_values ws i w h e, z, p, sum-values ws)
+
+-- nothing stands before the first values
+pub none-before : (e : Error) (P : Type 0) → (e ≡ Memory alloc_error) ⊎ ((e ≡ Overflow) × ((0 < 0) × P)) → e ≡ Memory alloc_error
+none-before e P (inl h) = h
+none-before e P (inr h) = absurd (omega (arith, h.1.0))
+
+-- the array of the keys
+joined-count : (moved : Bool) (ws : List WindowParts) → length (joined_keys moved ws) ≡ count_slots ws
+joined-count true ws = moved-count 0 ws
+joined-count false ws = flat-length (keys_in 0) count_of ws (keys-long 0 ws)
+
+values-count : (moved : Bool) (ws : List WindowParts) (vs : List (List ℤ)) → map number_of vs ≡ joined_keys moved ws → length vs ≡ count_slots ws
+values-count moved ws vs h = sym (length-map vs number_of) ∙ ap length h ∙ joined-count moved ws
+
+keys-fit : (moved : Bool) (q : PrimitiveType) (t u : TypeTree) (ws : List WindowParts) (vs : List (List ℤ)) (va : Validity) → AreWithin u ws → physical_type t ≡ physical.Primitive q → map number_of vs ≡ joined_keys moved ws
+    → va ≡ joined_validity ws → Fits (primitive q t vs va)
+keys-fit moved q t u ws vs va h p e v =
+    let n = values-count moved ws vs e in
+    (subst (λ z. ValidityFits z (length vs)) (sym v) (subst (ValidityFits (joined_validity ws)) (sym n) (joined-fits u ws h)), (p, tt))
+
+pub keys-made : (r : Result Layout Error) (moved : Bool) (q : PrimitiveType) (t : TypeTree) (ks : Layout) (ws : List WindowParts) (vs : List (List ℤ)) (va : Validity)
+    → MatchResult r (λ a. Fits (primitive q t vs va) × (a ≡ primitive q t vs va)) (λ e. FirstFault e (primitive q t vs va)) → key_kind q ≡ key_type_of ks → map number_of vs ≡ joined_keys moved ws → va ≡ joined_validity ws
+    → IfOk r (λ k. AreJoinedKeys moved ks ws k)
+keys-made (Ok a) moved q t ks ws vs va m k e v =
+    let made : AreJoinedKeys moved ks ws (primitive q t vs va) = record { same_width = k; count = values-count moved ws vs e; validity = v; raw = e } in
+    subst (AreJoinedKeys moved ks ws) (sym m.1) made
+keys-made (Err x) moved q t ks ws vs va m k e v = tt
+
+keys-none : (r : Result Layout Error) (p : Layout) (P : Error → Type 0) → MatchResult r (λ a. Fits p × (a ≡ p)) (λ e. FirstFault e p) → Fits p → IfErr r P
+keys-none (Ok a) p P m f = tt
+keys-none (Err e) p P m f = absurd (pass-no_fault (checks p) e f m)
+
+-- the type of native values and that of keys
+pub primitive-keys : (q : PrimitiveType) (a : Layout) → TopFits a → a ≡ primitive q (layout_type a) (natives_of a) (validity_of a) → (physical_type (layout_type a) ≡ physical.Primitive q) × (key_kind q ≡ key_type_of a)
+primitive-keys q a f e = ((subst TopFits e f).1.1.0, sym (ap key_type_of e))
+
+pub keys-unmade : (r : Result Layout Error) (moved : Bool) (q : PrimitiveType) (t u : TypeTree) (ws : List WindowParts) (vs : List (List ℤ)) (va : Validity) (P : Error → Type 0)
+    → MatchResult r (λ a. Fits (primitive q t vs va) × (a ≡ primitive q t vs va)) (λ e. FirstFault e (primitive q t vs va)) → AreWithin u ws → physical_type t ≡ physical.Primitive q → map number_of vs ≡ joined_keys moved ws
+    → va ≡ joined_validity ws → IfErr r P
+keys-unmade r moved q t u ws vs va P m h p e v = keys-none r (primitive q t vs va) P m (keys-fit moved q t u ws vs va h p e v)
+
+-- a key of a window that is none of its type
+pub pushed-refuse : (e : Error) (n : ℕ) (ws : List WindowParts) (s i : ℕ) (w : WindowParts) → i < length ws → w ≡ get_or ws i w → (KeysPass n s (drop i ws) → KeysPass n 0 ws)
+    → (e ≡ Memory alloc_error) ⊎ ((e ≡ Overflow) × ((0 < s) × KeyPasses n s w)) → RefusesKeys true e n ws
+pushed-refuse e n ws s i w h k f (inl m) = inl m
+pushed-refuse e n ws s i w h k f (inr (o, (b, p))) = inr (o, (refl, inl (f (pass-left n ws s i w h k (inl p)))))

@@ -1,0 +1,22 @@
+use Rattle.std.proofs.Common.{◌+◌, ◌≤◌, ◌^◌, ap, arith, inr, refl, subst, sym}
+use Rattle.std.proofs.lemmas.Result.{err_from_is_err_and}
+use Rattle.nest_model.specs.BuilderTree.{key_count}
+use Rattle.nest_model.specs.Meaning.{len}
+use Rattle.nest_concat.specs.Joined.{RefusesKeys}
+use Rattle.nest_concat.specs.Lookups.{count_values}
+use Rattle.nest_concat.proofs.KeyRuns.{pushed-refuse, values-past}
+use Rattle.nest_concat.proofs.keys.keys_behind.Goals as goal
+
+pub returns-in_err-push_window-clause-err : goal.returns-in_err-push_window-clause-err
+returns-in_err-push_window-clause-err g c =
+    let n = key_count g.K.DictionaryKey.KEY_TYPE in
+    let ws = c.args.windows.now in
+    let p = err_from_is_err_and c.from_residual-in_err-push_window.result c.from_residual-in_err-push_window.ensures.1 in
+    let r = pushed-refuse c.in_err-push_window.field-0.0 n ws c.loop-window.before c.loop-window.window-index c.window-item.result c.loop-window-test.true c.window-item.is c.loop-window.invariant.passes c.in_err-push_window.ensures.err in
+    rw p.1 (subst (λ e. RefusesKeys _ e n ws) (sym p.2) r)
+
+pub returns-in_default-clause-err : goal.returns-in_default-clause-err
+returns-in_default-clause-err g c =
+    let w = c.window-item.result in
+    let b : 2 ^ 64 ≤ c.loop-window.before + count_values w = omega (arith, c.in_default.ensures, c.len.ensures, ap len c.values_of_window.ensures) in
+    inr (refl, (refl, inr (values-past c.args.windows.now c.loop-window.window-index c.loop-window.before w c.loop-window-test.true c.window-item.is c.loop-window.invariant.summed b)))

@@ -1,0 +1,11 @@
+-- The dictionaries of the worked examples (of this project).
+use Rattle.std.specs.Prelude.{ℕ, pos, Bool, false, [], ◌∷◌, Some}
+use Rattle.nest_memory.specs.TypeTree as types
+use Rattle.nest_memory.specs.declared.datatypes.IntegerType.TheVariants as integers
+use Rattle.nest_memory.specs.declared.datatypes.physical_type.PrimitiveType.TheVariants as primitives
+use Rattle.nest_model.specs.Layout as layouts
+use Rattle.nest_model.specs.Layout.{Layout}
+
+-- one key of 8 bits, valid or null, over n nulls
+abbrev pub one_key : Bool → ℕ → ℕ → Layout
+one_key valid k n = layouts.dictionary (types.dictionary integers.Int8 types.null false) (layouts.primitive primitives.Int8 types.int8 ((pos k ∷ []) ∷ []) (Some (valid ∷ []))) (layouts.null types.null n)
