@@ -6,7 +6,8 @@ use Rattle.std.proofs.lemmas.Str.{IsUtf8-from_ascii, is_utf8-from_IsUtf8}
 use Rattle.nest_memory.specs.Bits.{bit, bits_from}
 use Rattle.ipc_words.specs.Words.{offset_at, back_from, table_at, field_place, spend, visit_table, visit_vector, visit_string, tables_at, structs_at, items_at, vector_at, text_at}
 use Rattle.ipc_message.specs.Messages.{root_at, front, behind_mark, parts_at, sized_at, message_at}
-use Rattle.ipc_schema.specs.Schemas.{pair_at, metadata_at, integer_at, field_at, schema_at, stream_schema_at}
+use Rattle.ipc_schema.specs.Schemas.{pair_at, metadata_at, integer_at, field_at, keyed_schema_at, schema_at, stream_schema_at}
+use Rattle.ipc_schema.specs.FieldRows.{rows_at}
 use Rattle.ipc_schema.specs.Examples as schemas
 use Rattle.ipc_batch.specs.Batches.{each_within, all_within, batch_at}
 use Rattle.ipc_batch.specs.Examples as batches
@@ -36,7 +37,7 @@ is_text : is_utf8 (97 ∷ []) ≡ true
 is_text = is_utf8-from_IsUtf8 (97 ∷ []) (IsUtf8-from_ascii (97 ∷ []) (search (rules, arith)))
 
 pub worked_schema : stream_schema_at worked_stream ≡ Ok (schemas.worked_tree, worked_rest)
-unfolding offset_at back_from table_at field_place spend visit_table visit_vector visit_string tables_at items_at text_at root_at front behind_mark parts_at sized_at message_at pair_at metadata_at integer_at field_at schema_at stream_schema_at
+unfolding offset_at back_from table_at field_place spend visit_table visit_vector visit_string tables_at rows_at items_at text_at root_at front behind_mark parts_at sized_at message_at pair_at metadata_at integer_at field_at keyed_schema_at schema_at stream_schema_at
 worked_schema = rw is_text refl
 
 pub worked_next : next_in (types_of schemas.worked_tree) worked_rest ≡ Ok (Some worked_arrays, end_mark)

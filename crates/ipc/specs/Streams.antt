@@ -14,6 +14,7 @@ use Rattle.ipc_message.specs.declared.message.Kind.{Kind}
 use Rattle.ipc_message.specs.declared.message.Kind.TheVariants.{Schema, DictionaryBatch, RecordBatch}
 use Rattle.ipc_schema.specs.Schemas.{SchemaTree, schema_of, stream_schema_at}
 use Rattle.ipc_schema.specs.Types.{children_of}
+use Rattle.ipc_schema.specs.Extensions.{table_type}
 use Rattle.ipc_schema.specs.Unions.{is_union, field_has_union, in_version}
 use Rattle.ipc_batch.specs.Batches.{batch_at}
 use Rattle.ipc_layout.specs.Columns.{columns_in}
@@ -51,7 +52,7 @@ of_kind RecordBatch types m = record_batch_in types m
 
 -- whether there is a union anywhere in columns of these types
 abbrev pub types_have_union : List TypeTree → Bool
-types_have_union types = list_any (λ t. is_union t || list_any (field_has_union 63) (children_of t)) types
+types_have_union types = list_any (λ t. is_union (table_type t) || list_any (field_has_union 63) (children_of (table_type t))) types
 
 abbrev pub batch_in : List TypeTree → Option Parts → Result (Option Arrays) Fault
 batch_in types None = Ok None

@@ -1,7 +1,8 @@
 -- The file of another writer, byte by byte: no column, and one batch of three rows.
 use Rattle.std.specs.Prelude.{◌≡◌, ℕ, pos, List, [], ◌∷◌, Ok, refl}
 use Rattle.ipc_words.specs.Words.{offset_at, back_from, table_at, field_place, spend, visit_table, visit_vector, tables_at, structs_at, items_at, vector_at}
-use Rattle.ipc_schema.specs.Schemas.{metadata_at, schema_at}
+use Rattle.ipc_schema.specs.FieldRows.{rows_at}
+use Rattle.ipc_schema.specs.Schemas.{metadata_at, keyed_schema_at, schema_at}
 use Rattle.ipc_footer.specs.Footers.{FooterTree, blocks_in, lists_at, footer_at, file_footer_in}
 
 abbrev pub worked_file : List ℕ
@@ -16,5 +17,5 @@ worked_tree = record {
 }
 
 pub worked : file_footer_in worked_file ≡ Ok worked_tree
-unfolding offset_at back_from table_at field_place spend visit_table visit_vector tables_at structs_at items_at vector_at metadata_at schema_at blocks_in lists_at footer_at file_footer_in
+unfolding offset_at back_from table_at field_place spend visit_table visit_vector tables_at rows_at structs_at items_at vector_at metadata_at keyed_schema_at schema_at blocks_in lists_at footer_at file_footer_in
 worked = refl

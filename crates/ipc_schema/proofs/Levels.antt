@@ -8,26 +8,28 @@ use Rattle.ipc_model.specs.declared.fault.Fault.TheVariants as faults
 use Rattle.ipc_model.specs.declared.fault.NoForm.{NoForm}
 use Rattle.ipc_model.specs.declared.fault.NoForm.TheVariants as reasons
 use Rattle.ipc_words.specs.Bytes.{row_bytes, string_bytes}
+use Rattle.ipc_schema.specs.Extensions.{stored, table_type}
+use Rattle.ipc_schema.specs.Dictionaries.{Progress}
 use Rattle.ipc_schema.specs.Types.{children_of}
 use Rattle.ipc_schema.specs.Unions.{is_union, field_has_union}
 use Rattle.ipc_schema.specs.Forms.{then_form, own_form, each_form, field_form}
 use Rattle.ipc_schema.specs.SchemaBytes.{type_number, type_bytes, entries_bytes, parts_of_field, field_bytes}
 use Rattle.ipc_schema.specs.MetadataLaws.{AreTexts, IsRising}
 use Rattle.ipc_schema.specs.TypeLaws.{TypeFits, both}
-use Rattle.ipc_schema.specs.FieldLaws.{FieldFits, name_of, nullable_of, own_entries, bytes_are, fits_are, field_parts_long}
+use Rattle.ipc_schema.specs.FieldLaws.{FieldFits, name_of, nullable_of, stored_of, all_of, bytes_are, fits_are, field_parts_long}
 use Rattle.ipc_schema.specs.Schemas.{field_over, field_at}
 
-pub level_is : (depth : ℕ) (bytes : List ℕ) (place left : ℕ) → 0 < depth → field_at depth bytes place left ≡ field_over (field_at (depth - 1) bytes) bytes place left
+pub level_is : (depth : ℕ) (bytes : List ℕ) (place : ℕ) (so_far : Progress) → 0 < depth → field_at depth bytes place so_far ≡ field_over (field_at (depth - 1) bytes) bytes place so_far
 unfolding field_at
-level_is depth bytes place left deep = let k : depth ≡ suc (depth - 1) = omega arith in ap (λ (n : ℕ). field_at n bytes place left) k
+level_is depth bytes place so_far deep = let k : depth ≡ suc (depth - 1) = omega arith in ap (λ (n : ℕ). field_at n bytes place so_far) k
 
-pub no_level : (depth : ℕ) (bytes : List ℕ) (place left : ℕ) → depth ≡ 0 → field_at depth bytes place left ≡ Err faults.Depth
+pub no_level : (depth : ℕ) (bytes : List ℕ) (place : ℕ) (so_far : Progress) → depth ≡ 0 → field_at depth bytes place so_far ≡ Err faults.Depth
 unfolding field_at
-no_level depth bytes place left none = ap (λ (n : ℕ). field_at n bytes place left) none
+no_level depth bytes place so_far none = ap (λ (n : ℕ). field_at n bytes place so_far) none
 
 -- ---- what is written
 
-pub form_level : (depth : ℕ) (f : FieldTree) → 0 < depth → field_form depth f ≡ then_form (own_form f) (each_form (field_form (depth - 1)) (children_of (field_type f)))
+pub form_level : (depth : ℕ) (f : FieldTree) → 0 < depth → field_form depth f ≡ then_form (own_form f) (each_form (field_form (depth - 1)) (children_of (stored (field_type f))))
 unfolding field_form
 form_level depth f deep = let k : depth ≡ suc (depth - 1) = omega arith in ap (λ (n : ℕ). field_form n f) k
 
@@ -38,7 +40,7 @@ no_form depth f none = ap (λ (n : ℕ). field_form n f) none
 pub own_ends : (depth : ℕ) (f : FieldTree) (why : NoForm) → 0 < depth → own_form f ≡ Err why → field_form depth f ≡ Err why
 own_ends depth f why deep own = form_level depth f deep ∙ rw own refl
 
-pub own_goes_on : (depth : ℕ) (f : FieldTree) → 0 < depth → own_form f ≡ Ok tt → field_form depth f ≡ each_form (field_form (depth - 1)) (children_of (field_type f))
+pub own_goes_on : (depth : ℕ) (f : FieldTree) → 0 < depth → own_form f ≡ Ok tt → field_form depth f ≡ each_form (field_form (depth - 1)) (children_of (stored (field_type f)))
 own_goes_on depth f deep own = form_level depth f deep ∙ rw own refl
 
 pub deep_is : (depth : ℕ) (f : FieldTree) → field_form depth f ≡ Ok tt → 0 < depth
@@ -47,23 +49,23 @@ deep_is zero f form = absurd (cc form)
 deep_is (suc depth) f form = omega arith
 
 -- the parts of a form: a field's own, and those of its children
-pub forms_are : (depth : ℕ) (f : FieldTree) → field_form depth f ≡ Ok tt → (own_form f ≡ Ok tt) × (each_form (field_form (depth - 1)) (children_of (field_type f)) ≡ Ok tt)
-forms_are depth f form = both (own_form f) (each_form (field_form (depth - 1)) (children_of (field_type f))) (sym (form_level depth f (deep_is depth f form)) ∙ form)
+pub forms_are : (depth : ℕ) (f : FieldTree) → field_form depth f ≡ Ok tt → (own_form f ≡ Ok tt) × (each_form (field_form (depth - 1)) (children_of (stored (field_type f))) ≡ Ok tt)
+forms_are depth f form = both (own_form f) (each_form (field_form (depth - 1)) (children_of (stored (field_type f)))) (sym (form_level depth f (deep_is depth f form)) ∙ form)
 
-pub bytes_level : (depth : ℕ) (f : FieldTree) → 0 < depth → field_bytes depth f ≡ parts_of_field (nullable_of f) (field_type f) (row_bytes 24 (map (field_bytes (depth - 1)) (children_of (field_type f)))) (name_of f) (own_entries f)
+pub bytes_level : (depth : ℕ) (f : FieldTree) → 0 < depth → field_bytes depth f ≡ parts_of_field (nullable_of f) (stored_of f) (row_bytes 24 (map (field_bytes (depth - 1)) (children_of (stored (field_type f))))) (name_of f) (all_of f)
 bytes_level depth f deep =
     let k : depth ≡ suc (depth - 1) = omega arith in
     ap (λ (n : ℕ). field_bytes n f) k ∙ bytes_are (depth - 1) f
 
-pub fits_level : (depth : ℕ) (f : FieldTree) → 0 < depth → is_utf8 (name_of f) ≡ true → TypeFits (field_type f) → AreTexts (own_entries f) → IsRising (own_entries f) → AllByRecursion (FieldFits (depth - 1)) (children_of (field_type f)) → FieldFits depth f
+pub fits_level : (depth : ℕ) (f : FieldTree) → 0 < depth → is_utf8 (name_of f) ≡ true → TypeFits (stored_of f) → AreTexts (all_of f) → IsRising (all_of f) → AllByRecursion (FieldFits (depth - 1)) (children_of (stored (field_type f))) → FieldFits depth f
 fits_level depth f deep utf8 fits texts rising inner =
     let k : suc (depth - 1) ≡ depth = omega arith in
     subst (λ (n : ℕ). FieldFits n f) k (fits_are (depth - 1) f utf8 fits texts rising inner)
 
-pub inner_long : (depth : ℕ) (f : FieldTree) → 0 < depth → length (row_bytes 24 (map (field_bytes (depth - 1)) (children_of (field_type f)))) ≤ length (field_bytes depth f)
+pub inner_long : (depth : ℕ) (f : FieldTree) → 0 < depth → length (row_bytes 24 (map (field_bytes (depth - 1)) (children_of (stored (field_type f))))) ≤ length (field_bytes depth f)
 inner_long depth f deep =
-    let row : List ℕ = row_bytes 24 (map (field_bytes (depth - 1)) (children_of (field_type f))) in
-    let long = field_parts_long (nullable_of f) (type_number (field_type f)) (type_bytes (field_type f)) row (string_bytes (name_of f)) (entries_bytes (own_entries f)) in
+    let row : List ℕ = row_bytes 24 (map (field_bytes (depth - 1)) (children_of (stored (field_type f)))) in
+    let long = field_parts_long (nullable_of f) (type_number (stored_of f)) (type_bytes (stored_of f)) row (string_bytes (name_of f)) (entries_bytes (all_of f)) in
     omega (arith, ap length (bytes_level depth f deep), long)
 
 -- ---- unions
@@ -72,12 +74,12 @@ pub no_union : (depth : ℕ) (f : FieldTree) → depth ≡ 0 → field_has_union
 unfolding field_has_union
 no_union depth f none = ap (λ (n : ℕ). field_has_union n f) none
 
-union_level : (depth : ℕ) (f : FieldTree) → 0 < depth → field_has_union depth f ≡ (is_union (field_type f) || list_any (field_has_union (depth - 1)) (children_of (field_type f)))
+union_level : (depth : ℕ) (f : FieldTree) → 0 < depth → field_has_union depth f ≡ (is_union (table_type (field_type f)) || list_any (field_has_union (depth - 1)) (children_of (table_type (field_type f))))
 unfolding field_has_union
 union_level depth f deep = let k : depth ≡ suc (depth - 1) = omega arith in ap (λ (n : ℕ). field_has_union n f) k
 
-pub union_here : (depth : ℕ) (f : FieldTree) → 0 < depth → is_union (field_type f) ≡ true → field_has_union depth f ≡ true
+pub union_here : (depth : ℕ) (f : FieldTree) → 0 < depth → is_union (table_type (field_type f)) ≡ true → field_has_union depth f ≡ true
 union_here depth f deep here = union_level depth f deep ∙ rw here refl
 
-pub union_below : (depth : ℕ) (f : FieldTree) → 0 < depth → is_union (field_type f) ≡ false → field_has_union depth f ≡ list_any (field_has_union (depth - 1)) (children_of (field_type f))
+pub union_below : (depth : ℕ) (f : FieldTree) → 0 < depth → is_union (table_type (field_type f)) ≡ false → field_has_union depth f ≡ list_any (field_has_union (depth - 1)) (children_of (table_type (field_type f)))
 union_below depth f deep none = union_level depth f deep ∙ rw none refl

@@ -2,3 +2,4 @@ pub mod Maps
 pub mod Fields
 pub mod Levels
 pub mod Signs
+pub mod Named

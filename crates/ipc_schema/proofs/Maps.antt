@@ -4,7 +4,8 @@ use Rattle.std.specs.declared.alloc.Global.{Global}
 use Rattle.std.specs.Prelude.{String, string_bytes, is_some}
 use Rattle.std.specs.BTreeMap.{insert_entry, is_at}
 use Rattle.std.specs.Cmp.Lexicographic.{slice_cmp}
-use Rattle.std.specs.Map.{lookup}
+use Rattle.std.specs.Map.{lookup, remove_entry}
+use Rattle.std.specs.Option.{option_map}
 use Rattle.std.specs.Ordering.{nat_cmp, match_ordering}
 use Rattle.std.specs.declared.cmp.Ordering.{Ordering}
 use Rattle.std.specs.declared.cmp.Ordering.TheVariants.{Less, Equal, Greater}
@@ -13,10 +14,11 @@ use Rattle.std.specs.String.{string_cmp}
 use Rattle.std.proofs.lemmas.Map.Text.{is_eq-slice_cmp, text_cmp}
 use Rattle.nest_memory.specs.TypeTree.{Letters, Entries}
 use Rattle.nest_memory.specs.TypeOf.{entries_of}
-use Rattle.std.specs.List.{AllByRecursion}
+use Rattle.std.specs.List.{AllByRecursion, AllZip}
 use Rattle.std.specs.List.Sorted.{IsStrictlySortedBy}
 use Rattle.std.specs.Map.{keys_of}
-use Rattle.ipc_schema.specs.Schemas.{has_key, with_pairs}
+use Rattle.ipc_schema.specs.Extensions.{has_key, value_at, without}
+use Rattle.ipc_schema.specs.Schemas.{with_pairs}
 use Rattle.ipc_schema.specs.MetadataLaws.{IsRising}
 
 abbrev pub Texts : Type 0
@@ -30,6 +32,37 @@ pub key_found : (key : Letters) (es : Texts) → has_key key (entries_of es) ≡
 key_found key [] = refl
 key_found key (e ∷ es) =
     rw (is_eq-slice_cmp key (string_bytes e.0)) (both_found (bytes_eq key (string_bytes e.0)) (string_bytes e.1) e.1 (lookup (λ other. bytes_eq key other) (entries_of es)) (lookup (is_at (text_cmp key)) es) (key_found key es))
+
+found_both : {X Y : Type 0} (f : X → Y) (b : Bool) (x : X) (m : Option X) (n : Option Y) → n ≡ option_map f m → cond b (Some (f x)) n ≡ option_map f (cond b (Some x) m)
+found_both f true x m n same = refl
+found_both f false x m n same = same
+
+-- the value of a key
+pub value_found : (key : Letters) (es : Texts) → value_at key (entries_of es) ≡ option_map string_bytes (lookup (is_at (text_cmp key)) es)
+value_found key [] = refl
+value_found key (e ∷ es) =
+    rw (is_eq-slice_cmp key (string_bytes e.0)) (found_both string_bytes (bytes_eq key (string_bytes e.0)) e.1 (lookup (is_at (text_cmp key)) es) (value_at key (entries_of es)) (value_found key es))
+
+taken_both : (b : Bool) (e : String Global × String Global) (es rest : Texts) → entries_of (cond b es (e ∷ rest)) ≡ cond b (entries_of es) ((string_bytes e.0, string_bytes e.1) ∷ entries_of rest)
+taken_both true e es rest = refl
+taken_both false e es rest = refl
+
+-- the entries without a key
+pub taken : (key : Letters) (es : Texts) → entries_of (remove_entry (is_at (text_cmp key)) es) ≡ without key (entries_of es)
+taken key [] = refl
+taken key (e ∷ es) =
+    rw (is_eq-slice_cmp key (string_bytes e.0)) (taken_both (bytes_eq key (string_bytes e.0)) e es (remove_entry (is_at (text_cmp key)) es)
+    ∙ ap (λ (rest : Entries). cond (bytes_eq key (string_bytes e.0)) (entries_of es) ((string_bytes e.0, string_bytes e.1) ∷ rest)) (taken key es))
+
+-- copies with equal texts are equal entries
+abbrev letters : String Global × String Global → Letters × Letters
+letters e = (string_bytes e.0, string_bytes e.1)
+
+pub copied : (R : String Global × String Global → String Global × String Global → Type 0) → ((x y : String Global × String Global) → R x y → letters y ≡ letters x) → (es fs : Texts) → AllZip R es fs → entries_of fs ≡ entries_of es
+copied R keeps [] [] h = refl
+copied R keeps [] (f ∷ fs) h = absurd h
+copied R keeps (e ∷ es) [] h = absurd h
+copied R keeps (e ∷ es) (f ∷ fs) h = λ i. keeps e f h.0 i ∷ copied R keeps es fs h.1 i
 
 match_both : (o : Ordering) (a b c : Texts) → entries_of (match_ordering o a b c) ≡ match_ordering o (entries_of a) (entries_of b) (entries_of c)
 match_both Less a b c = refl

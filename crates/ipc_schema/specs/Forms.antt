@@ -1,13 +1,13 @@
 -- Which schemas are written.
-use Rattle.std.specs.Prelude.{◌≡◌, ℕ, zero, suc, ◌^◌, ◌≤◌, ◌⊎◌, Bool, true, false, not, nat_lt, ◌==◌, List, [], ◌∷◌, Result, Ok, Err, if◌then◌else◌}
+use Rattle.std.specs.Prelude.{◌≡◌, ℕ, zero, suc, ◌^◌, ◌≤◌, ◌⊎◌, Bool, true, false, ◌&&◌, not, nat_lt, ◌==◌, List, [], ◌∷◌, Result, Ok, Err}
 use Rattle.std.proofs.Common.{inl, inr, arith}
 use Rattle.nest_memory.specs.TypeTree as types
-use Rattle.nest_memory.specs.TypeTree.{TypeTree, FieldTree, field, field_type, count_fields, is_pair}
+use Rattle.nest_memory.specs.TypeTree.{Entries, TypeTree, FieldTree, field, field_type, count_fields, is_pair}
 use Rattle.ipc_model.specs.declared.fault.NoForm.{NoForm}
 use Rattle.ipc_model.specs.declared.fault.NoForm.TheVariants as reasons
 use Rattle.ipc_words.specs.Writes.{IsTooLong}
 use Rattle.ipc_schema.specs.Types.{is_coarse, are_ids, children_of}
-use Rattle.ipc_schema.specs.Schemas.{has_key, extension_name}
+use Rattle.ipc_schema.specs.Extensions.{extension_name, extension_metadata, has_key, stored, is_extension}
 
 abbrev pub then_form : {A B : Type 0} → Result A NoForm → Result B NoForm → Result B NoForm
 then_form (Ok x) next = next
@@ -63,9 +63,13 @@ type_form (types.decimal digits after) = then_form (number_form digits) (number_
 type_form (types.decimal256 digits after) = then_form (number_form digits) (number_form after)
 type_form t = Err reasons.Type
 
--- the same of a field, whose own metadata spells no extension
+-- an extension is not directly of an extension, and a field's own metadata has no key that spells one
+abbrev pub can_spell : TypeTree → Entries → Bool
+can_spell type entries = not (is_extension (stored type)) && (not (has_key extension_name entries) && not (is_extension type && has_key extension_metadata entries))
+
+-- the same of a field
 unfoldable pub own_form : FieldTree → Result (Unit {0}) NoForm
-own_form (field name type nullable entries) = if has_key extension_name entries then Err reasons.Extension else type_form type
+own_form (field name type nullable entries) = then_form (unless (can_spell type entries) reasons.Extension) (type_form (stored type))
 
 -- the first reason of fields, by the reason of one
 unfoldable pub each_form : (FieldTree → Result (Unit {0}) NoForm) → List FieldTree → Result (Unit {0}) NoForm
@@ -75,7 +79,7 @@ each_form form (f ∷ fs) = then_form (form f) (each_form form fs)
 -- the first reason why a field is not written, which is to be so deep at most: its own comes before those of its children
 unfoldable pub field_form : ℕ → FieldTree → Result (Unit {0}) NoForm
 field_form zero f = Err reasons.Depth
-field_form (suc depth) f = then_form (own_form f) (each_form (field_form depth) (children_of (field_type f)))
+field_form (suc depth) f = then_form (own_form f) (each_form (field_form depth) (children_of (stored (field_type f))))
 
 -- the first reason why the fields of a schema are not written
 abbrev pub fields_form : List FieldTree → Result (Unit {0}) NoForm

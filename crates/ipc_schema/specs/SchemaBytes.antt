@@ -13,6 +13,7 @@ use Rattle.ipc_words.specs.Bytes.{u32_bytes, i32_bytes, string_bytes, row_bytes,
 use Rattle.ipc_message.specs.MessageBytes.{message_bytes}
 use Rattle.ipc_message.specs.declared.message.Kind.TheVariants as kinds
 use Rattle.ipc_schema.specs.Types.{children_of}
+use Rattle.ipc_schema.specs.Extensions.{stored, all_pairs}
 use Rattle.ipc_schema.specs.Schemas.{SchemaTree}
 
 -- `KeyValue`, at 8
@@ -159,7 +160,7 @@ parts_of_field nullable type children name entries = field_parts nullable (type_
 -- a field and those inside of it, so deep at most
 unfoldable pub field_bytes : ℕ → FieldTree → List ℕ
 field_bytes zero f = []
-field_bytes (suc depth) (field name type nullable entries) = parts_of_field nullable type (row_bytes 24 (map (field_bytes depth) (children_of type))) name entries
+field_bytes (suc depth) (field name type nullable entries) = parts_of_field nullable (stored type) (row_bytes 24 (map (field_bytes depth) (children_of (stored type)))) name (all_pairs type entries)
 
 abbrev pub fields_bytes : List FieldTree → List ℕ
 fields_bytes fields = row_bytes 24 (map (field_bytes 64) fields)

@@ -5,12 +5,14 @@ use Rattle.ipc_words.specs.Words.{offset_at, field_place, visit_table, items_at}
 use Rattle.ipc_words.specs.Bytes.{u32_bytes}
 use Rattle.ipc_words.specs.Laws.{From, From-length, From_next}
 use Rattle.ipc_words.specs.PartLaws.{From_at, offset_in, table_in, visit_in, field_in, field_out}
-use Rattle.ipc_words.specs.RowLaws.{IsRead, row_again, row_is_long}
+use Rattle.ipc_words.specs.RowLaws.{IsRead, row_is_long}
+use Rattle.ipc_schema.specs.FieldRows.{row_vector, row_tables}
+use Rattle.ipc_schema.specs.Dictionaries.{unseen, progress}
 use Rattle.ipc_message.specs.Messages.{message_at}
 use Rattle.ipc_message.specs.MessageBytes.{root_bytes, message_bytes, metadata_size, framed_bytes, padding}
 use Rattle.ipc_message.specs.MessageLaws.{padded, padded_long, padding_long, framed_long, root_long, written_parts, message_again, written_part}
 use Rattle.ipc_message.specs.declared.message.Kind.TheVariants as kinds
-use Rattle.ipc_schema.specs.Schemas.{SchemaTree, metadata_at, field_at, schema_at, stream_schema_at}
+use Rattle.ipc_schema.specs.Schemas.{SchemaTree, metadata_at, field_at, keyed_schema_at, schema_at, stream_schema_at}
 use Rattle.ipc_schema.specs.Forms.{fields_form}
 use Rattle.ipc_schema.specs.SchemaBytes.{field_bytes, fields_bytes, entries_bytes, schema_bytes, schema_message}
 use Rattle.ipc_schema.specs.MetadataLaws.{AreTexts, IsRising, entries_cost, entries_pay, metadata_again}
@@ -49,9 +51,10 @@ pub schema_pays : (s : SchemaTree) → SchemaFits s → schema_cost s ≤ length
 unfolding schema_cost
 schema_pays s fits = omega (arith, part_long s, fields_pay s.fields fits.form fits.fields, row_is_long 24 (map (field_bytes 64) s.fields), entries_pay s.metadata)
 
-schema_again : (s : SchemaTree) (whole : List ℕ) (p q left : ℕ) (after : List ℕ) → SchemaFits s → From whole p (part_of s ++ after) → length whole < 2 ^ 32 → q ≡ p + 16 → schema_cost s ≤ left → schema_at whole q left ≡ Ok (s, left - schema_cost s)
-unfolding schema_at schema_bytes u32_bytes items_at schema_cost
-schema_again s whole p q left after fits h small at le =
+-- no field has a dictionary
+keyed_again : (s : SchemaTree) (whole : List ℕ) (p q left : ℕ) (after : List ℕ) → SchemaFits s → From whole p (part_of s ++ after) → length whole < 2 ^ 32 → q ≡ p + 16 → schema_cost s ≤ left → keyed_schema_at whole q left ≡ Ok ((s, []), left - schema_cost s)
+unfolding keyed_schema_at schema_bytes u32_bytes items_at schema_cost
+keyed_again s whole p q left after fits h small at le =
     let row : List ℕ = fields_bytes s.fields in
     let metadata : List ℕ = entries_bytes s.metadata in
     let part : List ℕ = part_of s ++ after in
@@ -67,11 +70,17 @@ schema_again s whole p q left after fits h small at le =
     let first : From whole (p + 16 + 4 + 12) (row ++ (metadata ++ after)) = From_at whole p (p + 16 + 4 + 12) 32 part (row ++ (metadata ++ after)) h (omega arith) (omega arith) (append_assoc row metadata after) in
     let second : From whole (p + 16 + 4 + 12 + length row) (metadata ++ after) = From_next whole (p + 16 + 4 + 12) row (metadata ++ after) first in
     let there : p + 16 + 8 + (8 + length row) ≡ p + 16 + 4 + 12 + length row = omega arith in
-    let r = row_again (field_at 64) 24 (map (field_bytes 64) s.fields) s.fields (costs (field_cost 64) s.fields) whole (p + 16 + 4 + 12) (left - 8) (metadata ++ after) (fields_again s.fields fits.form fits.fields) first small (omega arith) in
+    let start : ℕ = left - 8 - (4 + n * 4) in
+    let r = row_vector 24 (map (field_bytes 64) s.fields) whole (p + 16 + 4 + 12) (left - 8) (metadata ++ after) first small (omega arith) in
+    let r' = row_tables (field_at 64) 24 (map (field_bytes 64) s.fields) s.fields (progress start unseen) (progress (start - costs (field_cost 64) s.fields) unseen) whole (p + 16 + 4 + 12) (metadata ++ after) (fields_again s.fields fits.form fits.fields start (omega arith)) first small in
     let rest : ℕ = left - 8 - (4 + n * 4) - costs (field_cost 64) s.fields in
     let m : metadata_at whole (Some (p + 16 + 4 + 12 + length row)) rest ≡ Ok (s.metadata, rest - entries_cost s.metadata) = metadata_again s.metadata whole (p + 16 + 4 + 12 + length row) rest after fits.texts fits.rising second small (omega arith) in
     let spent : rest - entries_cost s.metadata ≡ left - (8 + row_cost s + entries_cost s.metadata) = omega arith in
-    rw (at, v, f0, f1, o1, r.vector, r.tables, f2, o2, there, m, spent) refl
+    rw (at, v, f0, f1, o1, r, r', f2, o2, there, m, spent) refl
+
+schema_again : (s : SchemaTree) (whole : List ℕ) (p q left : ℕ) (after : List ℕ) → SchemaFits s → From whole p (part_of s ++ after) → length whole < 2 ^ 32 → q ≡ p + 16 → schema_cost s ≤ left → schema_at whole q left ≡ Ok (s, left - schema_cost s)
+unfolding schema_at
+schema_again s whole p q left after fits h small at le = rw (keyed_again s whole p q left after fits h small at le) refl
 
 -- wherever the part stands
 pub table_again : (s : SchemaTree) → SchemaFits s → IsRead schema_at 16 (part_of s) s (schema_cost s)

@@ -1,13 +1,11 @@
 -- The schema that metadata spells: `Schema`, `Field`, `Int` and `KeyValue` of `Schema.fbs` of the Arrow format, in the order of reading.
-use Rattle.std.specs.Prelude.{ℕ, zero, suc, pos, Bool, true, false, ◌&&◌, not, List, [], ◌∷◌, map, codes, Option, Some, None, is_some, Result, Ok, Err, nat_lt, ◌==◌, if◌then◌else◌}
-use Rattle.std.specs.Map.{lookup}
+use Rattle.std.specs.Prelude.{ℕ, zero, suc, ℤ, pos, Bool, true, false, ◌&&◌, List, [], ◌∷◌, map, length, Option, Some, None, is_some, Result, Ok, Err, nat_lt, ◌==◌, if◌then◌else◌}
 use Rattle.std.specs.BTreeMap.{insert_entry}
 use Rattle.std.specs.Cmp.Lexicographic.{slice_cmp}
 use Rattle.std.specs.Ordering.{nat_cmp, int_eq}
 use Rattle.std.specs.Int.{w8, w16}
-use Rattle.std.specs.Str.{bytes_eq}
 use Rattle.nest_memory.specs.TypeOf.{entries_of, field_of}
-use Rattle.nest_memory.specs.TypeTree.{Letters, Entries, TypeTree, FieldTree, field}
+use Rattle.nest_memory.specs.TypeTree.{Letters, Entries, TypeTree, FieldTree}
 use Rattle.ipc_model.specs.Reading.{◌>>=◌, check}
 use Rattle.ipc_model.specs.declared.fault.Fault.{Fault}
 use Rattle.ipc_model.specs.declared.fault.Fault.TheVariants.{NoSchema, BodyLength, Endianness, Depth, UnsupportedType, ChildCount, Metadata}
@@ -17,6 +15,11 @@ use Rattle.ipc_message.specs.Messages.{Parts, message_at}
 use Rattle.ipc_message.specs.declared.message.Kind.{Kind}
 use Rattle.ipc_message.specs.declared.message.Kind.TheVariants as kinds
 use Rattle.ipc_schema.specs.declared.schema.Schema.{Schema}
+use Rattle.ipc_schema.specs.declared.schema.KeyedSchema.{KeyedSchema}
+use Rattle.ipc_schema.specs.declared.dictionaries.Encoding.{Encoding}
+use Rattle.ipc_schema.specs.Dictionaries.{Seen, Progress, unseen, progress, with_id, with_values, keyed, dictionary_at}
+use Rattle.ipc_schema.specs.FieldRows.{rows_at}
+use Rattle.ipc_schema.specs.Extensions.{field_with_all}
 use Rattle.ipc_schema.specs.Types.{type_place, shape_at, can_have, with_children}
 use Rattle.ipc_schema.specs.Unions.{have_union, in_version}
 unfoldable pub use Rattle.ipc_schema.specs.Types.{integer_at}
@@ -49,21 +52,17 @@ metadata_at bytes place left = do
 
 -- ---- fields
 
--- the key by which a field spells an extension
-abbrev pub extension_name : Letters
-extension_name = codes "ARROW:extension:name"
-
-abbrev pub has_key : Letters → Entries → Bool
-has_key key entries = is_some (lookup (λ other. bytes_eq key other) entries)
-
--- a field of a type that is read
-abbrev pub field_of_type : Letters → Bool → Entries → Result TypeTree Fault → Result FieldTree Fault
-field_of_type name nullable entries type = type >>= λ t. Ok (field name t nullable entries)
+-- a field of all its metadata, by the type of its values and the dictionary that it has, before whose id so many were seen
+abbrev pub field_of_type : Letters → Bool → Entries → Option Encoding → ℕ → Seen → Result TypeTree Fault → Result (FieldTree × Seen) Fault
+field_of_type name nullable entries dictionary before seen type = do
+  values ← type
+  named ← with_values dictionary values before seen
+  Ok (field_with_all name (keyed dictionary values) nullable entries, named)
 
 -- a field whose children are read by read
-abbrev pub field_over : (ℕ → ℕ → Result (FieldTree × ℕ) Fault) → List ℕ → ℕ → ℕ → Result (FieldTree × ℕ) Fault
-field_over read bytes place left = do
-  table ← visit_table bytes place left
+abbrev pub field_over : (ℕ → Progress → Result (FieldTree × Progress) Fault) → List ℕ → ℕ → Progress → Result (FieldTree × Progress) Fault
+field_over read bytes place so_far = do
+  table ← visit_table bytes place so_far.left
   to ← offset_field bytes table.0 0
   name ← text_at bytes to table.1
   nullable ← words.field (number_at w8 bytes) 0 bytes table.0 1
@@ -73,20 +72,19 @@ field_over read bytes place left = do
   to ← offset_field bytes table.0 5
   children ← items_at 4 bytes to name.1
   shape ← shape_at kind.0 children.0.count bytes kind.1 children.1
-  dictionary ← offset_field bytes table.0 4
-  alone ← check (not (is_some dictionary)) UnsupportedType
+  to ← offset_field bytes table.0 4
+  dictionary ← dictionary_at bytes to shape.1
   counted ← check (can_have shape.0 children.0.count) ChildCount
-  fields ← tables_at read bytes children.0.count children.0.first shape.1
+  fields ← rows_at read bytes children.0.count children.0.first (progress dictionary.1 (with_id dictionary.0 so_far.seen))
   to ← offset_field bytes table.0 6
-  metadata ← metadata_at bytes to fields.1
-  own ← check (not (has_key extension_name metadata.0)) UnsupportedType
-  whole ← field_of_type name.0 (nat_lt 0 nullable) metadata.0 (with_children shape.0 fields.0)
-  Ok (whole, metadata.1)
+  metadata ← metadata_at bytes to fields.1.left
+  whole ← field_of_type name.0 (nat_lt 0 nullable) metadata.0 dictionary.0 (length so_far.seen.ids) fields.1.seen (with_children shape.0 fields.0)
+  Ok (whole.0, progress metadata.1 whole.1)
 
 -- a field and those inside of it, so deep at most
-unfoldable pub field_at : ℕ → List ℕ → ℕ → ℕ → Result (FieldTree × ℕ) Fault
-field_at zero bytes place left = Err Depth
-field_at (suc depth) bytes place left = field_over (field_at depth bytes) bytes place left
+unfoldable pub field_at : ℕ → List ℕ → ℕ → Progress → Result (FieldTree × Progress) Fault
+field_at zero bytes place so_far = Err Depth
+field_at (suc depth) bytes place so_far = field_over (field_at depth bytes) bytes place so_far
 
 -- ---- schemas
 
@@ -95,17 +93,26 @@ pub record SchemaTree : Type 0 where
   pub fields : List FieldTree
   pub metadata : Entries
 
-unfoldable pub schema_at : List ℕ → ℕ → ℕ → Result (SchemaTree × ℕ) Fault
-schema_at bytes place left = do
+-- a schema, and the id of each field that has a dictionary, in pre-order
+unfoldable pub keyed_schema_at : List ℕ → ℕ → ℕ → Result ((SchemaTree × List ℤ) × ℕ) Fault
+keyed_schema_at bytes place left = do
   table ← visit_table bytes place left
   endianness ← words.field (signed_at w16 bytes) (pos 0) bytes table.0 0
   little ← check (int_eq endianness (pos 0)) Endianness
   to ← offset_field bytes table.0 1
   items ← items_at 4 bytes to table.1
-  fields ← tables_at (field_at 64 bytes) bytes items.0.count items.0.first items.1
+  fields ← rows_at (field_at 64 bytes) bytes items.0.count items.0.first (progress items.1 unseen)
   to ← offset_field bytes table.0 2
-  metadata ← metadata_at bytes to fields.1
-  Ok (record { fields = fields.0; metadata = metadata.0 }, metadata.1)
+  metadata ← metadata_at bytes to fields.1.left
+  Ok ((record { fields = fields.0; metadata = metadata.0 }, fields.1.seen.ids), metadata.1)
+
+abbrev pub without_ids : (SchemaTree × List ℤ) × ℕ → Result (SchemaTree × ℕ) Fault
+without_ids ((schema, []), left) = Ok (schema, left)
+without_ids ((schema, id ∷ ids), left) = Err UnsupportedType
+
+-- a schema without dictionaries
+unfoldable pub schema_at : List ℕ → ℕ → ℕ → Result (SchemaTree × ℕ) Fault
+schema_at bytes place left = keyed_schema_at bytes place left >>= without_ids
 
 -- a schema's message, which has no body
 abbrev pub is_schema : Kind → Bool
@@ -126,6 +133,18 @@ stream_schema_at bytes = do
   allowed ← in_version parts.root.version (have_union schema.0.fields)
   Ok (schema.0, first.1)
 
+-- the same with ids
+unfoldable pub stream_keyed_schema_at : List ℕ → Result ((SchemaTree × List ℤ) × List ℕ) Fault
+stream_keyed_schema_at bytes = do
+  first ← message_at bytes
+  parts ← schema_parts first.0
+  schema ← keyed_schema_at parts.metadata parts.root.header parts.root.left
+  allowed ← in_version parts.root.version (have_union schema.0.0.fields)
+  Ok (schema.0, first.1)
+
 -- a schema of the code
 abbrev pub schema_of : Schema → SchemaTree
 schema_of s = record { fields = map field_of s.fields.items; metadata = entries_of s.metadata.entries }
+
+abbrev pub keyed_schema_of : KeyedSchema → SchemaTree × List ℤ
+keyed_schema_of s = (schema_of s.schema, s.ids.items)

@@ -9,11 +9,13 @@ use Rattle.nest_memory.specs.declared.datatypes.TimeUnit.TheVariants.{Second, Mi
 use Rattle.nest_memory.specs.declared.datatypes.IntervalUnit.TheVariants.{YearMonth, DayTime, MonthDayNano}
 use Rattle.ipc_words.specs.Words.{offset_at, back_from, table_at, field_place, spend, visit_table, visit_vector, visit_string, tables_at, items_at, text_at}
 use Rattle.ipc_schema.specs.Types.{decimal_at, date_at, time_at, zone_at, timestamp_at, interval_at, duration_at, fixed_size_binary_at}
+use Rattle.ipc_schema.specs.Dictionaries.{unseen, progress}
+use Rattle.ipc_schema.specs.FieldRows.{rows_at}
 use Rattle.ipc_schema.specs.Schemas.{metadata_at, field_at}
 
 -- at a place stands a field of this name and type, nullable and without metadata, and what it takes of 200 leaves so much
 abbrev pub HasField : List ℕ → ℕ → Letters → TypeTree → ℕ → Type 0
-HasField bytes place name type left = field_at 64 bytes place 200 ≡ Ok (field name type true [], left)
+HasField bytes place name type left = field_at 64 bytes place (progress 200 unseen) ≡ Ok (field name type true [], progress left unseen)
 
 -- ---- texts
 
@@ -90,15 +92,15 @@ decimals_metadata =
     16 ∷ 0 ∷ 0 ∷ 0 ∷ 10 ∷ 0 ∷ 11 ∷ 0 ∷ 8 ∷ 0 ∷ 10 ∷ 0 ∷ 4 ∷ 0 ∷ 0 ∷ 0 ∷ 12 ∷ 0 ∷ 0 ∷ 0 ∷ 16 ∷ 0 ∷ 0 ∷ 0 ∷ 4 ∷ 0 ∷ 1 ∷ 0 ∷ 8 ∷ 0 ∷ 8 ∷ 0 ∷ 0 ∷ 0 ∷ 4 ∷ 0 ∷ 8 ∷ 0 ∷ 0 ∷ 0 ∷ 4 ∷ 0 ∷ 0 ∷ 0 ∷ 3 ∷ 0 ∷ 0 ∷ 0 ∷ 28 ∷ 0 ∷ 0 ∷ 0 ∷ 76 ∷ 0 ∷ 0 ∷ 0 ∷ 128 ∷ 0 ∷ 0 ∷ 0 ∷ 16 ∷ 0 ∷ 18 ∷ 0 ∷ 4 ∷ 0 ∷ 16 ∷ 0 ∷ 17 ∷ 0 ∷ 8 ∷ 0 ∷ 0 ∷ 0 ∷ 12 ∷ 0 ∷ 16 ∷ 0 ∷ 0 ∷ 0 ∷ 16 ∷ 0 ∷ 0 ∷ 0 ∷ 28 ∷ 0 ∷ 0 ∷ 0 ∷ 36 ∷ 0 ∷ 0 ∷ 0 ∷ 1 ∷ 7 ∷ 0 ∷ 0 ∷ 1 ∷ 0 ∷ 0 ∷ 0 ∷ 97 ∷ 0 ∷ 8 ∷ 0 ∷ 12 ∷ 0 ∷ 4 ∷ 0 ∷ 8 ∷ 0 ∷ 0 ∷ 0 ∷ 10 ∷ 0 ∷ 0 ∷ 0 ∷ 38 ∷ 0 ∷ 0 ∷ 0 ∷ 2 ∷ 0 ∷ 0 ∷ 0 ∷ 0 ∷ 0 ∷ 0 ∷ 0 ∷ 68 ∷ 0 ∷ 0 ∷ 0 ∷ 16 ∷ 0 ∷ 0 ∷ 0 ∷ 28 ∷ 0 ∷ 0 ∷ 0 ∷ 40 ∷ 0 ∷ 0 ∷ 0 ∷ 1 ∷ 7 ∷ 0 ∷ 0 ∷ 1 ∷ 0 ∷ 0 ∷ 0 ∷ 98 ∷ 0 ∷ 10 ∷ 0 ∷ 16 ∷ 0 ∷ 4 ∷ 0 ∷ 8 ∷ 0 ∷ 12 ∷ 0 ∷ 10 ∷ 0 ∷ 0 ∷ 0 ∷ 76 ∷ 0 ∷ 0 ∷ 0 ∷ 5 ∷ 0 ∷ 0 ∷ 0 ∷ 0 ∷ 1 ∷ 0 ∷ 0 ∷ 0 ∷ 0 ∷ 0 ∷ 0 ∷ 124 ∷ 0 ∷ 0 ∷ 0 ∷ 16 ∷ 0 ∷ 0 ∷ 0 ∷ 24 ∷ 0 ∷ 0 ∷ 0 ∷ 28 ∷ 0 ∷ 0 ∷ 0 ∷ 1 ∷ 7 ∷ 0 ∷ 0 ∷ 1 ∷ 0 ∷ 0 ∷ 0 ∷ 99 ∷ 0 ∷ 6 ∷ 0 ∷ 8 ∷ 0 ∷ 4 ∷ 0 ∷ 6 ∷ 0 ∷ 0 ∷ 0 ∷ 5 ∷ 0 ∷ 0 ∷ 0 ∷ 0 ∷ 0 ∷ 0 ∷ 0 ∷ 0 ∷ 0 ∷ 0 ∷ 0 ∷ []
 
 decimals_0 : HasField decimals_metadata 76 (97 ∷ []) (types.decimal 38 2) 175
-unfolding offset_at back_from table_at field_place spend visit_table visit_vector visit_string items_at text_at metadata_at decimal_at field_at tables_at
+unfolding offset_at back_from table_at field_place spend visit_table visit_vector visit_string items_at text_at metadata_at decimal_at field_at tables_at rows_at
 decimals_0 = rw (text_a) refl
 
 decimals_1 : HasField decimals_metadata 128 (98 ∷ []) (types.decimal256 76 5) 175
-unfolding offset_at back_from table_at field_place spend visit_table visit_vector visit_string items_at text_at metadata_at decimal_at field_at tables_at
+unfolding offset_at back_from table_at field_place spend visit_table visit_vector visit_string items_at text_at metadata_at decimal_at field_at tables_at rows_at
 decimals_1 = rw (text_b) refl
 
 decimals_2 : HasField decimals_metadata 184 (99 ∷ []) (types.decimal 5 0) 175
-unfolding offset_at back_from table_at field_place spend visit_table visit_vector visit_string items_at text_at metadata_at decimal_at field_at tables_at
+unfolding offset_at back_from table_at field_place spend visit_table visit_vector visit_string items_at text_at metadata_at decimal_at field_at tables_at rows_at
 decimals_2 = rw (text_c) refl
 
 abbrev pub AreDecimals : Type 0
@@ -116,27 +118,27 @@ dates_times_metadata =
     16 ∷ 0 ∷ 0 ∷ 0 ∷ 10 ∷ 0 ∷ 11 ∷ 0 ∷ 8 ∷ 0 ∷ 10 ∷ 0 ∷ 4 ∷ 0 ∷ 0 ∷ 0 ∷ 12 ∷ 0 ∷ 0 ∷ 0 ∷ 16 ∷ 0 ∷ 0 ∷ 0 ∷ 4 ∷ 0 ∷ 1 ∷ 0 ∷ 8 ∷ 0 ∷ 8 ∷ 0 ∷ 0 ∷ 0 ∷ 4 ∷ 0 ∷ 8 ∷ 0 ∷ 0 ∷ 0 ∷ 4 ∷ 0 ∷ 0 ∷ 0 ∷ 6 ∷ 0 ∷ 0 ∷ 0 ∷ 40 ∷ 0 ∷ 0 ∷ 0 ∷ 84 ∷ 0 ∷ 0 ∷ 0 ∷ 120 ∷ 0 ∷ 0 ∷ 0 ∷ 156 ∷ 0 ∷ 0 ∷ 0 ∷ 188 ∷ 0 ∷ 0 ∷ 0 ∷ 236 ∷ 0 ∷ 0 ∷ 0 ∷ 16 ∷ 0 ∷ 18 ∷ 0 ∷ 4 ∷ 0 ∷ 16 ∷ 0 ∷ 17 ∷ 0 ∷ 8 ∷ 0 ∷ 0 ∷ 0 ∷ 12 ∷ 0 ∷ 16 ∷ 0 ∷ 0 ∷ 0 ∷ 16 ∷ 0 ∷ 0 ∷ 0 ∷ 28 ∷ 0 ∷ 0 ∷ 0 ∷ 32 ∷ 0 ∷ 0 ∷ 0 ∷ 1 ∷ 8 ∷ 0 ∷ 0 ∷ 2 ∷ 0 ∷ 0 ∷ 0 ∷ 100 ∷ 52 ∷ 0 ∷ 0 ∷ 6 ∷ 0 ∷ 6 ∷ 0 ∷ 4 ∷ 0 ∷ 0 ∷ 0 ∷ 8 ∷ 0 ∷ 0 ∷ 0 ∷ 0 ∷ 0 ∷ 0 ∷ 0 ∷ 0 ∷ 0 ∷ 0 ∷ 0 ∷ 64 ∷ 0 ∷ 0 ∷ 0 ∷ 16 ∷ 0 ∷ 0 ∷ 0 ∷ 24 ∷ 0 ∷ 0 ∷ 0 ∷ 24 ∷ 0 ∷ 0 ∷ 0 ∷ 1 ∷ 8 ∷ 0 ∷ 0 ∷ 2 ∷ 0 ∷ 0 ∷ 0 ∷ 100 ∷ 56 ∷ 0 ∷ 0 ∷ 4 ∷ 0 ∷ 4 ∷ 0 ∷ 4 ∷ 0 ∷ 0 ∷ 0 ∷ 0 ∷ 0 ∷ 0 ∷ 0 ∷ 104 ∷ 0 ∷ 0 ∷ 0 ∷ 16 ∷ 0 ∷ 0 ∷ 0 ∷ 20 ∷ 0 ∷ 0 ∷ 0 ∷ 24 ∷ 0 ∷ 0 ∷ 0 ∷ 1 ∷ 9 ∷ 0 ∷ 0 ∷ 2 ∷ 0 ∷ 0 ∷ 0 ∷ 116 ∷ 115 ∷ 0 ∷ 0 ∷ 88 ∷ 0 ∷ 0 ∷ 0 ∷ 0 ∷ 0 ∷ 0 ∷ 0 ∷ 0 ∷ 0 ∷ 0 ∷ 0 ∷ 144 ∷ 0 ∷ 0 ∷ 0 ∷ 16 ∷ 0 ∷ 0 ∷ 0 ∷ 20 ∷ 0 ∷ 0 ∷ 0 ∷ 20 ∷ 0 ∷ 0 ∷ 0 ∷ 1 ∷ 9 ∷ 0 ∷ 0 ∷ 2 ∷ 0 ∷ 0 ∷ 0 ∷ 116 ∷ 109 ∷ 0 ∷ 0 ∷ 80 ∷ 0 ∷ 0 ∷ 0 ∷ 0 ∷ 0 ∷ 0 ∷ 0 ∷ 180 ∷ 0 ∷ 0 ∷ 0 ∷ 16 ∷ 0 ∷ 0 ∷ 0 ∷ 28 ∷ 0 ∷ 0 ∷ 0 ∷ 36 ∷ 0 ∷ 0 ∷ 0 ∷ 1 ∷ 9 ∷ 0 ∷ 0 ∷ 2 ∷ 0 ∷ 0 ∷ 0 ∷ 116 ∷ 117 ∷ 0 ∷ 0 ∷ 8 ∷ 0 ∷ 10 ∷ 0 ∷ 8 ∷ 0 ∷ 4 ∷ 0 ∷ 8 ∷ 0 ∷ 0 ∷ 0 ∷ 64 ∷ 0 ∷ 0 ∷ 0 ∷ 2 ∷ 0 ∷ 0 ∷ 0 ∷ 0 ∷ 0 ∷ 0 ∷ 0 ∷ 232 ∷ 0 ∷ 0 ∷ 0 ∷ 16 ∷ 0 ∷ 0 ∷ 0 ∷ 20 ∷ 0 ∷ 0 ∷ 0 ∷ 28 ∷ 0 ∷ 0 ∷ 0 ∷ 1 ∷ 9 ∷ 0 ∷ 0 ∷ 2 ∷ 0 ∷ 0 ∷ 0 ∷ 116 ∷ 110 ∷ 0 ∷ 0 ∷ 52 ∷ 0 ∷ 0 ∷ 0 ∷ 64 ∷ 0 ∷ 0 ∷ 0 ∷ 3 ∷ 0 ∷ 0 ∷ 0 ∷ 0 ∷ 0 ∷ 0 ∷ 0 ∷ 0 ∷ 0 ∷ 0 ∷ 0 ∷ []
 
 dates_times_0 : HasField dates_times_metadata 88 (100 ∷ 52 ∷ []) types.date32 174
-unfolding offset_at back_from table_at field_place spend visit_table visit_vector visit_string items_at text_at metadata_at date_at time_at field_at tables_at
+unfolding offset_at back_from table_at field_place spend visit_table visit_vector visit_string items_at text_at metadata_at date_at time_at field_at tables_at rows_at
 dates_times_0 = rw (text_d4) refl
 
 dates_times_1 : HasField dates_times_metadata 136 (100 ∷ 56 ∷ []) types.date64 174
-unfolding offset_at back_from table_at field_place spend visit_table visit_vector visit_string items_at text_at metadata_at date_at time_at field_at tables_at
+unfolding offset_at back_from table_at field_place spend visit_table visit_vector visit_string items_at text_at metadata_at date_at time_at field_at tables_at rows_at
 dates_times_1 = rw (text_d8) refl
 
 dates_times_2 : HasField dates_times_metadata 176 (116 ∷ 115 ∷ []) (types.time32 Second) 174
-unfolding offset_at back_from table_at field_place spend visit_table visit_vector visit_string items_at text_at metadata_at date_at time_at field_at tables_at
+unfolding offset_at back_from table_at field_place spend visit_table visit_vector visit_string items_at text_at metadata_at date_at time_at field_at tables_at rows_at
 dates_times_2 = rw (text_ts) refl
 
 dates_times_3 : HasField dates_times_metadata 216 (116 ∷ 109 ∷ []) (types.time32 Millisecond) 174
-unfolding offset_at back_from table_at field_place spend visit_table visit_vector visit_string items_at text_at metadata_at date_at time_at field_at tables_at
+unfolding offset_at back_from table_at field_place spend visit_table visit_vector visit_string items_at text_at metadata_at date_at time_at field_at tables_at rows_at
 dates_times_3 = rw (text_tm) refl
 
 dates_times_4 : HasField dates_times_metadata 252 (116 ∷ 117 ∷ []) (types.time64 Microsecond) 174
-unfolding offset_at back_from table_at field_place spend visit_table visit_vector visit_string items_at text_at metadata_at date_at time_at field_at tables_at
+unfolding offset_at back_from table_at field_place spend visit_table visit_vector visit_string items_at text_at metadata_at date_at time_at field_at tables_at rows_at
 dates_times_4 = rw (text_tu) refl
 
 dates_times_5 : HasField dates_times_metadata 304 (116 ∷ 110 ∷ []) (types.time64 Nanosecond) 174
-unfolding offset_at back_from table_at field_place spend visit_table visit_vector visit_string items_at text_at metadata_at date_at time_at field_at tables_at
+unfolding offset_at back_from table_at field_place spend visit_table visit_vector visit_string items_at text_at metadata_at date_at time_at field_at tables_at rows_at
 dates_times_5 = rw (text_tn) refl
 
 abbrev pub AreTimes : Type 0
@@ -157,35 +159,35 @@ timestamps_durations_metadata =
     16 ∷ 0 ∷ 0 ∷ 0 ∷ 10 ∷ 0 ∷ 11 ∷ 0 ∷ 8 ∷ 0 ∷ 10 ∷ 0 ∷ 4 ∷ 0 ∷ 0 ∷ 0 ∷ 12 ∷ 0 ∷ 0 ∷ 0 ∷ 16 ∷ 0 ∷ 0 ∷ 0 ∷ 4 ∷ 0 ∷ 1 ∷ 0 ∷ 8 ∷ 0 ∷ 8 ∷ 0 ∷ 0 ∷ 0 ∷ 4 ∷ 0 ∷ 8 ∷ 0 ∷ 0 ∷ 0 ∷ 4 ∷ 0 ∷ 0 ∷ 0 ∷ 8 ∷ 0 ∷ 0 ∷ 0 ∷ 48 ∷ 0 ∷ 0 ∷ 0 ∷ 84 ∷ 0 ∷ 0 ∷ 0 ∷ 140 ∷ 0 ∷ 0 ∷ 0 ∷ 188 ∷ 0 ∷ 0 ∷ 0 ∷ 244 ∷ 0 ∷ 0 ∷ 0 ∷ 32 ∷ 1 ∷ 0 ∷ 0 ∷ 64 ∷ 1 ∷ 0 ∷ 0 ∷ 100 ∷ 1 ∷ 0 ∷ 0 ∷ 16 ∷ 0 ∷ 18 ∷ 0 ∷ 4 ∷ 0 ∷ 16 ∷ 0 ∷ 17 ∷ 0 ∷ 8 ∷ 0 ∷ 0 ∷ 0 ∷ 12 ∷ 0 ∷ 16 ∷ 0 ∷ 0 ∷ 0 ∷ 16 ∷ 0 ∷ 0 ∷ 0 ∷ 24 ∷ 0 ∷ 0 ∷ 0 ∷ 24 ∷ 0 ∷ 0 ∷ 0 ∷ 1 ∷ 10 ∷ 0 ∷ 0 ∷ 1 ∷ 0 ∷ 0 ∷ 0 ∷ 115 ∷ 0 ∷ 4 ∷ 0 ∷ 4 ∷ 0 ∷ 0 ∷ 0 ∷ 6 ∷ 0 ∷ 0 ∷ 0 ∷ 0 ∷ 0 ∷ 0 ∷ 0 ∷ 56 ∷ 0 ∷ 0 ∷ 0 ∷ 16 ∷ 0 ∷ 0 ∷ 0 ∷ 28 ∷ 0 ∷ 0 ∷ 0 ∷ 44 ∷ 0 ∷ 0 ∷ 0 ∷ 1 ∷ 10 ∷ 0 ∷ 0 ∷ 1 ∷ 0 ∷ 0 ∷ 0 ∷ 109 ∷ 0 ∷ 8 ∷ 0 ∷ 10 ∷ 0 ∷ 8 ∷ 0 ∷ 4 ∷ 0 ∷ 0 ∷ 0 ∷ 10 ∷ 0 ∷ 0 ∷ 0 ∷ 8 ∷ 0 ∷ 0 ∷ 0 ∷ 1 ∷ 0 ∷ 0 ∷ 0 ∷ 0 ∷ 0 ∷ 0 ∷ 0 ∷ 0 ∷ 0 ∷ 0 ∷ 0 ∷ 0 ∷ 0 ∷ 0 ∷ 0 ∷ 116 ∷ 0 ∷ 0 ∷ 0 ∷ 16 ∷ 0 ∷ 0 ∷ 0 ∷ 20 ∷ 0 ∷ 0 ∷ 0 ∷ 36 ∷ 0 ∷ 0 ∷ 0 ∷ 1 ∷ 10 ∷ 0 ∷ 0 ∷ 1 ∷ 0 ∷ 0 ∷ 0 ∷ 117 ∷ 0 ∷ 0 ∷ 0 ∷ 62 ∷ 0 ∷ 0 ∷ 0 ∷ 8 ∷ 0 ∷ 0 ∷ 0 ∷ 2 ∷ 0 ∷ 0 ∷ 0 ∷ 3 ∷ 0 ∷ 0 ∷ 0 ∷ 85 ∷ 84 ∷ 67 ∷ 0 ∷ 0 ∷ 0 ∷ 0 ∷ 0 ∷ 168 ∷ 0 ∷ 0 ∷ 0 ∷ 16 ∷ 0 ∷ 0 ∷ 0 ∷ 20 ∷ 0 ∷ 0 ∷ 0 ∷ 44 ∷ 0 ∷ 0 ∷ 0 ∷ 1 ∷ 10 ∷ 0 ∷ 0 ∷ 1 ∷ 0 ∷ 0 ∷ 0 ∷ 110 ∷ 0 ∷ 0 ∷ 0 ∷ 114 ∷ 0 ∷ 0 ∷ 0 ∷ 8 ∷ 0 ∷ 0 ∷ 0 ∷ 3 ∷ 0 ∷ 0 ∷ 0 ∷ 11 ∷ 0 ∷ 0 ∷ 0 ∷ 69 ∷ 117 ∷ 114 ∷ 111 ∷ 112 ∷ 101 ∷ 47 ∷ 79 ∷ 115 ∷ 108 ∷ 111 ∷ 0 ∷ 0 ∷ 0 ∷ 0 ∷ 0 ∷ 228 ∷ 0 ∷ 0 ∷ 0 ∷ 16 ∷ 0 ∷ 0 ∷ 0 ∷ 28 ∷ 0 ∷ 0 ∷ 0 ∷ 32 ∷ 0 ∷ 0 ∷ 0 ∷ 1 ∷ 18 ∷ 0 ∷ 0 ∷ 2 ∷ 0 ∷ 0 ∷ 0 ∷ 100 ∷ 115 ∷ 0 ∷ 0 ∷ 6 ∷ 0 ∷ 6 ∷ 0 ∷ 4 ∷ 0 ∷ 0 ∷ 0 ∷ 8 ∷ 0 ∷ 0 ∷ 0 ∷ 0 ∷ 0 ∷ 0 ∷ 0 ∷ 0 ∷ 0 ∷ 0 ∷ 0 ∷ 20 ∷ 1 ∷ 0 ∷ 0 ∷ 16 ∷ 0 ∷ 0 ∷ 0 ∷ 20 ∷ 0 ∷ 0 ∷ 0 ∷ 20 ∷ 0 ∷ 0 ∷ 0 ∷ 1 ∷ 18 ∷ 0 ∷ 0 ∷ 2 ∷ 0 ∷ 0 ∷ 0 ∷ 100 ∷ 109 ∷ 0 ∷ 0 ∷ 6 ∷ 1 ∷ 0 ∷ 0 ∷ 0 ∷ 0 ∷ 0 ∷ 0 ∷ 56 ∷ 1 ∷ 0 ∷ 0 ∷ 16 ∷ 0 ∷ 0 ∷ 0 ∷ 20 ∷ 0 ∷ 0 ∷ 0 ∷ 24 ∷ 0 ∷ 0 ∷ 0 ∷ 1 ∷ 18 ∷ 0 ∷ 0 ∷ 2 ∷ 0 ∷ 0 ∷ 0 ∷ 100 ∷ 117 ∷ 0 ∷ 0 ∷ 84 ∷ 0 ∷ 0 ∷ 0 ∷ 2 ∷ 0 ∷ 0 ∷ 0 ∷ 0 ∷ 0 ∷ 0 ∷ 0 ∷ 96 ∷ 1 ∷ 0 ∷ 0 ∷ 16 ∷ 0 ∷ 0 ∷ 0 ∷ 20 ∷ 0 ∷ 0 ∷ 0 ∷ 24 ∷ 0 ∷ 0 ∷ 0 ∷ 1 ∷ 18 ∷ 0 ∷ 0 ∷ 2 ∷ 0 ∷ 0 ∷ 0 ∷ 100 ∷ 110 ∷ 0 ∷ 0 ∷ 124 ∷ 0 ∷ 0 ∷ 0 ∷ 3 ∷ 0 ∷ 0 ∷ 0 ∷ 0 ∷ 0 ∷ 0 ∷ 0 ∷ []
 
 timestamps_durations_0 : HasField timestamps_durations_metadata 96 (115 ∷ []) (types.timestamp Second None) 175
-unfolding offset_at back_from table_at field_place spend visit_table visit_vector visit_string items_at text_at metadata_at zone_at timestamp_at duration_at field_at tables_at
+unfolding offset_at back_from table_at field_place spend visit_table visit_vector visit_string items_at text_at metadata_at zone_at timestamp_at duration_at field_at tables_at rows_at
 timestamps_durations_0 = rw (text_s) refl
 
 timestamps_durations_1 : HasField timestamps_durations_metadata 136 (109 ∷ []) (types.timestamp Millisecond (Some [])) 171
-unfolding offset_at back_from table_at field_place spend visit_table visit_vector visit_string items_at text_at metadata_at zone_at timestamp_at duration_at field_at tables_at
+unfolding offset_at back_from table_at field_place spend visit_table visit_vector visit_string items_at text_at metadata_at zone_at timestamp_at duration_at field_at tables_at rows_at
 timestamps_durations_1 = rw (text_m, no_text) refl
 
 timestamps_durations_2 : HasField timestamps_durations_metadata 196 (117 ∷ []) (types.timestamp Microsecond (Some (85 ∷ 84 ∷ 67 ∷ []))) 168
-unfolding offset_at back_from table_at field_place spend visit_table visit_vector visit_string items_at text_at metadata_at zone_at timestamp_at duration_at field_at tables_at
+unfolding offset_at back_from table_at field_place spend visit_table visit_vector visit_string items_at text_at metadata_at zone_at timestamp_at duration_at field_at tables_at rows_at
 timestamps_durations_2 = rw (text_u, text_UTC) refl
 
 timestamps_durations_3 : HasField timestamps_durations_metadata 248 (110 ∷ []) (types.timestamp Nanosecond (Some (69 ∷ 117 ∷ 114 ∷ 111 ∷ 112 ∷ 101 ∷ 47 ∷ 79 ∷ 115 ∷ 108 ∷ 111 ∷ []))) 160
-unfolding offset_at back_from table_at field_place spend visit_table visit_vector visit_string items_at text_at metadata_at zone_at timestamp_at duration_at field_at tables_at
+unfolding offset_at back_from table_at field_place spend visit_table visit_vector visit_string items_at text_at metadata_at zone_at timestamp_at duration_at field_at tables_at rows_at
 timestamps_durations_3 = rw (text_n, text_Europe_Oslo) refl
 
 timestamps_durations_4 : HasField timestamps_durations_metadata 308 (100 ∷ 115 ∷ []) (types.duration Second) 174
-unfolding offset_at back_from table_at field_place spend visit_table visit_vector visit_string items_at text_at metadata_at zone_at timestamp_at duration_at field_at tables_at
+unfolding offset_at back_from table_at field_place spend visit_table visit_vector visit_string items_at text_at metadata_at zone_at timestamp_at duration_at field_at tables_at rows_at
 timestamps_durations_4 = rw (text_ds) refl
 
 timestamps_durations_5 : HasField timestamps_durations_metadata 356 (100 ∷ 109 ∷ []) (types.duration Millisecond) 174
-unfolding offset_at back_from table_at field_place spend visit_table visit_vector visit_string items_at text_at metadata_at zone_at timestamp_at duration_at field_at tables_at
+unfolding offset_at back_from table_at field_place spend visit_table visit_vector visit_string items_at text_at metadata_at zone_at timestamp_at duration_at field_at tables_at rows_at
 timestamps_durations_5 = rw (text_dm) refl
 
 timestamps_durations_6 : HasField timestamps_durations_metadata 392 (100 ∷ 117 ∷ []) (types.duration Microsecond) 174
-unfolding offset_at back_from table_at field_place spend visit_table visit_vector visit_string items_at text_at metadata_at zone_at timestamp_at duration_at field_at tables_at
+unfolding offset_at back_from table_at field_place spend visit_table visit_vector visit_string items_at text_at metadata_at zone_at timestamp_at duration_at field_at tables_at rows_at
 timestamps_durations_6 = rw (text_du) refl
 
 timestamps_durations_7 : HasField timestamps_durations_metadata 432 (100 ∷ 110 ∷ []) (types.duration Nanosecond) 174
-unfolding offset_at back_from table_at field_place spend visit_table visit_vector visit_string items_at text_at metadata_at zone_at timestamp_at duration_at field_at tables_at
+unfolding offset_at back_from table_at field_place spend visit_table visit_vector visit_string items_at text_at metadata_at zone_at timestamp_at duration_at field_at tables_at rows_at
 timestamps_durations_7 = rw (text_dn) refl
 
 abbrev pub AreZones : Type 0
@@ -208,15 +210,15 @@ intervals_metadata =
     16 ∷ 0 ∷ 0 ∷ 0 ∷ 10 ∷ 0 ∷ 11 ∷ 0 ∷ 8 ∷ 0 ∷ 10 ∷ 0 ∷ 4 ∷ 0 ∷ 0 ∷ 0 ∷ 12 ∷ 0 ∷ 0 ∷ 0 ∷ 16 ∷ 0 ∷ 0 ∷ 0 ∷ 4 ∷ 0 ∷ 1 ∷ 0 ∷ 8 ∷ 0 ∷ 8 ∷ 0 ∷ 0 ∷ 0 ∷ 4 ∷ 0 ∷ 8 ∷ 0 ∷ 0 ∷ 0 ∷ 4 ∷ 0 ∷ 0 ∷ 0 ∷ 3 ∷ 0 ∷ 0 ∷ 0 ∷ 28 ∷ 0 ∷ 0 ∷ 0 ∷ 64 ∷ 0 ∷ 0 ∷ 0 ∷ 104 ∷ 0 ∷ 0 ∷ 0 ∷ 16 ∷ 0 ∷ 18 ∷ 0 ∷ 4 ∷ 0 ∷ 16 ∷ 0 ∷ 17 ∷ 0 ∷ 8 ∷ 0 ∷ 0 ∷ 0 ∷ 12 ∷ 0 ∷ 16 ∷ 0 ∷ 0 ∷ 0 ∷ 16 ∷ 0 ∷ 0 ∷ 0 ∷ 24 ∷ 0 ∷ 0 ∷ 0 ∷ 24 ∷ 0 ∷ 0 ∷ 0 ∷ 1 ∷ 11 ∷ 0 ∷ 0 ∷ 1 ∷ 0 ∷ 0 ∷ 0 ∷ 121 ∷ 0 ∷ 4 ∷ 0 ∷ 4 ∷ 0 ∷ 0 ∷ 0 ∷ 6 ∷ 0 ∷ 0 ∷ 0 ∷ 0 ∷ 0 ∷ 0 ∷ 0 ∷ 56 ∷ 0 ∷ 0 ∷ 0 ∷ 16 ∷ 0 ∷ 0 ∷ 0 ∷ 24 ∷ 0 ∷ 0 ∷ 0 ∷ 28 ∷ 0 ∷ 0 ∷ 0 ∷ 1 ∷ 11 ∷ 0 ∷ 0 ∷ 1 ∷ 0 ∷ 0 ∷ 0 ∷ 100 ∷ 0 ∷ 6 ∷ 0 ∷ 6 ∷ 0 ∷ 4 ∷ 0 ∷ 6 ∷ 0 ∷ 0 ∷ 0 ∷ 1 ∷ 0 ∷ 0 ∷ 0 ∷ 0 ∷ 0 ∷ 0 ∷ 0 ∷ 100 ∷ 0 ∷ 0 ∷ 0 ∷ 16 ∷ 0 ∷ 0 ∷ 0 ∷ 20 ∷ 0 ∷ 0 ∷ 0 ∷ 24 ∷ 0 ∷ 0 ∷ 0 ∷ 1 ∷ 11 ∷ 0 ∷ 0 ∷ 1 ∷ 0 ∷ 0 ∷ 0 ∷ 109 ∷ 0 ∷ 0 ∷ 0 ∷ 46 ∷ 0 ∷ 0 ∷ 0 ∷ 2 ∷ 0 ∷ 0 ∷ 0 ∷ 0 ∷ 0 ∷ 0 ∷ 0 ∷ []
 
 intervals_0 : HasField intervals_metadata 76 (121 ∷ []) (types.interval YearMonth) 175
-unfolding offset_at back_from table_at field_place spend visit_table visit_vector visit_string items_at text_at metadata_at interval_at field_at tables_at
+unfolding offset_at back_from table_at field_place spend visit_table visit_vector visit_string items_at text_at metadata_at interval_at field_at tables_at rows_at
 intervals_0 = rw (text_y) refl
 
 intervals_1 : HasField intervals_metadata 116 (100 ∷ []) (types.interval DayTime) 175
-unfolding offset_at back_from table_at field_place spend visit_table visit_vector visit_string items_at text_at metadata_at interval_at field_at tables_at
+unfolding offset_at back_from table_at field_place spend visit_table visit_vector visit_string items_at text_at metadata_at interval_at field_at tables_at rows_at
 intervals_1 = rw (text_d) refl
 
 intervals_2 : HasField intervals_metadata 160 (109 ∷ []) (types.interval MonthDayNano) 175
-unfolding offset_at back_from table_at field_place spend visit_table visit_vector visit_string items_at text_at metadata_at interval_at field_at tables_at
+unfolding offset_at back_from table_at field_place spend visit_table visit_vector visit_string items_at text_at metadata_at interval_at field_at tables_at rows_at
 intervals_2 = rw (text_m) refl
 
 abbrev pub AreIntervals : Type 0
@@ -234,11 +236,11 @@ fixed_size_binary_metadata =
     16 ∷ 0 ∷ 0 ∷ 0 ∷ 10 ∷ 0 ∷ 11 ∷ 0 ∷ 8 ∷ 0 ∷ 10 ∷ 0 ∷ 4 ∷ 0 ∷ 0 ∷ 0 ∷ 12 ∷ 0 ∷ 0 ∷ 0 ∷ 16 ∷ 0 ∷ 0 ∷ 0 ∷ 4 ∷ 0 ∷ 1 ∷ 0 ∷ 8 ∷ 0 ∷ 8 ∷ 0 ∷ 0 ∷ 0 ∷ 4 ∷ 0 ∷ 8 ∷ 0 ∷ 0 ∷ 0 ∷ 4 ∷ 0 ∷ 0 ∷ 0 ∷ 2 ∷ 0 ∷ 0 ∷ 0 ∷ 24 ∷ 0 ∷ 0 ∷ 0 ∷ 64 ∷ 0 ∷ 0 ∷ 0 ∷ 16 ∷ 0 ∷ 18 ∷ 0 ∷ 4 ∷ 0 ∷ 16 ∷ 0 ∷ 17 ∷ 0 ∷ 8 ∷ 0 ∷ 0 ∷ 0 ∷ 12 ∷ 0 ∷ 16 ∷ 0 ∷ 0 ∷ 0 ∷ 16 ∷ 0 ∷ 0 ∷ 0 ∷ 24 ∷ 0 ∷ 0 ∷ 0 ∷ 28 ∷ 0 ∷ 0 ∷ 0 ∷ 1 ∷ 15 ∷ 0 ∷ 0 ∷ 1 ∷ 0 ∷ 0 ∷ 0 ∷ 97 ∷ 0 ∷ 6 ∷ 0 ∷ 8 ∷ 0 ∷ 4 ∷ 0 ∷ 6 ∷ 0 ∷ 0 ∷ 0 ∷ 3 ∷ 0 ∷ 0 ∷ 0 ∷ 0 ∷ 0 ∷ 0 ∷ 0 ∷ 60 ∷ 0 ∷ 0 ∷ 0 ∷ 16 ∷ 0 ∷ 0 ∷ 0 ∷ 20 ∷ 0 ∷ 0 ∷ 0 ∷ 24 ∷ 0 ∷ 0 ∷ 0 ∷ 1 ∷ 15 ∷ 0 ∷ 0 ∷ 1 ∷ 0 ∷ 0 ∷ 0 ∷ 98 ∷ 0 ∷ 0 ∷ 0 ∷ 46 ∷ 0 ∷ 0 ∷ 0 ∷ 1 ∷ 0 ∷ 0 ∷ 0 ∷ 0 ∷ 0 ∷ 0 ∷ 0 ∷ 0 ∷ 0 ∷ 0 ∷ 0 ∷ []
 
 fixed_size_binary_0 : HasField fixed_size_binary_metadata 72 (97 ∷ []) (types.fixed_size_binary 3) 175
-unfolding offset_at back_from table_at field_place spend visit_table visit_vector visit_string items_at text_at metadata_at fixed_size_binary_at field_at tables_at
+unfolding offset_at back_from table_at field_place spend visit_table visit_vector visit_string items_at text_at metadata_at fixed_size_binary_at field_at tables_at rows_at
 fixed_size_binary_0 = rw (text_a) refl
 
 fixed_size_binary_1 : HasField fixed_size_binary_metadata 116 (98 ∷ []) (types.fixed_size_binary 1) 175
-unfolding offset_at back_from table_at field_place spend visit_table visit_vector visit_string items_at text_at metadata_at fixed_size_binary_at field_at tables_at
+unfolding offset_at back_from table_at field_place spend visit_table visit_vector visit_string items_at text_at metadata_at fixed_size_binary_at field_at tables_at rows_at
 fixed_size_binary_1 = rw (text_b) refl
 
 abbrev pub AreSizes : Type 0

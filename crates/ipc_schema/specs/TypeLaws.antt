@@ -393,7 +393,7 @@ union_read (Some ids) mode count fit = record {
 
 -- ---- which types are written
 
-passes : (b : Bool) (why : NoForm) → unless b why ≡ Ok tt → b ≡ true
+pub passes : (b : Bool) (why : NoForm) → unless b why ≡ Ok tt → b ≡ true
 passes true why h = refl
 passes false why h = cc
 

@@ -8,6 +8,7 @@ use Rattle.ipc_model.specs.declared.fault.Fault.{Fault}
 use Rattle.ipc_model.specs.declared.fault.Fault.TheVariants as faults
 use Rattle.ipc_message.specs.declared.message.Version as versions
 use Rattle.ipc_message.specs.declared.message.Version.TheVariants.{V4, V5}
+use Rattle.ipc_schema.specs.Extensions.{table_type}
 use Rattle.ipc_schema.specs.Types.{children_of}
 
 abbrev pub is_union : TypeTree → Bool
@@ -17,7 +18,7 @@ is_union type = false
 -- in a field and those inside of it, so deep at most
 unfoldable pub field_has_union : ℕ → FieldTree → Bool
 field_has_union zero f = false
-field_has_union (suc depth) f = is_union (field_type f) || list_any (field_has_union depth) (children_of (field_type f))
+field_has_union (suc depth) f = is_union (table_type (field_type f)) || list_any (field_has_union depth) (children_of (table_type (field_type f)))
 
 -- in the fields of a schema that is read, which are so deep at most
 abbrev pub have_union : List FieldTree → Bool

@@ -3,6 +3,8 @@ ghost use Rattle.std.specs.Prelude.{◌≡◌, ◌<◌, ◌^◌, ◌++◌, List,
 ghost use Rattle.ipc_message.specs.MessageBytes.{metadata_size};
 ghost use Rattle.ipc_schema.specs.Examples.{worked_message, worked_tree};
 ghost use Rattle.ipc_schema.specs.NestedExamples.{AreNested, AreMaps, AreUnions};
+ghost use Rattle.ipc_schema.specs.ExtensionExamples.{AreExtended, ArePlain};
+ghost use Rattle.ipc_schema.specs.DictionaryExamples.{AreKeyed, AreOfOneId, AreLookedAt};
 ghost use Rattle.ipc_schema.specs.TypeExamples.{AreDecimals, AreTimes, AreZones, AreIntervals, AreSizes};
 ghost use Rattle.ipc_schema.specs.Schemas.{SchemaTree, stream_schema_at};
 ghost use Rattle.ipc_schema.specs.SchemaBytes.{schema_message};
@@ -27,6 +29,20 @@ pub fn nested_types_are_read()
     ensures fields { AreNested }
     ensures maps { AreMaps }
     ensures unions { AreUnions }
+{}
+
+/// Metadata spells extensions, at any depth: fields of another writer, byte by byte. The second key alone spells none, and no map is of an extension of entries.
+pub fn extensions_are_read()
+    ensures fields { AreExtended }
+    ensures plain { ArePlain }
+{}
+
+/// Dictionaries encode fields, at any depth and under an extension: byte by byte. One id names the same values everywhere. A kind
+/// that is not dense is refused, and a union is found under an extension and inside of a dictionary.
+pub fn dictionaries_are_read()
+    ensures fields { AreKeyed }
+    ensures ids { AreOfOneId }
+    ensures looks { AreLookedAt }
 {}
 
 /// The message of a schema that is written is read back, with anything behind it.

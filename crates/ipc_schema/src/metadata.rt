@@ -1,15 +1,15 @@
 //! Pairs of keys and values: read into a map, and written from one.
-ghost use Rattle.std.specs.Prelude.{◌≡◌, ◌<◌, ◌≤◌, ◌^◌, ◌+◌, ◌*◌, ◌++◌, true, map, length, IfOk, OnOk, IfErr, Ok, [], ◌∷◌};
+ghost use Rattle.std.specs.Prelude.{◌≡◌, ◌<◌, ◌≤◌, ◌^◌, ◌+◌, ◌*◌, ◌++◌, true, map, length, IfOk, OnOk, IfErr, Ok, option_map, string_bytes};
 ghost use Rattle.std.specs.Str.{is_utf8};
 ghost use Rattle.std.specs.String.{string_cmp};
 ghost use Rattle.std.specs.BTreeMap.{IsOrdered};
-ghost use Rattle.ipc_model.specs.declared.fault.Fault.TheVariants.{Memory};
-ghost use Rattle.nest_memory.specs.TypeOf.{entries_of};
+ghost use Rattle.nest_memory.specs.TypeOf.{entries_of, text_of};
 ghost use Rattle.ipc_model.specs.Reading.{Gives, Spells};
 ghost use Rattle.ipc_words.specs.Bytes.{together, parts_of};
 ghost use Rattle.ipc_words.specs.Words.{tables_at};
 ghost use Rattle.ipc_words.specs.Writes.{IsTooLong};
-ghost use Rattle.ipc_schema.specs.Schemas.{pair_at as pair_at_lem, metadata_at as metadata_at_lem, with_all, with_pairs, has_key as has_key_lem};
+ghost use Rattle.ipc_schema.specs.Schemas.{pair_at as pair_at_lem, metadata_at as metadata_at_lem, with_all};
+ghost use Rattle.ipc_schema.specs.Extensions.{extension_name, value_at, has_key as has_key_lem, without, with_pair as with_pair_lem, with_text};
 ghost use Rattle.ipc_schema.specs.SchemaBytes.{pair_bytes, entries_bytes};
 ghost use Rattle.ipc_schema.specs.MetadataLaws.{AreTexts};
 
@@ -18,7 +18,7 @@ use ipc_words::{
     Items, items_at, offset_at, offset_field, put_offset, put_row, put_string, text_at, visit_table,
 };
 use nest_memory::datatypes::Metadata;
-use std::alloc::Global;
+use std::alloc::{AllocError, Global};
 use std::collections::BTreeMap;
 
 /// A key and its value.
@@ -45,9 +45,9 @@ fn pair_at(bytes: &[u8], place: usize, left: usize) -> Result<(Pair<'_>, usize),
     }
 }
 
-fn insert(alloc: Global, metadata: &mut Metadata, key: &str, value: &str) -> Result<(), Fault>
-    ensures ok { OnOk result (entries_of metadata.new.entries ≡ with_pairs (entries_of metadata.old.entries) ((key.now, value.now) ∷ [])) }
-    ensures memory { IfErr result (λ why. why ≡ Memory) }
+// Puts a pair into its place.
+fn insert(alloc: Global, metadata: &mut Metadata, key: &str, value: &str) -> Result<(), AllocError>
+    ensures { OnOk result (entries_of metadata.new.entries ≡ with_pair_lem key.now value.now (entries_of metadata.old.entries)) }
 {
     let key = String::from_str(alloc, key)?;
     let value = String::from_str(alloc, value)?;
@@ -89,6 +89,39 @@ pub fn metadata_at(
 {
     let (items, left) = items_at(4, bytes, place, left)?;
     pairs_of(alloc, bytes, items, left)
+}
+
+/// The value of a key, which is not there any more.
+pub fn take(metadata: &mut Metadata, key: &str) -> Option<String>
+    ensures value { option_map string_bytes result ≡ value_at key.now (entries_of metadata.old.entries) }
+    ensures rest { entries_of metadata.new.entries ≡ without key.now (entries_of metadata.old.entries) }
+{
+    metadata.remove(key)
+}
+
+// A map of its own.
+fn copy_of(metadata: &Metadata) -> Result<Metadata, AllocError>
+    ensures { IfOk result (λ m. entries_of m.entries ≡ entries_of metadata.now.entries) }
+{
+    let copied = metadata.clone()?;
+    Ok(copied)
+}
+
+/// A copy of metadata, with what spells an extension.
+pub fn with_extension(
+    alloc: Global,
+    metadata: &Metadata,
+    title: &String,
+    text: &Option<String>,
+) -> Result<Metadata, AllocError>
+    ensures { IfOk result (λ m. entries_of m.entries ≡ with_pair_lem extension_name (string_bytes title.now) (with_text (text_of text.now) (entries_of metadata.now.entries))) }
+{
+    let mut all = copy_of(metadata)?;
+    if let Some(text) = text {
+        insert(alloc, &mut all, "ARROW:extension:metadata", text.as_str())?;
+    }
+    insert(alloc, &mut all, "ARROW:extension:name", title.as_str())?;
+    Ok(all)
 }
 
 /// Whether a key is there.

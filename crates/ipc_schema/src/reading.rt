@@ -1,17 +1,21 @@
 //! Reads the schema that a stream begins with.
-ghost use Rattle.std.specs.Prelude.{◌≡◌, ◌<◌, ◌≤◌, ◌^◌, ◌+◌, ◌*◌, map, length, IfOk, IfSome, Ok, not, is_some};
-ghost use Rattle.nest_memory.specs.TypeOf.{entries_of, field_of};
+ghost use Rattle.std.specs.Prelude.{◌≡◌, ◌<◌, ◌≤◌, ◌^◌, ◌+◌, ◌*◌, map, length, IfOk, IfSome, Ok, string_bytes};
+ghost use Rattle.nest_memory.specs.TypeOf.{entries_of, field_of, type_of};
+ghost use Rattle.ipc_schema.specs.Extensions.{field_with_all};
 ghost use Rattle.ipc_model.specs.Reading.{Gives, Spells, check};
-ghost use Rattle.ipc_model.specs.declared.fault.Fault.TheVariants.{UnsupportedType, ChildCount};
-ghost use Rattle.ipc_words.specs.Words.{tables_at};
+ghost use Rattle.ipc_model.specs.declared.fault.Fault.TheVariants.{ChildCount};
+ghost use Rattle.ipc_schema.specs.FieldRows.{rows_at};
+ghost use Rattle.ipc_schema.specs.Dictionaries.{progress};
+ghost use Rattle.ipc_schema.specs.SeenOf.{seen_of};
 ghost use Rattle.ipc_message.specs.Messages.{parts_of, message_of};
 ghost use Rattle.ipc_schema.specs.Types.{can_have as can_have_lem, with_children as with_children_lem};
 ghost use Rattle.ipc_schema.specs.Shapes.{shape_tree};
-ghost use Rattle.ipc_schema.specs.Schemas.{extension_name, has_key as has_key_lem, field_of_type, field_over as field_over_lem, field_at as field_at_lem, schema_at as schema_at_lem, schema_parts, stream_schema_at, schema_of};
+ghost use Rattle.ipc_schema.specs.Schemas.{field_of_type, field_over as field_over_lem, field_at as field_at_lem, keyed_schema_at as keyed_schema_at_lem, schema_at as schema_at_lem, without_ids as without_ids_lem, schema_parts, stream_schema_at, stream_keyed_schema_at, schema_of, keyed_schema_of};
 
-use crate::metadata::{has_key, metadata_at};
+use crate::dictionaries::{Encoding, Seen, dictionary_at, keyed, see_id, see_values};
+use crate::metadata::{metadata_at, take};
 use crate::nested::shape_at;
-use crate::schema::Schema;
+use crate::schema::{KeyedSchema, Schema};
 use crate::shapes::{Shape, can_have, with_children};
 use crate::tags::type_place;
 use crate::unions::in_version;
@@ -20,18 +24,8 @@ use ipc_model::Fault;
 use ipc_words::{
     Items, i16_field, items_at, offset_at, offset_field, text_at, u8_field, visit_table,
 };
-use nest_memory::datatypes::{Field, Metadata};
+use nest_memory::datatypes::{DataType, Field, Metadata};
 use std::alloc::Global;
-
-// That a field is not by a dictionary.
-fn plain(dictionary: Option<usize>) -> Result<(), Fault>
-    ensures { result ≡ check (not (is_some dictionary)) UnsupportedType }
-{
-    match dictionary {
-        Some(_) => Err(Fault::UnsupportedType),
-        None => Ok(()),
-    }
-}
 
 // That a type may have so many children.
 fn counted(shape: &Shape<'_>, count: usize) -> Result<(), Fault>
@@ -44,18 +38,55 @@ fn counted(shape: &Shape<'_>, count: usize) -> Result<(), Fault>
     }
 }
 
-// That a field's own metadata spells no extension.
-fn unextended(metadata: &Metadata) -> Result<(), Fault>
-    ensures { result ≡ check (not (has_key_lem extension_name (entries_of metadata.now.entries))) UnsupportedType }
+// How a field is encoded, and how many ids were seen before it.
+#[derive(Clone, Copy)]
+struct Keys {
+    dictionary: Option<Encoding>,
+    before: usize,
+}
+
+fn without_ids(keyed: KeyedSchema, left: usize) -> Result<(Schema, usize), Fault>
+    ensures { Gives (λ x. (schema_of x.0, x.1)) result (without_ids_lem (keyed_schema_of keyed, left)) }
 {
-    if has_key(metadata, "ARROW:extension:name") {
-        Err(Fault::UnsupportedType)
+    if keyed.ids.is_empty() {
+        Ok((keyed.schema, left))
     } else {
-        Ok(())
+        Err(Fault::UnsupportedType)
     }
 }
 
-// A field of its parts, with a name of its own.
+// A field of its type and of all its metadata, which may spell an extension.
+fn titled(
+    alloc: Global,
+    name: String,
+    data_type: DataType,
+    is_nullable: bool,
+    all: Metadata,
+) -> Result<Field, Fault>
+    ensures { Gives field_of result (Ok (field_with_all (string_bytes name) (type_of data_type) is_nullable (entries_of all.entries))) }
+{
+    let mut metadata = all;
+    match take(&mut metadata, "ARROW:extension:name") {
+        None => Ok(Field {
+            name,
+            data_type,
+            is_nullable,
+            metadata,
+        }),
+        Some(title) => {
+            let text = take(&mut metadata, "ARROW:extension:metadata");
+            let inner = Box::new(alloc, data_type)?;
+            Ok(Field {
+                name,
+                data_type: DataType::Extension(title, inner, text),
+                is_nullable,
+                metadata,
+            })
+        }
+    }
+}
+
+// A field of its parts, with a name of its own; what its dictionary's id names is seen.
 fn field_with(
     alloc: Global,
     name: &str,
@@ -63,17 +94,16 @@ fn field_with(
     fields: Vec<Field>,
     is_nullable: bool,
     metadata: Metadata,
+    keys: Keys,
+    seen: &mut Seen,
 ) -> Result<Field, Fault>
-    ensures { Gives field_of result (field_of_type name.now is_nullable (entries_of metadata.entries) (with_children_lem (shape_tree shape.entry) (map field_of fields.items))) }
+    ensures { Gives (λ x. (field_of x, seen_of seen.new)) result (field_of_type name.now is_nullable (entries_of metadata.entries) keys.dictionary keys.before (seen_of seen.old) (with_children_lem (shape_tree shape.entry) (map field_of fields.items))) }
 {
-    let data_type = with_children(alloc, shape, fields)?;
+    let values = with_children(alloc, shape, fields)?;
+    see_values(alloc, seen, keys.dictionary, &values, keys.before)?;
+    let data_type = keyed(alloc, keys.dictionary, values)?;
     let name = String::from_str(alloc, name)?;
-    Ok(Field {
-        name,
-        data_type,
-        is_nullable,
-        metadata,
-    })
+    titled(alloc, name, data_type, is_nullable, metadata)
 }
 
 // A field, whose children may be so deep.
@@ -84,9 +114,10 @@ fn field_over(
     bytes: &[u8],
     place: usize,
     left: usize,
+    seen: &mut Seen,
 ) -> Result<(Field, usize), Fault>
     requires { length bytes.now < 2 ^ 32 }
-    ensures { Gives (λ x. (field_of x.0, x.1)) result (field_over_lem (field_at_lem depth bytes.now) bytes.now place left) }
+    ensures { Gives (λ x. (field_of x.0, progress x.1 (seen_of seen.new))) result (field_over_lem (field_at_lem depth bytes.now) bytes.now place (progress left (seen_of seen.old))) }
 {
     let (table, left) = visit_table(bytes, place, left)?;
     let (name, left) = text_at(bytes, offset_field(bytes, table, 0)?, left)?;
@@ -95,12 +126,23 @@ fn field_over(
     let (tag, place) = type_place(number, offset_field(bytes, table, 3)?)?;
     let (children, left) = items_at(4, bytes, offset_field(bytes, table, 5)?, left)?;
     let (shape, left) = shape_at(alloc, tag, children.count, bytes, place, left)?;
-    plain(offset_field(bytes, table, 4)?)?;
+    let (dictionary, left) = dictionary_at(bytes, offset_field(bytes, table, 4)?, left)?;
     counted(&shape, children.count)?;
-    let (fields, left) = fields_at(alloc, depth, bytes, children, left)?;
+    let before = seen.ids.len();
+    let keys = Keys { dictionary, before };
+    see_id(seen, dictionary)?;
+    let (fields, left) = fields_at(alloc, depth, bytes, children, left, seen)?;
     let (metadata, left) = metadata_at(alloc, bytes, offset_field(bytes, table, 6)?, left)?;
-    unextended(&metadata)?;
-    let field = field_with(alloc, name, shape, fields, is_nullable, metadata)?;
+    let field = field_with(
+        alloc,
+        name,
+        shape,
+        fields,
+        is_nullable,
+        metadata,
+        keys,
+        seen,
+    )?;
     Ok((field, left))
 }
 
@@ -112,14 +154,15 @@ fn field_at(
     bytes: &[u8],
     place: usize,
     left: usize,
+    seen: &mut Seen,
 ) -> Result<(Field, usize), Fault>
     requires { length bytes.now < 2 ^ 32 }
-    ensures { Gives (λ x. (field_of x.0, x.1)) result (field_at_lem depth bytes.now place left) }
+    ensures { Gives (λ x. (field_of x.0, progress x.1 (seen_of seen.new))) result (field_at_lem depth bytes.now place (progress left (seen_of seen.old))) }
 {
     if depth == 0 {
         return Err(Fault::Depth);
     }
-    field_over(alloc, depth - 1, bytes, place, left)
+    field_over(alloc, depth - 1, bytes, place, left, seen)
 }
 
 // The fields that offsets in a row point to.
@@ -130,23 +173,49 @@ fn fields_at(
     bytes: &[u8],
     items: Items,
     left: usize,
+    seen: &mut Seen,
 ) -> Result<(Vec<Field>, usize), Fault>
     requires length { length bytes.now < 2 ^ 32 }
     requires within { items.first + items.count * 4 ≤ length bytes.now }
-    ensures { Gives (λ x. (map field_of x.0.items, x.1)) result (tables_at (field_at_lem depth bytes.now) bytes.now items.count items.first left) }
+    ensures { Gives (λ x. (map field_of x.0.items, progress x.1 (seen_of seen.new))) result (rows_at (field_at_lem depth bytes.now) bytes.now items.count items.first (progress left (seen_of seen.old))) }
 {
     let mut fields = Vec::new(alloc);
     let mut rest = left;
     for i in 0..items.count {
         let place = offset_at(bytes, items.first + 4 * i)?;
-        let (field, after) = field_at(alloc, depth, bytes, place, rest)?;
+        let (field, after) = field_at(alloc, depth, bytes, place, rest, seen)?;
         fields.push(field)?;
         rest = after;
     }
     Ok((fields, rest))
 }
 
-/// The schema of a table of metadata, and what is left to spend.
+/// The schema of a table of metadata with the id of each field that has a dictionary, and what is left to spend.
+#[tactic(auto, unfolding(crate::specs::Schemas::keyed_schema_at))]
+pub fn keyed_schema_at(
+    alloc: Global,
+    bytes: &[u8],
+    place: usize,
+    left: usize,
+) -> Result<(KeyedSchema, usize), Fault>
+    requires { length bytes.now < 2 ^ 32 }
+    ensures { Gives (λ x. (keyed_schema_of x.0, x.1)) result (keyed_schema_at_lem bytes.now place left) }
+{
+    let (table, left) = visit_table(bytes, place, left)?;
+    if i16_field(bytes, table, 0, 0)? != 0 {
+        return Err(Fault::Endianness);
+    }
+    let (items, left) = items_at(4, bytes, offset_field(bytes, table, 1)?, left)?;
+    let mut seen = Seen::new(alloc);
+    let (fields, left) = fields_at(alloc, 64, bytes, items, left, &mut seen)?;
+    let to = offset_field(bytes, table, 2)?;
+    let (metadata, left) = metadata_at(alloc, bytes, to, left)?;
+    let schema = Schema { fields, metadata };
+    let Seen { ids, named: _ } = seen;
+    Ok((KeyedSchema { schema, ids }, left))
+}
+
+/// The schema of a table of metadata, and what is left to spend. One with a dictionary is refused.
 #[tactic(auto, unfolding(crate::specs::Schemas::schema_at))]
 pub fn schema_at(
     alloc: Global,
@@ -157,15 +226,8 @@ pub fn schema_at(
     requires { length bytes.now < 2 ^ 32 }
     ensures { Gives (λ x. (schema_of x.0, x.1)) result (schema_at_lem bytes.now place left) }
 {
-    let (table, left) = visit_table(bytes, place, left)?;
-    if i16_field(bytes, table, 0, 0)? != 0 {
-        return Err(Fault::Endianness);
-    }
-    let (items, left) = items_at(4, bytes, offset_field(bytes, table, 1)?, left)?;
-    let (fields, left) = fields_at(alloc, 64, bytes, items, left)?;
-    let to = offset_field(bytes, table, 2)?;
-    let (metadata, left) = metadata_at(alloc, bytes, to, left)?;
-    Ok((Schema { fields, metadata }, left))
+    let (keyed, left) = keyed_schema_at(alloc, bytes, place, left)?;
+    without_ids(keyed, left)
 }
 
 // The message of a schema, without a body.
@@ -200,5 +262,21 @@ pub fn read_schema(alloc: Global, bytes: &[u8]) -> Result<(Schema, &[u8]), Fault
     match in_version(root.version, &schema.fields) {
         Err(fault) => Err(fault),
         Ok(_) => Ok((schema, rest)),
+    }
+}
+
+/// The schema that a stream begins with and the id of each field that has a dictionary, in pre-order, and what stands
+/// behind its message.
+#[tactic(auto, unfolding(crate::specs::Schemas::stream_keyed_schema_at))]
+pub fn read_keyed_schema(alloc: Global, bytes: &[u8]) -> Result<(KeyedSchema, &[u8]), Fault>
+    ensures { Gives (λ x. (keyed_schema_of x.0, x.1.now)) result (stream_keyed_schema_at bytes.now) }
+{
+    let (first, rest) = next_message(bytes)?;
+    let message = schema_message(first)?;
+    let root = message.root;
+    let (keyed, _) = keyed_schema_at(alloc, message.metadata, root.header, root.left)?;
+    match in_version(root.version, &keyed.schema.fields) {
+        Err(fault) => Err(fault),
+        Ok(_) => Ok((keyed, rest)),
     }
 }

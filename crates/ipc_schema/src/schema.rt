@@ -9,3 +9,10 @@ pub struct Schema {
     /// What users attach to it.
     pub metadata: Metadata,
 }
+
+/// A schema, and the id of each field that has a dictionary, in pre-order: a field's own before those inside of it, as nodes and buffers stand.
+#[derive(Drop)]
+pub struct KeyedSchema {
+    pub schema: Schema,
+    pub ids: Vec<i64>,
+}

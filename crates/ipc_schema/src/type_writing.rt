@@ -4,6 +4,7 @@ ghost use Rattle.std.specs.List.{flat_map};
 ghost use Rattle.nest_memory.specs.TypeOf.{type_of, text_of, field_of};
 ghost use Rattle.ipc_words.specs.Bytes.{i32_bytes};
 ghost use Rattle.ipc_words.specs.Writes.{IsTooLong};
+ghost use Rattle.ipc_schema.specs.Extensions.{stored as stored_lem, table_type as table_type_lem, is_extension as is_extension_lem};
 ghost use Rattle.ipc_schema.specs.Types.{children_of as children_of_lem};
 ghost use Rattle.ipc_schema.specs.Forms.{then_form, unless as unless_lem, number_form as number_form_lem, size_form as size_form_lem, type_form as type_form_lem};
 ghost use Rattle.ipc_schema.specs.SchemaBytes.{no_field, one_field, two_fields, three_fields, unit_number as unit_number_lem, interval_number as interval_number_lem, mode_number as mode_number_lem, ids_bytes, union_bytes, timestamp_bytes, type_bytes, type_number as type_number_lem};
@@ -50,6 +51,36 @@ fn unless(passes: bool, why: NoForm) -> Result<(), NoForm>
     ensures { result ≡ unless_lem passes why }
 {
     if passes { Ok(()) } else { Err(why) }
+}
+
+/// The type that an extension stands on.
+pub fn stored(data_type: &DataType) -> &DataType
+    ensures { type_of result.now ≡ stored_lem (type_of data_type.now) }
+{
+    match data_type {
+        DataType::Extension(_, inner, _) => inner,
+        _ => data_type,
+    }
+}
+
+/// The type whose table a field has: that of values, where a dictionary encodes them.
+pub fn table_type(data_type: &DataType) -> &DataType
+    ensures { type_of result.now ≡ table_type_lem (type_of data_type.now) }
+{
+    match stored(data_type) {
+        DataType::Dictionary(_, values, _) => values,
+        other => other,
+    }
+}
+
+/// Whether a type is an extension.
+pub fn is_extension(data_type: &DataType) -> bool
+    ensures { result ≡ is_extension_lem (type_of data_type.now) }
+{
+    match data_type {
+        DataType::Extension(_, _, _) => true,
+        _ => false,
+    }
 }
 
 /// The fields that a type holds as children of its own.

@@ -58,7 +58,7 @@ fn integer_of(bits: usize, signed: bool) -> Result<IntegerType, Fault>
 
 /// The type of whole numbers at a place, and what is left to spend.
 #[tactic(auto, unfolding(crate::specs::Types::integer_at))]
-fn integer_at(bytes: &[u8], place: usize, left: usize) -> Result<(IntegerType, usize), Fault>
+pub fn integer_at(bytes: &[u8], place: usize, left: usize) -> Result<(IntegerType, usize), Fault>
     requires { length bytes.now < 2 ^ 32 }
     ensures { result ≡ integer_at_lem bytes.now place left }
 {

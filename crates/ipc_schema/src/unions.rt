@@ -4,7 +4,7 @@ ghost use Rattle.std.specs.List.{list_any};
 ghost use Rattle.nest_memory.specs.TypeOf.{type_of, field_of};
 ghost use Rattle.ipc_schema.specs.Unions.{is_union as is_union_lem, field_has_union as field_has_union_lem, have_union, in_version as in_version_lem};
 
-use crate::type_writing::children_of;
+use crate::type_writing::{children_of, table_type};
 use ipc_message::Version;
 use ipc_model::Fault;
 use nest_memory::datatypes::{DataType, Field};
@@ -26,7 +26,8 @@ fn field_has_union(depth: u8, field: &Field) -> bool
     if depth == 0 {
         return false;
     }
-    is_union(field.data_type()) || any_has_union(depth - 1, children_of(field.data_type()))
+    let data_type = table_type(field.data_type());
+    is_union(data_type) || any_has_union(depth - 1, children_of(data_type))
 }
 
 #[cycle(unions)]

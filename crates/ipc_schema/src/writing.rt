@@ -1,5 +1,5 @@
 //! Writes the message of a schema.
-ghost use Rattle.std.specs.Prelude.{◌≡◌, ◌<◌, ◌≤◌, ◌^◌, ◌+◌, ◌++◌, ◌⊎◌, List, ℕ, map, true, length, IfOk, OnOk, IfErr, Ok, Err, string_bytes};
+ghost use Rattle.std.specs.Prelude.{◌≡◌, ◌<◌, ◌≤◌, ◌^◌, ◌+◌, ◌++◌, ◌⊎◌, List, ℕ, map, true, length, IfOk, OnOk, IfErr, Ok, Err, option_map, unwrap_or, string_bytes};
 ghost use Rattle.std.specs.BTreeMap.{IsOrdered};
 ghost use Rattle.std.specs.List.{AllByRecursion};
 ghost use Rattle.std.specs.Str.{is_utf8};
@@ -10,31 +10,42 @@ ghost use Rattle.ipc_words.specs.Writes.{IsTooLong};
 ghost use Rattle.ipc_message.specs.MessageBytes.{metadata_size};
 ghost use Rattle.ipc_words.specs.RowLaws.{IsRead};
 ghost use Rattle.ipc_schema.specs.Schemas.{schema_of, schema_at, stream_schema_at};
-ghost use Rattle.ipc_schema.specs.Forms.{type_form as type_form_lem, own_form as own_form_lem, each_form as each_form_lem, field_form as field_form_lem, fields_form, IsUnwritten};
+ghost use Rattle.ipc_schema.specs.Forms.{type_form as type_form_lem, can_spell as can_spell_lem, own_form as own_form_lem, each_form as each_form_lem, field_form as field_form_lem, fields_form, IsUnwritten};
 ghost use Rattle.ipc_schema.specs.SchemaBytes.{field_head, entries_bytes, parts_of_field, field_bytes, field_parts, schema_bytes, schema_message};
 ghost use Rattle.ipc_schema.specs.MetadataLaws.{AreTexts};
 ghost use Rattle.ipc_schema.specs.TypeLaws.{TypeFits};
-ghost use Rattle.ipc_schema.specs.FieldLaws.{FieldFits, name_of, nullable_of, own_entries};
+ghost use Rattle.ipc_schema.specs.FieldLaws.{FieldFits, TableFits, name_of, nullable_of, own_entries, stored_of, table_bytes};
+ghost use Rattle.ipc_schema.specs.Extensions.{all_pairs};
 ghost use Rattle.ipc_schema.specs.SchemaLaws.{SchemaFits, part_of, schema_cost};
 
-use crate::metadata::{has_key, put_metadata};
+use crate::metadata::{has_key, put_metadata, with_extension};
 use crate::schema::Schema;
-use crate::type_writing::{children_of, put_type, type_form, type_number};
+use crate::type_writing::{children_of, is_extension, put_type, stored, type_form, type_number};
 use ipc_message::{Kind, put_message};
 use ipc_model::NoForm;
 use ipc_words::{put_offset, put_row, put_string};
 use nest_memory::datatypes::{DataType, Field, Metadata};
-use std::alloc::Global;
+use std::alloc::{AllocError, Global};
+
+// Whether an extension is not directly of an extension, and a field's own metadata has no key that spells one.
+fn can_spell(data_type: &DataType, own: &Metadata) -> bool
+    ensures { result ≡ can_spell_lem (type_of data_type.now) (entries_of own.now.entries) }
+{
+    !is_extension(stored(data_type))
+        && !has_key(own, "ARROW:extension:name")
+        && !(is_extension(data_type) && has_key(own, "ARROW:extension:metadata"))
+}
 
 // The first reason why a field is not written, its children aside.
 #[tactic(auto, unfolding(crate::specs::Forms::own_form))]
 fn own_form(field: &Field) -> Result<(), NoForm>
     ensures { result ≡ own_form_lem (field_of field.now) }
 {
-    if has_key(&field.metadata, "ARROW:extension:name") {
-        return Err(NoForm::Extension);
+    if can_spell(field.data_type(), own_metadata(field)) {
+        type_form(stored(field.data_type()))
+    } else {
+        Err(NoForm::Extension)
     }
-    type_form(&field.data_type)
 }
 
 // The first reason why a field is not written, which is to be so deep at most.
@@ -46,7 +57,7 @@ fn field_form(depth: u8, field: &Field) -> Result<(), NoForm>
         return Err(NoForm::Depth);
     }
     own_form(field)?;
-    each_form(depth - 1, children_of(field.data_type()))
+    each_form(depth - 1, children_of(stored(field.data_type())))
 }
 
 // The first reason why one of fields is not written.
@@ -173,6 +184,40 @@ fn own_metadata(field: &Field) -> &Metadata
     &field.metadata
 }
 
+// All metadata of a field of a type, where it is more than its own.
+fn all_metadata(
+    alloc: Global,
+    data_type: &DataType,
+    own: &Metadata,
+) -> Result<Option<Metadata>, AllocError>
+    ensures { IfOk result (λ all. unwrap_or (option_map (λ m. entries_of m.entries) all) (entries_of own.now.entries) ≡ all_pairs (type_of data_type.now) (entries_of own.now.entries)) }
+{
+    match data_type {
+        DataType::Extension(title, _, text) => {
+            let all = with_extension(alloc, own, title, text)?;
+            Ok(Some(all))
+        }
+        _ => Ok(None),
+    }
+}
+
+// A field as a table, with its metadata and what spells its extension.
+fn table_of(alloc: Global, field: &Field, children: &[u8]) -> Result<Vec<u8>, NoForm>
+    requires { type_form_lem (stored_of (field_of field.now)) ≡ Ok tt }
+    ensures ok { IfOk result (λ part. part.items ≡ table_bytes (field_of field.now) children.now) }
+    ensures fits { OnOk result (TableFits (field_of field.now)) }
+    ensures size { IfErr result (λ why. IsTooLong why (length (table_bytes (field_of field.now) children.now))) }
+{
+    let name = field_name(field);
+    let nullable = is_nullable(field);
+    let data_type = stored(field.data_type());
+    let own = own_metadata(field);
+    match all_metadata(alloc, field.data_type(), own)? {
+        None => parts_together(alloc, name, nullable, data_type, children, own),
+        Some(all) => parts_together(alloc, name, nullable, data_type, children, &all),
+    }
+}
+
 // A field that is written as a table, with all that is inside of it.
 #[cycle(parts)]
 fn field_part(alloc: Global, depth: u8, field: &Field) -> Result<Vec<u8>, NoForm>
@@ -181,17 +226,10 @@ fn field_part(alloc: Global, depth: u8, field: &Field) -> Result<Vec<u8>, NoForm
     ensures fits { OnOk result (FieldFits depth (field_of field.now)) }
     ensures size { IfErr result (λ why. IsTooLong why (length (field_bytes depth (field_of field.now)))) }
 {
-    let parts = field_parts_of(alloc, depth - 1, children_of(field.data_type()))?;
+    let parts = field_parts_of(alloc, depth - 1, children_of(stored(field.data_type())))?;
     let mut children = Vec::new(alloc);
     put_row(&mut children, 24, &parts)?;
-    parts_together(
-        alloc,
-        field_name(field),
-        is_nullable(field),
-        field.data_type(),
-        &children,
-        own_metadata(field),
-    )
+    table_of(alloc, field, &children)
 }
 
 // Each field as a table.

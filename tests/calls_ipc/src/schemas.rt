@@ -71,7 +71,12 @@ fn lists(alloc: Global, depth: usize) -> Result<DataType, NoForm> {
 /// The first reason why a schema of the type is not written; None where it is read back as it was.
 fn reason(alloc: Global, data_type: DataType) -> Result<Option<NoForm>, Fault> {
     let schema = schema_of(alloc, data_type).map_err(|_| Fault::Memory)?;
-    match write_schema(alloc, &schema) {
+    reason_of(alloc, &schema)
+}
+
+/// The same of a schema.
+fn reason_of(alloc: Global, schema: &Schema) -> Result<Option<NoForm>, Fault> {
+    match write_schema(alloc, schema) {
         Err(why) => Ok(Some(why)),
         Ok(bytes) => {
             let (read, rest) = read_schema(alloc, &bytes)?;
@@ -244,9 +249,82 @@ fn unions_with_ids_and_without(rt: HostRuntime) {
     }
 }
 
+fn extension_of(
+    alloc: Global,
+    name: &str,
+    inner: DataType,
+    text: Option<&str>,
+) -> Result<DataType, NoForm> {
+    let name = String::from_str(alloc, name)?;
+    let text = match text {
+        None => None,
+        Some(text) => Some(String::from_str(alloc, text)?),
+    };
+    Ok(DataType::Extension(name, Box::new(alloc, inner)?, text))
+}
+
+fn extensions(alloc: Global) -> Result<Vec<(DataType, Option<NoForm>)>, NoForm> {
+    let mut types = Vec::new(alloc);
+    types.push((extension_of(alloc, "odd", DataType::Int8, None)?, None))?;
+    types.push((extension_of(alloc, "", DataType::Utf8, Some(""))?, None))?;
+    let list = DataType::List(boxed(alloc, extension_of(alloc, "in", DataType::Null, Some("x"))?)?);
+    types.push((extension_of(alloc, "out", list, Some("y"))?, None))?;
+    let twice = extension_of(alloc, "in", DataType::Null, None)?;
+    types.push((
+        extension_of(alloc, "out", twice, None)?,
+        Some(NoForm::Extension),
+    ))?;
+    types.push((
+        extension_of(alloc, "f", DataType::Float16, None)?,
+        Some(NoForm::Float),
+    ))?;
+    let pair = extension_of(alloc, "p", DataType::Struct(fields_of(alloc, 2)?), None)?;
+    types.push((
+        DataType::Map(boxed(alloc, pair)?, false),
+        Some(NoForm::Type),
+    ))?;
+    Ok(types)
+}
+
+#[test]
+fn extensions_are_spelled_by_metadata(rt: HostRuntime) {
+    let alloc = rt.alloc();
+    let types = extensions(alloc).expect(&rt, "no types");
+    for (data_type, want) in types {
+        assert!(rt; reason(alloc, data_type) == Ok(want));
+    }
+}
+
+#[test]
+fn extensions_and_metadata(rt: HostRuntime) {
+    let alloc = rt.alloc();
+    for (key, is_extension, want) in [
+        ("ARROW:extension:metadata", false, None),
+        ("ARROW:extension:metadata", true, Some(NoForm::Extension)),
+        ("ARROW:extension:name", false, Some(NoForm::Extension)),
+        ("ARROW:extension:name", true, Some(NoForm::Extension)),
+        ("ARROW:extension", true, None),
+    ] {
+        let data_type = if is_extension {
+            extension_of(alloc, "odd", DataType::Int8, Some("text")).expect(&rt, "no type")
+        } else {
+            DataType::Int8
+        };
+        let mut schema = schema_of(alloc, data_type).expect(&rt, "no schema");
+        let key = String::from_str(alloc, key).expect(&rt, "no memory");
+        let inserted = schema.fields[0].metadata.insert(key, String::new(alloc));
+        assert!(rt; inserted.is_ok());
+        assert!(rt; reason_of(alloc, &schema) == Ok(want));
+    }
+}
+
 #[test]
 fn unions_are_of_the_last_version(rt: HostRuntime) {
     let alloc = rt.alloc();
+    let union = union_of(alloc, 1, None, UnionMode::Dense).expect(&rt, "no type");
+    let own = extension_of(alloc, "odd", union, None).expect(&rt, "no type");
+    let extended = schema_of(alloc, own).expect(&rt, "no schema");
+    assert!(rt; in_version(Version::V4, &extended.fields) == Err(Fault::Version));
     let union = union_of(alloc, 1, None, UnionMode::Dense).expect(&rt, "no type");
     let list = DataType::List(boxed(alloc, union).expect(&rt, "no field"));
     let schema = schema_of(alloc, list).expect(&rt, "no schema");
@@ -308,11 +386,33 @@ fn wanted(data_type: &DataType, depth: usize) -> Option<NoForm> {
     }
 }
 
+fn is_extension(data_type: &DataType) -> bool {
+    match data_type {
+        DataType::Extension(_, _, _) => true,
+        _ => false,
+    }
+}
+
+fn has_key(field: &Field, key: &str) -> bool {
+    field.metadata.contains_key(key)
+}
+
 fn wanted_of_one(field: &Field, depth: usize) -> Option<NoForm> {
     if depth == 0 {
         return Some(NoForm::Depth);
     }
-    wanted(&field.data_type, depth - 1)
+    if has_key(field, "ARROW:extension:name") {
+        return Some(NoForm::Extension);
+    }
+    match &field.data_type {
+        DataType::Extension(_, inner, _) => {
+            if is_extension(inner) || has_key(field, "ARROW:extension:metadata") {
+                return Some(NoForm::Extension);
+            }
+            wanted(inner, depth - 1)
+        }
+        data_type => wanted(data_type, depth - 1),
+    }
 }
 
 fn wanted_of(fields: &[Field], depth: usize) -> Option<NoForm> {
@@ -328,7 +428,10 @@ fn wanted_of(fields: &[Field], depth: usize) -> Option<NoForm> {
 fn draw_metadata(alloc: Global, draw: &mut Draw) -> Result<Metadata, NoForm> {
     let mut metadata = BTreeMap::new(alloc);
     for _ in 0..draw.below(3) {
-        let key = String::from_str(alloc, ["", "k", "key", "\u{e9}"][draw.below(4)])?;
+        let key = String::from_str(
+            alloc,
+            ["", "k", "ARROW:extension:metadata", "\u{e9}"][draw.below(4)],
+        )?;
         let value = String::from_str(alloc, ["", "v", "eight by"][draw.below(3)])?;
         metadata.insert(key, value)?;
     }

@@ -208,3 +208,49 @@ fn rows_without_columns(rt: HostRuntime) {
     let rows = 9223372036854775808;
     assert!(rt; reason(alloc, &empty, Batch { rows, columns }) == Some(NoForm::Size));
 }
+
+// Numbers of 32 bits under an extension, cut, and a null among them.
+fn extended(alloc: Global, text: Option<&str>) -> Result<PrimitiveArray<i32>, Error> {
+    let name = String::from_str(alloc, "odd")?;
+    let text = match text {
+        None => None,
+        Some(text) => Some(String::from_str(alloc, text)?),
+    };
+    let data_type = DataType::Extension(name, Box::new(alloc, DataType::Int32)?, text);
+    let values = Buffer::from_vec(alloc, Vec::from_slice(alloc, &[9, -7, 0, i32::MAX])?)?;
+    let validity = Bitmap::from_bools(alloc, &[true, true, false, true])?;
+    let array = PrimitiveArray::try_new(data_type, values, Some(validity))?;
+    Ok(array.sliced(1, 3))
+}
+
+fn extended_batch(alloc: Global, text: Option<&str>) -> Result<Batch, Error> {
+    let mut columns = Vec::new(alloc);
+    columns.push(AnyArray::Primitive(AnyPrimitive::Int32(extended(alloc, text)?)))?;
+    Ok(Batch { rows: 3, columns })
+}
+
+fn extended_schema(alloc: Global, text: Option<&str>) -> Result<Schema, Error> {
+    let mut fields = Vec::new(alloc);
+    let data_type = extended(alloc, text)?.data_type().clone(alloc)?;
+    fields.push(Field::new(alloc, "x", data_type, true)?)?;
+    Ok(Schema {
+        fields,
+        metadata: BTreeMap::new(alloc),
+    })
+}
+
+#[test]
+fn columns_of_extensions(rt: HostRuntime) {
+    let alloc = rt.alloc();
+    for text in [None, Some(""), Some("of a test")] {
+        let schema = extended_schema(alloc, text).expect(&rt, "a schema");
+        let batches = [extended_batch(alloc, text).expect(&rt, "a batch")];
+        let bytes = write_stream(alloc, &schema, &batches).expect(&rt, "a stream");
+        assert!(rt; are_read(alloc, &bytes, &batches, 0) == Ok(true));
+        let stream = read_stream(alloc, &bytes).expect(&rt, "a stream");
+        assert!(rt; stream.schema.fields == schema.fields);
+    }
+    let other = extended_batch(alloc, Some("of another")).expect(&rt, "a batch");
+    let schema = extended_schema(alloc, None).expect(&rt, "a schema");
+    assert!(rt; reason(alloc, &schema, other) == Some(NoForm::Columns));
+}

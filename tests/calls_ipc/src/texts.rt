@@ -45,15 +45,66 @@ fn put_there(text: &mut String, column: &AnyArray, i: usize) -> Result<(), Fault
         AnyArray::LargeBinary(array) => put_bytes(text, " x", array.value(i)),
         AnyArray::Utf8(array) => put_bytes(text, " s", array.value(i).as_bytes()),
         AnyArray::LargeUtf8(array) => put_bytes(text, " s", array.value(i).as_bytes()),
-        _ => {
+        AnyArray::List(array) => {
+            let (start, end) = array.offsets().start_end(i);
+            put_items(text, array.values(), start, end)
+        }
+        AnyArray::LargeList(array) => {
+            let (start, end) = array.offsets().start_end(i);
+            put_items(text, array.values(), start, end)
+        }
+        AnyArray::Map(array) => {
+            let (start, end) = array.offsets().start_end(i);
+            put_items(text, array.field(), start, end)
+        }
+        AnyArray::FixedSizeList(array) => {
+            let size = array.size();
+            put_items(text, array.values(), i * size, (i + 1) * size)
+        }
+        AnyArray::Struct(array) => put_record(text, array.values(), i),
+        AnyArray::Union(array) => {
+            let (field, place) = array.index(i);
+            write!(text, " @{field}:")?;
+            put_inner(text, &array.fields()[field], place)
+        }
+        AnyArray::Null(_) | AnyArray::Dictionary(_) => {
             text.push_str(" another")?;
             Ok(())
         }
     }
 }
 
+// A slot inside of another: without the blank before it.
+fn put_inner(text: &mut String, column: &AnyArray, i: usize) -> Result<(), Fault> {
+    let mut inner = String::new(*text.allocator());
+    put_slot(&mut inner, column, i)?;
+    text.push_str(&inner[1..])?;
+    Ok(())
+}
+
+fn put_items(text: &mut String, items: &AnyArray, start: usize, end: usize) -> Result<(), Fault> {
+    text.push_str(" [")?;
+    for i in start..end {
+        put_inner(text, items, i)?;
+        text.push_str(",")?;
+    }
+    text.push_str("]")?;
+    Ok(())
+}
+
+fn put_record(text: &mut String, children: &[AnyArray], i: usize) -> Result<(), Fault> {
+    text.push_str(" {")?;
+    for child in children {
+        put_inner(text, child, i)?;
+        text.push_str(",")?;
+    }
+    text.push_str("}")?;
+    Ok(())
+}
+
 fn put_slot(text: &mut String, column: &AnyArray, i: usize) -> Result<(), Fault> {
-    if column.is_null(i) {
+    let is_union = matches!(column, AnyArray::Union(_));
+    if !is_union && column.is_null(i) {
         text.push_str(" N")?;
         return Ok(());
     }

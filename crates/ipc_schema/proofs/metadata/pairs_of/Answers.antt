@@ -29,7 +29,7 @@ loop-i-preserved c =
     let front : Entries = c.loop-i.invariant.0 in
     let pair : Letters × Letters = (c.in_ok-pair.pair.key.now, c.in_ok-pair.pair.value.now) in (
       front ++ pair ∷ [],
-      sym (with_more [] front pair) ∙ ap (λ (es : Entries). with_pairs es (pair ∷ [])) c.loop-i.invariant.1 ∙ sym c.in_ok-insert.ensures.ok,
+      sym (with_more [] front pair) ∙ ap (λ (es : Entries). with_pairs es (pair ∷ [])) c.loop-i.invariant.1 ∙ sym c.in_ok-insert.ensures,
       row_goes_on read c.args.bytes.now front c.args.items.count c.args.items.first c.loop-i.i c.loop-i.rest c.in_ok-place.place pair c.in_ok-pair.after (tables_at read c.args.bytes.now c.args.items.count c.args.items.first c.args.left) c.loop-i-test.true (sym c.in_ok-place.ensures) c.in_ok-pair.ensures c.loop-i.invariant.2,
     )
 

@@ -1,7 +1,8 @@
 use Rattle.std.proofs.Common.{◌≡◌, ◌+◌, ◌*◌, map}
 use Rattle.nest_memory.specs.TypeOf.{field_of}
-use Rattle.ipc_words.specs.Words.{tables_at}
-use Rattle.ipc_words.specs.Rows.{with_front, rest_at}
+use Rattle.ipc_schema.specs.Dictionaries.{progress}
+use Rattle.ipc_schema.specs.SeenOf.{seen_of}
+use Rattle.ipc_schema.specs.FieldRows.{rows_at, with_front, rest_at}
 use Rattle.ipc_schema.specs.Schemas.{field_at}
 use Rattle.ipc_schema.proofs.reading.+fields.Given as goal
 
@@ -15,4 +16,5 @@ abbrev pub decreases-field_over : goal.decreases-field_over
 decreases-field_over l = 3 * l.depth + 2
 
 abbrev pub invariant-fields_at-loop-i : goal.invariant-fields_at-loop-i
-invariant-fields_at-loop-i l = with_front (map field_of l.fields.items) (rest_at (field_at l.depth l.bytes) l.bytes l.items.count l.items.first l.i l.rest) ≡ tables_at (field_at l.depth l.bytes) l.bytes l.items.count l.items.first l.left
+invariant-fields_at-loop-i l =
+    with_front (map field_of l.fields.items) (rest_at (field_at l.depth l.bytes) l.bytes l.items.count l.items.first l.i (progress l.rest (seen_of l.seen))) ≡ rows_at (field_at l.depth l.bytes) l.bytes l.items.count l.items.first (progress l.left (seen_of l.initial.seen))

@@ -1,22 +1,20 @@
-use Rattle.std.proofs.Common.{◌≡◌, ◌≤◌, ◌+◌, ◌-◌, ◌++◌, ◌∷◌, List, ℕ, length, map, drop, sym, ap, ◌∙◌, subst, true, refl, arith}
+use Rattle.std.proofs.Common.{◌≡◌, ◌≤◌, ◌+◌, ◌-◌, ◌++◌, ◌∷◌, List, ℕ, length, map, drop, sym, ap, ◌∙◌, subst, refl, arith}
 use Rattle.std.specs.List.{AllByRecursion}
-use Rattle.std.specs.Prelude.{string_bytes, IfOk, IfErr}
-use Rattle.std.specs.Str.{is_utf8}
+use Rattle.std.specs.Prelude.{IfOk, IfErr}
 use Rattle.std.proofs.lemmas.Result.{err_from_is_err_and, on_ok_weaker}
-use Rattle.nest_memory.specs.TypeOf.{type_of, field_of, entries_of}
-use Rattle.nest_memory.specs.TypeTree.{Letters, Entries, TypeTree, FieldTree, field_type}
+use Rattle.nest_memory.specs.TypeOf.{field_of}
+use Rattle.nest_memory.specs.TypeTree.{FieldTree}
 use Rattle.ipc_words.specs.Bytes.{together, parts_of, row_bytes}
 use Rattle.ipc_words.specs.RowLaws.{row_is_long}
 use Rattle.ipc_words.specs.Writes.{IsTooLong, too_long_more}
+use Rattle.ipc_schema.specs.Extensions.{stored}
 use Rattle.ipc_schema.specs.Types.{children_of}
 use Rattle.ipc_schema.specs.Forms.{field_form}
-use Rattle.ipc_schema.specs.SchemaBytes.{parts_of_field, field_bytes}
-use Rattle.ipc_schema.specs.MetadataLaws.{AreTexts, IsRising, one_of}
-use Rattle.ipc_schema.specs.TypeLaws.{TypeFits}
-use Rattle.ipc_schema.specs.FieldLaws.{FieldFits, form_is}
+use Rattle.ipc_schema.specs.SchemaBytes.{field_bytes}
+use Rattle.ipc_schema.specs.MetadataLaws.{one_of}
+use Rattle.ipc_schema.specs.FieldLaws.{FieldFits, form_is, stored_of, table_bytes}
 use Rattle.ipc_schema.proofs.Fields.{form_next, parts_more, bytes_left, fits_more}
 use Rattle.ipc_schema.proofs.Levels.{deep_is, forms_are, bytes_level, fits_level, inner_long}
-use Rattle.ipc_schema.proofs.Maps.{rising_is}
 use Rattle.ipc_schema.proofs.writing.+parts.Goals as goal
 
 pub field_parts_of-returns-in_err-part-clause-size : goal.field_parts_of-returns-in_err-part-clause-size
@@ -64,7 +62,7 @@ pub field_part-field_parts_of-requires : goal.field_part-field_parts_of-requires
 field_part-field_parts_of-requires t c =
     let f = field_of c.args.field.now in
     let deep = deep_is c.args.depth f c.requires in
-    let kids : map field_of c.children_of.result.now ≡ children_of (field_type f) = c.children_of.ensures ∙ ap children_of c.data_type.ensures in
+    let kids : map field_of c.children_of.result.now ≡ children_of (stored_of f) = c.children_of.ensures ∙ ap children_of (c.stored.ensures ∙ ap stored c.data_type.ensures) in
     (omega (arith, deep, c.decreases), rw kids (forms_are c.args.depth f c.requires).1)
 
 pub field_part-returns-in_err-parts-clause-size : goal.field_part-returns-in_err-parts-clause-size
@@ -72,53 +70,47 @@ field_part-returns-in_err-parts-clause-size t c =
     let p = err_from_is_err_and c.from_residual.result c.from_residual.ensures.1 in
     let f = field_of c.args.field.now in
     let deep = deep_is c.args.depth f c.requires in
-    let kids : map field_of c.children_of.result.now ≡ children_of (field_type f) = c.children_of.ensures ∙ ap children_of c.data_type.ensures in
+    let kids : map field_of c.children_of.result.now ≡ children_of (stored_of f) = c.children_of.ensures ∙ ap children_of (c.stored.ensures ∙ ap stored c.data_type.ensures) in
     let bytes : FieldTree → List ℕ = field_bytes (c.args.depth - 1) in
     let le = ap (λ (l : List FieldTree). length (together (map bytes l))) kids in
-    rw (p.1, p.2) (too_long_more _ _ _ (omega (arith, le, inner_long c.args.depth f deep, row_is_long 24 (map bytes (children_of (field_type f))))) c.in_err-parts.ensures.size)
+    rw (p.1, p.2) (too_long_more _ _ _ (omega (arith, le, inner_long c.args.depth f deep, row_is_long 24 (map bytes (children_of (stored_of f))))) c.in_err-parts.ensures.size)
 
 pub field_part-returns-in_err-put_row-clause-size : goal.field_part-returns-in_err-put_row-clause-size
 field_part-returns-in_err-put_row-clause-size t c =
     let p = err_from_is_err_and c.from_residual-in_err-put_row.result c.from_residual-in_err-put_row.ensures.1 in
     let f = field_of c.args.field.now in
     let deep = deep_is c.args.depth f c.requires in
-    let kids : map field_of c.children_of.result.now ≡ children_of (field_type f) = c.children_of.ensures ∙ ap children_of c.data_type.ensures in
-    let row : row_bytes 24 (parts_of c.deref.result.now) ≡ row_bytes 24 (map (field_bytes (c.args.depth - 1)) (children_of (field_type f))) = rw (c.deref.ensures.value, c.in_ok-parts.ensures.ok, kids) refl in
+    let kids : map field_of c.children_of.result.now ≡ children_of (stored_of f) = c.children_of.ensures ∙ ap children_of (c.stored.ensures ∙ ap stored c.data_type.ensures) in
+    let row : row_bytes 24 (parts_of c.deref.result.now) ≡ row_bytes 24 (map (field_bytes (c.args.depth - 1)) (children_of (stored_of f))) = rw (c.deref.ensures.value, c.in_ok-parts.ensures.ok, kids) refl in
     rw (p.1, p.2) (too_long_more _ _ _ (omega (arith, ap length row, inner_long c.args.depth f deep)) c.in_err-put_row.ensures.size)
 
-pub field_part-parts_together-requires : goal.field_part-parts_together-requires
-field_part-parts_together-requires t c =
+pub field_part-table_of-requires : goal.field_part-table_of-requires
+field_part-table_of-requires t c =
     let f = field_of c.args.field.now in
-    rw c.data_type-2.ensures (form_is f (forms_are c.args.depth f c.requires).0)
+    form_is f (forms_are c.args.depth f c.requires).0
 
 pub field_part-returns-clause-ok : goal.field_part-returns-clause-ok
 field_part-returns-clause-ok t c =
     let f = field_of c.args.field.now in
     let deep = deep_is c.args.depth f c.requires in
-    let kids : map field_of c.children_of.result.now ≡ children_of (field_type f) = c.children_of.ensures ∙ ap children_of c.data_type.ensures in
-    let row : c.deref-2.result.now ≡ row_bytes 24 (map (field_bytes (c.args.depth - 1)) (children_of (field_type f))) = rw (c.deref-2.ensures.value, c.in_ok-put_row.ensures.ok, c.new-children.ensures.items, c.deref.ensures.value, c.in_ok-parts.ensures.ok, kids) refl in
-    let same : parts_of_field c.is_nullable.result (type_of c.data_type-2.result.now) c.deref-2.result.now (string_bytes c.field_name.result.now) (entries_of c.own_metadata.result.now.entries) ≡ field_bytes c.args.depth f =
-    rw (row, c.field_name.ensures, c.own_metadata.ensures, c.is_nullable.ensures, c.data_type-2.ensures) (sym (bytes_level c.args.depth f deep)) in
-    subst (λ (bytes : List ℕ). IfOk c.parts_together.result (λ part. part.items ≡ bytes)) same c.parts_together.ensures.ok
+    let kids : map field_of c.children_of.result.now ≡ children_of (stored_of f) = c.children_of.ensures ∙ ap children_of (c.stored.ensures ∙ ap stored c.data_type.ensures) in
+    let row : c.deref-2.result.now ≡ row_bytes 24 (map (field_bytes (c.args.depth - 1)) (children_of (stored_of f))) = rw (c.deref-2.ensures.value, c.in_ok-put_row.ensures.ok, c.new-children.ensures.items, c.deref.ensures.value, c.in_ok-parts.ensures.ok, kids) refl in
+    let same : table_bytes f c.deref-2.result.now ≡ field_bytes c.args.depth f = rw row (sym (bytes_level c.args.depth f deep)) in
+    subst (λ (bytes : List ℕ). IfOk c.table_of.result (λ part. part.items ≡ bytes)) same c.table_of.ensures.ok
 
 pub field_part-returns-clause-size : goal.field_part-returns-clause-size
 field_part-returns-clause-size t c =
     let f = field_of c.args.field.now in
     let deep = deep_is c.args.depth f c.requires in
-    let kids : map field_of c.children_of.result.now ≡ children_of (field_type f) = c.children_of.ensures ∙ ap children_of c.data_type.ensures in
-    let row : c.deref-2.result.now ≡ row_bytes 24 (map (field_bytes (c.args.depth - 1)) (children_of (field_type f))) = rw (c.deref-2.ensures.value, c.in_ok-put_row.ensures.ok, c.new-children.ensures.items, c.deref.ensures.value, c.in_ok-parts.ensures.ok, kids) refl in
-    let same : parts_of_field c.is_nullable.result (type_of c.data_type-2.result.now) c.deref-2.result.now (string_bytes c.field_name.result.now) (entries_of c.own_metadata.result.now.entries) ≡ field_bytes c.args.depth f =
-    rw (row, c.field_name.ensures, c.own_metadata.ensures, c.is_nullable.ensures, c.data_type-2.ensures) (sym (bytes_level c.args.depth f deep)) in
-    subst (λ (bytes : List ℕ). IfErr c.parts_together.result (λ why. IsTooLong why (length bytes))) same c.parts_together.ensures.size
+    let kids : map field_of c.children_of.result.now ≡ children_of (stored_of f) = c.children_of.ensures ∙ ap children_of (c.stored.ensures ∙ ap stored c.data_type.ensures) in
+    let row : c.deref-2.result.now ≡ row_bytes 24 (map (field_bytes (c.args.depth - 1)) (children_of (stored_of f))) = rw (c.deref-2.ensures.value, c.in_ok-put_row.ensures.ok, c.new-children.ensures.items, c.deref.ensures.value, c.in_ok-parts.ensures.ok, kids) refl in
+    let same : table_bytes f c.deref-2.result.now ≡ field_bytes c.args.depth f = rw row (sym (bytes_level c.args.depth f deep)) in
+    subst (λ (bytes : List ℕ). IfErr c.table_of.result (λ why. IsTooLong why (length bytes))) same c.table_of.ensures.size
 
 pub field_part-returns-clause-fits : goal.field_part-returns-clause-fits
 field_part-returns-clause-fits t c =
     let f = field_of c.args.field.now in
     let deep = deep_is c.args.depth f c.requires in
-    let kids : map field_of c.children_of.result.now ≡ children_of (field_type f) = c.children_of.ensures ∙ ap children_of c.data_type.ensures in
-    let inner : AllByRecursion (FieldFits (c.args.depth - 1)) (children_of (field_type f)) = subst (λ (fs : List FieldTree). AllByRecursion (FieldFits (c.args.depth - 1)) fs) kids c.in_ok-parts.ensures.fits in
-    on_ok_weaker c.parts_together.result
-    (λ h.
-    fits_level c.args.depth f deep (subst (λ (text : Letters). is_utf8 text ≡ true) c.field_name.ensures h.0) (subst (λ (type : TypeTree). TypeFits type) c.data_type-2.ensures h.1) (subst (λ (es : Entries). AreTexts es) c.own_metadata.ensures h.2)
-    (subst (λ (es : Entries). IsRising es) c.own_metadata.ensures (rising_is c.own_metadata.result.now.entries c.parts_together.ensures.rising)) inner)
-    c.parts_together.ensures.fits
+    let kids : map field_of c.children_of.result.now ≡ children_of (stored_of f) = c.children_of.ensures ∙ ap children_of (c.stored.ensures ∙ ap stored c.data_type.ensures) in
+    let inner : AllByRecursion (FieldFits (c.args.depth - 1)) (children_of (stored_of f)) = subst (λ (fs : List FieldTree). AllByRecursion (FieldFits (c.args.depth - 1)) fs) kids c.in_ok-parts.ensures.fits in
+    on_ok_weaker c.table_of.result (λ h. fits_level c.args.depth f deep h.0 h.1 h.2 h.3 inner) c.table_of.ensures.fits
