@@ -18,14 +18,14 @@ use Rattle.ipc_schema.specs.SchemaBytes.{schema_message}
 use Rattle.ipc_batch.specs.Batches.{BatchTree}
 use Rattle.ipc_batch.specs.BatchBytes.{batch_message}
 use Rattle.ipc_layout.specs.Placed.{regions_from}
-use Rattle.ipc_layout.specs.Written.{column_node, buffers_of, columns_body, no_form, shown}
+use Rattle.ipc_layout.specs.Written.{column_node, written, buffers_of, columns_body, no_form, shown}
 use Rattle.ipc.specs.Streams.{Arrays, StreamTree, record_batch_in, types_of}
 
 -- ---- bytes
 
 -- what the metadata of a batch says of its columns
 abbrev pub batch_tree : Arrays → BatchTree
-batch_tree b = record { rows = b.rows; nodes = map column_node b.columns; regions = regions_from 0 (buffers_of b.columns) }
+batch_tree b = record { rows = b.rows; nodes = map column_node (written b.columns); regions = regions_from 0 (buffers_of (written b.columns)) }
 
 -- the message of a batch, without its body
 abbrev pub batch_head : Arrays → List ℕ

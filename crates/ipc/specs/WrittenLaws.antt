@@ -17,7 +17,7 @@ use Rattle.ipc_schema.specs.SchemaBytes.{schema_message}
 use Rattle.ipc_batch.specs.BatchLaws.{IsReadBack}
 use Rattle.ipc_layout.specs.Columns.{columns_in}
 use Rattle.ipc_layout.specs.Placed.{regions_from}
-use Rattle.ipc_layout.specs.Written.{column_node, buffers_of, columns_body, no_form, shown, AreReadBack}
+use Rattle.ipc_layout.specs.Written.{column_node, written, buffers_of, columns_body, no_form, shown, AreReadBack}
 use Rattle.ipc.specs.Streams.{Arrays, record_batch_in, next_in, batches_in, types_of, stream_in}
 use Rattle.ipc.specs.StreamLaws.{one_by_one}
 use Rattle.ipc.specs.Written.{batch_tree, batch_head, batch_bytes, stream_bytes, is_column, are_columns, arrays_refusal, shown_arrays, shown_stream, IsReadAgain}
@@ -63,7 +63,7 @@ batch_again b message body =
         metadata = message.long;
         body = ap length message.same_body;
         columns = λ types are.
-            let read : columns_in (map layout_type columns) b.rows (columns_body columns) (record { nodes = map column_node columns; regions = regions_from 0 (buffers_of columns) }) ≡ Ok (map shown columns) =
+            let read : columns_in (map layout_type columns) b.rows (columns_body columns) (record { nodes = map column_node (written columns); regions = regions_from 0 (buffers_of (written columns)) }) ≡ Ok (map shown columns) =
             body.read b.rows (lengths_are types b.rows columns are) in
             rw (message.same_batch, message.same_body, types_are types b.rows columns are, read) refl;
       };

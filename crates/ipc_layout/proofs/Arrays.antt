@@ -18,7 +18,7 @@ use Rattle.ipc_layout.specs.Placed.{padded, body_of}
 use Rattle.ipc_layout.specs.PlacedLaws.{padded_long, body_more, body_none}
 use Rattle.ipc_layout.specs.Stored.{Form, form_of, values_bytes}
 use Rattle.ipc_layout.specs.StoredLaws.{IsSpelled, form_sized, values_long}
-use Rattle.ipc_layout.specs.Written.{valid_bytes, bytes_by, column_buffers}
+use Rattle.ipc_layout.specs.Written.{valid_bytes, bytes_by, flat_buffers}
 use Rattle.ipc_layout.specs.WrittenLaws.{SpelledBy, OffsetsSpelled, IsWritable, eqb-zero}
 
 -- ---- what holds of a call's answer
@@ -48,6 +48,9 @@ two_body a b = body_more a (b ∷ []) ∙ ap (λ (x : List ℕ). padded a ++ x) 
 pub two_written : (old out new a b : List ℕ) (buffers : List (List ℕ)) → buffers ≡ a ∷ b ∷ [] → out ≡ old ++ padded a → new ≡ out ++ padded b → new ≡ old ++ body_of buffers
 two_written old out new a b buffers e first second =
     second ∙ ap (λ (x : List ℕ). x ++ padded b) first ∙ append_assoc old (padded a) (padded b) ∙ ap (λ (x : List ℕ). old ++ x) (sym (ap body_of e ∙ two_body a b))
+
+pub one_written : (old new a : List ℕ) (buffers : List (List ℕ)) → buffers ≡ a ∷ [] → new ≡ old ++ padded a → new ≡ old ++ body_of buffers
+one_written old new a buffers e is = is ∙ ap (λ (x : List ℕ). old ++ x) (sym (ap body_of e ∙ body_more a [] ∙ ap (λ (x : List ℕ). padded a ++ x) body_none ∙ append-nil (padded a)))
 
 pub three_written : (old out next new a b c : List ℕ) → out ≡ old ++ padded a → next ≡ out ++ padded b → new ≡ next ++ padded c → new ≡ old ++ body_of (a ∷ b ∷ c ∷ [])
 three_written old out next new a b c first second third =
@@ -86,9 +89,9 @@ pub record IsOf (a : Layout) (k : PrimitiveType) (form : Form) : Type 0 where
   pub has : form_of k ≡ Some form
   pub fits : TopFits a
 
-pub native_buffers : (a : Layout) (k : PrimitiveType) (form : Form) → IsOf a k form → column_buffers a ≡ valid_bytes (validity_of a) ∷ values_bytes form (natives_of a) ∷ []
+pub native_buffers : (a : Layout) (k : PrimitiveType) (form : Form) → IsOf a k form → flat_buffers a ≡ valid_bytes (validity_of a) ∷ values_bytes form (natives_of a) ∷ []
 native_buffers a k form h =
-    ap column_buffers h.parts
+    ap flat_buffers h.parts
     ∙ ap (λ (o : Option Form). valid_bytes (validity_of a) ∷ bytes_by o (natives_of a) ∷ []) h.has
 
 pub native_writable : (a : Layout) (k : PrimitiveType) (form : Form) → IsOf a k form → AllByRecursion (IsSpelled form) (natives_of a) → IsWritable a
@@ -100,25 +103,25 @@ native_long : (a : Layout) (k : PrimitiveType) (form : Form) → IsOf a k form �
 native_long a k form h = values_long form (natives_of a) (form_sized k form h.has).long ∙ ap (λ (b : Layout). len b * form.size) (sym h.parts)
 
 -- how many bytes its buffers have
-pub native_sizes : (a : Layout) (k : PrimitiveType) (form : Form) (n m : ℕ) → IsOf a k form → n ≡ length (valid_bytes (validity_of a)) → m ≡ len a * form.size → map length (column_buffers a) ≡ n ∷ m ∷ []
+pub native_sizes : (a : Layout) (k : PrimitiveType) (form : Form) (n m : ℕ) → IsOf a k form → n ≡ length (valid_bytes (validity_of a)) → m ≡ len a * form.size → map length (flat_buffers a) ≡ n ∷ m ∷ []
 native_sizes a k form n m h e f = ap (map length) (native_buffers a k form h) ∙ (λ w. sym e w ∷ (native_long a k form h ∙ sym f) w ∷ [])
 
-pub native_past : (a : Layout) (k : PrimitiveType) (form : Form) (p : ℕ) → IsOf a k form → 2 ^ 63 ≤ len a * form.size → 2 ^ 63 ≤ p + length (body_of (column_buffers a))
+pub native_past : (a : Layout) (k : PrimitiveType) (form : Form) (p : ℕ) → IsOf a k form → 2 ^ 63 ≤ len a * form.size → 2 ^ 63 ≤ p + length (body_of (flat_buffers a))
 native_past a k form p h long =
     omega (arith, long, native_long a k form h, ap (λ (buffers : List (List ℕ)). length (body_of buffers)) (native_buffers a k form h), second_within (valid_bytes (validity_of a)) (values_bytes form (natives_of a)) [])
 
 -- ---- truths
 
-pub boolean_sizes : (a : Layout) (n m : ℕ) → a ≡ boolean (layout_type a) (bits_of a) (validity_of a) → n ≡ length (valid_bytes (validity_of a)) → m ≡ div_ceil (length (bits_of a)) 8 → map length (column_buffers a) ≡ n ∷ m ∷ []
-boolean_sizes a n m parts e f = ap (λ (b : Layout). map length (column_buffers b)) parts ∙ (λ w. sym e w ∷ (packed_long (bits_of a) ∙ sym f) w ∷ [])
+pub boolean_sizes : (a : Layout) (n m : ℕ) → a ≡ boolean (layout_type a) (bits_of a) (validity_of a) → n ≡ length (valid_bytes (validity_of a)) → m ≡ div_ceil (length (bits_of a)) 8 → map length (flat_buffers a) ≡ n ∷ m ∷ []
+boolean_sizes a n m parts e f = ap (λ (b : Layout). map length (flat_buffers b)) parts ∙ (λ w. sym e w ∷ (packed_long (bits_of a) ∙ sym f) w ∷ [])
 
 pub boolean_writable : (a : Layout) → a ≡ boolean (layout_type a) (bits_of a) (validity_of a) → TopFits a → IsWritable a
 boolean_writable a parts fits = subst IsWritable (sym parts) (record { fits = subst TopFits parts fits; numbers = tt })
 
 -- ---- byte strings of one size
 
-pub sized_sizes : (a : Layout) (n m : ℕ) → a ≡ fixed_size_binary (layout_type a) (bytes_of a) (validity_of a) → n ≡ length (valid_bytes (validity_of a)) → m ≡ length (bytes_of a) → map length (column_buffers a) ≡ n ∷ m ∷ []
-sized_sizes a n m parts e f = ap (λ (b : Layout). map length (column_buffers b)) parts ∙ (λ w. sym e w ∷ sym f w ∷ [])
+pub sized_sizes : (a : Layout) (n m : ℕ) → a ≡ fixed_size_binary (layout_type a) (bytes_of a) (validity_of a) → n ≡ length (valid_bytes (validity_of a)) → m ≡ length (bytes_of a) → map length (flat_buffers a) ≡ n ∷ m ∷ []
+sized_sizes a n m parts e f = ap (λ (b : Layout). map length (flat_buffers b)) parts ∙ (λ w. sym e w ∷ sym f w ∷ [])
 
 pub sized_writable : (a : Layout) → a ≡ fixed_size_binary (layout_type a) (bytes_of a) (validity_of a) → TopFits a → IsWritable a
 sized_writable a parts fits = subst IsWritable (sym parts) (record { fits = subst TopFits parts fits; numbers = tt })

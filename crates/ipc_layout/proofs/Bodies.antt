@@ -1,5 +1,5 @@
--- Columns one behind the other, as loops go through them.
-use Rattle.std.proofs.Common.{◌≡◌, ℕ, zero, suc, ◌+◌, ◌*◌, ◌^◌, ◌<◌, ◌≤◌, ◌⊎◌, Bool, true, false, ltb, List, [], ◌∷◌, ◌++◌, length, get_or, take, drop, map, Some, None, Ok, refl, sym, ap, subst, ◌∙◌, append_assoc, inl, inr, arith}
+-- Arrays one behind the other, as loops go through them.
+use Rattle.std.proofs.Common.{◌≡◌, ℕ, zero, suc, ◌+◌, ◌*◌, ◌^◌, ◌<◌, ◌≤◌, ◌⊎◌, Bool, true, false, ltb, List, [], ◌∷◌, ◌++◌, length, get_or, take, drop, map, Some, None, refl, sym, ap, subst, ◌∙◌, append_assoc, inl, inr, arith}
 use Rattle.std.specs.Prelude.{◌&&◌, ℤ, pos}
 use Rattle.std.specs.Int.{div_ceil}
 use Rattle.std.specs.List.{AllByRecursion, list_all}
@@ -7,17 +7,18 @@ use Rattle.std.proofs.lemmas.Bool.{le-ltb, lt-ltb}
 use Rattle.std.proofs.lemmas.List.{append-nil, map-append, map_more, drop_more, take_more, take-append-drop, take_all, length-append, length-map}
 use Rattle.std.proofs.lemmas.List.Concat.{flat_map-cons, flat_map-append}
 use Rattle.ipc_model.specs.declared.fault.NoForm.{NoForm}
-use Rattle.ipc_model.specs.declared.fault.NoForm.TheVariants.{Memory, Size, «Type» as NotWritten}
+use Rattle.ipc_model.specs.declared.fault.NoForm.TheVariants.{Size, «Type» as NotWritten}
 use Rattle.ipc_model.specs.declared.batch.Node.{Node}
 use Rattle.ipc_model.specs.declared.batch.Region.{Region}
-use Rattle.ipc_batch.specs.Batches.{all_within}
 use Rattle.nest_model.specs.Layout.{Layout}
 use Rattle.nest_model.specs.Meaning.{len}
 use Rattle.ipc_layout.specs.declared.placing.Placed.{Placed}
 use Rattle.ipc_layout.specs.Stored.{Form, values_bytes}
 use Rattle.ipc_layout.specs.Placed.{padded, body_of, regions_from}
 use Rattle.ipc_layout.specs.PlacedLaws.{padded_long, body_more, body_append, body_none, regions_append, all_in_body}
-use Rattle.ipc_layout.specs.Written.{column_node, column_buffers, buffers_of, columns_body, has_form, is_countable, have_room, no_form, IsPast, IsTooLong, IsUnwritten, IsLonger, IsMore, IsPlaced}
+use Rattle.ipc_layout.specs.Written.{column_node, own_buffers, buffers_of, written, columns_body, has_form, is_countable, have_room, no_form, IsPast, AreTooLong, IsUnwritten, IsLonger, IsMore, IsPlaced}
+use Rattle.ipc_layout.specs.ShownLaws.{pass_append}
+use Rattle.ipc_layout.specs.AgainLaws.{buffers_more, buffers_none, buffers_append}
 
 and_false : (b : Bool) → (b && false) ≡ false
 and_false true = refl
@@ -54,30 +55,6 @@ pass_fails p (y ∷ xs) x ys e = still (p y) (list_all p (xs ++ x ∷ ys)) (pass
     still : (a b : Bool) → b ≡ false → (a && b) ≡ false
     still true b h = h
     still false b h = refl
-
-buffers_push : (columns : List Layout) (a : Layout) → buffers_of (columns ++ a ∷ []) ≡ buffers_of columns ++ column_buffers a
-unfolding buffers_of
-buffers_push columns a = flat_map-append column_buffers columns (a ∷ []) ∙ ap (λ (x : List (List ℕ)). buffers_of columns ++ x) (flat_map-cons column_buffers a [] ∙ append-nil (column_buffers a))
-
-body_push : (columns : List Layout) (a : Layout) → columns_body (columns ++ a ∷ []) ≡ columns_body columns ++ body_of (column_buffers a)
-body_push columns a = ap body_of (buffers_push columns a) ∙ body_append (buffers_of columns) (column_buffers a)
-
-body_part : (columns rest : List Layout) → length (columns_body columns) ≤ length (columns_body (columns ++ rest))
-unfolding buffers_of
-body_part columns rest =
-    let e : columns_body (columns ++ rest) ≡ columns_body columns ++ columns_body rest = ap body_of (flat_map-append column_buffers columns rest) ∙ body_append (buffers_of columns) (buffers_of rest) in
-    omega (arith, ap length e, length-append (columns_body columns) (columns_body rest))
-
-pub no_body : columns_body [] ≡ []
-unfolding buffers_of
-no_body = body_none
-
-pub written_more : (old out new : List ℕ) (columns more : List Layout) (a : Layout) → more ≡ columns ++ a ∷ [] → out ≡ old ++ columns_body columns → new ≡ out ++ body_of (column_buffers a) → new ≡ old ++ columns_body more
-written_more old out new columns more a e so_far is =
-    is ∙ ap (λ (x : List ℕ). x ++ body_of (column_buffers a)) so_far ∙ append_assoc old (columns_body columns) (body_of (column_buffers a)) ∙ ap (λ (x : List ℕ). old ++ x) (sym (ap columns_body e ∙ body_push columns a))
-
-within_placed : (columns : List Layout) (placed : Placed) → placed.regions.items ≡ regions_from 0 (buffers_of columns) → placed.length ≡ length (columns_body columns) → all_within placed.length placed.regions.items ≡ Ok tt
-within_placed columns placed regions long = rw (regions, long) (all_in_body (buffers_of columns))
 
 -- no buffer more
 pub longer_none : (placed : Placed) → placed.length < 2 ^ 63 → IsLonger placed placed []
@@ -138,44 +115,118 @@ past_step why first old sizes i size lt is past before buffers e =
     past_more why (old.length + 8 * div_ceil size 8) (first.length + length (body_of buffers))
     (omega (arith, (before buffers e).length, ap length body, length-append (body_of (take i buffers)) (padded bytes ++ body_of (drop (i + 1) buffers)), length-append (padded bytes) (body_of (drop (i + 1) buffers)), padded_long bytes, same)) past
 
-pub placed_none : (placed : Placed) → placed.nodes.items ≡ [] → placed.regions.items ≡ [] → placed.length ≡ 0 → IsPlaced [] placed
-placed_none placed nodes regions long =
-    let none : regions_from 0 (buffers_of []) ≡ [] = unfold buffers_of regions_from in refl in
-    let empty : length (columns_body []) ≡ 0 = ap length no_body in
-    record { nodes = nodes; regions = regions ∙ sym none; length = long ∙ sym empty; small = omega arith; slots = refl; within = within_placed [] placed (regions ∙ sym none) (long ∙ sym empty) }
+-- buffers more, and then others
+pub longer_append : (first old new : Placed) (front rest : List (List ℕ)) → IsLonger first old front → IsLonger old new rest → IsLonger first new (front ++ rest)
+longer_append first old new front rest before after =
+    record {
+      regions =
+          after.regions
+          ∙ (λ w. before.regions w ++ regions_from (before.length w) rest)
+          ∙ append_assoc first.regions.items (regions_from first.length front) (regions_from (first.length + length (body_of front)) rest)
+          ∙ ap (λ (rs : List Region). first.regions.items ++ rs) (sym (regions_append first.length front rest));
+      length = omega (arith, after.length, before.length, ap length (body_append front rest), length-append (body_of front) (body_of rest));
+      small = after.small;
+    }
 
-pub placed_more : (columns more : List Layout) (a : Layout) (old new : Placed) → more ≡ columns ++ a ∷ [] → IsPlaced columns old → IsMore old new a → IsPlaced more new
-placed_more columns more a old new e before added =
-    let nodes : new.nodes.items ≡ map column_node more = added.nodes ∙ ap (λ (ns : List Node). ns ++ column_node a ∷ []) before.nodes ∙ sym (ap (map column_node) e ∙ map-append column_node columns (a ∷ [])) in
-    let body : columns_body more ≡ columns_body columns ++ body_of (column_buffers a) = ap columns_body e ∙ body_push columns a in
-    let long : new.length ≡ length (columns_body more) = omega (arith, added.buffers.length, before.length, ap length body, length-append (columns_body columns) (body_of (column_buffers a))) in
-    let from : old.length ≡ 0 + length (columns_body columns) = omega (arith, before.length) in
-    let regions : new.regions.items ≡ regions_from 0 (buffers_of more) =
-    added.buffers.regions ∙ (λ w. before.regions w ++ regions_from (from w) (column_buffers a)) ∙ sym (ap (regions_from 0) (ap buffers_of e ∙ buffers_push columns a) ∙ regions_append 0 (buffers_of columns) (column_buffers a)) in
-    let slots : list_all is_countable more ≡ true = ap (list_all is_countable) e ∙ pass_push is_countable columns a before.slots added.slots in
-    record { nodes = nodes; regions = regions; length = long; small = added.buffers.small; slots = slots; within = within_placed more new regions long }
+-- arrays more, and then others
+pub more_none : (placed : Placed) → placed.length < 2 ^ 63 → IsMore placed placed []
+more_none placed small =
+    record {
+      nodes = sym (append-nil placed.nodes.items);
+      buffers = subst (IsLonger placed placed) (sym buffers_none) (longer_none placed small);
+      slots = refl;
+    }
 
-no_room : (all columns rest : List Layout) (a : Layout) → all ≡ columns ++ a ∷ rest → (2 ^ 63 ≤ len a) ⊎ (2 ^ 63 ≤ length (columns_body all)) → have_room all ≡ false
-unfolding have_room
-no_room all columns rest a e (inl slots) =
-    let none : is_countable a ≡ false = le-ltb _ _ slots in
-    let fails : list_all is_countable all ≡ false = ap (list_all is_countable) e ∙ pass_fails is_countable columns a rest none in
-    rw fails refl
-no_room all columns rest a e (inr long) =
-    let past : ltb (length (columns_body all)) (2 ^ 63) ≡ false = le-ltb _ _ long in
-    rw past (and_false (list_all is_countable all))
-
-pub size_refused : (all columns rest : List Layout) (a : Layout) (old : Placed) → all ≡ columns ++ a ∷ rest → list_all has_form all ≡ true → IsPlaced columns old → (2 ^ 63 ≤ len a) ⊎ (2 ^ 63 ≤ old.length + length (body_of (column_buffers a))) → no_form all ≡ Some Size
-unfolding no_form
-size_refused all columns rest a old e forms before why =
-    let room : have_room all ≡ false = no_room all columns rest a e (by why) in
-    rw (forms, room) refl
+pub more_append : (first old new : Placed) (front rest : List Layout) → IsMore first old front → IsMore old new rest → IsMore first new (front ++ rest)
+more_append first old new front rest before after =
+    record {
+      nodes =
+          after.nodes
+          ∙ ap (λ (ns : List Node). ns ++ map column_node rest) before.nodes
+          ∙ append_assoc first.nodes.items (map column_node front) (map column_node rest)
+          ∙ ap (λ (ns : List Node). first.nodes.items ++ ns) (sym (map-append column_node front rest));
+      buffers = subst (IsLonger first new) (sym (buffers_append front rest)) (longer_append first old new (buffers_of front) (buffers_of rest) before.buffers after.buffers);
+      slots = pass_append is_countable front rest ∙ both_true (list_all is_countable front) (list_all is_countable rest) before.slots after.slots;
+    }
   where
-    by : (2 ^ 63 ≤ len a) ⊎ (2 ^ 63 ≤ old.length + length (body_of (column_buffers a))) → (2 ^ 63 ≤ len a) ⊎ (2 ^ 63 ≤ length (columns_body all))
-    by (inl slots) = inl slots
-    by (inr long) =
-        let front : all ≡ (columns ++ a ∷ []) ++ rest = e ∙ sym (append_assoc columns (a ∷ []) rest) in
-        inr (omega (arith, long, before.length, ap length (body_push columns a), length-append (columns_body columns) (body_of (column_buffers a)), body_part (columns ++ a ∷ []) rest, ap (λ (x : List Layout). length (columns_body x)) front))
+    both_true : (a b : Bool) → a ≡ true → b ≡ true → (a && b) ≡ true
+    both_true true b e f = f
+    both_true false b e f = e
+
+-- an array more: its node, then its own buffers
+pub more_one : (first old new : Placed) (s : Layout) → old.nodes.items ≡ first.nodes.items ++ column_node s ∷ [] → old.regions ≡ first.regions → old.length ≡ first.length → new.nodes ≡ old.nodes → IsLonger old new (own_buffers s) → len s < 2 ^ 63 → IsMore first new (s ∷ [])
+more_one first old new s node regions long nodes longer slots =
+    let few : is_countable s ≡ true = lt-ltb _ _ slots in
+    let one : own_buffers s ≡ buffers_of (s ∷ []) = sym (buffers_more s [] ∙ ap (λ (x : List (List ℕ)). own_buffers s ++ x) buffers_none ∙ append-nil (own_buffers s)) in
+    record {
+      nodes = (λ w. (nodes w).items) ∙ node;
+      buffers =
+          subst (IsLonger first new) one
+          (record {
+            regions = longer.regions ∙ (λ w. (regions w).items ++ regions_from (long w) (own_buffers s));
+            length = omega (arith, longer.length, long);
+            small = longer.small;
+          });
+      slots = rw few refl;
+    }
+
+-- arrays of which some are too long
+pub long_front : (why : NoForm) (before : ℕ) (front rest : List Layout) → AreTooLong why before front → AreTooLong why before (front ++ rest)
+long_front why before front rest (inl memory) = inl memory
+long_front why before front rest (inr (size, inl slots)) = inr (size, inl (pass_append is_countable front rest ∙ ap (λ (b : Bool). b && list_all is_countable rest) slots))
+long_front why before front rest (inr (size, inr long)) =
+    inr (size, inr (omega (arith, long, ap (λ (x : List (List ℕ)). length (body_of x)) (buffers_append front rest), ap length (body_append (buffers_of front) (buffers_of rest)), length-append (body_of (buffers_of front)) (body_of (buffers_of rest)))))
+
+pub long_behind : (why : NoForm) (first old : Placed) (front rest : List Layout) → IsMore first old front → AreTooLong why old.length rest → AreTooLong why first.length (front ++ rest)
+long_behind why first old front rest more (inl memory) = inl memory
+long_behind why first old front rest more (inr (size, inl slots)) = inr (size, inl (pass_append is_countable front rest ∙ ap (λ (b : Bool). list_all is_countable front && b) slots ∙ and_false (list_all is_countable front)))
+long_behind why first old front rest more (inr (size, inr long)) =
+    inr (size, inr (omega (arith, long, more.buffers.length, ap (λ (x : List (List ℕ)). length (body_of x)) (buffers_append front rest), ap length (body_append (buffers_of front) (buffers_of rest)), length-append (body_of (buffers_of front)) (body_of (buffers_of rest)))))
+
+-- too many slots of an array
+pub long_slots : (why : NoForm) (before : ℕ) (s : Layout) (rest : List Layout) → IsPast why (len s) → AreTooLong why before (s ∷ rest)
+long_slots why before s rest (inl memory) = inl memory
+long_slots why before s rest (inr (size, long)) =
+    let few : is_countable s ≡ false = le-ltb _ _ long in
+    inr (size, inl (rw few refl))
+
+-- too many bytes of its own buffers
+pub long_buffers : (why : NoForm) (before : ℕ) (s : Layout) (rest : List Layout) → IsPast why (before + length (body_of (own_buffers s))) → AreTooLong why before (s ∷ rest)
+long_buffers why before s rest (inl memory) = inl memory
+long_buffers why before s rest (inr (size, long)) =
+    inr (size, inr (omega (arith, long, ap (λ (x : List (List ℕ)). length (body_of x)) (buffers_more s rest), ap length (body_append (own_buffers s) (buffers_of rest)), length-append (body_of (own_buffers s)) (body_of (buffers_of rest)))))
+
+-- columns, where nothing was placed before
+pub placed_all : (columns : List Layout) (first new : Placed) → first.nodes.items ≡ [] → first.regions.items ≡ [] → first.length ≡ 0 → IsMore first new (written columns) → IsPlaced columns new
+placed_all columns first new nodes regions long more =
+    let all : List (List ℕ) = buffers_of (written columns) in
+    let are : new.regions.items ≡ regions_from 0 all = more.buffers.regions ∙ (λ w. regions w ++ regions_from (long w) all) in
+    let end : new.length ≡ length (columns_body columns) = omega (arith, more.buffers.length, long) in
+    record {
+      nodes = more.nodes ∙ ap (λ (ns : List Node). ns ++ map column_node (written columns)) nodes;
+      regions = are;
+      length = end;
+      small = more.buffers.small;
+      slots = more.slots;
+      within = rw (are, end) (all_in_body all);
+    }
+
+no_room : (columns : List Layout) → (list_all is_countable (written columns) ≡ false) ⊎ (2 ^ 63 ≤ 0 + length (columns_body columns)) → have_room columns ≡ false
+unfolding have_room
+no_room columns (inl slots) = rw slots refl
+no_room columns (inr long) =
+    let past : ltb (length (columns_body columns)) (2 ^ 63) ≡ false = le-ltb _ _ (omega (arith, long)) in
+    rw past (and_false (list_all is_countable (written columns)))
+
+size_refused : (columns : List Layout) → list_all has_form columns ≡ true → (list_all is_countable (written columns) ≡ false) ⊎ (2 ^ 63 ≤ 0 + length (columns_body columns)) → no_form columns ≡ Some Size
+unfolding no_form
+size_refused columns forms why =
+    let room : have_room columns ≡ false = no_room columns why in
+    rw (forms, room) refl
+
+pub past_unwritten : (why : NoForm) (columns : List Layout) → list_all has_form columns ≡ true → AreTooLong why 0 (written columns) → IsUnwritten columns why
+past_unwritten why columns forms (inl memory) = inl memory
+past_unwritten why columns forms (inr (size, long)) = inr (size_refused columns forms long ∙ ap (λ (f : NoForm). Some f) (sym size))
 
 pub type_refused : (columns : List Layout) → list_all has_form columns ≡ false → no_form columns ≡ Some NotWritten
 unfolding no_form
@@ -189,14 +240,6 @@ pub value_more : (form : Form) (old out new : List ℕ) (values more : List (Lis
 value_more form old out new values more v e so_far is =
     is ∙ ap (λ (x : List ℕ). x ++ form.bytes v) so_far ∙ append_assoc old (values_bytes form values) (form.bytes v) ∙ ap (λ (x : List ℕ). old ++ x) (sym (ap (values_bytes form) e ∙ values_push form values v))
 
-pub past_unwritten : (why : NoForm) (all columns rest : List Layout) (a : Layout) (old : Placed) → all ≡ columns ++ a ∷ rest → list_all has_form all ≡ true → IsPlaced columns old → IsTooLong why old.length a → IsUnwritten all why
-past_unwritten why all columns rest a old e forms before (inl memory) = inl memory
-past_unwritten why all columns rest a old e forms before (inr (size, long)) = inr (size_refused all columns rest a old e forms before long ∙ ap (λ (f : NoForm). Some f) (sym size))
-
-pub kind_unwritten : (why : NoForm) (all columns rest : List Layout) (a : Layout) → all ≡ columns ++ a ∷ rest → (why ≡ Memory) ⊎ ((why ≡ NotWritten) × (has_form a ≡ false)) → IsUnwritten all why
-kind_unwritten why all columns rest a e (inl memory) = inl memory
-kind_unwritten why all columns rest a e (inr (kind, form)) = inr (type_refused all (ap (list_all has_form) e ∙ pass_fails has_form columns a rest form) ∙ ap (λ (f : NoForm). Some f) (sym kind))
-
 pub pass_in : {A : Type 0} (p : A → Bool) (front : List A) (x : A) (rest : List A) → list_all p (front ++ x ∷ rest) ≡ true → p x ≡ true
 pass_in p front x rest all = by (p x) refl
   where
@@ -204,8 +247,8 @@ pass_in p front x rest all = by (p x) refl
     by true e = e
     by false e = let f = pass_fails p front x rest e in cc
 
-pub form_is : (columns : List Layout) → list_all has_form columns ≡ true → list_all is_countable columns ≡ true → length (columns_body columns) < 2 ^ 63 → no_form columns ≡ None
+pub form_is : (columns : List Layout) (placed : Placed) → list_all has_form columns ≡ true → IsPlaced columns placed → no_form columns ≡ None
 unfolding no_form have_room
-form_is columns all slots small =
-    let fits : ltb (length (columns_body columns)) (2 ^ 63) ≡ true = lt-ltb _ _ small in
-    rw (all, slots, fits) refl
+form_is columns placed all is =
+    let fits : ltb (length (columns_body columns)) (2 ^ 63) ≡ true = lt-ltb _ _ (omega (arith, is.small, is.length)) in
+    rw (all, is.slots, fits) refl

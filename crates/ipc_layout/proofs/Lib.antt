@@ -1,6 +1,12 @@
 pub mod Arrays
 pub mod Bodies
 pub mod Copies
+pub mod Covers
 pub mod Orders
 pub mod Packing
+pub mod Sizes
+pub mod Trees
 pub mod Offsets
+pub mod Nested
+pub mod Fields
+pub mod Marks

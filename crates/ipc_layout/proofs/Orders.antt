@@ -6,6 +6,7 @@ use Rattle.ipc_model.specs.Reading.{◌>>=◌, Fails}
 use Rattle.nest_memory.specs.TypeTree.{TypeTree}
 use Rattle.nest_model.specs.Layout.{Layout}
 use Rattle.ipc_layout.specs.Columns.{Rest, column_in, each_in}
+use Rattle.ipc_layout.specs.declared.parts.Wanted.TheVariants.{Rows}
 
 -- what was read before, and what is still read
 abbrev pub with_columns : List Layout → Result (List Layout × Rest) Fault → Result (List Layout × Rest) Fault
@@ -20,17 +21,17 @@ module _ {A B : Type 0} (view : B → Layout) (tree : A → TypeTree) (xs : List
   left_is x lt is = ap (map tree) (drop_more xs i x lt ∙ ap (λ (y : A). y ∷ drop (i + 1) xs) (sym is))
 
   pub order_goes_on : (front new : List B) (b : B) (x : A) (rest behind : Rest) (total : Result (List Layout × Rest) Fault) → i < length xs → x ≡ get_or xs i x → new ≡ front ++ b ∷ []
-      → column_in (tree x) rows body rest ≡ Ok (view b, behind) → with_columns (map view front) (each_in (map tree (drop i xs)) rows body rest) ≡ total → with_columns (map view new) (each_in (map tree (drop (i + 1) xs)) rows body behind) ≡ total
+      → column_in (tree x) (Rows rows) body rest ≡ Ok (view b, behind) → with_columns (map view front) (each_in (map tree (drop i xs)) rows body rest) ≡ total → with_columns (map view new) (each_in (map tree (drop (i + 1) xs)) rows body behind) ≡ total
   unfolding each_in
   order_goes_on front new b x rest behind total lt is e h so_far =
       let one : with_columns (map view front) (each_in (map tree (drop i xs)) rows body rest) ≡ with_columns (map view front ++ view b ∷ []) (each_in (map tree (drop (i + 1) xs)) rows body behind) = rw (left_is x lt is, h) (regroup (map view front) (view b) (each_in (map tree (drop (i + 1) xs)) rows body behind)) in
       rw (e, map-append view front (b ∷ [])) (sym one ∙ so_far)
 
   pub order_ends : (f : Fault) (front : List B) (x : A) (rest : Rest) (total : Result (List Layout × Rest) Fault) → i < length xs → x ≡ get_or xs i x
-      → Fails f (column_in (tree x) rows body rest) → with_columns (map view front) (each_in (map tree (drop i xs)) rows body rest) ≡ total → Fails f total
+      → Fails f (column_in (tree x) (Rows rows) body rest) → with_columns (map view front) (each_in (map tree (drop i xs)) rows body rest) ≡ total → Fails f total
   unfolding each_in
   order_ends f front x rest total lt is h so_far = λ known.
-      let e : column_in (tree x) rows body rest ≡ Err f = h known in
+      let e : column_in (tree x) (Rows rows) body rest ≡ Err f = h known in
       let one : with_columns (map view front) (each_in (map tree (drop i xs)) rows body rest) ≡ Err f = rw (left_is x lt is, e) refl in
       sym so_far ∙ one
 

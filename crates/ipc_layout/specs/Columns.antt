@@ -5,22 +5,30 @@ use Rattle.std.specs.List.{list_all, range_with_len}
 use Rattle.std.specs.Str.{is_utf8}
 use Rattle.ipc_model.specs.Reading.{◌>>=◌, check}
 use Rattle.ipc_model.specs.declared.fault.Fault.{Fault}
-use Rattle.ipc_model.specs.declared.fault.Fault.TheVariants.{TypeRange, RowCount, NodeCount, NodeRange, BufferCount, BufferRange, BufferShort, NullCount, Offsets, OffsetPastChild, Text, UnsupportedType}
+use Rattle.ipc_model.specs.declared.fault.Fault.TheVariants.{TypeRange, RowCount, ChildLength, NodeCount, NodeRange, BufferCount, BufferRange, BufferShort, NullCount, Offsets, OffsetPastChild, Text, UnionType, UnionSlot, UnsupportedType}
 use Rattle.ipc_model.specs.declared.batch.Node.{Node}
 use Rattle.ipc_model.specs.declared.batch.Region.{Region}
 use Rattle.nest_memory.specs.Bits.{bits_from}
 use Rattle.nest_memory.specs.Cut.{cut}
 use Rattle.nest_memory.specs.Physical.{physical_type}
 use Rattle.nest_memory.specs.Rising.{are_offsets, last_of, to_nat}
-use Rattle.nest_memory.specs.TypeTree.{TypeTree, size_of}
+use Rattle.nest_memory.specs.TypeTree as types
+use Rattle.nest_memory.specs.TypeTree.{TypeTree, FieldTree, FieldTrees, field, no_fields, more_fields, field_type, count_fields, size_of, is_pair}
+use Rattle.nest_memory.specs.declared.datatypes.UnionMode.{UnionMode}
+use Rattle.nest_memory.specs.declared.datatypes.UnionMode.TheVariants.{Dense, Sparse}
 use Rattle.nest_memory.specs.declared.datatypes.physical_type.PhysicalType.{PhysicalType}
 use Rattle.nest_memory.specs.declared.datatypes.physical_type.PhysicalType.TheVariants as physical
 use Rattle.nest_memory.specs.declared.datatypes.physical_type.PrimitiveType.{PrimitiveType}
-use Rattle.nest_model.specs.Layout.{Layout, null, boolean, primitive, binary, text, fixed_size_binary}
-use Rattle.nest_model.specs.Part.{Validity, begin, extent, count_rows}
-use Rattle.ipc_layout.specs.Stored.{Form, form_of, offset_form, only, values_in}
+use Rattle.nest_model.specs.Checks.{most_fields, type_count}
+use Rattle.nest_model.specs.Fits.{child_len}
+use Rattle.nest_model.specs.Layout.{Layout, Layouts, null, boolean, primitive, binary, text, fixed_size_binary, fixed_size_list, list as list_of, map as map_of, struct, union, no_layouts, more_layouts}
+use Rattle.nest_model.specs.Meaning.{len}
+use Rattle.nest_model.specs.Part.{Validity, begin, extent, count_rows, field_named}
+use Rattle.ipc_layout.specs.Stored.{Form, form_of, offset_form, type_form, only, values_in}
 use Rattle.ipc_layout.specs.declared.parts.Counts.{Counts}
 use Rattle.ipc_layout.specs.declared.parts.Left.{Left}
+use Rattle.ipc_layout.specs.declared.parts.Wanted.{Wanted}
+use Rattle.ipc_layout.specs.declared.parts.Wanted.TheVariants.{Rows, Exactly, AtLeast, Any}
 
 -- nodes and buffers that no array has taken yet
 pub record Rest : Type 0 where
@@ -99,105 +107,212 @@ pub record Strings : Type 0 where
 unfoldable pub are_texts : List ℕ → List ℕ → Bool
 are_texts offsets bytes = list_all (λ i. is_utf8 (cut bytes (begin offsets i) (extent offsets i))) (range_with_len 0 (count_rows offsets))
 
--- the numbers of the next array, which has so many slots
-unfoldable pub node_in : ℕ → Rest → Result (Counts × Rest) Fault
-node_in rows rest = do
+-- how many slots an array may have: a column as many as its batch has rows; a child so many as its parent asks for, at least so many, or any
+abbrev pub are_wanted : Wanted → ℕ → Result (Unit {0}) Fault
+are_wanted (Rows n) slots = check (slots == n) RowCount
+are_wanted (Exactly n) slots = check (slots == n) ChildLength
+are_wanted (AtLeast n) slots = check (nat_le n slots) ChildLength
+are_wanted Any slots = Ok tt
+
+-- the numbers of the next array
+unfoldable pub node_in : Wanted → Rest → Result (Counts × Rest) Fault
+node_in wanted rest = do
   node ← next_counts rest.nodes
-  same ← check (node.0.slots == rows) RowCount
+  same ← are_wanted wanted node.0.slots
   Ok (node.0, record { nodes = node.1; regions = rest.regions })
 
 -- the bytes of the next buffer
 unfoldable pub buffer_in : List ℕ → Rest → Result (List ℕ × Rest) Fault
 buffer_in body rest = next_bytes body rest.regions >>= λ bytes. Ok (bytes.0, record { nodes = rest.nodes; regions = bytes.1 })
 
--- what arrays begin with: their numbers, and their validity
-unfoldable pub head_in : ℕ → List ℕ → Rest → Result (Validity × Rest) Fault
-head_in rows body rest = do
-  node ← node_in rows rest
-  bits ← buffer_in body node.1
-  validity ← validity_in node.0 bits.0
+-- the validity of an array with these numbers
+unfoldable pub head_in : Counts → List ℕ → Rest → Result (Validity × Rest) Fault
+head_in counts body rest = do
+  bits ← buffer_in body rest
+  validity ← validity_in counts bits.0
   Ok (validity, bits.1)
 
--- ---- kinds of arrays
-
--- nulls have no buffer
-unfoldable pub null_in : TypeTree → ℕ → Rest → Result (Layout × Rest) Fault
-null_in t rows rest = node_in rows rest >>= λ node. Ok (null t rows, node.1)
+-- ---- kinds of arrays without children
 
 -- truths, a bit each
-unfoldable pub boolean_in : TypeTree → ℕ → List ℕ → Rest → Result (Layout × Rest) Fault
-boolean_in t rows body rest = do
-  head ← head_in rows body rest
+unfoldable pub boolean_in : TypeTree → Counts → List ℕ → Rest → Result (Layout × Rest) Fault
+boolean_in t counts body rest = do
+  head ← head_in counts body rest
   bytes ← buffer_in body head.1
-  bits ← bits_in rows bytes.0
+  bits ← bits_in counts.slots bytes.0
   Ok (boolean t bits head.0, bytes.1)
 
 -- native values of one kind
-unfoldable pub native_in : Form → PrimitiveType → TypeTree → ℕ → List ℕ → Rest → Result (Layout × Rest) Fault
-native_in form k t rows body rest = do
-  head ← head_in rows body rest
+unfoldable pub native_in : Form → PrimitiveType → TypeTree → Counts → List ℕ → Rest → Result (Layout × Rest) Fault
+native_in form k t counts body rest = do
+  head ← head_in counts body rest
   bytes ← buffer_in body head.1
-  values ← natives_in form rows bytes.0
+  values ← natives_in form counts.slots bytes.0
   Ok (primitive k t values head.0, bytes.1)
 
 -- byte strings of one size, which is not 0
-unfoldable pub fixed_size_binary_in : TypeTree → ℕ → List ℕ → Rest → Result (Layout × Rest) Fault
-fixed_size_binary_in t rows body rest = do
+unfoldable pub fixed_size_binary_in : TypeTree → Counts → List ℕ → Rest → Result (Layout × Rest) Fault
+fixed_size_binary_in t counts body rest = do
   some ← check (nat_lt 0 (size_of t)) TypeRange
-  head ← head_in rows body rest
+  head ← head_in counts body rest
   bytes ← buffer_in body head.1
-  values ← bytes_in (rows * size_of t) bytes.0
+  values ← bytes_in (counts.slots * size_of t) bytes.0
   Ok (fixed_size_binary t values head.0, bytes.1)
 
--- byte strings of any size: by offsets, the bytes up to the last of them
-unfoldable pub strings_in : Bool → ℕ → List ℕ → Rest → Result (Strings × Rest) Fault
-strings_in large rows body rest = do
-  head ← head_in rows body rest
-  first ← buffer_in body head.1
-  offsets ← offsets_in large rows first.0
-  second ← buffer_in body first.1
-  bytes ← covered_in (last_of offsets) second.0
-  Ok (record { offsets = offsets; bytes = bytes; validity = head.0 }, second.1)
+-- what rows of any size begin with: their validity, and where their items begin and end
+pub record RowsHead : Type 0 where
+  pub offsets : List ℕ
+  pub validity : Validity
 
-unfoldable pub binary_in : Bool → TypeTree → ℕ → List ℕ → Rest → Result (Layout × Rest) Fault
-binary_in large t rows body rest = strings_in large rows body rest >>= λ s. Ok (binary large t s.0.offsets s.0.bytes s.0.validity, s.1)
+unfoldable pub rows_in : Bool → Counts → List ℕ → Rest → Result (RowsHead × Rest) Fault
+rows_in large counts body rest = do
+  head ← head_in counts body rest
+  first ← buffer_in body head.1
+  offsets ← offsets_in large counts.slots first.0
+  Ok (record { offsets = offsets; validity = head.0 }, first.1)
+
+-- byte strings of any size: by offsets, the bytes up to the last of them
+unfoldable pub strings_in : Bool → Counts → List ℕ → Rest → Result (Strings × Rest) Fault
+strings_in large counts body rest = do
+  head ← rows_in large counts body rest
+  second ← buffer_in body head.1
+  bytes ← covered_in (last_of head.0.offsets) second.0
+  Ok (record { offsets = head.0.offsets; bytes = bytes; validity = head.0.validity }, second.1)
+
+unfoldable pub binary_in : Bool → TypeTree → Counts → List ℕ → Rest → Result (Layout × Rest) Fault
+binary_in large t counts body rest = strings_in large counts body rest >>= λ s. Ok (binary large t s.0.offsets s.0.bytes s.0.validity, s.1)
 
 -- byte strings that are texts
 abbrev pub text_of : Bool → TypeTree → Strings → Result Layout Fault
 text_of large t s = check (are_texts s.offsets s.bytes) Text >>= λ texts. Ok (text large t s.offsets s.bytes s.validity)
 
-unfoldable pub text_in : Bool → TypeTree → ℕ → List ℕ → Rest → Result (Layout × Rest) Fault
-text_in large t rows body rest = do
-  s ← strings_in large rows body rest
+unfoldable pub text_in : Bool → TypeTree → Counts → List ℕ → Rest → Result (Layout × Rest) Fault
+text_in large t counts body rest = do
+  s ← strings_in large counts body rest
   a ← text_of large t s.0
   Ok (a, s.1)
 
 -- the array of a kind of native values; kinds without a form are not read
-abbrev pub of_form : Option Form → PrimitiveType → TypeTree → ℕ → List ℕ → Rest → Result (Layout × Rest) Fault
-of_form None k t rows body rest = Err UnsupportedType
-of_form (Some form) k t rows body rest = native_in form k t rows body rest
+abbrev pub of_form : Option Form → PrimitiveType → TypeTree → Counts → List ℕ → Rest → Result (Layout × Rest) Fault
+of_form None k t counts body rest = Err UnsupportedType
+of_form (Some form) k t counts body rest = native_in form k t counts body rest
 
--- the array of a kind, by how its values lie in memory
-abbrev pub of_kind : PhysicalType → TypeTree → ℕ → List ℕ → Rest → Result (Layout × Rest) Fault
-of_kind physical.Null t rows body rest = null_in t rows rest
-of_kind physical.Boolean t rows body rest = boolean_in t rows body rest
-of_kind (physical.Primitive k) t rows body rest = of_form (form_of k) k t rows body rest
-of_kind physical.FixedSizeBinary t rows body rest = fixed_size_binary_in t rows body rest
-of_kind physical.Binary t rows body rest = binary_in false t rows body rest
-of_kind physical.LargeBinary t rows body rest = binary_in true t rows body rest
-of_kind physical.Utf8 t rows body rest = text_in false t rows body rest
-of_kind physical.LargeUtf8 t rows body rest = text_in true t rows body rest
-of_kind p t rows body rest = Err UnsupportedType
+-- the array of a kind without children, by how its values lie in memory; nulls have no buffer
+abbrev pub of_kind : PhysicalType → TypeTree → Counts → List ℕ → Rest → Result (Layout × Rest) Fault
+of_kind physical.Null t counts body rest = Ok (null t counts.slots, rest)
+of_kind physical.Boolean t counts body rest = boolean_in t counts body rest
+of_kind (physical.Primitive k) t counts body rest = of_form (form_of k) k t counts body rest
+of_kind physical.FixedSizeBinary t counts body rest = fixed_size_binary_in t counts body rest
+of_kind physical.Binary t counts body rest = binary_in false t counts body rest
+of_kind physical.LargeBinary t counts body rest = binary_in true t counts body rest
+of_kind physical.Utf8 t counts body rest = text_in false t counts body rest
+of_kind physical.LargeUtf8 t counts body rest = text_in true t counts body rest
+of_kind p t counts body rest = Err UnsupportedType
 
--- the array of a data type with so many rows
-abbrev pub column_in : TypeTree → ℕ → List ℕ → Rest → Result (Layout × Rest) Fault
-column_in t rows body rest = of_kind (physical_type t) t rows body rest
+-- ---- kinds of arrays with children: their own buffers, then their children in order, then what ties both
+
+-- a list, a map: no offset passes the items
+abbrev pub list_over : Bool → TypeTree → RowsHead → Layout × Rest → Result (Layout × Rest) Fault
+list_over large t head items = check (nat_le (last_of head.offsets) (len items.0)) OffsetPastChild >>= λ within. Ok (list_of large t head.offsets items.0 head.validity, items.1)
+
+abbrev pub map_over : TypeTree → RowsHead → Layout × Rest → Result (Layout × Rest) Fault
+map_over t head entries = check (nat_le (last_of head.offsets) (len entries.0)) OffsetPastChild >>= λ within. Ok (map_of t head.offsets entries.0 head.validity, entries.1)
+
+-- a number names one of so many
+abbrev pub names : ℤ → ℕ → Bool
+names (pos k) n = nat_lt k n
+names (negsuc k) n = false
+
+-- a field is meant, one of so many
+abbrev pub means : Option ℕ → ℕ → Bool
+means None n = false
+means (Some f) n = nat_lt f n
+
+-- a union's ids: as many as its fields, each a type of 8 bits that is not negative
+abbrev pub are_ids : Option (List ℤ) → ℕ → Bool
+are_ids None fields = true
+are_ids (Some ids) fields = (length ids == fields) && list_all (λ id. names id type_count) ids
+
+-- each type means one of the fields
+abbrev pub mean_fields : Option (List ℤ) → ℕ → List ℤ → Bool
+mean_fields ids fields types = list_all (λ z. means (field_named ids z) fields) types
+
+-- the types of a union's slots, and, where it is dense, their offsets
+pub record Picks : Type 0 where
+  pub types : List ℤ
+  pub offsets : Option (List ℤ)
+
+unfoldable pub types_in : Option (List ℤ) → ℕ → ℕ → List ℕ → Result (List ℤ) Fault
+types_in ids fields slots bytes = do
+  values ← natives_in type_form slots bytes
+  meant ← check (mean_fields ids fields (map only values)) UnionType
+  Ok (map only values)
+
+unfoldable pub picks_in : UnionMode → Option (List ℤ) → ℕ → Counts → List ℕ → Rest → Result (Picks × Rest) Fault
+picks_in Sparse ids fields counts body rest = do
+  first ← buffer_in body rest
+  types ← types_in ids fields counts.slots first.0
+  Ok (record { types = types; offsets = None }, first.1)
+picks_in Dense ids fields counts body rest = do
+  first ← buffer_in body rest
+  types ← types_in ids fields counts.slots first.0
+  second ← buffer_in body first.1
+  offsets ← natives_in (offset_form false) counts.slots second.0
+  Ok (record { types = types; offsets = Some (map only offsets) }, second.1)
+
+-- the slots that a child of a union has: of a sparse one at least as many as the union, of a dense one any
+abbrev pub wanted_by : UnionMode → ℕ → Wanted
+wanted_by Sparse slots = AtLeast slots
+wanted_by Dense slots = Any
+
+-- each offset of a dense union names a slot of the field that its type means
+abbrev pub name_slots : Option (List ℤ) → Layouts → List ℤ → List ℤ → Bool
+name_slots ids cs [] offsets = true
+name_slots ids cs (z ∷ types) [] = true
+name_slots ids cs (z ∷ types) (o ∷ offsets) = names o (child_len cs (field_named ids z)) && name_slots ids cs types offsets
+
+abbrev pub are_there : Option (List ℤ) → Layouts → List ℤ → Option (List ℤ) → Bool
+are_there ids cs types None = true
+are_there ids cs types (Some offsets) = name_slots ids cs types offsets
+
+abbrev pub union_over : TypeTree → Option (List ℤ) → Picks → Layouts × Rest → Result (Layout × Rest) Fault
+union_over t ids picks children = check (are_there ids children.0 picks.types picks.offsets) UnionSlot >>= λ there. Ok (union t picks.types children.0 picks.offsets 0, children.1)
+
+-- The array of a data type with these numbers, which is stored as another: extensions are looked through. What no schema has is `TypeRange`: a size
+-- of 0, a struct without a field, a map whose entries are no pair, ids that are no types. Dictionaries are not read yet.
+abbrev mutual
+  pub array_in : TypeTree → TypeTree → Counts → List ℕ → Rest → Result (Layout × Rest) Fault
+  array_in t (types.extension x s m) counts body rest = array_in t s counts body rest
+  array_in t (types.list f) counts body rest = rows_in false counts body rest >>= λ head. item_in f Any body head.1 >>= λ items. list_over false t head.0 items
+  array_in t (types.large_list f) counts body rest = rows_in true counts body rest >>= λ head. item_in f Any body head.1 >>= λ items. list_over true t head.0 items
+  array_in t (types.map f b) counts body rest =
+      check (is_pair (field_type f)) TypeRange >>= λ pairs. rows_in false counts body rest >>= λ head. item_in f Any body head.1 >>= λ entries. map_over t head.0 entries
+  array_in t (types.fixed_size_list f n) counts body rest =
+      check (nat_lt 0 n) TypeRange >>= λ some. head_in counts body rest >>= λ head. item_in f (Exactly (counts.slots * n)) body head.1 >>= λ items. Ok (fixed_size_list t items.0 head.0, items.1)
+  array_in t (types.struct fs) counts body rest =
+      check (nat_lt 0 (count_fields fs)) TypeRange >>= λ some. head_in counts body rest >>= λ head. items_in fs (Exactly counts.slots) body head.1 >>= λ children. Ok (struct t children.0 head.0, children.1)
+  array_in t (types.union fs ids mode) counts body rest =
+      check (nat_le (count_fields fs) most_fields && are_ids ids (count_fields fs)) TypeRange >>= λ formed. picks_in mode ids (count_fields fs) counts body rest >>= λ picks. items_in fs (wanted_by mode counts.slots) body picks.1 >>= λ children. union_over t ids picks.0 children
+  array_in t s counts body rest = of_kind (physical_type s) t counts body rest
+
+  -- the array of a field, with so many slots
+  pub item_in : FieldTree → Wanted → List ℕ → Rest → Result (Layout × Rest) Fault
+  item_in (field x s b es) wanted body rest = node_in wanted rest >>= λ node. array_in s s node.0 body node.1
+
+  -- the arrays of fields in order, each with so many slots
+  pub items_in : FieldTrees → Wanted → List ℕ → Rest → Result (Layouts × Rest) Fault
+  items_in no_fields wanted body rest = Ok (no_layouts, rest)
+  items_in (more_fields f fs) wanted body rest = item_in f wanted body rest >>= λ first. items_in fs wanted body first.1 >>= λ others. Ok (more_layouts first.0 others.0, others.1)
+
+-- the array of a data type with so many slots
+abbrev pub column_in : TypeTree → Wanted → List ℕ → Rest → Result (Layout × Rest) Fault
+column_in t wanted body rest = node_in wanted rest >>= λ node. array_in t t node.0 body node.1
 
 -- arrays of data types in order, each of what the one before it has left
 unfoldable pub each_in : List TypeTree → ℕ → List ℕ → Rest → Result (List Layout × Rest) Fault
 each_in [] rows body rest = Ok ([], rest)
 each_in (t ∷ types) rows body rest = do
-  first ← column_in t rows body rest
+  first ← column_in t (Rows rows) body rest
   others ← each_in types rows body first.1
   Ok (first.0 ∷ others.0, others.1)
 

@@ -14,8 +14,9 @@ use Rattle.ipc_model.specs.declared.batch.Region.{Region}
 use Rattle.ipc_layout.specs.Stored.{values_in, values_bytes}
 use Rattle.ipc_layout.specs.Packed.{number_of, packed}
 use Rattle.ipc_layout.specs.Placed.{padded, body_of, regions_from}
-use Rattle.ipc_layout.specs.Written.{column_node, buffers_of, columns_body}
-use Rattle.ipc_layout.specs.Columns.{Rest, next_counts, bytes_of, next_bytes, bits_in, validity_in, node_in, buffer_in, head_in, natives_in, native_in, bytes_in, offsets_from, offsets_in, covered_in, are_texts, null_in, boolean_in, fixed_size_binary_in, strings_in, binary_in, text_in, column_in}
+use Rattle.ipc_layout.specs.Written.{column_node, written, buffers_of, columns_body}
+use Rattle.ipc_layout.specs.declared.parts.Wanted.TheVariants.{Rows}
+use Rattle.ipc_layout.specs.Columns.{Rest, next_counts, bytes_of, next_bytes, bits_in, validity_in, node_in, buffer_in, head_in, natives_in, native_in, bytes_in, offsets_from, offsets_in, covered_in, are_texts, boolean_in, fixed_size_binary_in, rows_in, strings_in, binary_in, text_in, column_in}
 
 abbrev pub worked_type : TypeTree
 worked_type = types.int32
@@ -35,19 +36,20 @@ worked_column = primitive Int32 worked_type ((pos 7 ∷ []) ∷ (pos 0 ∷ []) �
 abbrev pub nothing : Rest
 nothing = record { nodes = []; regions = [] }
 
-pub worked_read : column_in worked_type 2 worked_body worked_rest ≡ Ok (worked_column, nothing)
+pub worked_read : column_in worked_type (Rows 2) worked_body worked_rest ≡ Ok (worked_column, nothing)
 unfolding bit bits_from values_in next_counts bytes_of next_bytes bits_in validity_in node_in buffer_in head_in natives_in native_in
 worked_read = refl
 
 pub worked_written : columns_body (worked_column ∷ []) ≡ worked_body
-unfolding values_bytes number_of packed padded body_of buffers_of
+unfolding values_bytes number_of packed padded body_of written buffers_of
 worked_written = refl
 
-pub worked_nodes : map column_node (worked_column ∷ []) ≡ worked_rest.nodes
+pub worked_nodes : map column_node (written (worked_column ∷ [])) ≡ worked_rest.nodes
+unfolding written
 worked_nodes = refl
 
-pub worked_regions : regions_from 0 (buffers_of (worked_column ∷ [])) ≡ worked_rest.regions
-unfolding values_bytes number_of packed padded regions_from buffers_of
+pub worked_regions : regions_from 0 (buffers_of (written (worked_column ∷ []))) ≡ worked_rest.regions
+unfolding values_bytes number_of packed padded regions_from written buffers_of
 worked_regions = refl
 
 -- ---- a column of each kind, as read and as written
@@ -62,11 +64,11 @@ pub record Worked : Type 0 where
 
 -- the body spells the column, and nothing is left
 abbrev pub IsSpelledSo : Worked → Type 0
-IsSpelledSo w = column_in w.type w.rows w.body w.rest ≡ Ok (w.column, nothing)
+IsSpelledSo w = column_in w.type (Rows w.rows) w.body w.rest ≡ Ok (w.column, nothing)
 
 -- the column is written as that node, those regions and that body
 abbrev pub IsWrittenSo : Worked → Type 0
-IsWrittenSo w = (map column_node (w.column ∷ []) ≡ w.rest.nodes) × (regions_from 0 (buffers_of (w.column ∷ [])) ≡ w.rest.regions) × (columns_body (w.column ∷ []) ≡ w.body)
+IsWrittenSo w = (map column_node (written (w.column ∷ [])) ≡ w.rest.nodes) × (regions_from 0 (buffers_of (written (w.column ∷ []))) ≡ w.rest.regions) × (columns_body (w.column ∷ []) ≡ w.body)
 
 abbrev at : ℕ → ℕ → Region
 at place size = record { offset = pos place; length = pos size }
@@ -165,11 +167,11 @@ texts = record {
 }
 
 pub nulls_spelled : IsSpelledSo nulls
-unfolding next_counts node_in null_in
+unfolding next_counts node_in
 nulls_spelled = refl
 
 pub nulls_written : IsWrittenSo nulls
-unfolding body_of regions_from buffers_of
+unfolding body_of regions_from written buffers_of
 nulls_written = (refl, refl, refl)
 
 pub truths_spelled : IsSpelledSo truths
@@ -177,7 +179,7 @@ unfolding bit bits_from next_counts bytes_of next_bytes bits_in validity_in node
 truths_spelled = refl
 
 pub truths_written : IsWrittenSo truths
-unfolding number_of packed padded body_of regions_from buffers_of
+unfolding number_of packed padded body_of regions_from written buffers_of
 truths_written = (refl, refl, refl)
 
 pub wide_spelled : IsSpelledSo wide
@@ -185,7 +187,7 @@ unfolding values_in next_counts bytes_of next_bytes bits_in validity_in node_in 
 wide_spelled = refl
 
 pub wide_written : IsWrittenSo wide
-unfolding values_bytes padded body_of regions_from buffers_of
+unfolding values_bytes padded body_of regions_from written buffers_of
 wide_written = (refl, refl, refl)
 
 pub halves_spelled : IsSpelledSo halves
@@ -193,7 +195,7 @@ unfolding values_in next_counts bytes_of next_bytes bits_in validity_in node_in 
 halves_spelled = refl
 
 pub halves_written : IsWrittenSo halves
-unfolding values_bytes padded body_of regions_from buffers_of
+unfolding values_bytes padded body_of regions_from written buffers_of
 halves_written = (refl, refl, refl)
 
 pub days_spelled : IsSpelledSo days
@@ -201,7 +203,7 @@ unfolding values_in next_counts bytes_of next_bytes bits_in validity_in node_in 
 days_spelled = refl
 
 pub days_written : IsWrittenSo days
-unfolding values_bytes padded body_of regions_from buffers_of
+unfolding values_bytes padded body_of regions_from written buffers_of
 days_written = (refl, refl, refl)
 
 pub months_spelled : IsSpelledSo months
@@ -209,7 +211,7 @@ unfolding values_in next_counts bytes_of next_bytes bits_in validity_in node_in 
 months_spelled = refl
 
 pub months_written : IsWrittenSo months
-unfolding values_bytes padded body_of regions_from buffers_of
+unfolding values_bytes padded body_of regions_from written buffers_of
 months_written = (refl, refl, refl)
 
 pub sized_spelled : IsSpelledSo sized
@@ -217,25 +219,25 @@ unfolding next_counts bytes_of next_bytes bits_in validity_in node_in buffer_in 
 sized_spelled = refl
 
 pub sized_written : IsWrittenSo sized
-unfolding padded body_of regions_from buffers_of
+unfolding padded body_of regions_from written buffers_of
 sized_written = (refl, refl, refl)
 
 pub strings_spelled : IsSpelledSo strings
-unfolding values_in next_counts bytes_of next_bytes bits_in validity_in node_in buffer_in head_in natives_in are_offsets offsets_from offsets_in covered_in strings_in binary_in
+unfolding values_in next_counts bytes_of next_bytes bits_in validity_in node_in buffer_in head_in natives_in are_offsets offsets_from offsets_in covered_in rows_in strings_in binary_in
 strings_spelled = refl
 
 pub strings_written : IsWrittenSo strings
-unfolding values_bytes padded body_of regions_from buffers_of
+unfolding values_bytes padded body_of regions_from written buffers_of
 strings_written = (refl, refl, refl)
 
 pub texts_spelled : IsSpelledSo texts
-unfolding values_in next_counts bytes_of next_bytes bits_in validity_in node_in buffer_in head_in natives_in are_offsets offsets_from offsets_in covered_in are_texts strings_in text_in
+unfolding values_in next_counts bytes_of next_bytes bits_in validity_in node_in buffer_in head_in natives_in are_offsets offsets_from offsets_in covered_in are_texts rows_in strings_in text_in
 texts_spelled =
     let hi : is_utf8 (104 ∷ 105 ∷ []) ≡ true = is_utf8-from_IsUtf8 (104 ∷ 105 ∷ []) (IsUtf8-from_ascii (104 ∷ 105 ∷ []) (search (rules, arith))) in
     rw hi refl
 
 pub texts_written : IsWrittenSo texts
-unfolding values_bytes padded body_of regions_from buffers_of
+unfolding values_bytes padded body_of regions_from written buffers_of
 texts_written = (refl, refl, refl)
 
 -- the same strings among more bytes
@@ -243,5 +245,5 @@ abbrev pub cut_strings : Layout
 cut_strings = binary false types.binary (2 ∷ 4 ∷ 5 ∷ []) (50 ∷ 51 ∷ 200 ∷ 7 ∷ 9 ∷ 52 ∷ []) None
 
 pub strings_rebased : columns_body (cut_strings ∷ []) ≡ strings.body
-unfolding values_bytes padded body_of buffers_of
+unfolding values_bytes padded body_of written buffers_of
 strings_rebased = refl

@@ -19,6 +19,10 @@ is_written (any.Utf8 a) = true
 is_written (any.LargeUtf8 a) = true
 is_written a = false
 
+abbrev pub is_null : AnyArray → Bool
+is_null (any.Null a) = true
+is_null a = false
+
 -- each kind of native values of the code has a form
 pub natives_have_forms : (a : AnyPrimitive) → is_some (form_of (primitive_kind a)) ≡ true
 natives_have_forms (natives.Int8 a) = refl

@@ -1,13 +1,20 @@
 -- What contracts cite.
 pub mod Stored
 pub mod Columns
+pub mod Meant
+pub mod ReadParts
+pub mod ReadLaws
 pub mod Packed
 pub mod Placed
 pub mod Written
 pub mod Kinds
 pub mod Examples
+pub mod ReadExamples
 pub mod StoredLaws
 pub mod StringLaws
 pub mod PackedLaws
 pub mod PlacedLaws
 pub mod WrittenLaws
+pub mod ShownLaws
+pub mod AgainLaws
+pub mod WriteExamples

@@ -63,6 +63,10 @@ months_form = first_then (signed_form w32) (first_then (signed_form w32) (signed
 abbrev pub offset_form : Bool → Form
 offset_form large = signed_form (if large then w64 else w32)
 
+-- a type of a union's slot
+abbrev pub type_form : Form
+type_form = signed_form w8
+
 -- the kinds that are read and written
 abbrev pub form_of : PrimitiveType → Option Form
 form_of primitives.Int8 = Some (signed_form w8)

@@ -1,5 +1,5 @@
--- What columns are written as: a node and buffers for each ("Recordbatch message" of the Arrow columnar format).
-use Rattle.std.specs.Prelude.{◌≡◌, ◌<◌, ◌≤◌, ◌^◌, ◌⊎◌, ℕ, ◌-◌, ℤ, pos, Bool, true, false, not, ◌&&◌, if◌then◌else◌, nat_lt, count_by, List, [], ◌∷◌, ◌++◌, ◌+◌, map, length, Option, Some, None, is_some, Ok}
+-- What columns are written as: a node and buffers for each of their arrays, an array before its children ("Recordbatch message" of the Arrow columnar format).
+use Rattle.std.specs.Prelude.{◌≡◌, ◌<◌, ◌≤◌, ◌^◌, ◌⊎◌, ℕ, ◌-◌, ◌*◌, ℤ, pos, Bool, true, false, not, ◌&&◌, ◌==◌, if◌then◌else◌, nat_lt, count_by, List, [], ◌∷◌, ◌++◌, ◌+◌, map, length, Option, Some, None, is_some, Ok}
 use Rattle.std.specs.List.{flat_map, list_all, AllByRecursion}
 use Rattle.ipc_model.specs.declared.fault.NoForm.{NoForm}
 use Rattle.ipc_model.specs.declared.fault.NoForm.TheVariants.{Memory, «Type» as NotWritten, Size}
@@ -7,16 +7,20 @@ use Rattle.ipc_model.specs.declared.batch.Node.{Node}
 use Rattle.nest_memory.specs.Native.{unsigned}
 use Rattle.nest_model.specs.Accessors.{validity_of, with_validity}
 use Rattle.nest_model.specs.Fits.{covered}
-use Rattle.nest_model.specs.Layout.{Layout, null, boolean, primitive, binary, text, fixed_size_binary, layout_type}
+use Rattle.nest_memory.specs.Cut.{cut}
+use Rattle.nest_memory.specs.TypeTree.{size_of}
+use Rattle.nest_model.specs.Cut.{cut_layout}
+use Rattle.nest_model.specs.Layout.{Layout, Layouts, null, boolean, primitive, binary, text, fixed_size_binary, fixed_size_list, list as list_of, map as map_of, struct, union, dictionary, no_layouts, more_layouts, layout_type}
 use Rattle.nest_model.specs.Meaning.{len}
 use Rattle.nest_model.specs.Nullness.{null_count}
-use Rattle.nest_model.specs.Part.{Validity, begin}
+use Rattle.nest_model.specs.Part.{Validity, begin, cut_validity}
 use Rattle.nest_model.specs.SameArray.{IsSameArray}
+use Rattle.nest_array.specs.WindowParts.{WindowParts, window_parts}
 use Rattle.ipc_batch.specs.Batches.{all_within}
 use Rattle.ipc_layout.specs.Columns.{without_nulls, columns_in}
 use Rattle.ipc_layout.specs.Packed.{packed}
 use Rattle.ipc_layout.specs.Placed.{body_of, regions_from}
-use Rattle.ipc_layout.specs.Stored.{Form, form_of, offset_form, values_bytes}
+use Rattle.ipc_layout.specs.Stored.{Form, form_of, offset_form, type_form, values_bytes}
 use Rattle.ipc_layout.specs.declared.placing.Placed.{Placed}
 
 -- where nothing is null, no validity
@@ -28,11 +32,60 @@ shown_validity (Some bits) = without_nulls (count_by not bits) bits
 abbrev pub rebased : List ℕ → List ℕ
 rebased os = map (λ n. n - begin os 0) os
 
--- the array that a column is read back as: of the bytes of strings, those that the offsets cover
+-- the array that an array without children is read back as: of the bytes of strings, those that the offsets cover
+abbrev pub shown_flat : Layout → Layout
+shown_flat (binary large t os bs va) = binary large t (rebased os) (covered os bs) (shown_validity va)
+shown_flat (text large t os bs va) = text large t (rebased os) (covered os bs) (shown_validity va)
+shown_flat a = with_validity a (shown_validity (validity_of a))
+
+-- where the n slots from place o of a sparse union begin in its children; none begins anywhere
+abbrev pub sparse_begin : ℕ → ℕ → ℕ → ℕ
+sparse_begin start o n = if n == 0 then 0 else start + o
+
+-- The array that the n slots from place o are read back as. Of a list and a map, the items that the offsets cover; of a sparse union, its children from
+-- where the window begins; of a dense union, whole children.
+abbrev mutual
+  pub shown_in : Layout → ℕ → ℕ → Layout
+  shown_in (fixed_size_list t c va) o n = fixed_size_list t (shown_in c (o * size_of t) (n * size_of t)) (shown_validity (cut_validity va o n))
+  shown_in (list_of large t os c va) o n = list_of large t (rebased (cut os o (n + 1))) (shown_in c (begin os o) (begin os (o + n) - begin os o)) (shown_validity (cut_validity va o n))
+  shown_in (map_of t os c va) o n = map_of t (rebased (cut os o (n + 1))) (shown_in c (begin os o) (begin os (o + n) - begin os o)) (shown_validity (cut_validity va o n))
+  shown_in (struct t cs va) o n = struct t (each_shown cs o n) (shown_validity (cut_validity va o n))
+  shown_in (union t ks cs None start) o n = union t (cut ks o n) (each_shown cs (sparse_begin start o n) n) None 0
+  shown_in (union t ks cs (Some os) start) o n = union t (cut ks o n) (all_shown cs) (Some (cut os o n)) 0
+  shown_in a o n = shown_flat (cut_layout a o n)
+
+  pub each_shown : Layouts → ℕ → ℕ → Layouts
+  each_shown no_layouts o n = no_layouts
+  each_shown (more_layouts c cs) o n = more_layouts (shown_in c o n) (each_shown cs o n)
+
+  pub all_shown : Layouts → Layouts
+  all_shown no_layouts = no_layouts
+  all_shown (more_layouts c cs) = more_layouts (shown_in c 0 (len c)) (all_shown cs)
+
+-- the array that a column is read back as
 abbrev pub shown : Layout → Layout
-shown (binary large t os bs va) = binary large t (rebased os) (covered os bs) (shown_validity va)
-shown (text large t os bs va) = text large t (rebased os) (covered os bs) (shown_validity va)
-shown a = with_validity a (shown_validity (validity_of a))
+shown a = shown_in a 0 (len a)
+
+-- the windows over the children of a window's array that are written below it
+abbrev pub each_window : Layouts → ℕ → ℕ → List WindowParts
+each_window no_layouts o n = []
+each_window (more_layouts c cs) o n = window_parts c o n ∷ each_window cs o n
+
+abbrev pub whole_windows : Layouts → List WindowParts
+whole_windows no_layouts = []
+whole_windows (more_layouts c cs) = window_parts c 0 (len c) ∷ whole_windows cs
+
+abbrev pub windows_below : Layout → ℕ → ℕ → List WindowParts
+windows_below (fixed_size_list t c va) o n = window_parts c (o * size_of t) (n * size_of t) ∷ []
+windows_below (list_of large t os c va) o n = window_parts c (begin os o) (begin os (o + n) - begin os o) ∷ []
+windows_below (map_of t os c va) o n = window_parts c (begin os o) (begin os (o + n) - begin os o) ∷ []
+windows_below (struct t cs va) o n = each_window cs o n
+windows_below (union t ks cs None start) o n = each_window cs (sparse_begin start o n) n
+windows_below (union t ks cs (Some os) start) o n = whole_windows cs
+windows_below a o n = []
+
+abbrev pub shown_window : WindowParts → Layout
+shown_window w = shown_in w.array w.offset w.count
 
 abbrev pub validity_bytes : Validity → List ℕ
 validity_bytes None = []
@@ -50,46 +103,95 @@ bytes_by (Some form) values = values_bytes form values
 abbrev pub offset_bytes : Bool → List ℕ → List ℕ
 offset_bytes large os = values_bytes (offset_form large) (map unsigned os)
 
--- of strings the offsets, from 0 on, and the bytes that they cover
-abbrev pub string_buffers : Bool → List ℕ → List ℕ → Validity → List (List ℕ)
-string_buffers large os bs va = valid_bytes va ∷ offset_bytes large (rebased os) ∷ covered os bs ∷ []
-
 -- its length and its number of nulls
 abbrev pub column_node : Layout → Node
 column_node a = record { length = pos (len a); null_count = pos (null_count a) }
 
--- its validity and its values; nulls have none
-abbrev pub column_buffers : Layout → List (List ℕ)
-column_buffers (boolean t bits va) = valid_bytes va ∷ packed bits ∷ []
-column_buffers (primitive k t values va) = valid_bytes va ∷ bytes_by (form_of k) values ∷ []
-column_buffers (fixed_size_binary t bs va) = valid_bytes va ∷ bs ∷ []
-column_buffers (binary large t os bs va) = string_buffers large os bs va
-column_buffers (text large t os bs va) = string_buffers large os bs va
-column_buffers a = []
+-- a whole number for each slot of a union
+abbrev pub numbers_bytes : Form → List ℤ → List ℕ
+numbers_bytes form zs = values_bytes form (map (λ z. z ∷ []) zs)
+
+-- its own buffers, without those of its children; nulls have none
+abbrev pub own_buffers : Layout → List (List ℕ)
+own_buffers (boolean t bits va) = validity_bytes va ∷ packed bits ∷ []
+own_buffers (primitive k t values va) = validity_bytes va ∷ bytes_by (form_of k) values ∷ []
+own_buffers (fixed_size_binary t bs va) = validity_bytes va ∷ bs ∷ []
+own_buffers (binary large t os bs va) = validity_bytes va ∷ offset_bytes large os ∷ bs ∷ []
+own_buffers (text large t os bs va) = validity_bytes va ∷ offset_bytes large os ∷ bs ∷ []
+own_buffers (fixed_size_list t c va) = validity_bytes va ∷ []
+own_buffers (list_of large t os c va) = validity_bytes va ∷ offset_bytes large os ∷ []
+own_buffers (map_of t os c va) = validity_bytes va ∷ offset_bytes false os ∷ []
+own_buffers (struct t cs va) = validity_bytes va ∷ []
+own_buffers (union t ks cs None start) = numbers_bytes type_form ks ∷ []
+own_buffers (union t ks cs (Some os) start) = numbers_bytes type_form ks ∷ numbers_bytes (offset_form false) os ∷ []
+own_buffers a = []
+
+-- an array and those below it, each before its children
+abbrev mutual
+  pub arrays_of : Layout → List Layout
+  arrays_of (fixed_size_list t c va) = fixed_size_list t c va ∷ arrays_of c
+  arrays_of (list_of large t os c va) = list_of large t os c va ∷ arrays_of c
+  arrays_of (map_of t os c va) = map_of t os c va ∷ arrays_of c
+  arrays_of (struct t cs va) = struct t cs va ∷ arrays_of_all cs
+  arrays_of (union t ks cs os start) = union t ks cs os start ∷ arrays_of_all cs
+  arrays_of a = a ∷ []
+
+  pub arrays_of_all : Layouts → List Layout
+  arrays_of_all no_layouts = []
+  arrays_of_all (more_layouts c cs) = arrays_of c ++ arrays_of_all cs
+
+-- of strings the offsets, from 0 on, and the bytes that they cover
+abbrev pub string_buffers : Bool → List ℕ → List ℕ → Validity → List (List ℕ)
+string_buffers large os bs va = valid_bytes va ∷ offset_bytes large (rebased os) ∷ covered os bs ∷ []
+
+-- the buffers of an array without children
+abbrev pub flat_buffers : Layout → List (List ℕ)
+flat_buffers a = own_buffers (shown_flat a)
+
+-- the arrays that windows are written as
+unfoldable pub written_windows : List WindowParts → List Layout
+written_windows windows = flat_map (λ w. arrays_of (shown_window w)) windows
+
+-- the arrays that columns are written as
+unfoldable pub written : List Layout → List Layout
+written columns = flat_map (λ a. arrays_of (shown a)) columns
 
 unfoldable pub buffers_of : List Layout → List (List ℕ)
-buffers_of columns = flat_map column_buffers columns
+buffers_of arrays = flat_map own_buffers arrays
 
 -- the body of a batch of columns
 abbrev pub columns_body : List Layout → List ℕ
-columns_body columns = body_of (buffers_of columns)
+columns_body columns = body_of (buffers_of (written columns))
+
+-- whether it has no children, and is written
+abbrev pub is_flat : Layout → Bool
+is_flat (null t n) = true
+is_flat (boolean t bits va) = true
+is_flat (primitive k t values va) = is_some (form_of k)
+is_flat (fixed_size_binary t bs va) = true
+is_flat (binary large t os bs va) = true
+is_flat (text large t os bs va) = true
+is_flat a = false
 
 -- whether arrays of its kind are written
+abbrev pub kind_has_form : Layout → Bool
+kind_has_form (primitive k t values va) = is_some (form_of k)
+kind_has_form (dictionary t ks c) = false
+kind_has_form a = true
+
+-- whether it and those below it are
 abbrev pub has_form : Layout → Bool
-has_form (null t n) = true
-has_form (boolean t bits va) = true
-has_form (primitive k t values va) = is_some (form_of k)
-has_form (fixed_size_binary t bs va) = true
-has_form (binary large t os bs va) = true
-has_form (text large t os bs va) = true
-has_form a = false
+has_form a = list_all kind_has_form (arrays_of a)
+
+abbrev pub window_has_form : WindowParts → Bool
+window_has_form w = has_form w.array
 
 -- no number of slots and no place in the body passes 2^63 - 1
 abbrev pub is_countable : Layout → Bool
 is_countable a = nat_lt (len a) (2 ^ 63)
 
 unfoldable pub have_room : List Layout → Bool
-have_room columns = list_all is_countable columns && nat_lt (length (columns_body columns)) (2 ^ 63)
+have_room columns = list_all is_countable (written columns) && nat_lt (length (columns_body columns)) (2 ^ 63)
 
 -- the first reason why columns are not written
 unfoldable pub no_form : List Layout → Option NoForm
@@ -103,9 +205,9 @@ IsUnwritten columns why = (why ≡ Memory) ⊎ (no_form columns ≡ Some why)
 abbrev pub IsPast : NoForm → ℕ → Type 0
 IsPast why long = (why ≡ Memory) ⊎ ((why ≡ Size) × (2 ^ 63 ≤ long))
 
--- for want of memory, or since a column's slots, or its buffers behind so many bytes, pass 2^63 - 1
-abbrev pub IsTooLong : NoForm → ℕ → Layout → Type 0
-IsTooLong why before a = (why ≡ Memory) ⊎ ((why ≡ Size) × ((2 ^ 63 ≤ len a) ⊎ (2 ^ 63 ≤ before + length (body_of (column_buffers a)))))
+-- for want of memory, or since an array's slots, or the buffers of arrays behind so many bytes, pass 2^63 - 1
+abbrev pub AreTooLong : NoForm → ℕ → List Layout → Type 0
+AreTooLong why before arrays = (why ≡ Memory) ⊎ ((why ≡ Size) × ((list_all is_countable arrays ≡ false) ⊎ (2 ^ 63 ≤ before + length (body_of (buffers_of arrays)))))
 
 -- buffers more
 pub record IsLonger (old new : Placed) (buffers : List (List ℕ)) : Type 0 where
@@ -113,23 +215,23 @@ pub record IsLonger (old new : Placed) (buffers : List (List ℕ)) : Type 0 wher
   pub length : new.length ≡ old.length + length (body_of buffers)
   pub small : new.length < 2 ^ 63
 
--- one column more
-pub record IsMore (old new : Placed) (column : Layout) : Type 0 where
-  pub nodes : new.nodes.items ≡ old.nodes.items ++ column_node column ∷ []
-  pub buffers : IsLonger old new (column_buffers column)
-  pub slots : is_countable column ≡ true
+-- arrays more
+pub record IsMore (old new : Placed) (arrays : List Layout) : Type 0 where
+  pub nodes : new.nodes.items ≡ old.nodes.items ++ map column_node arrays
+  pub buffers : IsLonger old new (buffers_of arrays)
+  pub slots : list_all is_countable arrays ≡ true
 
--- what a batch's metadata says of columns: their nodes, and where their buffers lie in the body, of which this is the length
+-- what a batch's metadata says of columns: the nodes of their arrays, and where their buffers lie in the body, of which this is the length
 pub record IsPlaced (columns : List Layout) (placed : Placed) : Type 0 where
-  pub nodes : placed.nodes.items ≡ map column_node columns
-  pub regions : placed.regions.items ≡ regions_from 0 (buffers_of columns)
+  pub nodes : placed.nodes.items ≡ map column_node (written columns)
+  pub regions : placed.regions.items ≡ regions_from 0 (buffers_of (written columns))
   pub length : placed.length ≡ length (columns_body columns)
   pub small : placed.length < 2 ^ 63
-  pub slots : list_all is_countable columns ≡ true
+  pub slots : list_all is_countable (written columns) ≡ true
   pub within : all_within placed.length placed.regions.items ≡ Ok tt
 
 -- from the body that is written are read the same arrays, all nodes and buffers used up
 pub record AreReadBack (columns : List Layout) : Type 0 where
   pub read : (rows : ℕ) → AllByRecursion (λ a. len a ≡ rows) columns
-      → columns_in (map layout_type columns) rows (columns_body columns) (record { nodes = map column_node columns; regions = regions_from 0 (buffers_of columns) }) ≡ Ok (map shown columns)
+      → columns_in (map layout_type columns) rows (columns_body columns) (record { nodes = map column_node (written columns); regions = regions_from 0 (buffers_of (written columns)) }) ≡ Ok (map shown columns)
   pub same : AllByRecursion (λ a. IsSameArray a (shown a)) columns

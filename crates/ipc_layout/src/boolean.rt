@@ -8,11 +8,11 @@ ghost use Rattle.nest_model.specs.Fits.{Fits};
 ghost use Rattle.nest_model.specs.Layout as layouts;
 ghost use Rattle.ipc_layout.specs.Columns.{rest_of, boolean_in};
 ghost use Rattle.ipc_layout.specs.Placed.{body_of};
-ghost use Rattle.ipc_layout.specs.Written.{column_buffers, IsPast, IsLonger};
+ghost use Rattle.ipc_layout.specs.Written.{flat_buffers, IsPast, IsLonger};
 ghost use Rattle.ipc_layout.specs.WrittenLaws.{IsWritable};
 
 use crate::bits::{put_bitmap, read_bits};
-use crate::parts::{Left, next_buffer};
+use crate::parts::{Counts, Left, next_buffer};
 use crate::placing::{Placed, place_buffers};
 use crate::validity::{put_validity, read_head, validity_size};
 use ipc_model::{Fault, NoForm};
@@ -52,16 +52,16 @@ fn array_of(
 pub(crate) fn read_boolean<'a>(
     alloc: Global,
     data_type: &DataType,
-    rows: usize,
+    counts: Counts,
     body: &'a [u8],
     left: Left<'a>,
 ) -> Result<(BooleanArray, Left<'a>), Fault>
     requires { physical_type (type_of data_type.now) ≡ physical.Boolean }
-    ensures { Gives (λ x. (x.0, rest_of x.1)) result (boolean_in (type_of data_type.now) rows body.now (rest_of left.entry)) }
+    ensures { Gives (λ x. (x.0, rest_of x.1)) result (boolean_in (type_of data_type.now) counts body.now (rest_of left.entry)) }
 {
-    let (validity, left) = read_head(alloc, rows, body, left)?;
+    let (validity, left) = read_head(alloc, counts, body, left)?;
     let (bytes, left) = next_buffer(body, left)?;
-    let bits = read_bits(alloc, rows, bytes)?;
+    let bits = read_bits(alloc, counts.slots, bytes)?;
     let array = array_of(alloc, data_type, bits, validity)?;
     Ok((array, left))
 }
@@ -70,8 +70,8 @@ pub(crate) fn read_boolean<'a>(
 pub(crate) fn place_boolean(placed: &mut Placed, array: &BooleanArray) -> Result<(), NoForm>
     requires { placed.old.length < 2 ^ 63 }
     ensures nodes { placed.new.nodes ≡ placed.old.nodes }
-    ensures ok { OnOk result (IsLonger placed.old placed.new (column_buffers array.now)) }
-    ensures err { IfErr result (λ why. IsPast why (placed.old.length + length (body_of (column_buffers array.now)))) }
+    ensures ok { OnOk result (IsLonger placed.old placed.new (flat_buffers array.now)) }
+    ensures err { IfErr result (λ why. IsPast why (placed.old.length + length (body_of (flat_buffers array.now)))) }
 {
     array.known();
     let size = array.values().len().div_ceil(8);
@@ -80,7 +80,7 @@ pub(crate) fn place_boolean(placed: &mut Placed, array: &BooleanArray) -> Result
 
 /// Appends the buffers of an array of truths.
 pub(crate) fn put_boolean(out: &mut Vec<u8>, array: &BooleanArray) -> Result<(), AllocError>
-    ensures ok { OnOk result (out.new.items ≡ out.old.items ++ body_of (column_buffers array.now)) }
+    ensures ok { OnOk result (out.new.items ≡ out.old.items ++ body_of (flat_buffers array.now)) }
     ensures writable { OnOk result (IsWritable array.now) }
 {
     array.known();

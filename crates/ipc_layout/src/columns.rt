@@ -6,7 +6,7 @@ ghost use Rattle.nest_memory.specs.TypeTree.{TypeTree, field_type};
 ghost use Rattle.nest_array.specs.Seen.{layout_of};
 ghost use Rattle.ipc_layout.specs.Columns.{rest_of, each_in, columns_in, none_left as none_left_lem};
 
-use crate::parts::Left;
+use crate::parts::{Left, Wanted};
 use crate::reading::read_column;
 use ipc_model::Fault;
 use nest_array::any::AnyArray;
@@ -62,7 +62,7 @@ fn read_each<'a, A: Typed>(
     let mut columns = Vec::new(alloc);
     let mut rest = left;
     for it in typed {
-        match read_column(alloc, it.data_type(), rows, body, rest) {
+        match read_column(alloc, it.data_type(), Wanted::Rows(rows), body, rest) {
             Err(fault) => return Err(fault),
             Ok((column, behind)) => {
                 columns.push(column)?;

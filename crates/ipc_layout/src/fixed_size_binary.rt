@@ -8,11 +8,11 @@ ghost use Rattle.nest_model.specs.Fits.{Fits};
 ghost use Rattle.nest_model.specs.Layout as layouts;
 ghost use Rattle.ipc_layout.specs.Columns.{rest_of, fixed_size_binary_in};
 ghost use Rattle.ipc_layout.specs.Placed.{body_of};
-ghost use Rattle.ipc_layout.specs.Written.{column_buffers, IsPast, IsLonger};
+ghost use Rattle.ipc_layout.specs.Written.{flat_buffers, IsPast, IsLonger};
 ghost use Rattle.ipc_layout.specs.WrittenLaws.{IsWritable};
 
 use crate::bytes::{put_bytes, read_slots};
-use crate::parts::{Left, next_buffer};
+use crate::parts::{Counts, Left, next_buffer};
 use crate::placing::{Placed, place_buffers};
 use crate::validity::{put_validity, read_head, validity_size};
 use ipc_model::{Fault, NoForm};
@@ -42,20 +42,20 @@ fn array_of(
 pub(crate) fn read_fixed_size_binary<'a>(
     alloc: Global,
     data_type: &DataType,
-    rows: usize,
+    counts: Counts,
     body: &'a [u8],
     left: Left<'a>,
 ) -> Result<(FixedSizeBinaryArray, Left<'a>), Fault>
     requires { physical_type (type_of data_type.now) ≡ physical.FixedSizeBinary }
-    ensures { Gives (λ x. (x.0, rest_of x.1)) result (fixed_size_binary_in (type_of data_type.now) rows body.now (rest_of left.entry)) }
+    ensures { Gives (λ x. (x.0, rest_of x.1)) result (fixed_size_binary_in (type_of data_type.now) counts body.now (rest_of left.entry)) }
 {
     let size = data_type.size().unwrap_or(0);
     if size == 0 {
         return Err(Fault::TypeRange);
     }
-    let (validity, left) = read_head(alloc, rows, body, left)?;
+    let (validity, left) = read_head(alloc, counts, body, left)?;
     let (bytes, left) = next_buffer(body, left)?;
-    let values = read_slots(alloc, rows, size, bytes)?;
+    let values = read_slots(alloc, counts.slots, size, bytes)?;
     let array = array_of(alloc, data_type, values, validity)?;
     Ok((array, left))
 }
@@ -67,8 +67,8 @@ pub(crate) fn place_fixed_size_binary(
 ) -> Result<(), NoForm>
     requires { placed.old.length < 2 ^ 63 }
     ensures nodes { placed.new.nodes ≡ placed.old.nodes }
-    ensures ok { OnOk result (IsLonger placed.old placed.new (column_buffers array.now)) }
-    ensures err { IfErr result (λ why. IsPast why (placed.old.length + length (body_of (column_buffers array.now)))) }
+    ensures ok { OnOk result (IsLonger placed.old placed.new (flat_buffers array.now)) }
+    ensures err { IfErr result (λ why. IsPast why (placed.old.length + length (body_of (flat_buffers array.now)))) }
 {
     array.known();
     let size = array.values().len();
@@ -80,7 +80,7 @@ pub(crate) fn put_fixed_size_binary(
     out: &mut Vec<u8>,
     array: &FixedSizeBinaryArray,
 ) -> Result<(), AllocError>
-    ensures ok { OnOk result (out.new.items ≡ out.old.items ++ body_of (column_buffers array.now)) }
+    ensures ok { OnOk result (out.new.items ≡ out.old.items ++ body_of (flat_buffers array.now)) }
     ensures writable { OnOk result (IsWritable array.now) }
 {
     array.known();

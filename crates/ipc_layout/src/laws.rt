@@ -1,19 +1,22 @@
 //! Examples of what is read and written, as functions with empty bodies.
-ghost use Rattle.std.specs.Prelude.{◌≡◌, [], ◌∷◌, map, Ok};
+ghost use Rattle.std.specs.Prelude.{◌≡◌, [], ◌∷◌, List, map, Ok};
+ghost use Rattle.nest_model.specs.Layout.{Layout};
 ghost use Rattle.ipc_layout.specs.Columns.{column_in};
+ghost use Rattle.ipc_layout.specs.declared.parts.Wanted.TheVariants.{Rows};
 ghost use Rattle.ipc_layout.specs.Placed.{regions_from};
-ghost use Rattle.ipc_layout.specs.Written.{column_node, buffers_of, columns_body};
+ghost use Rattle.ipc_layout.specs.declared.parts.Wanted.TheVariants.{Rows};
+ghost use Rattle.ipc_layout.specs.Written.{column_node, shown, written, buffers_of, columns_body};
 ghost use Rattle.ipc_layout.specs.Examples.{worked_type, worked_body, worked_rest, worked_column, nothing, IsSpelledSo, IsWrittenSo, nulls, truths, wide, halves, days, months, sized, strings, texts, cut_strings};
 
 /// The body of another writer, byte by byte, spells a column of the numbers 7 and null.
 pub fn a_column_is_read()
-    ensures { column_in worked_type 2 worked_body worked_rest ≡ Ok (worked_column, nothing) }
+    ensures { column_in worked_type (Rows 2) worked_body worked_rest ≡ Ok (worked_column, nothing) }
 {}
 
 /// The numbers 7 and null are written as that node, those two buffers and that body.
 pub fn a_column_is_written()
-    ensures nodes { map column_node (worked_column ∷ []) ≡ worked_rest.nodes }
-    ensures regions { regions_from 0 (buffers_of (worked_column ∷ [])) ≡ worked_rest.regions }
+    ensures nodes { map column_node (written (worked_column ∷ [])) ≡ worked_rest.nodes }
+    ensures regions { regions_from 0 (buffers_of (written (worked_column ∷ []))) ≡ worked_rest.regions }
     ensures body { columns_body (worked_column ∷ []) ≡ worked_body }
 {}
 
@@ -75,4 +78,9 @@ pub fn texts_are_read_and_written()
 /// that are covered.
 pub fn offsets_are_written_from_0()
     ensures { columns_body (cut_strings ∷ []) ≡ strings.body }
+{}
+
+/// What is written depends on what is shown alone: arrays that differ outside of their cuts give equal nodes and bytes.
+pub fn what_is_shown_alone_is_written()
+    ensures { (one other : List Layout) → map shown one ≡ map shown other → (written one ≡ written other) × (columns_body one ≡ columns_body other) }
 {}

@@ -15,11 +15,11 @@ ghost use Rattle.ipc_layout.specs.Columns.{rest_of, natives_in, native_in, of_fo
 ghost use Rattle.ipc_layout.specs.Placed.{padded, body_of};
 ghost use Rattle.ipc_layout.specs.Stored.{form_of, values_in, values_bytes};
 ghost use Rattle.ipc_layout.specs.StoredLaws.{IsSpelled};
-ghost use Rattle.ipc_layout.specs.Written.{column_buffers, IsPast, IsLonger};
+ghost use Rattle.ipc_layout.specs.Written.{flat_buffers, IsPast, IsLonger};
 ghost use Rattle.ipc_layout.specs.WrittenLaws.{IsWritable};
 
 use crate::bytes::{buffer_of, is_enough, pad};
-use crate::parts::{Left, next_buffer};
+use crate::parts::{Counts, Left, next_buffer};
 use crate::placing::{Placed, place_buffers};
 use crate::stored::Stored;
 use crate::validity::{put_validity, read_head, validity_size};
@@ -99,16 +99,16 @@ fn array_of<T: Stored>(
 fn read_native<'a, T: Stored>(
     alloc: Global,
     data_type: &DataType,
-    rows: usize,
+    counts: Counts,
     body: &'a [u8],
     left: Left<'a>,
 ) -> Result<(PrimitiveArray<T>, Left<'a>), Fault>
     requires { physical_type (type_of data_type.now) ≡ physical.Primitive T.PRIMITIVE }
-    ensures { Gives (λ x. (x.0, rest_of x.1)) result (native_in T.form T.PRIMITIVE (type_of data_type.now) rows body.now (rest_of left.entry)) }
+    ensures { Gives (λ x. (x.0, rest_of x.1)) result (native_in T.form T.PRIMITIVE (type_of data_type.now) counts body.now (rest_of left.entry)) }
 {
-    let (validity, left) = read_head(alloc, rows, body, left)?;
+    let (validity, left) = read_head(alloc, counts, body, left)?;
     let (bytes, left) = next_buffer(body, left)?;
-    let values = read_values::<T>(alloc, rows, bytes)?;
+    let values = read_values::<T>(alloc, counts.slots, bytes)?;
     let values = buffer_of(alloc, values)?;
     let array = array_of(alloc, data_type, values, validity)?;
     Ok((array, left))
@@ -116,8 +116,8 @@ fn read_native<'a, T: Stored>(
 
 // The array of a type in the variant of its kind.
 macro_rules! read_as {
-    ($variant:ident, $native:ty, $alloc:ident, $type:ident, $rows:ident, $body:ident, $left:ident) => {
-        match read_native::<$native>($alloc, $type, $rows, $body, $left) {
+    ($variant:ident, $native:ty, $alloc:ident, $type:ident, $counts:ident, $body:ident, $left:ident) => {
+        match read_native::<$native>($alloc, $type, $counts, $body, $left) {
             Err(fault) => Err(fault),
             Ok((array, left)) => Ok((AnyPrimitive::$variant(array), left)),
         }
@@ -129,32 +129,32 @@ pub(crate) fn read_primitive<'a>(
     alloc: Global,
     kind: PrimitiveType,
     data_type: &DataType,
-    rows: usize,
+    counts: Counts,
     body: &'a [u8],
     left: Left<'a>,
 ) -> Result<(AnyPrimitive, Left<'a>), Fault>
     requires { physical_type (type_of data_type.now) ≡ physical.Primitive kind }
-    ensures { Gives (λ x. (primitive_layout x.0, rest_of x.1)) result (of_form (form_of kind) kind (type_of data_type.now) rows body.now (rest_of left.entry)) }
+    ensures { Gives (λ x. (primitive_layout x.0, rest_of x.1)) result (of_form (form_of kind) kind (type_of data_type.now) counts body.now (rest_of left.entry)) }
 {
     match kind {
-        PrimitiveType::Int8 => read_as!(Int8, i8, alloc, data_type, rows, body, left),
-        PrimitiveType::Int16 => read_as!(Int16, i16, alloc, data_type, rows, body, left),
-        PrimitiveType::Int32 => read_as!(Int32, i32, alloc, data_type, rows, body, left),
-        PrimitiveType::Int64 => read_as!(Int64, i64, alloc, data_type, rows, body, left),
-        PrimitiveType::Int128 => read_as!(Int128, i128, alloc, data_type, rows, body, left),
-        PrimitiveType::Int256 => read_as!(Int256, i256, alloc, data_type, rows, body, left),
-        PrimitiveType::UInt8 => read_as!(UInt8, u8, alloc, data_type, rows, body, left),
-        PrimitiveType::UInt16 => read_as!(UInt16, u16, alloc, data_type, rows, body, left),
-        PrimitiveType::UInt32 => read_as!(UInt32, u32, alloc, data_type, rows, body, left),
-        PrimitiveType::UInt64 => read_as!(UInt64, u64, alloc, data_type, rows, body, left),
-        PrimitiveType::DaysMs => read_as!(DaysMs, days_ms, alloc, data_type, rows, body, left),
+        PrimitiveType::Int8 => read_as!(Int8, i8, alloc, data_type, counts, body, left),
+        PrimitiveType::Int16 => read_as!(Int16, i16, alloc, data_type, counts, body, left),
+        PrimitiveType::Int32 => read_as!(Int32, i32, alloc, data_type, counts, body, left),
+        PrimitiveType::Int64 => read_as!(Int64, i64, alloc, data_type, counts, body, left),
+        PrimitiveType::Int128 => read_as!(Int128, i128, alloc, data_type, counts, body, left),
+        PrimitiveType::Int256 => read_as!(Int256, i256, alloc, data_type, counts, body, left),
+        PrimitiveType::UInt8 => read_as!(UInt8, u8, alloc, data_type, counts, body, left),
+        PrimitiveType::UInt16 => read_as!(UInt16, u16, alloc, data_type, counts, body, left),
+        PrimitiveType::UInt32 => read_as!(UInt32, u32, alloc, data_type, counts, body, left),
+        PrimitiveType::UInt64 => read_as!(UInt64, u64, alloc, data_type, counts, body, left),
+        PrimitiveType::DaysMs => read_as!(DaysMs, days_ms, alloc, data_type, counts, body, left),
         PrimitiveType::MonthDayNano => {
             read_as!(
                 MonthDayNano,
                 months_days_ns,
                 alloc,
                 data_type,
-                rows,
+                counts,
                 body,
                 left
             )
@@ -177,8 +177,8 @@ pub(crate) fn values_size<T: Stored>(slots: usize) -> Result<usize, NoForm>
 fn place_native<T: Stored>(placed: &mut Placed, array: &PrimitiveArray<T>) -> Result<(), NoForm>
     requires { placed.old.length < 2 ^ 63 }
     ensures nodes { placed.new.nodes ≡ placed.old.nodes }
-    ensures ok { OnOk result (IsLonger placed.old placed.new (column_buffers array.now)) }
-    ensures err { IfErr result (λ why. IsPast why (placed.old.length + length (body_of (column_buffers array.now)))) }
+    ensures ok { OnOk result (IsLonger placed.old placed.new (flat_buffers array.now)) }
+    ensures err { IfErr result (λ why. IsPast why (placed.old.length + length (body_of (flat_buffers array.now)))) }
 {
     array.known();
     let size = values_size::<T>(array.len())?;
@@ -209,8 +209,8 @@ macro_rules! each_kind {
 pub(crate) fn place_primitive(placed: &mut Placed, array: &AnyPrimitive) -> Result<(), NoForm>
     requires { placed.old.length < 2 ^ 63 }
     ensures nodes { placed.new.nodes ≡ placed.old.nodes }
-    ensures ok { OnOk result (IsLonger placed.old placed.new (column_buffers (primitive_layout array.now))) }
-    ensures err { IfErr result (λ why. IsPast why (placed.old.length + length (body_of (column_buffers (primitive_layout array.now))))) }
+    ensures ok { OnOk result (IsLonger placed.old placed.new (flat_buffers (primitive_layout array.now))) }
+    ensures err { IfErr result (λ why. IsPast why (placed.old.length + length (body_of (flat_buffers (primitive_layout array.now))))) }
 {
     each_kind!(array, array => place_native(placed, array))
 }
@@ -225,8 +225,9 @@ fn put_each<T: Stored>(out: &mut Vec<u8>, values: &[T]) -> Result<(), AllocError
     Ok(())
 }
 
+/// Appends native values as a buffer.
 #[tactic(auto, unfolding(crate::specs::Placed::padded))]
-fn put_values<T: Stored>(out: &mut Vec<u8>, values: &[T]) -> Result<(), AllocError>
+pub(crate) fn put_values<T: Stored>(out: &mut Vec<u8>, values: &[T]) -> Result<(), AllocError>
     ensures ok { OnOk result (out.new.items ≡ out.old.items ++ padded (values_bytes T.form (map T.numbers values.now))) }
     ensures spelled { OnOk result (AllByRecursion (IsSpelled T.form) (map T.numbers values.now)) }
 {
@@ -237,7 +238,7 @@ fn put_values<T: Stored>(out: &mut Vec<u8>, values: &[T]) -> Result<(), AllocErr
 }
 
 fn put_native<T: Stored>(out: &mut Vec<u8>, array: &PrimitiveArray<T>) -> Result<(), AllocError>
-    ensures ok { OnOk result (out.new.items ≡ out.old.items ++ body_of (column_buffers array.now)) }
+    ensures ok { OnOk result (out.new.items ≡ out.old.items ++ body_of (flat_buffers array.now)) }
     ensures writable { OnOk result (IsWritable array.now) }
 {
     array.known();
@@ -247,7 +248,7 @@ fn put_native<T: Stored>(out: &mut Vec<u8>, array: &PrimitiveArray<T>) -> Result
 
 /// Appends the buffers of an array of any kind of native values.
 pub(crate) fn put_primitive(out: &mut Vec<u8>, array: &AnyPrimitive) -> Result<(), AllocError>
-    ensures ok { OnOk result (out.new.items ≡ out.old.items ++ body_of (column_buffers (primitive_layout array.now))) }
+    ensures ok { OnOk result (out.new.items ≡ out.old.items ++ body_of (flat_buffers (primitive_layout array.now))) }
     ensures writable { OnOk result (IsWritable (primitive_layout array.now)) }
 {
     each_kind!(array, array => put_native(out, array))

@@ -1,7 +1,7 @@
 //! Nodes and buffers, taken one after the other.
-ghost use Rattle.std.specs.Prelude.{◌≡◌, IfOk};
+ghost use Rattle.std.specs.Prelude.{◌≡◌};
 ghost use Rattle.ipc_model.specs.Reading.{Spells};
-ghost use Rattle.ipc_layout.specs.Columns.{rest_of, counts_of as counts_of_lem, bytes_of as bytes_of_lem, next_counts as next_counts_lem, next_bytes as next_bytes_lem, node_in, buffer_in};
+ghost use Rattle.ipc_layout.specs.Columns.{rest_of, counts_of as counts_of_lem, bytes_of as bytes_of_lem, next_counts as next_counts_lem, next_bytes as next_bytes_lem, are_wanted as are_wanted_lem, node_in, buffer_in};
 
 use ipc_model::{Fault, Node, Region};
 
@@ -10,6 +10,19 @@ use ipc_model::{Fault, Node, Region};
 pub struct Left<'a> {
     pub nodes: &'a [Node],
     pub regions: &'a [Region],
+}
+
+/// How many slots an array may have.
+#[derive(Clone, Copy, Debug, PartialEq, Eq)]
+pub enum Wanted {
+    /// As many as the batch has rows: another number is `RowCount`.
+    Rows(usize),
+    /// So many, which its parent asks for: another number is `ChildLength`.
+    Exactly(u128),
+    /// So many or more: fewer are `ChildLength`.
+    AtLeast(usize),
+    /// Any number.
+    Any,
 }
 
 /// How many slots an array has, and how many of them are null.
@@ -70,16 +83,24 @@ fn next_bytes<'a>(body: &'a [u8], regions: &'a [Region]) -> Result<(&'a [u8], &'
     }
 }
 
-/// The numbers of the next array, which has so many slots.
+fn are_wanted(wanted: Wanted, slots: usize) -> Result<(), Fault>
+    ensures { result ≡ are_wanted_lem wanted slots }
+{
+    match wanted {
+        Wanted::Rows(rows) if slots != rows => Err(Fault::RowCount),
+        Wanted::Exactly(count) if slots as u128 != count => Err(Fault::ChildLength),
+        Wanted::AtLeast(count) if slots < count => Err(Fault::ChildLength),
+        _ => Ok(()),
+    }
+}
+
+/// The numbers of the next array.
 #[tactic(auto, unfolding(crate::specs::Columns::node_in))]
-pub(crate) fn next_node<'a>(rows: usize, left: Left<'a>) -> Result<(Counts, Left<'a>), Fault>
-    ensures read { Spells (λ x. (x.0, rest_of x.1)) result (node_in rows (rest_of left.entry)) }
-    ensures slots { IfOk result (λ x. x.0.slots ≡ rows) }
+pub(crate) fn next_node<'a>(wanted: Wanted, left: Left<'a>) -> Result<(Counts, Left<'a>), Fault>
+    ensures { Spells (λ x. (x.0, rest_of x.1)) result (node_in wanted (rest_of left.entry)) }
 {
     let (counts, nodes) = next_counts(left.nodes)?;
-    if counts.slots != rows {
-        return Err(Fault::RowCount);
-    }
+    are_wanted(wanted, counts.slots)?;
     let regions = left.regions;
     Ok((counts, Left { nodes, regions }))
 }

@@ -2,19 +2,29 @@
 ghost use Rattle.std.specs.Prelude.{◌≡◌, ◌<◌, ◌≤◌, ◌^◌, ◌⊎◌, ◌+◌, ◌*◌, ◌++◌, List, ℕ, [], ◌∷◌, pos, map, length, IfOk, IfErr, OnOk, true, None};
 ghost use Rattle.std.specs.Int.{div_ceil};
 ghost use Rattle.std.specs.List.{list_all};
+ghost use Rattle.std.specs.Option.{option_map};
 ghost use Rattle.ipc_model.specs.declared.fault.NoForm.TheVariants.{Memory, Size};
-ghost use Rattle.nest_model.specs.Meaning.{len};
-ghost use Rattle.nest_array.specs.Seen.{layout_of};
-ghost use Rattle.ipc_layout.specs.Kinds.{is_written};
+ghost use Rattle.nest_model.specs.Cut.{cut_layout};
+ghost use Rattle.nest_model.specs.Nullness.{null_count as null_count_lem};
+ghost use Rattle.nest_array.specs.Seen.{layout_of, layouts_of};
+ghost use Rattle.ipc_layout.specs.Kinds.{is_null, is_written};
 ghost use Rattle.ipc_layout.specs.Placed.{body_of};
-ghost use Rattle.ipc_layout.specs.Written.{column_node, column_buffers, has_form as has_form_lem, is_countable, no_form, IsPast, IsTooLong, IsUnwritten, IsLonger, IsMore, IsPlaced};
+ghost use Rattle.ipc_layout.specs.ShownLaws.{is_nulls as is_nulls_lem};
+ghost use Rattle.ipc_layout.specs.WrittenLaws.{unset};
+ghost use Rattle.ipc_layout.specs.Written.{column_node, valid_bytes, own_buffers, flat_buffers, arrays_of, arrays_of_all, written_windows, shown_window, is_flat, has_form as has_form_lem, kind_has_form, window_has_form, no_form, IsPast, AreTooLong, IsUnwritten, IsLonger, IsMore, IsPlaced};
 
 use crate::boolean::place_boolean;
 use crate::fixed_size_binary::place_fixed_size_binary;
+use crate::list::place_rows;
 use crate::native::place_primitive;
 use crate::strings::{place_binary, place_text};
+use crate::union::place_picks;
+use crate::validity::{cut_validity, validity_size};
+use crate::windows::{below, whole};
 use ipc_model::{NoForm, Node, Region};
 use nest_array::any::AnyArray;
+use nest_array::window::Window;
+use nest_memory::bitmap::immutable::Bitmap;
 use std::alloc::Global;
 
 /// What a batch's metadata says of its columns.
@@ -65,30 +75,69 @@ pub(crate) fn place_buffers(placed: &mut Placed, sizes: &[usize]) -> Result<(), 
     Ok(())
 }
 
-fn place_node(placed: &mut Placed, column: &AnyArray) -> Result<(), NoForm>
+// Whether it has no values, but a number of nulls.
+fn is_nulls(array: &AnyArray) -> bool
+    ensures { result ≡ is_nulls_lem (layout_of array.now) }
+{
+    kind(array);
+    match array {
+        AnyArray::Null(_) => true,
+        _ => false,
+    }
+}
+
+fn unset_bits(validity: &Option<Bitmap>) -> usize
+    ensures { result ≡ unset validity.now }
+{
+    match validity {
+        None => 0,
+        Some(bits) => bits.unset_bits(),
+    }
+}
+
+// How many slots of a window are null; of unions none is.
+fn null_count(window: &Window<'_>) -> Result<usize, NoForm>
+    requires { kind_has_form window.now.array ≡ true }
+    ensures ok { IfOk result (λ n. n ≡ null_count_lem (shown_window window.now)) }
+    ensures few { IfOk result (λ n. n ≤ window.now.count) }
+    ensures err { IfErr result (λ why. why ≡ Memory) }
+{
+    window.known();
+    window.array().known();
+    if is_nulls(window.array()) {
+        return Ok(window.len());
+    }
+    let validity = cut_validity(window)?;
+    Ok(unset_bits(&validity))
+}
+
+fn place_node(placed: &mut Placed, window: &Window<'_>) -> Result<(), NoForm>
+    requires { kind_has_form window.now.array ≡ true }
     ensures regions { placed.new.regions ≡ placed.old.regions }
     ensures length { placed.new.length ≡ placed.old.length }
-    ensures ok { OnOk result (placed.new.nodes.items ≡ placed.old.nodes.items ++ column_node (layout_of column.now) ∷ []) }
-    ensures slots { OnOk result (len (layout_of column.now) < 2 ^ 63) }
-    ensures err { IfErr result (λ why. IsPast why (len (layout_of column.now))) }
+    ensures ok { OnOk result (placed.new.nodes.items ≡ placed.old.nodes.items ++ column_node (shown_window window.now) ∷ []) }
+    ensures slots { OnOk result (window.now.count < 2 ^ 63) }
+    ensures err { IfErr result (λ why. IsPast why window.now.count) }
 {
-    let length = column.len();
+    window.known();
+    let length = window.len();
     if length >= 1 << 63 {
         return Err(NoForm::Size);
     }
+    let nulls = null_count(window)?;
     placed.nodes.push(Node {
         length: length as i64,
-        null_count: column.null_count() as i64,
+        null_count: nulls as i64,
     })?;
     Ok(())
 }
 
 fn place_parts(placed: &mut Placed, column: &AnyArray) -> Result<(), NoForm>
     requires small { placed.old.length < 2 ^ 63 }
-    requires form { has_form_lem (layout_of column.now) ≡ true }
+    requires flat { is_flat (layout_of column.now) ≡ true }
     ensures nodes { placed.new.nodes ≡ placed.old.nodes }
-    ensures ok { OnOk result (IsLonger placed.old placed.new (column_buffers (layout_of column.now))) }
-    ensures err { IfErr result (λ why. IsPast why (placed.old.length + length (body_of (column_buffers (layout_of column.now))))) }
+    ensures ok { OnOk result (IsLonger placed.old placed.new (flat_buffers (layout_of column.now))) }
+    ensures err { IfErr result (λ why. IsPast why (placed.old.length + length (body_of (flat_buffers (layout_of column.now))))) }
 {
     kind(column);
     match column {
@@ -107,21 +156,129 @@ fn place_parts(placed: &mut Placed, column: &AnyArray) -> Result<(), NoForm>
     }
 }
 
-fn place_column(placed: &mut Placed, column: &AnyArray) -> Result<(), NoForm>
-    requires small { placed.old.length < 2 ^ 63 }
-    requires form { has_form_lem (layout_of column.now) ≡ true }
-    ensures ok { OnOk result (IsMore placed.old placed.new (layout_of column.now)) }
-    ensures err { IfErr result (λ why. IsTooLong why placed.old.length (layout_of column.now)) }
+/// The slots of a window as an array of their own.
+pub(crate) fn cut_of(alloc: Global, window: &Window<'_>) -> Result<AnyArray, NoForm>
+    ensures ok { IfOk result (λ a. layout_of a ≡ cut_layout window.now.array window.now.offset window.now.count) }
+    ensures err { IfErr result (λ why. why ≡ Memory) }
 {
-    place_node(placed, column)?;
-    place_parts(placed, column)
+    window.known();
+    match window.array().clone(alloc) {
+        Ok(array) => Ok(array.sliced(window.offset(), window.len())),
+        Err(_) => Err(NoForm::Memory),
+    }
+}
+
+fn place_flat(alloc: Global, placed: &mut Placed, window: &Window<'_>) -> Result<(), NoForm>
+    requires small { placed.old.length < 2 ^ 63 }
+    requires flat { is_flat window.now.array ≡ true }
+    ensures nodes { placed.new.nodes ≡ placed.old.nodes }
+    ensures ok { OnOk result (IsLonger placed.old placed.new (own_buffers (shown_window window.now))) }
+    ensures err { IfErr result (λ why. IsPast why (placed.old.length + length (body_of (own_buffers (shown_window window.now))))) }
+{
+    match cut_of(alloc, window) {
+        Err(why) => Err(why),
+        Ok(array) => {
+            let result = place_parts(placed, &array);
+            drop(array);
+            result
+        }
+    }
+}
+
+fn place_validity(placed: &mut Placed, validity: Option<&Bitmap>) -> Result<(), NoForm>
+    requires { placed.old.length < 2 ^ 63 }
+    ensures nodes { placed.new.nodes ≡ placed.old.nodes }
+    ensures ok { OnOk result (IsLonger placed.old placed.new (valid_bytes (option_map (λ b. b.now) validity.entry) ∷ [])) }
+    ensures err { IfErr result (λ why. IsPast why (placed.old.length + length (body_of (valid_bytes (option_map (λ b. b.now) validity.entry) ∷ [])))) }
+{
+    place_buffers(placed, &[validity_size(validity)])
+}
+
+// Where a window's own buffers stand.
+fn place_own(alloc: Global, placed: &mut Placed, window: &Window<'_>) -> Result<(), NoForm>
+    requires small { placed.old.length < 2 ^ 63 }
+    requires slots { window.now.count < 2 ^ 63 }
+    requires form { kind_has_form window.now.array ≡ true }
+    ensures nodes { placed.new.nodes ≡ placed.old.nodes }
+    ensures ok { OnOk result (IsLonger placed.old placed.new (own_buffers (shown_window window.now))) }
+    ensures err { IfErr result (λ why. IsPast why (placed.old.length + length (body_of (own_buffers (shown_window window.now))))) }
+{
+    window.known();
+    let n = window.len();
+    let validity = cut_validity(window)?;
+    let array = window.array();
+    kind(array);
+    match array {
+        AnyArray::FixedSizeList(array) => {
+            array.known();
+            place_validity(placed, validity.as_ref())
+        }
+        AnyArray::Struct(array) => {
+            array.known();
+            place_validity(placed, validity.as_ref())
+        }
+        AnyArray::List(array) => {
+            array.known();
+            place_rows::<i32>(placed, validity.as_ref(), n)
+        }
+        AnyArray::LargeList(array) => {
+            array.known();
+            place_rows::<i64>(placed, validity.as_ref(), n)
+        }
+        AnyArray::Map(array) => {
+            array.known();
+            place_rows::<i32>(placed, validity.as_ref(), n)
+        }
+        AnyArray::Union(array) => place_picks(placed, array, window.offset(), n),
+        AnyArray::Null(_)
+        | AnyArray::Boolean(_)
+        | AnyArray::Primitive(_)
+        | AnyArray::FixedSizeBinary(_)
+        | AnyArray::Binary(_)
+        | AnyArray::LargeBinary(_)
+        | AnyArray::Utf8(_)
+        | AnyArray::LargeUtf8(_) => place_flat(alloc, placed, window),
+        AnyArray::Dictionary(array) => {
+            array.known();
+            unreachable!()
+        }
+    }
+}
+
+/// What the metadata says of a window's array and of those below it.
+#[cycle(place)]
+fn place_window(alloc: Global, placed: &mut Placed, window: &Window<'_>) -> Result<(), NoForm>
+    requires small { placed.old.length < 2 ^ 63 }
+    requires form { window_has_form window.now ≡ true }
+    ensures ok { OnOk result (IsMore placed.old placed.new (arrays_of (shown_window window.now))) }
+    ensures err { IfErr result (λ why. AreTooLong why placed.old.length (arrays_of (shown_window window.now))) }
+{
+    window.known();
+    place_node(placed, window)?;
+    place_own(alloc, placed, window)?;
+    let children = below(alloc, window)?;
+    place_windows(alloc, placed, &children)
+}
+
+#[cycle(place)]
+fn place_windows(alloc: Global, placed: &mut Placed, windows: &[Window<'_>]) -> Result<(), NoForm>
+    requires small { placed.old.length < 2 ^ 63 }
+    requires forms { list_all window_has_form windows.now ≡ true }
+    ensures ok { OnOk result (IsMore placed.old placed.new (written_windows windows.now)) }
+    ensures err { IfErr result (λ why. AreTooLong why placed.old.length (written_windows windows.now)) }
+{
+    for window in windows {
+        place_window(alloc, placed, window)?;
+    }
+    Ok(())
 }
 
 /// What the variant of an array says of its kind.
-pub(crate) fn kind(column: &AnyArray)
-    ensures { has_form_lem (layout_of column.now) ≡ is_written column.now }
+pub(crate) fn kind(array: &AnyArray)
+    ensures flat { is_flat (layout_of array.now) ≡ is_written array.now }
+    ensures nulls { is_nulls_lem (layout_of array.now) ≡ is_null array.now }
 {
-    match column {
+    match array {
         AnyArray::Null(array) => array.known(),
         AnyArray::Boolean(array) => array.known(),
         AnyArray::Primitive(array) => array.known(),
@@ -140,12 +297,41 @@ pub(crate) fn kind(column: &AnyArray)
     }
 }
 
-/// Whether arrays of a column's kind are written.
-pub(crate) fn has_form(column: &AnyArray) -> bool
-    ensures { result ≡ has_form_lem (layout_of column.now) }
+/// Whether an array and those below it are of kinds that are written.
+#[cycle(form)]
+fn has_form(array: &AnyArray) -> bool
+    ensures { result ≡ has_form_lem (layout_of array.now) }
 {
-    kind(column);
-    match column {
+    kind(array);
+    match array {
+        AnyArray::FixedSizeList(array) => {
+            array.known();
+            has_form(array.values())
+        }
+        AnyArray::List(array) => {
+            array.known();
+            has_form(array.values())
+        }
+        AnyArray::LargeList(array) => {
+            array.known();
+            has_form(array.values())
+        }
+        AnyArray::Map(array) => {
+            array.known();
+            has_form(array.field())
+        }
+        AnyArray::Struct(array) => {
+            array.known();
+            all_have_forms(array.values())
+        }
+        AnyArray::Union(array) => {
+            array.known();
+            all_have_forms(array.fields())
+        }
+        AnyArray::Dictionary(array) => {
+            array.known();
+            false
+        }
         AnyArray::Null(_)
         | AnyArray::Boolean(_)
         | AnyArray::Primitive(_)
@@ -154,35 +340,24 @@ pub(crate) fn has_form(column: &AnyArray) -> bool
         | AnyArray::LargeBinary(_)
         | AnyArray::Utf8(_)
         | AnyArray::LargeUtf8(_) => true,
-        _ => false,
     }
 }
 
-fn all_have_forms(columns: &[AnyArray]) -> bool
-    ensures { result ≡ list_all has_form_lem (map layout_of columns.now) }
+/// Whether all arrays are.
+#[cycle(form)]
+pub(crate) fn all_have_forms(arrays: &[AnyArray]) -> bool
+    ensures { result ≡ list_all kind_has_form (arrays_of_all (layouts_of arrays.now)) }
 {
-    for column in columns {
-        if !has_form(column) {
+    for array in arrays {
+        if !has_form(array) {
             return false;
         }
     }
     true
 }
 
-fn place_each(placed: &mut Placed, columns: &[AnyArray]) -> Result<(), NoForm>
-    requires start { IsPlaced [] placed.old }
-    requires forms { list_all has_form_lem (map layout_of columns.now) ≡ true }
-    ensures ok { OnOk result (IsPlaced (map layout_of columns.now) placed.new) }
-    ensures err { IfErr result (IsUnwritten (map layout_of columns.now)) }
-{
-    for column in columns {
-        place_column(placed, column)?;
-    }
-    Ok(())
-}
-
-/// Where the buffers of columns stand in the body of their batch, and what its metadata says of the columns. Refused where
-/// arrays of a column's kind are not written (`Type`), where a column has more than 2^63 - 1 slots or the body more than
+/// Where the buffers of columns stand in the body of their batch, and what its metadata says of the columns and of the arrays
+/// below them. Refused where a dictionary is among those (`Type`), where one has more than 2^63 - 1 slots or the body more than
 /// 2^63 - 1 bytes (`Size`), or for want of memory.
 pub fn place_columns(alloc: Global, columns: &[AnyArray]) -> Result<Placed, NoForm>
     ensures ok { IfOk result (IsPlaced (map layout_of columns.now)) }
@@ -192,11 +367,12 @@ pub fn place_columns(alloc: Global, columns: &[AnyArray]) -> Result<Placed, NoFo
     if !all_have_forms(columns) {
         return Err(NoForm::Type);
     }
+    let windows = whole(alloc, columns)?;
     let mut placed = Placed {
         nodes: Vec::new(alloc),
         regions: Vec::new(alloc),
         length: 0,
     };
-    place_each(&mut placed, columns)?;
+    place_windows(alloc, &mut placed, &windows)?;
     Ok(placed)
 }

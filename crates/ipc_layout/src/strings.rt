@@ -10,16 +10,16 @@ ghost use Rattle.nest_memory.specs.TypeOf.{type_of};
 ghost use Rattle.nest_model.specs.Fits.{Fits, ValidityFits, covered};
 ghost use Rattle.nest_model.specs.Layout as layouts;
 ghost use Rattle.nest_model.specs.Part.{count_rows};
-ghost use Rattle.ipc_layout.specs.Columns.{rest_of, offsets_from, offsets_in, covered_in, strings_in, binary_in, text_in, text_of};
+ghost use Rattle.ipc_layout.specs.Columns.{rest_of, offsets_from, offsets_in, covered_in, rows_in, strings_in, binary_in, text_in, text_of};
 ghost use Rattle.ipc_layout.specs.Placed.{padded, body_of};
 ghost use Rattle.ipc_layout.specs.Stored.{offset_form};
 ghost use Rattle.ipc_layout.specs.StoredLaws.{IsSpelled};
-ghost use Rattle.ipc_layout.specs.Written.{rebased, offset_bytes, column_buffers, IsPast, IsLonger, string_buffers};
+ghost use Rattle.ipc_layout.specs.Written.{rebased, offset_bytes, flat_buffers, IsPast, IsLonger, string_buffers};
 ghost use Rattle.ipc_layout.specs.WrittenLaws.{OffsetsSpelled, IsWritable};
 
 use crate::bytes::{pad, put_bytes, read_bytes};
 use crate::native::{read_values, values_size};
-use crate::parts::{Left, next_buffer};
+use crate::parts::{Counts, Left, next_buffer};
 use crate::placing::{Placed, place_buffers};
 use crate::stored::StoredOffset;
 use crate::validity::{put_validity, read_head, validity_size};
@@ -96,26 +96,48 @@ fn read_covered(alloc: Global, last: usize, bytes: &[u8]) -> Result<Buffer<u8>, 
     read_bytes(alloc, last, bytes)
 }
 
+/// What rows of any size begin with.
+#[derive(Drop)]
+pub(crate) struct RowsHead<O: StoredOffset> {
+    pub offsets: OffsetsBuffer<O>,
+    pub validity: Option<Bitmap>,
+}
+
+/// The validity and the offsets of an array of rows of any size.
+#[tactic(auto, unfolding(crate::specs::Columns::rows_in))]
+pub(crate) fn read_rows<'a, O: StoredOffset>(
+    alloc: Global,
+    counts: Counts,
+    body: &'a [u8],
+    left: Left<'a>,
+) -> Result<(RowsHead<O>, Left<'a>), Fault>
+    ensures read { Gives (λ x. (record { offsets = x.0.offsets; validity = x.0.validity }, rest_of x.1)) result (rows_in O.IS_LARGE counts body.now (rest_of left.entry)) }
+    ensures slots { IfOk result (λ x. (count_rows x.0.offsets ≡ counts.slots) × (ValidityFits x.0.validity counts.slots)) }
+{
+    let (validity, left) = read_head(alloc, counts, body, left)?;
+    let (bytes, left) = next_buffer(body, left)?;
+    let offsets = read_offsets::<O>(alloc, counts.slots, bytes)?;
+    Ok((RowsHead { offsets, validity }, left))
+}
+
 #[tactic(auto, unfolding(crate::specs::Columns::strings_in))]
 fn read_strings<'a, O: StoredOffset>(
     alloc: Global,
-    rows: usize,
+    counts: Counts,
     body: &'a [u8],
     left: Left<'a>,
 ) -> Result<Strings<'a, O>, Fault>
-    ensures read { Gives (λ x. (record { offsets = x.offsets; bytes = x.bytes; validity = x.validity }, rest_of x.left)) result (strings_in O.IS_LARGE rows body.now (rest_of left.entry)) }
-    ensures slots { IfOk result (λ x. (count_rows x.offsets ≡ rows) × (ValidityFits x.validity rows)) }
+    ensures read { Gives (λ x. (record { offsets = x.offsets; bytes = x.bytes; validity = x.validity }, rest_of x.left)) result (strings_in O.IS_LARGE counts body.now (rest_of left.entry)) }
+    ensures slots { IfOk result (λ x. (count_rows x.offsets ≡ counts.slots) × (ValidityFits x.validity counts.slots)) }
     ensures within { IfOk result (λ x. last_of x.offsets ≤ length x.bytes) }
 {
-    let (validity, left) = read_head(alloc, rows, body, left)?;
+    let (rows, left) = read_rows::<O>(alloc, counts, body, left)?;
     let (bytes, left) = next_buffer(body, left)?;
-    let offsets = read_offsets::<O>(alloc, rows, bytes)?;
-    let (bytes, left) = next_buffer(body, left)?;
-    let bytes = read_covered(alloc, offsets.last(), bytes)?;
+    let bytes = read_covered(alloc, rows.offsets.last(), bytes)?;
     Ok(Strings {
-        offsets,
+        offsets: rows.offsets,
         bytes,
-        validity,
+        validity: rows.validity,
         left,
     })
 }
@@ -157,14 +179,14 @@ fn binary_of<O: StoredOffset>(
 pub(crate) fn read_binary<'a, O: StoredOffset>(
     alloc: Global,
     data_type: &DataType,
-    rows: usize,
+    counts: Counts,
     body: &'a [u8],
     left: Left<'a>,
 ) -> Result<(BinaryArray<O>, Left<'a>), Fault>
     requires { physical_type (type_of data_type.now) ≡ binary_of_width O.IS_LARGE }
-    ensures { Gives (λ x. (x.0, rest_of x.1)) result (binary_in O.IS_LARGE (type_of data_type.now) rows body.now (rest_of left.entry)) }
+    ensures { Gives (λ x. (x.0, rest_of x.1)) result (binary_in O.IS_LARGE (type_of data_type.now) counts body.now (rest_of left.entry)) }
 {
-    let strings = read_strings::<O>(alloc, rows, body, left)?;
+    let strings = read_strings::<O>(alloc, counts, body, left)?;
     let left = strings.left;
     let array = binary_of(
         alloc,
@@ -217,14 +239,14 @@ fn texts_of<O: StoredOffset>(
 pub(crate) fn read_text<'a, O: StoredOffset>(
     alloc: Global,
     data_type: &DataType,
-    rows: usize,
+    counts: Counts,
     body: &'a [u8],
     left: Left<'a>,
 ) -> Result<(Utf8Array<O>, Left<'a>), Fault>
     requires { physical_type (type_of data_type.now) ≡ text_of_width O.IS_LARGE }
-    ensures { Gives (λ x. (x.0, rest_of x.1)) result (text_in O.IS_LARGE (type_of data_type.now) rows body.now (rest_of left.entry)) }
+    ensures { Gives (λ x. (x.0, rest_of x.1)) result (text_in O.IS_LARGE (type_of data_type.now) counts body.now (rest_of left.entry)) }
 {
-    let strings = read_strings::<O>(alloc, rows, body, left)?;
+    let strings = read_strings::<O>(alloc, counts, body, left)?;
     let left = strings.left;
     let array = texts_of(
         alloc,
@@ -262,8 +284,8 @@ pub(crate) fn place_binary<O: StoredOffset>(
 ) -> Result<(), NoForm>
     requires { placed.old.length < 2 ^ 63 }
     ensures nodes { placed.new.nodes ≡ placed.old.nodes }
-    ensures ok { OnOk result (IsLonger placed.old placed.new (column_buffers array.now)) }
-    ensures err { IfErr result (λ why. IsPast why (placed.old.length + length (body_of (column_buffers array.now)))) }
+    ensures ok { OnOk result (IsLonger placed.old placed.new (flat_buffers array.now)) }
+    ensures err { IfErr result (λ why. IsPast why (placed.old.length + length (body_of (flat_buffers array.now)))) }
 {
     array.known();
     place_strings(placed, array.offsets(), array.values(), array.validity())
@@ -276,8 +298,8 @@ pub(crate) fn place_text<O: StoredOffset>(
 ) -> Result<(), NoForm>
     requires { placed.old.length < 2 ^ 63 }
     ensures nodes { placed.new.nodes ≡ placed.old.nodes }
-    ensures ok { OnOk result (IsLonger placed.old placed.new (column_buffers array.now)) }
-    ensures err { IfErr result (λ why. IsPast why (placed.old.length + length (body_of (column_buffers array.now)))) }
+    ensures ok { OnOk result (IsLonger placed.old placed.new (flat_buffers array.now)) }
+    ensures err { IfErr result (λ why. IsPast why (placed.old.length + length (body_of (flat_buffers array.now)))) }
 {
     array.known();
     place_strings(placed, array.offsets(), array.values(), array.validity())
@@ -312,8 +334,9 @@ fn put_each_offset<O: StoredOffset>(
     Ok(())
 }
 
+/// Appends offsets less the first one as a buffer.
 #[tactic(auto, unfolding(crate::specs::Placed::padded))]
-fn put_offsets<O: StoredOffset>(
+pub(crate) fn put_offsets<O: StoredOffset>(
     out: &mut Vec<u8>,
     offsets: &OffsetsBuffer<O>,
 ) -> Result<(), AllocError>
@@ -355,7 +378,7 @@ pub(crate) fn put_binary<O: StoredOffset>(
     out: &mut Vec<u8>,
     array: &BinaryArray<O>,
 ) -> Result<(), AllocError>
-    ensures ok { OnOk result (out.new.items ≡ out.old.items ++ body_of (column_buffers array.now)) }
+    ensures ok { OnOk result (out.new.items ≡ out.old.items ++ body_of (flat_buffers array.now)) }
     ensures writable { OnOk result (IsWritable array.now) }
 {
     array.known();
@@ -367,7 +390,7 @@ pub(crate) fn put_text<O: StoredOffset>(
     out: &mut Vec<u8>,
     array: &Utf8Array<O>,
 ) -> Result<(), AllocError>
-    ensures ok { OnOk result (out.new.items ≡ out.old.items ++ body_of (column_buffers array.now)) }
+    ensures ok { OnOk result (out.new.items ≡ out.old.items ++ body_of (flat_buffers array.now)) }
     ensures writable { OnOk result (IsWritable array.now) }
 {
     array.known();

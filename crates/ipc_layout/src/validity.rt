@@ -1,15 +1,20 @@
 //! Validities: what arrays begin with.
-ghost use Rattle.std.specs.Prelude.{◌≡◌, ◌++◌, length, IfOk, OnOk};
+ghost use Rattle.std.specs.Prelude.{◌≡◌, ◌≤◌, ◌+◌, ◌++◌, length, Some, IfErr, IfOk, OnOk};
 ghost use Rattle.std.specs.Option.{option_map};
 ghost use Rattle.ipc_model.specs.Reading.{Gives};
+ghost use Rattle.ipc_model.specs.declared.fault.NoForm.TheVariants.{Memory};
+ghost use Rattle.nest_memory.specs.Cut.{cut};
+ghost use Rattle.nest_model.specs.Accessors.{validity_of};
 ghost use Rattle.nest_model.specs.Fits.{ValidityFits};
+ghost use Rattle.nest_model.specs.Part.{cut_validity as cut_validity_lem};
 ghost use Rattle.ipc_layout.specs.Columns.{rest_of, validity_in, head_in, without_nulls as without_nulls_lem};
 ghost use Rattle.ipc_layout.specs.Placed.{padded};
 ghost use Rattle.ipc_layout.specs.Written.{valid_bytes};
 
 use crate::bits::{put_bitmap, read_bits};
-use crate::parts::{Counts, Left, next_buffer, next_node};
-use ipc_model::Fault;
+use crate::parts::{Counts, Left, next_buffer};
+use ipc_model::{Fault, NoForm};
+use nest_array::window::Window;
 use nest_memory::bitmap::immutable::Bitmap;
 use std::alloc::{AllocError, Global};
 
@@ -34,21 +39,45 @@ fn read_validity(alloc: Global, counts: Counts, bytes: &[u8]) -> Result<Option<B
     Ok(without_nulls(counts.nulls, bits))
 }
 
-/// The validity of the next array, which has so many slots.
+/// The validity of an array with these numbers.
 #[tactic(auto, unfolding(crate::specs::Columns::head_in))]
 pub(crate) fn read_head<'a>(
     alloc: Global,
-    rows: usize,
+    counts: Counts,
     body: &'a [u8],
     left: Left<'a>,
 ) -> Result<(Option<Bitmap>, Left<'a>), Fault>
-    ensures read { Gives (λ x. (x.0, rest_of x.1)) result (head_in rows body.now (rest_of left.entry)) }
-    ensures fits { IfOk result (λ x. ValidityFits x.0 rows) }
+    ensures read { Gives (λ x. (x.0, rest_of x.1)) result (head_in counts body.now (rest_of left.entry)) }
+    ensures fits { IfOk result (λ x. ValidityFits x.0 counts.slots) }
 {
-    let (counts, left) = next_node(rows, left)?;
     let (bits, left) = next_buffer(body, left)?;
     let validity = read_validity(alloc, counts, bits)?;
     Ok((validity, left))
+}
+
+fn cut_bits(bits: &Bitmap, o: usize, n: usize) -> Result<Option<Bitmap>, NoForm>
+    requires { o + n ≤ length bits.now }
+    ensures ok { IfOk result (λ v. v ≡ Some (cut bits.now o n)) }
+    ensures err { IfErr result (λ why. why ≡ Memory) }
+{
+    match bits.clone() {
+        Ok(bits) => Ok(Some(bits.sliced(o, n))),
+        Err(_) => Err(NoForm::Memory),
+    }
+}
+
+/// The validity of a window's slots.
+pub(crate) fn cut_validity(window: &Window<'_>) -> Result<Option<Bitmap>, NoForm>
+    ensures ok { IfOk result (λ v. v ≡ cut_validity_lem (validity_of window.now.array) window.now.offset window.now.count) }
+    ensures err { IfErr result (λ why. why ≡ Memory) }
+{
+    window.known();
+    let array = window.array();
+    array.known();
+    match array.validity() {
+        None => Ok(None),
+        Some(bits) => cut_bits(bits, window.offset(), window.len()),
+    }
 }
 
 /// How many bytes a validity has in a body: none where no slot is null.

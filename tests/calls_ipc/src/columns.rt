@@ -1,5 +1,5 @@
 //! Columns of whole numbers, from nodes, buffers and a body.
-use ipc_layout::{Left, read_column, read_columns};
+use ipc_layout::{Left, Wanted, read_column, read_columns};
 use ipc_model::{Fault, Node, Region};
 use nest_flat::any_native::AnyNative;
 use nest_array::any::AnyArray;
@@ -42,7 +42,7 @@ fn read(
         nodes: &nodes,
         regions: &regions,
     };
-    match read_column(alloc, &data_type, 2, &BODY, left) {
+    match read_column(alloc, &data_type, Wanted::Rows(2), &BODY, left) {
         Ok((array, _left)) => Ok(array),
         Err(fault) => Err(fault),
     }
@@ -87,7 +87,7 @@ fn each_fault(rt: HostRuntime) {
 
 // The fault where nothing is read of so much.
 fn fault_of(alloc: Global, left: Left<'_>) -> Option<Fault> {
-    match read_column(alloc, &DataType::Int32, 2, &BODY, left) {
+    match read_column(alloc, &DataType::Int32, Wanted::Rows(2), &BODY, left) {
         Ok((_array, _left)) => None,
         Err(fault) => Some(fault),
     }

@@ -1,5 +1,5 @@
 //! Flat arrays of each kind, written byte by byte and read from any place of a body; each of their faults once.
-use ipc_layout::{Left, Placed, place_columns, put_columns, read_column};
+use ipc_layout::{Left, Placed, Wanted, place_columns, put_columns, read_column};
 use ipc_model::{Fault, NoForm, Node, Region};
 use nest_array::any::AnyArray;
 use nest_array::fixed_size_binary::FixedSizeBinaryArray;
@@ -202,7 +202,7 @@ fn read(
         nodes: &nodes,
         regions: &regions,
     };
-    match read_column(alloc, data_type, rows, body, left) {
+    match read_column(alloc, data_type, Wanted::Rows(rows), body, left) {
         Ok((array, _left)) => Ok(array),
         Err(fault) => Err(fault),
     }

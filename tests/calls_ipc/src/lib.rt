@@ -7,12 +7,15 @@
 //! | Streams of another program have their answers, or their faults | `samples_read` |
 //! | A schema that is written is read back, with its metadata, and so is a batch | `written` |
 //! | Schemas of another program have their text, or their faults; each type is read back; schemas drawn, over every type, are read back or have the first reason of a plain model; each beginning of a message and each byte of it changed is answered | `schemas` |
+//! | Schemas with dictionaries, of another program and laid down by hand, have their text and their ids; each fault of them, in its place of the order | `keyed_schemas` |
 //! | Each schema without a form is refused by its reason | `written::refused_schemas` |
 //! | Each word of flatbuffers once | `words` |
 //! | A column is read from a body, of each kind of whole numbers; each of its faults once | `columns` |
 //! | Columns that are written, byte by byte, of windows too, and read back; kinds that are not written | `bodies` |
 //! | Flat arrays of every kind, of another program: read, or refused; each window written and read back; each beginning of their bodies, and each byte changed | `flat_read` |
+//! | Arrays with children of every kind, of another program: read, or refused; each beginning of their streams, and each byte of the short ones changed | `nested_read` |
 //! | Flat arrays of each kind byte by byte, and each of their faults | `flat_written` |
+//! | Arrays of every nesting, drawn and cut, are written and read back; with a dictionary at any depth they are refused; columns stand one behind the other | `nested_written` |
 //! | Streams that are written, and read back: windows, nothing, streams of others, rows without columns; each reason not to | `streams_written` |
 //! | Each fault once | `faults` |
 //! | Files of another program, streams of others as files, blocks in another order, batches in any order, and files that are written | `files` |
@@ -39,9 +42,19 @@ mod flat_written;
 #[cfg(test)]
 mod hostile;
 #[cfg(test)]
+mod keyed_samples;
+#[cfg(test)]
+mod keyed_schemas;
+#[cfg(test)]
+mod nested_read;
+#[cfg(test)]
+mod nested_written;
+#[cfg(test)]
 mod samples;
 #[cfg(test)]
 mod samples_flat;
+#[cfg(test)]
+mod samples_nested;
 #[cfg(test)]
 mod samples_read;
 #[cfg(test)]

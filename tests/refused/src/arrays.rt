@@ -9,6 +9,7 @@ use nest_array::{
     AnyArray, AnyKeys, Array, DictionaryArray, FixedSizeBinaryArray, FixedSizeListArray, ListArray,
     MapArray, StructArray, UnionArray, Window, new_empty_array, new_null_array, new_scalar,
 };
+use nest_concat::{concatenate, interleave};
 use nest_flat::any_primitive::NativeArray;
 use nest_flat::boolean::BooleanArray;
 use nest_flat::primitive::PrimitiveArray;
@@ -157,6 +158,24 @@ pub fn unions(trial: &mut Trial, alloc: Global) -> Result<(), Wrong> {
     for mode in [UnionMode::Dense, UnionMode::Sparse] {
         let picks = trial.again(|| union_array(alloc, &records, mode))?;
         calls(trial, alloc, &picks)?;
+    }
+    Ok(())
+}
+
+/// Unions of one type, one after another and by array and place.
+pub fn joined(trial: &mut Trial, alloc: Global) -> Result<(), Wrong> {
+    let records = trial.again(|| records(alloc))?;
+    for mode in [UnionMode::Dense, UnionMode::Sparse] {
+        let arrays = trial.again(|| {
+            let mut arrays = Vec::with_capacity(alloc, 2)?;
+            arrays.push(union_array(alloc, &records, mode)?)?;
+            arrays.push(union_array(alloc, &records, mode)?)?;
+            Ok(arrays)
+        })?;
+        let all = trial.again(|| concatenate(alloc, arrays.as_slice()))?;
+        expect(are_at(&all, &arrays[0], &[0, 1, 2, 0, 1, 2]), "concatenate")?;
+        let some = trial.again(|| interleave(alloc, arrays.as_slice(), &[(1, 2), (0, 1), (1, 0)]))?;
+        expect(are_at(&some, &arrays[0], &[2, 1, 0]), "interleave")?;
     }
     Ok(())
 }

@@ -16,6 +16,7 @@ mod program;
 #[cfg(test)]
 mod requests;
 mod scenarios;
+mod schemas;
 mod streams;
 mod trial;
 mod twins;

@@ -1,7 +1,7 @@
 //! What is tried.
 
 use crate::trial::Trial;
-use crate::{arrays, builders, parsed, program, streams, typed};
+use crate::{arrays, builders, parsed, program, schemas, streams, typed};
 use drawn_builders::wrong::Wrong;
 use std::alloc::Global;
 
@@ -14,6 +14,7 @@ pub enum Scenario {
     ListsOfKeyedRecords,
     Maps,
     Unions,
+    Joined,
     Parts,
     Nulls,
     Shown,
@@ -23,6 +24,7 @@ pub enum Scenario {
     FortyValues,
     Listcut,
     ParsedTypes,
+    Schemas,
     Streams,
 }
 
@@ -36,6 +38,7 @@ impl Scenario {
             Scenario::ListsOfKeyedRecords => builders::lists_of_keyed_records(trial, alloc),
             Scenario::Maps => arrays::maps(trial, alloc),
             Scenario::Unions => arrays::unions(trial, alloc),
+            Scenario::Joined => arrays::joined(trial, alloc),
             Scenario::Parts => arrays::parts(trial, alloc),
             Scenario::Nulls => arrays::nulls(trial, alloc),
             Scenario::Shown => arrays::shown(trial, alloc),
@@ -45,6 +48,7 @@ impl Scenario {
             Scenario::FortyValues => typed::forty_values(trial, alloc),
             Scenario::Listcut => program::both_forms(trial, alloc),
             Scenario::ParsedTypes => parsed::types(trial, alloc),
+            Scenario::Schemas => schemas::both_ways(trial, alloc),
             Scenario::Streams => streams::both_ways(trial, alloc),
         }
     }

@@ -1,8 +1,9 @@
-//! A stream that is read, whole and batch by batch, and written again; flat columns that are written into a body and read.
+//! A stream that is read, whole and batch by batch, and written again, as a stream and as a file, which is read; flat columns
+//! that are written into a body and read.
 
 use crate::trial::Trial;
 use drawn_builders::wrong::{Wrong, expect};
-use ipc::{StreamReader, read_stream, write_stream};
+use ipc::{FileReader, StreamReader, read_file, read_stream, write_file, write_stream};
 use ipc_layout::{Left, place_columns, put_columns, read_columns};
 use ipc_model::{Fault, NoForm};
 use nest_array::nulls::new_null_array;
@@ -50,6 +51,16 @@ fn written(alloc: Global) -> Result<usize, Error> {
     Ok(bytes.len())
 }
 
+/// How many batches the file of the stream has, and how many rows the first of them has.
+fn filed(alloc: Global) -> Result<(usize, usize), Error> {
+    let stream = read_stream(alloc, &STREAM).map_err(refused)?;
+    let bytes = write_file(alloc, &stream.schema, &stream.batches).map_err(unwritten)?;
+    let file = read_file(alloc, &bytes).map_err(refused)?;
+    let reader = FileReader::new(alloc, &bytes).map_err(refused)?;
+    let batch = reader.batch(alloc, 0).map_err(refused)?;
+    Ok((file.batches.len(), batch.rows))
+}
+
 /// The rows of the first batch of a reader. Behind a fault nothing comes.
 fn first_batch(alloc: Global) -> Result<usize, Error> {
     let mut reader = StreamReader::new(alloc, &STREAM).map_err(refused)?;
@@ -95,6 +106,8 @@ pub fn both_ways(trial: &mut Trial, alloc: Global) -> Result<(), Wrong> {
     expect(rows == 2, "another number of rows")?;
     let bytes = trial.again(|| written(alloc))?;
     expect(bytes > 0 && bytes % 8 == 0, "another number of bytes")?;
+    let (batches, rows) = trial.again(|| filed(alloc))?;
+    expect(batches == 1 && rows == 2, "another file")?;
     let read = trial.again(|| columns(alloc))?;
     expect(read == 6, "another number of columns")
 }

@@ -6,7 +6,7 @@ use Rattle.ipc_batch.specs.Batches.{all_within}
 use Rattle.ipc_batch.specs.BatchBytes as batches
 use Rattle.ipc_batch.specs.BatchLaws.{IsReadWith}
 use Rattle.ipc_layout.specs.Placed.{regions_from}
-use Rattle.ipc_layout.specs.Written.{buffers_of, columns_body}
+use Rattle.ipc_layout.specs.Written.{buffers_of, written, columns_body}
 use Rattle.ipc.specs.Streams.{Arrays}
 use Rattle.ipc.specs.Written.{batch_tree, batch_head}
 use Rattle.ipc.specs.WrittenLaws.{batch_again, none_refuses}
@@ -33,7 +33,7 @@ returns-clause-again c =
     let placed = c.in_ok-placed.ensures.ok in
     let again : IsReadWith (batch_tree b) (length (columns_body b.columns)) = rw (placed.nodes, placed.regions, placed.length) at c.in_ok-write_batch.ensures.again in
     let small : metadata_size (batch_head b) < 2 ^ 31 = rw (placed.nodes, placed.regions, placed.length) at c.in_ok-write_batch.ensures.small in
-    let within : all_within (length (columns_body b.columns)) (regions_from 0 (buffers_of b.columns)) ≡ Ok tt = rw (placed.regions, placed.length) at placed.within in
+    let within : all_within (length (columns_body b.columns)) (regions_from 0 (buffers_of (written b.columns))) ≡ Ok tt = rw (placed.regions, placed.length) at placed.within in
     batch_again b (again (columns_body b.columns) refl within small) c.in_ok-put_columns.ensures.again
 
 pub returns-clause-form : goal.returns-clause-form

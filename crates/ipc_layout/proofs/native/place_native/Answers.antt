@@ -1,6 +1,6 @@
 use Rattle.std.proofs.Common.{◌*◌, length, inr, ◌∙◌}
 use Rattle.std.proofs.lemmas.Result.{err_from_is_err_and}
-use Rattle.ipc_layout.specs.Written.{valid_bytes, column_buffers}
+use Rattle.ipc_layout.specs.Written.{valid_bytes, flat_buffers}
 use Rattle.ipc_layout.proofs.Arrays.{IsOf, on_ok, if_err, native_sizes, native_past}
 use Rattle.ipc_layout.proofs.native.place_native.Goals as goal
 
@@ -19,7 +19,7 @@ returns-clause-ok g c =
     let sizes =
     native_sizes c.args.array.now g.T.NativeType.PRIMITIVE form c.validity_size.result c.in_ok-size.size h (c.validity_size.ensures ∙ (λ w. length (valid_bytes (c.validity.ensures w))))
     (c.in_ok-size.ensures.ok ∙ (λ w. c.len.ensures w * form.size)) in
-    on_ok c.place_buffers.result c.place_buffers.ensures.ok (λ longer. longer (column_buffers c.args.array.now) sizes)
+    on_ok c.place_buffers.result c.place_buffers.ensures.ok (λ longer. longer (flat_buffers c.args.array.now) sizes)
 
 pub returns-clause-err : goal.returns-clause-err
 returns-clause-err g c =
@@ -28,4 +28,4 @@ returns-clause-err g c =
     let sizes =
     native_sizes c.args.array.now g.T.NativeType.PRIMITIVE form c.validity_size.result c.in_ok-size.size h (c.validity_size.ensures ∙ (λ w. length (valid_bytes (c.validity.ensures w))))
     (c.in_ok-size.ensures.ok ∙ (λ w. c.len.ensures w * form.size)) in
-    if_err c.place_buffers.result c.place_buffers.ensures.err (λ why past. past (column_buffers c.args.array.now) sizes)
+    if_err c.place_buffers.result c.place_buffers.ensures.err (λ why past. past (flat_buffers c.args.array.now) sizes)

@@ -1,39 +1,31 @@
-use Rattle.std.proofs.Common.{◌≡◌, ◌+◌, ◌++◌, map, take, drop, subst, sym}
-use Rattle.std.proofs.Common.{List, ℕ, ap, ◌∙◌}
-use Rattle.std.specs.List.{AllByRecursion}
-use Rattle.std.proofs.lemmas.List.{append-nil}
-use Rattle.std.proofs.lemmas.Result.{err_from_is_err_and}
-use Rattle.nest_array.specs.Seen.{layout_of}
-use Rattle.ipc_layout.specs.Written.{columns_body}
-use Rattle.ipc_layout.specs.WrittenLaws.{IsWritable, read_back}
-use Rattle.ipc_layout.proofs.Bodies.{taken, all_taken, split, all_push, no_body, written_more, kind_unwritten}
+use Rattle.std.proofs.Common.{◌≡◌, ◌++◌, ◌∙◌, inl, inr, sym, ap, subst, map, true}
+use Rattle.std.specs.List.{AllByRecursion, list_all}
+use Rattle.nest_array.specs.Seen.{layout_of, layouts_of}
+use Rattle.ipc_layout.specs.AgainLaws.{IsAgain, read_back}
+use Rattle.ipc_layout.specs.Placed.{body_of}
+use Rattle.ipc_layout.specs.ShownLaws.{columns_form, columns_written, whole_form}
+use Rattle.ipc_layout.specs.Written.{written_windows, buffers_of, window_has_form}
+use Rattle.ipc_layout.proofs.Arrays.{on_ok, if_err}
+use Rattle.ipc_layout.proofs.Bodies.{type_refused}
 use Rattle.ipc_layout.proofs.writing.put_columns.Goals as goal
 
-pub returns-in_err-put_column-clause-err : goal.returns-in_err-put_column-clause-err
-returns-in_err-put_column-clause-err c =
-    let x = c.column-item.result in
-    let i = c.loop-column.column-index in
-    let p = err_from_is_err_and c.from_residual.result c.from_residual.ensures.1 in
-    rw (p.1, p.2) (kind_unwritten _ (map layout_of c.args.columns.now) (map layout_of (take i c.args.columns.now)) (map layout_of (drop (i + 1) c.args.columns.now)) (layout_of x)
-    (split layout_of c.args.columns.now i x c.loop-column-test.true c.column-item.is) c.in_err-put_column.ensures.err)
+pub returns-then-not-all_have_forms-clause-err : goal.returns-then-not-all_have_forms-clause-err
+returns-then-not-all_have_forms-clause-err c = inr (type_refused (map layout_of c.args.columns.now) (sym (columns_form c.args.columns.now) ∙ sym c.all_have_forms.ensures ∙ c.if-not-all_have_forms.true))
 
-pub loop-column-init : goal.loop-column-init
-loop-column-init c = record { written = sym (ap (λ (x : List ℕ). c.args.out.now.items ++ x) no_body ∙ append-nil c.args.out.now.items); writable = tt }
-
-pub loop-column-preserved : goal.loop-column-preserved
-loop-column-preserved c =
-    let x = c.column-item.result in
-    let i = c.loop-column.column-index in
-    let before = map layout_of (take i c.args.columns.now) in
-    let after = map layout_of (take (i + 1) c.args.columns.now) in
-    let more = taken layout_of c.args.columns.now i x c.loop-column-test.true c.column-item.is in
-    record {
-      written = written_more c.args.out.now.items c.loop-column.out.items c.put_column.new.out.items before after (layout_of x) more c.loop-column.invariant.written c.in_ok-put_column.ensures.ok;
-      writable = subst (AllByRecursion IsWritable) (sym more) (all_push IsWritable before (layout_of x) c.loop-column.invariant.writable c.in_ok-put_column.ensures.writable);
-    }
+pub put_windows-requires : goal.put_windows-requires
+put_windows-requires c =
+    let e = c.deref.ensures.value ∙ c.in_ok-windows.ensures in
+    subst (λ ws. list_all window_has_form ws ≡ true) (sym e) (whole_form (layouts_of c.args.columns.now) ∙ sym c.all_have_forms.ensures ∙ c.if-not-all_have_forms.false)
 
 pub returns-clause-ok : goal.returns-clause-ok
-returns-clause-ok c = subst (λ as_. c.loop-column.out.items ≡ c.args.out.now.items ++ columns_body as_) (all_taken layout_of c.args.columns.now c.loop-column.column-index c.loop-column-test.false) c.loop-column.invariant.written
+returns-clause-ok c =
+    let e = ap written_windows (c.deref.ensures.value ∙ c.in_ok-windows.ensures) ∙ columns_written c.args.columns.now in
+    on_ok c.put_windows.result c.put_windows.ensures.ok (λ h. h ∙ ap (λ x. c.args.out.now.items ++ body_of (buffers_of x)) e)
 
 pub returns-clause-again : goal.returns-clause-again
-returns-clause-again c = read_back (map layout_of c.args.columns.now) (subst (AllByRecursion IsWritable) (all_taken layout_of c.args.columns.now c.loop-column.column-index c.loop-column-test.false) c.loop-column.invariant.writable)
+returns-clause-again c =
+    let e = c.deref.ensures.value ∙ c.in_ok-windows.ensures in
+    on_ok c.put_windows.result c.put_windows.ensures.again (λ all. read_back c.args.columns.now (subst (AllByRecursion IsAgain) e all))
+
+pub returns-clause-err : goal.returns-clause-err
+returns-clause-err c = if_err c.put_windows.result c.put_windows.ensures.err (λ why memory. inl memory)

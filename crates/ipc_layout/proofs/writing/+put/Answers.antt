@@ -1,0 +1,42 @@
+use Rattle.std.proofs.Common.{◌≡◌, ◌++◌, true, sym, subst, ap, ◌∙◌, arith}
+use Rattle.std.specs.List.{AllByRecursion, list_all, sum_by}
+use Rattle.std.proofs.lemmas.List.{append-nil}
+use Rattle.nest_model.specs.Array.{TopFits}
+use Rattle.ipc_layout.specs.AgainLaws.{IsAgain, again}
+use Rattle.ipc_layout.specs.ShownLaws.{load, below_form, below_load}
+use Rattle.ipc_layout.specs.Written.{window_has_form}
+use Rattle.ipc_layout.proofs.Arrays.{on_ok}
+use Rattle.ipc_layout.proofs.Trees.{body_nothing, put_more, window_put, again_push}
+use Rattle.ipc_layout.proofs.writing.+put.Goals as goal
+
+pub put_windows-loop-window-init : goal.put_windows-loop-window-init
+put_windows-loop-window-init t c = record { written = sym (ap (λ x. c.args.out.now.items ++ x) body_nothing ∙ append-nil c.args.out.now.items); again = tt }
+
+pub put_windows-loop-window-preserved : goal.put_windows-loop-window-preserved
+put_windows-loop-window-preserved t c =
+    let ws = c.args.windows.now in
+    let i = c.loop-window.window-index in
+    let w = c.window-item.result in
+    record {
+      written = put_more c.args.out.now.items c.loop-window.out.items c.put_window.new.out.items ws i w c.loop-window-test.true c.window-item.is c.loop-window.invariant.written c.in_ok-put_window.ensures.ok;
+      again = again_push ws i w c.loop-window-test.true c.window-item.is c.loop-window.invariant.again c.in_ok-put_window.ensures.again;
+    }
+
+pub put_window-put_windows-requires : goal.put_window-put_windows-requires
+put_window-put_windows-requires t c =
+    let v = c.args.window.now in
+    let e = c.deref.ensures.value ∙ c.in_ok-children.ensures in
+    (omega (arith, ap (sum_by load) e, below_load v.array v.offset v.count), subst (λ ws. list_all window_has_form ws ≡ true) (sym e) (below_form v.array v.offset v.count c.requires))
+
+pub put_window-returns-clause-ok : goal.put_window-returns-clause-ok
+put_window-returns-clause-ok t c =
+    let v = c.args.window.now in
+    let e = c.deref.ensures.value ∙ c.in_ok-children.ensures in
+    on_ok c.put_windows.result c.put_windows.ensures.ok (λ h. window_put c.args.out.now.items c.put_own.new.out.items c.put_windows.new.out.items v.array v.offset v.count _ e c.in_ok-put_own.ensures.ok h)
+
+pub put_window-returns-clause-again : goal.put_window-returns-clause-again
+put_window-returns-clause-again t c =
+    let v = c.args.window.now in
+    let e = c.deref.ensures.value ∙ c.in_ok-children.ensures in
+    on_ok c.put_windows.result c.put_windows.ensures.again
+    (λ h. again v.array v.offset v.count (subst TopFits c.array.ensures c.known-2.ensures) c.requires c.known.ensures c.in_ok-put_own.ensures.spelled (subst (AllByRecursion IsAgain) e h))

@@ -1,0 +1,139 @@
+//! Arrays of every nesting that are drawn, cut, written, and read back.
+use drawn::laid::lay;
+use drawn::numbers::Draw;
+use drawn::slots::draw_slots;
+use drawn::start::START;
+use drawn::types::draw_type;
+use ipc_layout::{Left, Placed, place_columns, put_columns, read_columns};
+use ipc_model::NoForm;
+use nest_array::AnyArray;
+use nest_memory::datatypes::DataType;
+use nest_memory::error::Error;
+use std::alloc::Global;
+use std::test::Fail;
+
+const CASES: usize = 300;
+
+// Whether a dictionary is among a type and those below it.
+fn has_dictionary(data_type: &DataType) -> bool {
+    match data_type {
+        DataType::Dictionary(_, _, _) => true,
+        DataType::Extension(_, inner, _) => has_dictionary(inner),
+        DataType::List(field) | DataType::LargeList(field) | DataType::Map(field, _) => {
+            has_dictionary(&field.data_type)
+        }
+        DataType::FixedSizeList(field, _) => has_dictionary(&field.data_type),
+        DataType::Struct(fields) => fields.iter().any(|field| has_dictionary(&field.data_type)),
+        DataType::Union(fields, _, _) => {
+            fields.iter().any(|field| has_dictionary(&field.data_type))
+        }
+        _ => false,
+    }
+}
+
+// An array of a type, cut.
+fn draw_array(alloc: Global, draw: &mut Draw, data_type: &DataType) -> Result<AnyArray, Error> {
+    let count = draw.below(14);
+    let slots = draw_slots(alloc, draw, data_type, count)?;
+    let array = lay(alloc, draw, data_type, slots.as_slice())?;
+    let (o, n) = draw.window(count);
+    Ok(array.sliced(o, n))
+}
+
+// What is written of columns, behind bytes that stand there.
+fn written(
+    alloc: Global,
+    columns: &[AnyArray],
+    before: usize,
+) -> Result<(Placed, Vec<u8>), NoForm> {
+    let placed = place_columns(alloc, columns)?;
+    let mut out = Vec::new(alloc);
+    for _ in 0..before {
+        out.push(255)?;
+    }
+    put_columns(&mut out, columns)?;
+    Ok((placed, out))
+}
+
+// Whether a column is written, and read back as the same.
+fn is_again(alloc: Global, column: AnyArray, data_type: DataType) -> Result<bool, Error> {
+    let rows = column.len();
+    let columns = [column];
+    let Ok((placed, body)) = written(alloc, &columns, 0) else {
+        return Ok(false);
+    };
+    if body.len() != placed.length {
+        return Ok(false);
+    }
+    let left = Left {
+        nodes: &placed.nodes,
+        regions: &placed.regions,
+    };
+    match read_columns(alloc, &[data_type], rows, &body, left) {
+        Ok(read) => Ok(read.len() == 1 && read[0] == columns[0]),
+        Err(_) => Ok(false),
+    }
+}
+
+#[test]
+fn drawn_windows_are_read_back(rt: HostRuntime) -> Result<(), Fail> {
+    let alloc = rt.alloc();
+    let mut count = 0;
+    for case in 0..CASES {
+        let mut draw = Draw::new(START, 41, case);
+        let depth = draw.between(0, 4);
+        let data_type = draw_type(alloc, &mut draw, depth)?;
+        let column = draw_array(alloc, &mut draw, &data_type)?;
+        if has_dictionary(&data_type) {
+            let refused = written(alloc, &[column], 0).err();
+            assert!(rt; refused == Some(NoForm::Type), "start {START}, case {case}");
+        } else {
+            count += 1;
+            let same = is_again(alloc, column, data_type)?;
+            assert!(rt; same, "start {START}, case {case}");
+        }
+    }
+    assert!(rt;
+        count > CASES / 3,
+        "only {count} were written: start {START}"
+    );
+    Ok(())
+}
+
+// Two columns one behind the other, behind other bytes.
+#[test]
+fn columns_stand_one_behind_the_other(rt: HostRuntime) -> Result<(), Fail> {
+    let alloc = rt.alloc();
+    for case in 0..CASES / 4 {
+        let mut draw = Draw::new(START, 42, case);
+        let depth = draw.between(1, 3);
+        let data_type = draw_type(alloc, &mut draw, depth)?;
+        if has_dictionary(&data_type) {
+            continue;
+        }
+        let one = draw_array(alloc, &mut draw, &data_type)?;
+        let other = draw_array(alloc, &mut draw, &data_type)?;
+        let (first, alone) = written(alloc, &[one.clone(alloc)?], 0).map_err(|_| Error::Overflow)?;
+        let (second, behind) = written(alloc, &[other.clone(alloc)?], 0).map_err(
+            |_| Error::Overflow,
+        )?;
+        let (both, body) = written(alloc, &[one, other], 3).map_err(|_| Error::Overflow)?;
+        assert!(rt;
+            both.length == first.length + second.length,
+            "start {START}, case {case}"
+        );
+        assert!(rt;
+            both.nodes.len() == first.nodes.len() + second.nodes.len(),
+            "start {START}, case {case}"
+        );
+        assert!(rt;
+            &body.as_slice()[3..3 + alone.len()] == alone.as_slice(),
+            "start {START}, case {case}"
+        );
+        assert!(rt;
+            &body.as_slice()[3 + alone.len()..] == behind.as_slice(),
+            "start {START}, case {case}"
+        );
+    }
+    Ok(())
+}
