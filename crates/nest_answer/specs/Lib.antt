@@ -1,0 +1,5 @@
+-- What contracts cite.
+pub mod Tables
+pub mod Answer
+pub mod Unmade
+pub mod Refusals

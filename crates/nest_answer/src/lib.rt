@@ -1,0 +1,14 @@
+//! What is answered of a table: columns in batches in, lines of text out.
+//!
+//! A statement whose value is never read (`let _end = ..`, `x.known()`) shows the prover a fact that the next step needs, and does
+//! nothing when it runs.
+#![tactic(auto)]
+
+mod answering;
+mod records;
+mod refusal;
+mod table;
+
+pub use answering::answer;
+pub use refusal::Refusal;
+pub use table::Table;

@@ -1,0 +1,4 @@
+-- What contracts cite.
+pub mod Rows
+pub mod Choice
+pub mod Examples

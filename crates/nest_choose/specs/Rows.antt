@@ -1,0 +1,23 @@
+-- Rows of arrays.
+use Rattle.std.specs.Prelude.{ℕ, List, map}
+use Rattle.std.specs.List.{flat_map}
+use Rattle.nest_memory.specs.TypeTree.{TypeTree}
+use Rattle.nest_memory.specs.Cut.{cut}
+use Rattle.nest_model.specs.Layout.{Layout, layout_type}
+use Rattle.nest_model.specs.Meaning.{slots_of}
+use Rattle.nest_model.specs.Slot.{Slot}
+use Rattle.nest_array.specs.WindowParts.{WindowParts, window_slots}
+
+-- a row: a slot, under the data type of its array
+abbrev pub Row : Type 0
+Row = TypeTree × Slot
+
+abbrev pub rows_of : Layout → List Row
+rows_of a = map (λ s. (layout_type a, s)) (slots_of a)
+
+abbrev pub rows_in : WindowParts → List Row
+rows_in w = map (λ s. (layout_type w.array, s)) (window_slots w)
+
+-- the row at each place, in the order of the places
+abbrev pub rows_at : {A : Type 0} → List A → List ℕ → List A
+rows_at rows places = flat_map (λ p. cut rows p 1) places

@@ -1,0 +1,3 @@
+-- What contracts cite.
+pub mod Text
+pub mod Examples

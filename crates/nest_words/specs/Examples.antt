@@ -1,0 +1,27 @@
+-- Words, and what they ask.
+use Rattle.std.specs.Prelude.{◌≡◌, [], ◌∷◌, Some, None, codes, refl}
+use Rattle.nest_words.specs.Asked.{all, at, columns, from, query_of, rows}
+
+pub schema_asks : query_of (codes "schema") [] ≡ Some columns
+schema_asks = refl
+
+pub schema_and_more : query_of (codes "schema") (codes "0" ∷ []) ≡ None
+schema_and_more = refl
+
+pub rows_asks : query_of (codes "rows") [] ≡ Some (rows all)
+rows_asks = refl
+
+pub rows_and_two : query_of (codes "rows") (codes "10" ∷ codes "3" ∷ []) ≡ Some (rows (from 10 3))
+rows_and_two = refl
+
+pub rows_and_one : query_of (codes "rows") (codes "10" ∷ []) ≡ None
+rows_and_one = refl
+
+pub take_asks : query_of (codes "take") (codes "7" ∷ codes "0" ∷ codes "7" ∷ []) ≡ Some (rows (at (7 ∷ 0 ∷ 7 ∷ [])))
+take_asks = refl
+
+pub take_no_number : query_of (codes "take") (codes "07" ∷ []) ≡ None
+take_no_number = refl
+
+pub other_asks : query_of (codes "show") [] ≡ None
+other_asks = refl

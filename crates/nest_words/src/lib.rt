@@ -1,0 +1,10 @@
+//! The words that the program `nest` is called with, and what they ask.
+#![tactic(auto)]
+
+mod form;
+pub mod laws;
+mod numbers;
+mod request;
+
+pub use form::{Form, form_of};
+pub use request::{Choice, Request, parse_request};

@@ -1,0 +1,80 @@
+//! What is asked of a file or a stream.
+ghost use Rattle.std.specs.Prelude.{◌≡◌, IfOk, map, option_map, string_bytes};
+ghost use Rattle.nest_words.specs.Asked.{alone, columns, places_of_words, query_of, rows_of_words};
+ghost use Rattle.nest_words.specs.Seen.{seen};
+
+use crate::numbers::{parse_places, parse_window};
+use std::alloc::{AllocError, Global};
+
+/// Which rows.
+#[derive(Drop)]
+pub enum Choice {
+    /// All of them.
+    All,
+    /// Those from a place on, so many at most.
+    Cut(usize, usize),
+    /// The row at each place, in the order of the places.
+    Places(Vec<usize>),
+}
+
+/// What is to be written.
+#[derive(Drop)]
+pub enum Request {
+    /// A line for each column.
+    Columns,
+    /// Rows, a line each.
+    Rows(Choice),
+}
+
+fn columns_request(words: &[String]) -> Option<Request>
+    ensures { option_map seen result ≡ alone columns (map string_bytes words.now) }
+{
+    if words.is_empty() {
+        Some(Request::Columns)
+    } else {
+        None
+    }
+}
+
+fn rows_request(words: &[String]) -> Option<Request>
+    ensures { option_map seen result ≡ rows_of_words (map string_bytes words.now) }
+{
+    if words.is_empty() {
+        return Some(Request::Rows(Choice::All));
+    }
+    match parse_window(words) {
+        Some((o, n)) => Some(Request::Rows(Choice::Cut(o as usize, n as usize))),
+        None => None,
+    }
+}
+
+fn places_request(alloc: Global, words: &[String]) -> Result<Option<Request>, AllocError>
+    ensures { IfOk result (λ r. option_map seen r ≡ places_of_words (map string_bytes words.now)) }
+{
+    match parse_places(alloc, words)? {
+        Some(places) => Ok(Some(Request::Rows(Choice::Places(places)))),
+        None => Ok(None),
+    }
+}
+
+/// What a command's name and the words behind its file ask, if they ask anything: `schema` the columns; `rows` all rows, or those
+/// from a place on, so many at most; `take` and places the row at each. A number is `0` or a nonzero digit with further digits,
+/// below 2^64.
+pub fn parse_request(
+    alloc: Global,
+    command: &String,
+    words: &[String],
+) -> Result<Option<Request>, AllocError>
+    ensures { IfOk result (λ r. option_map seen r ≡ query_of (string_bytes command.now) (map string_bytes words.now)) }
+{
+    let name = command.as_bytes();
+    if name == b"schema".as_slice() {
+        Ok(columns_request(words))
+    } else if name == b"rows".as_slice() {
+        Ok(rows_request(words))
+    } else if name == b"take".as_slice() {
+        places_request(alloc, words)
+    } else {
+        Ok(None)
+    }
+}

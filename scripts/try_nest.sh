@@ -1,0 +1,85 @@
+#!/usr/bin/env bash
+# Runs the built program as a shell does: what it prints, what it says of a fault, and its exit status.
+# Usage, at the top of the repository and after the gate or `(cd crates/nest && rt run -- --help)`:
+#     bash scripts/try_nest.sh           prints a line for each run that differs, and fails then
+set -u
+program=crates/nest/out/nest
+room=$(mktemp -d)
+trap 'rm -rf "$room"' EXIT
+failed=0
+
+# Streams and files of another writer: a column `a` of numbers and a column `b` of texts in batches of 2, 0 and 1 rows; one whose
+# body is compressed; three rows without a column.
+unpack() {
+    base64 -d | gzip -dc >"$room/$1"
+}
+unpack stream <<<'H4sIAAAAAAACA51RuxHCMAyVSMyF4MJAihQUFBSUDEHBGsl0jEHJVubFVohPhATQ3bN0+j3J8t77GxE5oKQ1FXhz2FZ8OTF8RbDiS7QAauAacrbwOdqEqA01HfbAEWAkM3SD+Ep6lMCBor+Ti9TUAjYx1iK/41vSIBjXP6CrwLYL/DZkxR4nyavCrBm4Kug4l5XZSeyz2IvEz4lPi0nsPq9Q2qkal/CR7E0jfKx69/GmHfa+T+xdvO1tXzezI/t+I4b+l1z9i5a5O9Yzd+QPd2TFM/a/5oe5Wd2x99eqLpvYs/vGJ/ijfCdoAwAA'
+unpack file <<<'H4sIAAAAAAACA81UO1IDMQyVNrvMsrgwZAsXFBQUlHCEzFDQMZMmdXKSHIKCI6RMmTJlSm4Ez7JMjFgSQoVm3koj6+s33sl0+jx7IHqHrIjIAx1dUItvDdupryaGrxUrfYkqIABPEnMFn6dLOXWSE3EN3AKMYIae4/xca3TADSV/lEfNCQpu0tkC8bHfGe0lzruD7qXbWPo7iUo17jSul1lH6NVDp7mczk5q36tdFX4ufFaaws5xrdHe5PiiH+neNNCPTe18Pl/s994e2Lv9trf75MwN7PsbaejvUpt7sXKMx3CER/6BRzZ9hu63OWFuNjxmfzB5owN75nyHHb1w4mTuWOMFeFWm8vvq/sE7yztt1H5Tnd/XWovuzL0sq6/xoSBiIv+cD4Qeli56BAAA'
+unpack packed <<<'H4sIAAAAAAACA31QsRHCMAx8xw5ngosAKVJQUFBQMgQFaySswjCMw0bOW5bBB3fo7i1ZeksvxxjjE0BPdNjA83SMg+YcDHNeonwCDTESN+HsmOuxlWqQNwkH4kQYkg39xPpae3TEETmf7KpvRoVpc20mP81b4WOUG1/0g0zby/wgrNzjorxBtFrWRvqka5CdrNaDch+6T8kXTRa/1lZx4fmqH1R/beXeqz9/9Xe6Y/tnflNpnOb7+x+SxAWQLvY2wAEAAA=='
+unpack bare <<<'H4sIAAAAAAACA/v///9/AwYGBgEg5mLgZuAAkixANg9UjIWBESjGAWZBSAgAavsfgEOfBFgdM1BEBEjzgNUwQNUyQ9kw89EByFyQMADHOIeamAAAAA=='
+head -c 500 "$room/file" >"$room/cut"
+printf 'a,b\n1,2\n' >"$room/csv"
+
+# STATUS OUTPUT FAULT WORD..
+expect() {
+    local status=$1 output=$2 fault=$3
+    shift 3
+    local said got
+    said=$("$program" "$@" 2>&1 >"$room/wrote" <"$room/stream")
+    got=$?
+    if [ "$got" != "$status" ] || [ "$said" != "$fault" ] || ! printf "$output" | cmp -s - "$room/wrote"; then
+        echo "nest $*: status $got, said '$said', wrote '$(cat "$room/wrote")'"
+        failed=1
+    fi
+}
+
+all='{"a":1,"b":"a"}\n{"a":null,"b":"b"}\n{"a":3,"b":null}\n'
+for file in "$room/stream" "$room/file" -; do
+    expect 0 'a: int32\nb: string\n' '' schema "$file"
+    expect 0 "$all" '' rows "$file"
+    expect 0 '{"a":null,"b":"b"}\n{"a":3,"b":null}\n' '' rows "$file" 1 5
+    expect 0 '{"a":null,"b":"b"}\n' '' rows "$file" 1 1
+    expect 0 '' '' rows "$file" 3 1
+    expect 0 '{"a":3,"b":null}\n{"a":1,"b":"a"}\n{"a":3,"b":null}\n' '' take "$file" 2 0 2
+    expect 0 '' '' take "$file"
+    expect 1 '' "nest: $file: there is no row at a place" take "$file" 0 3
+    expect 0 '' '' convert "$file" "$room/as.arrows"
+    expect 0 "$all" '' rows "$room/as.arrows"
+    expect 0 '' '' convert "$room/as.arrows" "$room/as"
+    expect 0 "$all" '' rows "$room/as"
+    case $(head -c 4 "$room/as.arrows" | od -An -tx1)$(head -c 6 "$room/as") in
+    ' ff ff ff ffARROW1') ;;
+    *) echo 'nest convert: another form'; failed=1 ;;
+    esac
+done
+expect 0 '' '' convert "$room/as" "$room/as"
+expect 0 "$all" '' rows "$room/as"
+expect 1 '' "nest: $room/packed: the body is compressed" convert "$room/packed" "$room/as"
+expect 0 "$all" '' rows "$room/as"
+expect 1 '' "nest: $room/file: output cannot be written" convert "$room/file" "$room/none/as"
+expect 1 '' "nest: $room/packed: the body is compressed" rows "$room/packed"
+expect 1 '' "nest: $room/csv: a message does not begin with FF FF FF FF" rows "$room/csv"
+expect 1 '' "nest: $room/cut: the file does not begin and end with ARROW1" schema "$room/cut"
+expect 1 '' "nest: $room/bare: a batch has no columns of the schema" rows "$room/bare"
+expect 0 '' '' schema "$room/bare"
+expect 1 '' "nest: $room/none: input cannot be read" rows "$room/none"
+unknown='nest: unknown words; try --help'
+expect 2 '' "$unknown"
+expect 2 '' "$unknown" rows
+expect 2 '' "$unknown" show "$room/file"
+expect 2 '' "$unknown" convert "$room/file"
+expect 2 '' "$unknown" convert "$room/file" - -
+expect 2 '' "$unknown" schema "$room/file" 0
+expect 2 '' "$unknown" rows "$room/file" 1
+expect 2 '' "$unknown" rows "$room/file" 1 x
+expect 2 '' "$unknown" take "$room/file" 01
+expect 2 '' "$unknown" take "$room/file" 18446744073709551616
+
+said=$("$program" --help | head -1)
+[ "${said%% FILE*}" = 'nest schema' ] || { echo "nest --help: $said"; failed=1; }
+[ "$("$program" convert "$room/stream" - | "$program" rows -)" = "$("$program" rows "$room/stream")" ] || { echo 'nest convert | nest rows'; failed=1; }
+said=$("$program" rows - 2>&1 <&-)
+[ "$? $said" = '1 nest: -: input cannot be read' ] || { echo "nest with no input: $said"; failed=1; }
+said=$("$program" rows "$room/file" 2>&1 >/dev/full)
+[ "$? $said" = "1 nest: $room/file: output cannot be written" ] || { echo "nest to a full device: $said"; failed=1; }
+exit $failed

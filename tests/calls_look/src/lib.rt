@@ -1,0 +1,19 @@
+//! Tests of `nest_words`, `nest_choose`, `nest_lines`, `nest_answer` and `nest_look`: their public calls, as a crate above sees them.
+//! They are run, not proved.
+//!
+//! | What the row shows | Test |
+//! |---|---|
+//! | Columns and rows of two batches, whole, cut, and at places in either | `answers::columns_are_shown`, `answers::rows_are_shown` |
+//! | Each refusal once: no column, columns of other types and of other lengths, a place without a row | `answers::refuses_columns`, `answers::refuses_places` |
+//! | Windows over two arrays | `answers::rows_are_chosen` |
+//! | Words that ask nothing; the form that a name tells | `answers::words_ask_nothing`, `answers::names_tell_forms` |
+//! | The columns and the rows of streams and files of another program, whole, cut, and at places; each fault of them, and its line | `looks` |
+//! | Streams and files, each as either form | `looks::forms_are_converted` |
+#![tactic(auto)]
+
+#[cfg(test)]
+mod answers;
+#[cfg(test)]
+mod looks;
+#[cfg(test)]
+mod samples;

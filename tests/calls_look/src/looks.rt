@@ -1,0 +1,187 @@
+//! What is answered of streams and files of another program.
+use crate::samples::{BARE, EMPTY, FILE, PACKED, STREAM, TRUTHS};
+use nest_look::answering::answer;
+use nest_look::converting::convert;
+use nest_look::fault::Fault;
+use nest_look::holding::read_held;
+use nest_look::running::{read_input, write_bytes};
+use nest_words::{Choice, Form, Request, parse_request};
+use std::alloc::{AllocError, Global};
+use std::test::*;
+
+fn digit(letter: u8) -> u8 {
+    if letter < b'a' {
+        letter - b'0'
+    } else {
+        letter - b'a' + 10
+    }
+}
+
+/// The bytes of a sample.
+pub fn bytes_of(alloc: Global, digits: &str) -> Result<Vec<u8>, AllocError> {
+    let digits = digits.as_bytes();
+    let mut bytes = Vec::with_capacity(alloc, digits.len() / 2)?;
+    for i in 0..digits.len() / 2 {
+        bytes.push(digit(digits[2 * i]) * 16 + digit(digits[2 * i + 1]))?;
+    }
+    Ok(bytes)
+}
+
+/// What the words behind a command's name ask.
+pub fn request(alloc: Global, words: &[&str]) -> Result<Option<Request>, AllocError> {
+    let command = String::from_str(alloc, words[0])?;
+    let mut all = Vec::new(alloc);
+    for i in 1..words.len() {
+        all.push(String::from_str(alloc, words[i])?)?;
+    }
+    parse_request(alloc, &command, &all)
+}
+
+/// The answer to words, of a sample.
+fn said(alloc: Global, words: &[&str], digits: &str) -> Result<String, Fault> {
+    let bytes = bytes_of(alloc, digits)?;
+    match request(alloc, words)? {
+        None => Ok(String::from_str(alloc, "nothing is asked")?),
+        Some(asked) => answer(alloc, &asked, &bytes),
+    }
+}
+
+#[test]
+fn columns_are_shown(rt: HostRuntime) -> Result<(), Fail> {
+    for (digits, want) in [
+        (STREAM, "a: int32\nb: string\n"),
+        (FILE, "a: int32\nb: string\n"),
+        (TRUTHS, "a: bool\nb: bool not null\n"),
+        (BARE, ""),
+        (PACKED, ""),
+    ] {
+        let text = said(rt.alloc(), &["schema"], digits);
+        if digits == PACKED {
+            assert!(rt; text.err() == Some(Fault::Format(ipc_model::Fault::Compressed)));
+        } else {
+            let text = text?;
+            assert!(rt; text.as_str() == want, "{text}");
+        }
+    }
+    Ok(())
+}
+
+#[test]
+fn rows_are_shown(rt: HostRuntime) -> Result<(), Fail> {
+    for (words, want) in [
+        (
+            ["rows"].as_slice(),
+            "{\"a\":1,\"b\":\"a\"}\n{\"a\":null,\"b\":\"b\"}\n{\"a\":3,\"b\":null}\n",
+        ),
+        (["rows", "0", "1"].as_slice(), "{\"a\":1,\"b\":\"a\"}\n"),
+        (
+            ["rows", "1", "18446744073709551615"].as_slice(),
+            "{\"a\":null,\"b\":\"b\"}\n{\"a\":3,\"b\":null}\n",
+        ),
+        (["rows", "3", "1"].as_slice(), ""),
+        (["rows", "18446744073709551615", "1"].as_slice(), ""),
+        (["rows", "0", "0"].as_slice(), ""),
+        (
+            ["take", "2", "0", "2"].as_slice(),
+            "{\"a\":3,\"b\":null}\n{\"a\":1,\"b\":\"a\"}\n{\"a\":3,\"b\":null}\n",
+        ),
+        (["take"].as_slice(), ""),
+    ] {
+        for digits in [STREAM, FILE] {
+            let text = said(rt.alloc(), words, digits)?;
+            assert!(rt; text.as_str() == want, "{text}");
+        }
+    }
+    let none = said(rt.alloc(), &["rows"], EMPTY)?;
+    assert!(rt; none.as_str() == "", "{none}");
+    Ok(())
+}
+
+#[test]
+fn refuses_bytes(rt: HostRuntime) {
+    for (digits, want) in [
+        (PACKED, Fault::Format(ipc_model::Fault::Compressed)),
+        ("", Fault::Format(ipc_model::Fault::NoSchema)),
+        ("ffff", Fault::Format(ipc_model::Fault::Truncated)),
+        ("4152524f5731", Fault::Format(ipc_model::Fault::Truncated)),
+        ("2c", Fault::Format(ipc_model::Fault::Truncated)),
+        (
+            "2c2c2c2c2c2c2c2c",
+            Fault::Format(ipc_model::Fault::Continuation),
+        ),
+        (BARE, Fault::Columns),
+    ] {
+        let fault = said(rt.alloc(), &["rows"], digits).err();
+        assert!(rt; fault == Some(want), "{digits}");
+    }
+}
+
+#[test]
+fn refuses_places(rt: HostRuntime) {
+    for place in ["3", "4", "18446744073709551615"] {
+        for digits in [STREAM, FILE] {
+            let fault = said(rt.alloc(), &["take", "0", place], digits).err();
+            assert!(rt; fault == Some(Fault::Place), "{place}");
+        }
+    }
+    let fault = said(rt.alloc(), &["take", "0"], EMPTY).err();
+    assert!(rt; fault == Some(Fault::Place));
+}
+
+#[test]
+fn requests_are_made_by_hand(rt: HostRuntime) -> Result<(), Fail> {
+    let bytes = bytes_of(rt.alloc(), STREAM)?;
+    let text = answer(rt.alloc(), &Request::Rows(Choice::Cut(2, 9)), &bytes)?;
+    assert!(rt; text.as_str() == "{\"a\":3,\"b\":null}\n", "{text}");
+    let held = read_held(rt.alloc(), &bytes)?;
+    assert!(rt; held.schema.fields.len() == 2 && held.batches.len() == 3);
+    let mut reader = bytes.as_slice();
+    let input = read_input(rt.alloc(), &mut reader)?;
+    let mut out = Vec::new(rt.alloc());
+    write_bytes(&mut out, &input)?;
+    assert!(rt; out.as_slice() == bytes.as_slice());
+    Ok(())
+}
+
+#[test]
+fn faults_are_printed(rt: HostRuntime) -> Result<(), Fail> {
+    for (fault, want) in [
+        (Fault::Input, "input cannot be read"),
+        (
+            Fault::Format(ipc_model::Fault::Compressed),
+            "the body is compressed",
+        ),
+        (Fault::Columns, "a batch has no columns of the schema"),
+        (
+            Fault::Form(ipc_model::NoForm::Float),
+            "arrays of floats are not written",
+        ),
+        (Fault::Place, "there is no row at a place"),
+        (Fault::Output, "output cannot be written"),
+        (Fault::Memory, "out of memory"),
+    ] {
+        let text = format!(in rt.alloc(); "{fault}")?;
+        assert!(rt; text.as_str() == want, "{text}");
+    }
+    Ok(())
+}
+
+#[test]
+fn forms_are_converted(rt: HostRuntime) -> Result<(), Fail> {
+    for digits in [STREAM, FILE, TRUTHS, BARE, EMPTY] {
+        let bytes = bytes_of(rt.alloc(), digits)?;
+        let want = said(rt.alloc(), &["schema"], digits)?;
+        for form in [Form::File, Form::Stream] {
+            let other = convert(rt.alloc(), form, &bytes)?;
+            assert!(rt; other.starts_with(b"ARROW1") == (form == Form::File));
+            let text = answer(rt.alloc(), &Request::Columns, &other)?;
+            assert!(rt; text.as_str() == want.as_str(), "{text}");
+            let again = convert(rt.alloc(), form, &other)?;
+            assert!(rt; again.as_slice() == other.as_slice());
+        }
+    }
+    let packed = bytes_of(rt.alloc(), PACKED)?;
+    let fault = convert(rt.alloc(), Form::File, &packed).err();
+    assert!(rt; fault == Some(Fault::Format(ipc_model::Fault::Compressed)));
+    Ok(())
+}
