@@ -1,4 +1,4 @@
-//! What streams of numbers of 64 bits cost to write and to read, in nanoseconds for each thousand bytes of the stream:
+//! What streams of a column cost to write and to read, in nanoseconds for each thousand bytes of the stream:
 //! `bench_ipc run`. Beside them stands a plain copy of the stream's bytes. Each is done once before it is measured, so that none
 //! pays for memory that the system gives for the first time. Without that word the same is done with a few rows, and only how
 //! many bytes or rows there are is printed.
@@ -10,13 +10,12 @@ use anyhow::Result;
 use bench_tools::{begin, is_measured, tell};
 use ipc::{Batch, read_stream, write_stream};
 use ipc_schema::Schema;
+use nest_array::AnyArray;
+use nest_memory::error::Error;
 use std::alloc::{AllocError, Global};
 use std::rt::Clock;
 
 const FEW: usize = 1000;
-
-/// 100 MB of values.
-const ROWS: usize = 12_500_000;
 
 const THOUSAND: usize = 1000;
 
@@ -68,31 +67,43 @@ fn run_read<R: Clock + Print + AllocGlobal>(rt: &R, bytes: &[u8], measured: bool
 fn run_stream<R: Clock + Print + AllocGlobal>(
     rt: &R,
     kind: &str,
-    batch: Batch,
+    column: Result<AnyArray, Error>,
     measured: bool,
 ) -> Result<()> {
     println!(rt; "{kind}")?;
-    let schema = batches::schema(rt.alloc())?;
+    let column = match column {
+        Ok(column) => column,
+        Err(error) => return Err(error.into()),
+    };
+    let schema = batches::schema(rt.alloc(), &column)?;
     let mut batches = Vec::with_capacity(rt.alloc(), 1)?;
-    batches.push(batch)?;
+    batches.push(batches::batch(rt.alloc(), column)?)?;
     let bytes = run_written(rt, &schema, &batches, measured)?;
     run_read(rt, &bytes, measured)?;
     run_copy(rt, &bytes, measured)
 }
 
-fn run_all<R: Clock + Print + AllocGlobal>(rt: &R, n: usize, measured: bool) -> Result<()> {
-    let full = batches::numbers(rt.alloc(), n)?;
-    run_stream(rt, "numbers of 64 bits", full, measured)?;
-    let with_nulls = batches::with_nulls(rt.alloc(), n)?;
-    run_stream(
-        rt,
-        "numbers of 64 bits, every third null",
-        with_nulls,
-        measured,
-    )
+/// Streams of some 100 MB, or of a few rows.
+fn rows(measured: bool, many: usize) -> usize {
+    if measured { many } else { FEW }
 }
 
 fn main(rt: HostRuntime) -> Result<()> {
     let measured = is_measured(&rt)?;
-    run_all(&rt, if measured { ROWS } else { FEW }, measured)
+    let alloc = rt.alloc();
+    let column = batches::numbers(alloc, rows(measured, 12_500_000));
+    run_stream(&rt, "numbers of 64 bits", column, measured)?;
+    let column = batches::with_nulls(alloc, rows(measured, 12_500_000));
+    run_stream(
+        &rt,
+        "numbers of 64 bits, every third null",
+        column,
+        measured,
+    )?;
+    let column = batches::texts(alloc, rows(measured, 8_300_000));
+    run_stream(&rt, "texts of 8 bytes", column, measured)?;
+    let column = batches::lists(alloc, rows(measured, 1_470_000));
+    run_stream(&rt, "lists of 8 numbers", column, measured)?;
+    let column = batches::records(alloc, rows(measured, 5_000_000));
+    run_stream(&rt, "records of a number and a text", column, measured)
 }
