@@ -1,5 +1,6 @@
 -- The arrays of the children of records, and the array of the records.
-use Rattle.std.specs.Prelude.{List as Seq, [], ◌∷◌, Bool, true, false, ◌++◌, Result, Ok, Err, IfOk, IsOk}
+use Rattle.std.specs.Prelude.{◌≢◌, List as Seq, [], ◌∷◌, Bool, true, false, not, ◌++◌, Result, Ok, Err, IfOk, IfSome, IsOk, Some, None}
+use Rattle.std.specs.List.{count_by}
 use Rattle.std.specs.declared.vec.Vec.{Vec}
 use Rattle.std.proofs.Common.{◌≡◌, ℕ, suc, ◌+◌, ◌<◌, length, get_or, take, refl, sym, ap, subst, ◌∙◌, arith}
 use Rattle.std.proofs.lemmas.List.{take_more}
@@ -14,6 +15,8 @@ use Rattle.nest_model.specs.Layout as layouts
 use Rattle.nest_model.specs.Layout.{Layout, Layouts, no_layouts, more_layouts, layout_type, count_layouts, field_types}
 use Rattle.nest_model.specs.Fits.{Fits, ValidityFits, EachType, EachLen}
 use Rattle.nest_model.specs.Meaning.{len, first_len, slots_of}
+use Rattle.nest_model.specs.Nullness.{null_count}
+use Rattle.nest_model.specs.NullnessLaws.{null_count-bits}
 use Rattle.nest_model.specs.Reads.{slots-length}
 use Rattle.nest_model.specs.BuilderTree.{BuilderTree, BuilderTrees, struct, no_builders, more_builders, builder_len, builder_type, builder_types}
 use Rattle.nest_model.specs.BuilderFreeze.{EachFrozen, SpellsBits}
@@ -114,3 +117,8 @@ arrays-more f xs i d (Err e) arrays array l h s t k b = tt
 arrays-more f xs i d (Ok v) (Err e) array l h s t k b = absurd (let q : false ≡ true = b.0 in cc)
 arrays-more f xs i d (Ok v) (Ok old) (Err e) l h s t k b = absurd (let q : false ≡ true = b.1 in cc)
 arrays-more f xs i d (Ok v) (Ok old) (Ok a) l h s t k b = frozen-more f old.items v.items a xs i d l k h s t
+
+-- where no row is null, a validity that has a null is none
+pub bare-of-nulls : (t : TypeTree) (ls : Layouts) (va : Validity) → Fits (layouts.struct t ls va) → IfSome va (λ bits. count_by not bits ≢ 0) → null_count (layouts.struct t ls va) ≡ 0 → va ≡ None
+bare-of-nulls t ls None f h z = refl
+bare-of-nulls t ls (Some bits) f h z = absurd (h (sym (null_count-bits (layouts.struct t ls (Some bits)) bits refl f.1.1.1.1.1.0) ∙ z))

@@ -2,13 +2,8 @@
 use Rattle.std.specs.Prelude.{ℕ, zero, suc, Option, Some, None}
 use Rattle.nest_any.specs.declared.any.AnyMutableArray.{AnyMutableArray}
 use Rattle.nest_any.specs.declared.any.AnyMutableArray.TheVariants.{List, Struct}
+pub use Rattle.nest_build.specs.Children.{with_items}
 use Rattle.nest_model.specs.BuilderTree.{BuilderTree, BuilderTrees, flat, list, fixed_size_list, dictionary, struct, no_builders, more_builders}
-
--- lists over other items
-abbrev pub with_items : BuilderTree → BuilderTree → BuilderTree
-with_items (list large t rows c) d = list large t rows d
-with_items (fixed_size_list t bits c) d = fixed_size_list t bits d
-with_items b d = b
 
 -- children in the place of as many others, which stay where none was written
 abbrev pub written_over : BuilderTrees → BuilderTrees → BuilderTrees

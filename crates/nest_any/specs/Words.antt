@@ -21,3 +21,5 @@ pub use Rattle.nest_model.specs.BuilderWhole.{AreWhole, IsWhole, cut_builder, cu
 pub use Rattle.nest_model.specs.Checks.{FailFirst, Pass, largest_length}
 pub use Rattle.nest_model.specs.Fits.{ValidityFits}
 pub use Rattle.nest_model.specs.Meaning.{slots_of}
+pub use Rattle.nest_model.specs.Accessors.{validity_of}
+pub use Rattle.nest_model.specs.Nullness.{null_count}

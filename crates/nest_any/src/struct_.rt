@@ -1,11 +1,12 @@
 //! The builder of arrays of records.
-ghost use Rattle.std.specs.Prelude.{◌≡◌, ◌≢◌, ◌≤◌, ◌<◌, ◌+◌, ◌↔◌, ◌⊎◌, Bool, List, ℕ, IsNone, IsTrue, OnOk, OnErr, IfOk, IfErr, IsErrOf, IsOkUnless, MatchResult, MatchOption, None, Some, true, false, option_map, alloc_error};
+ghost use Rattle.std.specs.Prelude.{◌≡◌, ◌≢◌, ◌≤◌, ◌<◌, ◌+◌, ◌↔◌, ◌⊎◌, Bool, List, ℕ, IsNone, IsTrue, OnOk, OnErr, IfOk, IfErr, IfSome, IsErrOf, IsOkUnless, MatchResult, MatchOption, None, Some, true, false, not, option_map, alloc_error};
+ghost use Rattle.std.specs.List.{count_by};
 ghost use Rattle.nest_memory.specs.TypeTree.{count_fields, fields_of};
 ghost use Rattle.nest_memory.specs.declared.datatypes.physical_type.PhysicalType.TheVariants as physical;
 ghost use Rattle.nest_model.specs.BuilderTree as builders;
 ghost use Rattle.nest_model.specs.Slot as slots;
 ghost use Rattle.nest_any.specs.Trees.{tree_of, trees_of};
-ghost use Rattle.nest_any.specs.Words.{AreEachWhole, FailFirst, HasWholeChildren, InvalidArgumentError, IsFrozenAs, IsWhole, Memory, Overflow, Pass, SpellsBits, TellsNulls, Told, Unfinished, ValidityFits, bits_told, builder_len, builder_type, count_builders, cut_builder, emptied, first_rows, largest_length, layout_of, layout_type, layouts_of, nulls_appended, nulls_pass, own_slot, own_slots, physical_type, reserve_passes, row_checks, slots_of, struct_bits, struct_checks, struct_children, type_of};
+ghost use Rattle.nest_any.specs.Words.{AreEachWhole, FailFirst, HasWholeChildren, InvalidArgumentError, IsFrozenAs, IsWhole, Memory, Overflow, Pass, SpellsBits, TellsNulls, Told, Unfinished, ValidityFits, bits_told, builder_len, builder_type, count_builders, cut_builder, emptied, first_rows, largest_length, layout_of, layout_type, layouts_of, null_count, nulls_appended, nulls_pass, own_slot, own_slots, physical_type, reserve_passes, row_checks, slots_of, struct_bits, struct_checks, struct_children, type_of, validity_of};
 
 use crate::any::AnyMutableArray;
 use crate::children::{
@@ -360,6 +361,7 @@ impl MutableStructArray {
     pub fn freeze(&mut self) -> Result<StructArray, Error>
         ensures slots { IfOk result (λ a. slots_of a ≡ own_slots self.old) }
         ensures same_type { IfOk result (λ a. layout_type a ≡ builder_type self.old) }
+        ensures bare { IfOk result (λ a. null_count a ≡ 0 → validity_of a ≡ None) }
         ensures unfinished { IsErrOf result (InvalidArgumentError Unfinished) ↔ ¬ IsWhole self.old }
         ensures unchanged { ¬ IsWhole self.old → self.new ≡ self.old }
         ensures emptied { IsWhole self.old → self.new ≡ emptied self.old }
@@ -384,6 +386,7 @@ impl MutableStructArray {
     pub fn into_arc(self, alloc: Global) -> Result<Rc<AnyArray>, Error>
         ensures slots { IfOk result (λ r. slots_of (layout_of r.value) ≡ own_slots self) }
         ensures same_type { IfOk result (λ r. layout_type (layout_of r.value) ≡ builder_type self) }
+        ensures bare { IfOk result (λ r. null_count (layout_of r.value) ≡ 0 → validity_of (layout_of r.value) ≡ None) }
         ensures unfinished { IsErrOf result (InvalidArgumentError Unfinished) ↔ ¬ IsWhole self }
         ensures errors { IfErr result (λ e. (e ≡ InvalidArgumentError Unfinished) ⊎ (e ≡ Memory alloc_error)) }
     {
@@ -401,6 +404,7 @@ impl MutableStructArray {
 fn without_full(validity: Option<Bitmap>) -> Option<Bitmap>
     ensures bits { (bits : List Bool) → SpellsBits validity bits → SpellsBits result bits }
     ensures fits { (n : ℕ) → ValidityFits validity n → ValidityFits result n }
+    ensures null { IfSome result (λ bits. count_by not bits ≢ 0) }
 {
     match validity {
         Some(bits) => {

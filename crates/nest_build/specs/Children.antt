@@ -10,6 +10,12 @@ list_child (list large t rows c) = c
 list_child (fixed_size_list t bits c) = c
 list_child t = t
 
+-- lists over other items
+abbrev pub with_items : BuilderTree → BuilderTree → BuilderTree
+with_items (list large t rows c) d = list large t rows d
+with_items (fixed_size_list t bits c) d = fixed_size_list t bits d
+with_items b d = b
+
 -- the child is of the items' type, and not shorter than the rows
 abbrev pub ListCovers : BuilderTree → Type 0
 ListCovers (list large t rows c) = CoversRows t rows c

@@ -3,7 +3,7 @@ pub use Rattle.nest_array.specs.FixedBytes.{GivesOtherSize, IsMadeOf, IsOtherSiz
 pub use Rattle.nest_array.specs.Seen.{layout_of}
 pub use Rattle.nest_array.specs.Types.{default_field, default_list_type}
 pub use Rattle.nest_build.specs.BuiltKind.{built_kind}
-pub use Rattle.nest_build.specs.Children.{IsListBy, ListCovers, list_child}
+pub use Rattle.nest_build.specs.Children.{IsListBy, ListCovers, list_child, with_items}
 pub use Rattle.nest_build.specs.FlatTree.{flat_tree}
 pub use Rattle.nest_build.specs.Rows.{EndsPast, Spells, WithinLimits, bits_told, rows_told, told_rows_checks}
 pub use Rattle.nest_build.specs.Slices.{row_item, row_len}

@@ -1,12 +1,24 @@
 //! What builders over a child share.
 ghost use Rattle.std.specs.Prelude.{◌≡◌, ◌↔◌, IsTrue, IfOk, IsOkUnless, Some, alloc_error};
-ghost use Rattle.nest_build.specs.Words.{IsWhole, Memory, builder_type, emptied, item_type, layout_of, layout_type, own_slots, slots_of, type_of};
+ghost use Rattle.nest_build.specs.Words.{IsWhole, Memory, builder_type, emptied, item_type, layout_of, layout_type, own_slots, slots_of, type_of, with_items};
 
 use crate::array::MutableArray;
 use nest_array::AnyArray;
 use nest_memory::datatypes::DataType;
 use nest_memory::error::Error;
 use std::alloc::Global;
+
+/// A builder over a child that it lends. Callers needn't name it.
+pub trait OverChild: MutableArray {
+    /// The builder of the items.
+    type Child: MutableArray;
+
+    /// The same builder over another child.
+    ghost over: { Self → Self.Child → Self };
+
+    // Its rows stay, and the other child is its own.
+    ghost over_items: { (b : Self) → (c : Self.Child) → Self.model (over b c) ≡ with_items (Self.model b) (Self.Child.model c) };
+}
 
 /// Whether lists of a type have items of that type.
 pub fn has_items(lists: &DataType, items: &DataType) -> bool

@@ -10,6 +10,7 @@ pub use Rattle.nest_build.specs.Rows.{bits_told}
 pub use Rattle.nest_memory.specs.TypeOf.{type_of}
 pub use Rattle.nest_memory.specs.declared.error.Argument.TheVariants.{Unfinished}
 pub use Rattle.nest_memory.specs.declared.error.Error.TheVariants.{InvalidArgumentError, Memory}
+pub use Rattle.nest_model.specs.Accessors.{validity_of}
 pub use Rattle.nest_model.specs.BuilderAppend.{Accepted}
 pub use Rattle.nest_model.specs.BuilderTold.{AreEachWhole, HasWholeChildren, Told, row_checks}
 pub use Rattle.nest_model.specs.BuilderItem.{Stands}
@@ -20,3 +21,4 @@ pub use Rattle.nest_model.specs.BuilderWhole.{IsWhole, emptied}
 pub use Rattle.nest_model.specs.Checks.{FailFirst, Pass}
 pub use Rattle.nest_model.specs.Layout.{layout_type}
 pub use Rattle.nest_model.specs.Meaning.{slots_of}
+pub use Rattle.nest_model.specs.Nullness.{null_count}

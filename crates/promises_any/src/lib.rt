@@ -3,14 +3,14 @@
 #![tactic(auto)]
 
 ghost use Rattle.std.specs.Borrow.{LendsIf, sem};
-ghost use Rattle.std.specs.Prelude.{◌≡◌, ◌↔◌, ◌⊎◌, ℕ, OnOk, OnErr, IfErr, IfOk, IsErrOf, IsTrue, MatchResult, Some, option_map, alloc_error};
+ghost use Rattle.std.specs.Prelude.{◌≡◌, ◌↔◌, ◌⊎◌, ℕ, OnOk, OnErr, IfErr, IfOk, IsErrOf, IsTrue, MatchResult, None, Some, option_map, alloc_error};
 ghost use Rattle.nest_any.specs.contracts.any.AnyMutableArray.{the_row as any_row};
 ghost use Rattle.nest_any.specs.contracts.lists.ListBuilder.{the_row as list_row};
 ghost use Rattle.nest_any.specs.contracts.struct_.MutableStructArray.{the_row as struct_row};
 ghost use Rattle.nest_any.specs.declared.any.AnyMutableArray.TheVariants.{List, Struct};
 ghost use Rattle.nest_model.specs.BuilderItem.{null as null_item};
 ghost use Rattle.nest_model.specs.BuilderTree as builders;
-ghost use Rattle.promises_any.specs.Words.{Accepted, AreEachWhole, FailFirst, HasWholeChildren, InvalidArgumentError, IsWhole, Memory, Pass, Stands, Told, Unfinished, as_list, as_struct, bits_told, builder_type, child_builder, dictionary_child, dictionary_tree, emptied, first_rows, item_refusal, layout_of, layout_type, list_child, nested_checks, nested_over, own_slots, row_checks, slots_of, struct_checks, tree_of, trees_of, type_of};
+ghost use Rattle.promises_any.specs.Words.{Accepted, AreEachWhole, FailFirst, HasWholeChildren, InvalidArgumentError, IsWhole, Memory, Pass, Stands, Told, Unfinished, as_list, as_struct, bits_told, builder_type, child_builder, dictionary_child, dictionary_tree, emptied, first_rows, item_refusal, layout_of, layout_type, list_child, nested_checks, nested_over, null_count, own_slots, row_checks, slots_of, struct_checks, tree_of, trees_of, type_of, validity_of};
 
 use nest_any::{AnyMutableArray, AnyMutableDictionary, ListBuilder, MutableStructArray};
 use nest_array::{AnyArray, StructArray};
@@ -129,10 +129,11 @@ pub fn tell_record(records: &mut MutableStructArray, valid: bool) -> Result<(), 
 }
 
 /// The array of the records. Refused exactly where the builder is not whole, want of memory aside; it changes nothing then,
-/// and else no row is left at any level.
+/// and else no row is left at any level. Where no row is null, the array has no validity.
 pub fn freeze_records(records: &mut MutableStructArray) -> Result<StructArray, Error>
     ensures slots { IfOk result (λ a. slots_of a ≡ own_slots records.old) }
     ensures same_type { IfOk result (λ a. layout_type a ≡ builder_type records.old) }
+    ensures bare { IfOk result (λ a. null_count a ≡ 0 → validity_of a ≡ None) }
     ensures unfinished { IsErrOf result (InvalidArgumentError Unfinished) ↔ ¬ IsWhole records.old }
     ensures unchanged { ¬ IsWhole records.old → records.new ≡ records.old }
     ensures emptied { IsWhole records.old → records.new ≡ emptied records.old }
@@ -148,6 +149,7 @@ pub fn shared_array_of_records(
 ) -> Result<Rc<AnyArray>, Error>
     ensures slots { IfOk result (λ r. slots_of (layout_of r.value) ≡ own_slots records) }
     ensures same_type { IfOk result (λ r. layout_type (layout_of r.value) ≡ builder_type records) }
+    ensures bare { IfOk result (λ r. null_count (layout_of r.value) ≡ 0 → validity_of (layout_of r.value) ≡ None) }
     ensures unfinished { IsErrOf result (InvalidArgumentError Unfinished) ↔ ¬ IsWhole records }
     ensures errors { IfErr result (λ e. (e ≡ InvalidArgumentError Unfinished) ⊎ (e ≡ Memory alloc_error)) }
 {

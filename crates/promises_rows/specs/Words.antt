@@ -2,7 +2,7 @@
 pub use Rattle.nest_array.specs.FixedBytes.{IsOtherSize, pushed_bytes, with_bytes}
 pub use Rattle.nest_array.specs.Seen.{layout_of}
 pub use Rattle.nest_array.specs.Types.{default_dictionary_type, default_field}
-pub use Rattle.nest_build.specs.Children.{list_child}
+pub use Rattle.nest_build.specs.Children.{list_child, with_items}
 pub use Rattle.nest_build.specs.Keys.{dictionary_child}
 pub use Rattle.nest_build.specs.Lists.{list_type, new_fixed_checks, new_list_checks}
 pub use Rattle.nest_build.specs.Rows.{rows_told, told_rows_checks}

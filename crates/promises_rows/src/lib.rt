@@ -14,7 +14,7 @@ ghost use Rattle.std.specs.Option.{option_copied};
 ghost use Rattle.nest_model.specs.BuilderItem.{null as null_item};
 ghost use Rattle.nest_model.specs.BuilderTree as builders;
 ghost use Rattle.nest_model.specs.Slot as slots;
-ghost use Rattle.promises_rows.specs.Words.{Accepted, AreDifferent, CanRead, FailFirst, HasWholeChildren, Holds, InvalidArgumentError, IsOfOtherKind, IsWhole, ItemType, Joined, Lacks, Memory, Overflow, Pass, Refused, RefusedSome, Stands, TellsNulls, Told, ToldLengths, Took, TookAll, TookEach, Unfinished, asked_item, asked_refusal, builder_len, builder_type, cut_builder, dictionary_child, emptied, item_refusal, join_checks, largest_offset, layout_of, layout_type, lengths_checks, list_child, new_fixed_checks, new_list_checks, own_slot, own_slots, plain_value, plain_values, reserve_passes, row_checks, row_item, row_len, rows_told, slot_of_item, slots_of, told_rows_checks, type_of, whole};
+ghost use Rattle.promises_rows.specs.Words.{Accepted, AreDifferent, CanRead, FailFirst, HasWholeChildren, Holds, InvalidArgumentError, IsOfOtherKind, IsWhole, ItemType, Joined, Lacks, Memory, Overflow, Pass, Refused, RefusedSome, Stands, TellsNulls, Told, ToldLengths, Took, TookAll, TookEach, Unfinished, asked_item, asked_refusal, builder_len, builder_type, cut_builder, dictionary_child, emptied, item_refusal, join_checks, largest_offset, layout_of, layout_type, lengths_checks, list_child, new_fixed_checks, new_list_checks, own_slot, own_slots, plain_value, plain_values, reserve_passes, row_checks, row_item, row_len, rows_told, slot_of_item, slots_of, told_rows_checks, type_of, whole, with_items};
 
 use nest_array::AnyArray;
 use nest_build::array::MutableArray;
@@ -253,6 +253,30 @@ pub fn lists_of_size<M: MutableArray>(
     ensures refused { IfErr result (λ e. FailFirst e (new_fixed_checks size (type_of data_type) (M.model values))) }
 {
     MutableFixedSizeListArray::new_from(alloc, values, data_type, size)
+}
+
+/// What is pushed into the child that a builder of lists lends waits there, and its rows stay.
+pub fn push_into_child<O: ListWidth, M: MutableArray>(
+    lists: &mut MutableListArray<O, M>,
+) -> Result<(), Error>
+    requires { IsWhole (list_child (⟦<MutableListArray<O, M> as MutableArray>⟧.model lists.old)) }
+    ensures rows { let tree = ⟦<MutableListArray<O, M> as MutableArray>⟧.model in tree lists.new ≡ with_items (tree lists.old) (list_child (tree lists.new)) }
+    ensures accepted { let tree = ⟦<MutableListArray<O, M> as MutableArray>⟧.model in OnOk result (Accepted null_item (list_child (tree lists.old)) (list_child (tree lists.new))) }
+    ensures err { let tree = ⟦<MutableListArray<O, M> as MutableArray>⟧.model in OnErr result (tree lists.new ≡ tree lists.old) }
+{
+    lists.mut_values().push_null()
+}
+
+/// The same of a builder of lists of one size.
+pub fn push_into_sized_child<M: MutableArray>(
+    lists: &mut MutableFixedSizeListArray<M>,
+) -> Result<(), Error>
+    requires { IsWhole (list_child (⟦<MutableFixedSizeListArray<M> as MutableArray>⟧.model lists.old)) }
+    ensures rows { let tree = ⟦<MutableFixedSizeListArray<M> as MutableArray>⟧.model in tree lists.new ≡ with_items (tree lists.old) (list_child (tree lists.new)) }
+    ensures accepted { let tree = ⟦<MutableFixedSizeListArray<M> as MutableArray>⟧.model in OnOk result (Accepted null_item (list_child (tree lists.old)) (list_child (tree lists.new))) }
+    ensures err { let tree = ⟦<MutableFixedSizeListArray<M> as MutableArray>⟧.model in OnErr result (tree lists.new ≡ tree lists.old) }
+{
+    lists.mut_values().push_null()
 }
 
 /// A row of the items that wait in the child; else the first check that fails, and they go on waiting.

@@ -9,7 +9,7 @@ ghost use Rattle.nest_build.specs.Lists.{RefusesFixed, new_fixed_checks, no_fixe
 ghost use Rattle.nest_build.specs.Words.{CanReadList, ChildNotEmpty, FailFirst, HasWholeChildren, InvalidArgumentError, IsWhole, Memory, OutOfSpec, Pass, ReadsList, Told, Unfinished, ZeroSize, builder_len, builder_type, default_field, emptied, item_type, largest_length, layout_of, layout_type, len, list_child, own_slots, physical_type, row_checks, rows_of_size, size_of, slots_of, type_of};
 
 use crate::array::{MutableArray, shared};
-use crate::child::{frozen_parts, has_items, same_types};
+use crate::child::{OverChild, frozen_parts, has_items, same_types};
 use crate::fixed_size_list::data_type::FixedType;
 use crate::fixed_size_list::rows::FixedRows;
 use crate::push::{TryExtend, TryExtendFromSelf, TryPush, extend_by_push, extend_nulls};
@@ -128,10 +128,10 @@ impl<M: MutableArray> MutableFixedSizeListArray<M> {
         &self.values
     }
 
-    /// The child, into which the items of a row may be pushed before the row is told.
+    /// The child, into which the items of a row may be pushed before the row is told. The builder is over what is left there.
     pub fn mut_values(&mut self) -> &mut M
-        ensures* writes_back { sem 𝓛 (Lends (the_row M.row) M.row self.entry result (λ v. record self.entry.now { values = v })) }
-        ensures value { result.now ≡ self.old.values }
+        ensures* writes_back { sem 𝓛 (Lends (the_row M.row) M.row self.entry result (λ v. ⟦<MutableFixedSizeListArray<M> as OverChild>⟧.over self.entry.now v)) }
+        ensures value { M.model result.now ≡ list_child (⟦<MutableFixedSizeListArray<M> as MutableArray>⟧.model self.old) }
     {
         &mut self.values
     }
@@ -242,6 +242,16 @@ pub fn freeze_over(
             Err(error)
         }
     }
+}
+
+impl<M: MutableArray> OverChild for MutableFixedSizeListArray<M> {
+    type Child = M;
+
+    ghost over = { λ b c. record b { values = c } };
+
+    ghost use Rattle.std.proofs.Common.{refl};
+
+    ghost over_items = { λ _ _. refl };
 }
 
 impl<M: MutableArray> MutableArray for MutableFixedSizeListArray<M> {

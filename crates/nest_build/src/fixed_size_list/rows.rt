@@ -180,6 +180,7 @@ impl FixedRows {
     pub fn freeze(&mut self) -> Result<(usize, Option<Bitmap>), Error>
         ensures count { IfOk result (λ parts. parts.0 ≡ length self.old) }
         ensures bits { IfOk result (λ parts. SpellsBits parts.1 self.old × ValidityFits parts.1 parts.0) }
+        ensures none { self.old ≡ [] → IfOk result (λ parts. IsNone parts.1) }
         ensures memory { IsOkUnless result (Memory alloc_error) }
         ensures emptied { self.new ≡ [] }
     {

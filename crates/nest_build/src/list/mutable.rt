@@ -7,7 +7,7 @@ ghost use Rattle.nest_build.specs.Lists.{RefusesChild, list_type, new_list_check
 ghost use Rattle.nest_build.specs.Words.{CanReadList, ChildNotEmpty, FailFirst, HasWholeChildren, InvalidArgumentError, IsListBy, IsWhole, ListCovers, Memory, Pass, ReadsList, RisesFrom, Told, ToldLengths, Unfinished, builder_len, builder_type, default_field, emptied, layout_of, layout_type, items_told, lengths_checks, list_child, own_slots, row_checks, rows_told, slots_of, told_rows_checks, type_of};
 
 use crate::array::{MutableArray, shared};
-use crate::child::{frozen_parts, has_items, same_types};
+use crate::child::{OverChild, frozen_parts, has_items, same_types};
 use crate::list::data_type::ListType;
 use crate::list::width::{FrozenRows, ListWidth, ToldRows};
 use crate::push::{TryExtend, TryExtendFromSelf, TryPush, extend_by_push};
@@ -197,10 +197,10 @@ impl<O: ListWidth, M: MutableArray> MutableListArray<O, M> {
         &self.values
     }
 
-    /// The child, into which the items of a row may be pushed before the row is told.
+    /// The child, into which the items of a row may be pushed before the row is told. The builder is over what is left there.
     pub fn mut_values(&mut self) -> &mut M
-        ensures* writes_back { sem 𝓛 (Lends (the_row O.row M.row O.Rows.row O.Buffer.row O.List.row O.Rows.List.row O.Rows.Offsets.row O.Offset) M.row self.entry result (λ v. record self.entry.now { values = v })) }
-        ensures value { result.now ≡ self.old.values }
+        ensures* writes_back { sem 𝓛 (Lends (the_row O.row M.row O.Rows.row O.Buffer.row O.List.row O.Rows.List.row O.Rows.Offsets.row O.Offset) M.row self.entry result (λ v. ⟦<MutableListArray<O, M> as OverChild>⟧.over self.entry.now v)) }
+        ensures value { M.model result.now ≡ list_child (⟦<MutableListArray<O, M> as MutableArray>⟧.model self.old) }
     {
         &mut self.values
     }
@@ -333,6 +333,16 @@ fn end_there(lengths: &[Option<usize>], from: usize, to: usize) -> bool
         end = next;
     }
     end == to
+}
+
+impl<O: ListWidth, M: MutableArray> OverChild for MutableListArray<O, M> {
+    type Child = M;
+
+    ghost over = { λ b c. record b { values = c } };
+
+    ghost use Rattle.std.proofs.Common.{refl};
+
+    ghost over_items = { λ _ _. refl };
 }
 
 impl<O: ListWidth, M: MutableArray> MutableArray for MutableListArray<O, M> {

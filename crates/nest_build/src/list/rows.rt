@@ -265,6 +265,7 @@ impl<O: Offset> ListRows<O> {
     /// `Memory`.
     pub fn freeze(&mut self) -> Result<(OffsetsBuffer<O>, Option<Bitmap>), Error>
         ensures ok { IfOk result (λ parts. Spells parts.0 parts.1 self.old) }
+        ensures none { self.old ≡ [] → IfOk result (λ parts. IsNone parts.1) }
         ensures memory { IsOkUnless result (Memory alloc_error) }
         ensures emptied { self.new ≡ [] }
     {
