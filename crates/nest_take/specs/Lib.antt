@@ -1,3 +1,4 @@
+pub mod Examples
 pub mod Limits
 pub mod Places
 pub mod Taken
