@@ -9,6 +9,7 @@ use Rattle.nest_memory.specs.declared.datatypes.field.Field.{Field}
 use Rattle.ipc_model.specs.declared.fault.NoForm.{NoForm}
 use Rattle.ipc_words.specs.Bytes.{parts_of}
 use Rattle.ipc_schema.specs.Forms.{each_form}
+use Rattle.ipc_schema.specs.Numbering.{total, each_from}
 use Rattle.ipc_schema.specs.FieldLaws.{split}
 
 pub fields_left : (fs : List Field) (i : ℕ) (f : Field) → i < length fs → f ≡ get_or fs i f → map field_of (drop i fs) ≡ field_of f ∷ map field_of (drop (i + 1) fs)
@@ -45,8 +46,22 @@ module _ (form : FieldTree → Result (Unit {0}) NoForm) where
 pub parts_more : (old : List (Vec ℕ)) (part : Vec ℕ) (first : List ℕ) (rest total : List (List ℕ)) → part.items ≡ first → parts_of old ++ first ∷ rest ≡ total → parts_of (old ++ part ∷ []) ++ rest ≡ total
 parts_more old part first rest total is so_far = rw (map_push (λ (p : Vec ℕ). p.items) old part, is) (append_assoc (parts_of old) (first ∷ []) rest ∙ so_far)
 
-pub bytes_left : (bytes : FieldTree → List ℕ) (fs : List Field) (i : ℕ) (f : Field) → i < length fs → f ≡ get_or fs i f → map bytes (map field_of (drop i fs)) ≡ bytes (field_of f) ∷ map bytes (map field_of (drop (i + 1) fs))
-bytes_left bytes fs i f lt is = ap (λ (l : List FieldTree). map bytes l) (fields_left fs i f lt is)
+module _ {A : Type 0} (count : FieldTree → ℕ) (make : ℕ → FieldTree → A) where
+  pub made_left : (next : ℕ) (fs : List Field) (i : ℕ) (f : Field) → i < length fs → f ≡ get_or fs i f → each_from count make next (map field_of (drop i fs)) ≡ make next (field_of f) ∷ each_from count make (next + count (field_of f)) (map field_of (drop (i + 1) fs))
+  unfolding each_from
+  made_left next fs i f lt is = ap (λ (l : List FieldTree). each_from count make next l) (fields_left fs i f lt is)
+
+pub counts_left : (count : FieldTree → ℕ) (fs : List Field) (i : ℕ) (f : Field) → i < length fs → f ≡ get_or fs i f → total count (map field_of (drop i fs)) ≡ count (field_of f) + total count (map field_of (drop (i + 1) fs))
+unfolding total
+counts_left count fs i f lt is = ap (λ (l : List FieldTree). total count l) (fields_left fs i f lt is)
+
+pub nothing_counted : (count : FieldTree → ℕ) (fs : List Field) (i : ℕ) → length fs ≤ i → total count (map field_of (drop i fs)) ≡ 0
+unfolding total
+nothing_counted count fs i le = ap (λ (l : List FieldTree). total count l) (none_left fs i le)
+
+pub nothing_made : {A : Type 0} (count : FieldTree → ℕ) (make : ℕ → FieldTree → A) (next : ℕ) (fs : List Field) (i : ℕ) → length fs ≤ i → each_from count make next (map field_of (drop i fs)) ≡ []
+unfolding each_from
+nothing_made count make next fs i le = ap (λ (l : List FieldTree). each_from count make next l) (none_left fs i le)
 
 pub fits_more : (Fits : FieldTree → Type 0) (fs : List Field) (i : ℕ) (f : Field) → i < length fs → f ≡ get_or fs i f → Fits (field_of f) → (AllByRecursion Fits (map field_of (drop i fs)) → AllByRecursion Fits (map field_of fs))
     → AllByRecursion Fits (map field_of (drop (i + 1) fs)) → AllByRecursion Fits (map field_of fs)

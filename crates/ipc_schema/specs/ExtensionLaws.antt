@@ -10,7 +10,7 @@ use Rattle.std.proofs.lemmas.Map.Text.{is_eq-slice_cmp}
 use Rattle.nest_memory.specs.TypeTree as types
 use Rattle.nest_memory.specs.TypeTree.{Letters, Entries, TypeTree, field}
 use Rattle.ipc_schema.specs.Extensions.{extension_name, extension_metadata, value_at, has_key, without, with_pair, field_with_all, stored, is_extension, with_text, all_pairs}
-use Rattle.ipc_schema.specs.Forms.{can_spell}
+use Rattle.ipc_schema.specs.Forms.{are_free}
 
 -- ---- a key that is not there
 
@@ -111,56 +111,54 @@ spelled title (Some text) entries free bare =
       rest = rw taken (pair_is_taken extension_metadata text refl entries bare);
     }
 
-parts_of : (type : TypeTree) (entries : Entries) → can_spell type entries ≡ true → (not (has_key extension_name entries) ≡ true) × (not (is_extension type && has_key extension_metadata entries) ≡ true)
-parts_of type entries can =
-    let h = and_parts (not (is_extension (stored type))) (not (has_key extension_name entries) && not (is_extension type && has_key extension_metadata entries)) can in
-    and_parts (not (has_key extension_name entries)) (not (is_extension type && has_key extension_metadata entries)) h.1
+parts_of : (type : TypeTree) (entries : Entries) → are_free type entries ≡ true → (not (has_key extension_name entries) ≡ true) × (not (is_extension type && has_key extension_metadata entries) ≡ true)
+parts_of type entries are = and_parts (not (has_key extension_name entries)) (not (is_extension type && has_key extension_metadata entries)) are
 
-free_name : (type : TypeTree) (entries : Entries) → can_spell type entries ≡ true → IsFree extension_name entries
-free_name type entries can = is_free extension_name entries (not_back (has_key extension_name entries) (parts_of type entries can).0)
+free_name : (type : TypeTree) (entries : Entries) → are_free type entries ≡ true → IsFree extension_name entries
+free_name type entries are = is_free extension_name entries (not_back (has_key extension_name entries) (parts_of type entries are).0)
 
-free_text : (title : Letters) (type : TypeTree) (text : Option Letters) (entries : Entries) → can_spell (types.extension title type text) entries ≡ true → IsFree extension_metadata entries
-free_text title type text entries can = is_free extension_metadata entries (not_back (has_key extension_metadata entries) (parts_of (types.extension title type text) entries can).1)
+free_text : (title : Letters) (type : TypeTree) (text : Option Letters) (entries : Entries) → are_free (types.extension title type text) entries ≡ true → IsFree extension_metadata entries
+free_text title type text entries are = is_free extension_metadata entries (not_back (has_key extension_metadata entries) (parts_of (types.extension title type text) entries are).1)
 
 plain_back : (name : Letters) (type : TypeTree) (nullable : Bool) (entries : Entries) → IsFree extension_name entries → field_with_all name type nullable entries ≡ field name type nullable entries
 plain_back name type nullable entries free = rw free refl
 
 -- the field of the type that it is stored by, and of all its metadata
-pub field_back : (name : Letters) (type : TypeTree) (nullable : Bool) (entries : Entries) → can_spell type entries ≡ true → field_with_all name (stored type) nullable (all_pairs type entries) ≡ field name type nullable entries
-field_back name types.null nullable entries can = plain_back name types.null nullable entries (free_name types.null entries can)
-field_back name types.boolean nullable entries can = plain_back name types.boolean nullable entries (free_name types.boolean entries can)
-field_back name types.int8 nullable entries can = plain_back name types.int8 nullable entries (free_name types.int8 entries can)
-field_back name types.int16 nullable entries can = plain_back name types.int16 nullable entries (free_name types.int16 entries can)
-field_back name types.int32 nullable entries can = plain_back name types.int32 nullable entries (free_name types.int32 entries can)
-field_back name types.int64 nullable entries can = plain_back name types.int64 nullable entries (free_name types.int64 entries can)
-field_back name types.uint8 nullable entries can = plain_back name types.uint8 nullable entries (free_name types.uint8 entries can)
-field_back name types.uint16 nullable entries can = plain_back name types.uint16 nullable entries (free_name types.uint16 entries can)
-field_back name types.uint32 nullable entries can = plain_back name types.uint32 nullable entries (free_name types.uint32 entries can)
-field_back name types.uint64 nullable entries can = plain_back name types.uint64 nullable entries (free_name types.uint64 entries can)
-field_back name types.float16 nullable entries can = plain_back name types.float16 nullable entries (free_name types.float16 entries can)
-field_back name types.float32 nullable entries can = plain_back name types.float32 nullable entries (free_name types.float32 entries can)
-field_back name types.float64 nullable entries can = plain_back name types.float64 nullable entries (free_name types.float64 entries can)
-field_back name (types.timestamp a b) nullable entries can = plain_back name (types.timestamp a b) nullable entries (free_name (types.timestamp a b) entries can)
-field_back name types.date32 nullable entries can = plain_back name types.date32 nullable entries (free_name types.date32 entries can)
-field_back name types.date64 nullable entries can = plain_back name types.date64 nullable entries (free_name types.date64 entries can)
-field_back name (types.time32 a) nullable entries can = plain_back name (types.time32 a) nullable entries (free_name (types.time32 a) entries can)
-field_back name (types.time64 a) nullable entries can = plain_back name (types.time64 a) nullable entries (free_name (types.time64 a) entries can)
-field_back name (types.duration a) nullable entries can = plain_back name (types.duration a) nullable entries (free_name (types.duration a) entries can)
-field_back name (types.interval a) nullable entries can = plain_back name (types.interval a) nullable entries (free_name (types.interval a) entries can)
-field_back name types.binary nullable entries can = plain_back name types.binary nullable entries (free_name types.binary entries can)
-field_back name (types.fixed_size_binary a) nullable entries can = plain_back name (types.fixed_size_binary a) nullable entries (free_name (types.fixed_size_binary a) entries can)
-field_back name types.large_binary nullable entries can = plain_back name types.large_binary nullable entries (free_name types.large_binary entries can)
-field_back name types.utf8 nullable entries can = plain_back name types.utf8 nullable entries (free_name types.utf8 entries can)
-field_back name types.large_utf8 nullable entries can = plain_back name types.large_utf8 nullable entries (free_name types.large_utf8 entries can)
-field_back name (types.list a) nullable entries can = plain_back name (types.list a) nullable entries (free_name (types.list a) entries can)
-field_back name (types.fixed_size_list a b) nullable entries can = plain_back name (types.fixed_size_list a b) nullable entries (free_name (types.fixed_size_list a b) entries can)
-field_back name (types.large_list a) nullable entries can = plain_back name (types.large_list a) nullable entries (free_name (types.large_list a) entries can)
-field_back name (types.struct a) nullable entries can = plain_back name (types.struct a) nullable entries (free_name (types.struct a) entries can)
-field_back name (types.union a b c) nullable entries can = plain_back name (types.union a b c) nullable entries (free_name (types.union a b c) entries can)
-field_back name (types.map a b) nullable entries can = plain_back name (types.map a b) nullable entries (free_name (types.map a b) entries can)
-field_back name (types.dictionary a b c) nullable entries can = plain_back name (types.dictionary a b c) nullable entries (free_name (types.dictionary a b c) entries can)
-field_back name (types.decimal a b) nullable entries can = plain_back name (types.decimal a b) nullable entries (free_name (types.decimal a b) entries can)
-field_back name (types.decimal256 a b) nullable entries can = plain_back name (types.decimal256 a b) nullable entries (free_name (types.decimal256 a b) entries can)
-field_back name (types.extension title type text) nullable entries can =
-    let is = spelled title text entries (free_name (types.extension title type text) entries can) (free_text title type text entries can) in
+pub field_back : (name : Letters) (type : TypeTree) (nullable : Bool) (entries : Entries) → are_free type entries ≡ true → field_with_all name (stored type) nullable (all_pairs type entries) ≡ field name type nullable entries
+field_back name types.null nullable entries are = plain_back name types.null nullable entries (free_name types.null entries are)
+field_back name types.boolean nullable entries are = plain_back name types.boolean nullable entries (free_name types.boolean entries are)
+field_back name types.int8 nullable entries are = plain_back name types.int8 nullable entries (free_name types.int8 entries are)
+field_back name types.int16 nullable entries are = plain_back name types.int16 nullable entries (free_name types.int16 entries are)
+field_back name types.int32 nullable entries are = plain_back name types.int32 nullable entries (free_name types.int32 entries are)
+field_back name types.int64 nullable entries are = plain_back name types.int64 nullable entries (free_name types.int64 entries are)
+field_back name types.uint8 nullable entries are = plain_back name types.uint8 nullable entries (free_name types.uint8 entries are)
+field_back name types.uint16 nullable entries are = plain_back name types.uint16 nullable entries (free_name types.uint16 entries are)
+field_back name types.uint32 nullable entries are = plain_back name types.uint32 nullable entries (free_name types.uint32 entries are)
+field_back name types.uint64 nullable entries are = plain_back name types.uint64 nullable entries (free_name types.uint64 entries are)
+field_back name types.float16 nullable entries are = plain_back name types.float16 nullable entries (free_name types.float16 entries are)
+field_back name types.float32 nullable entries are = plain_back name types.float32 nullable entries (free_name types.float32 entries are)
+field_back name types.float64 nullable entries are = plain_back name types.float64 nullable entries (free_name types.float64 entries are)
+field_back name (types.timestamp a b) nullable entries are = plain_back name (types.timestamp a b) nullable entries (free_name (types.timestamp a b) entries are)
+field_back name types.date32 nullable entries are = plain_back name types.date32 nullable entries (free_name types.date32 entries are)
+field_back name types.date64 nullable entries are = plain_back name types.date64 nullable entries (free_name types.date64 entries are)
+field_back name (types.time32 a) nullable entries are = plain_back name (types.time32 a) nullable entries (free_name (types.time32 a) entries are)
+field_back name (types.time64 a) nullable entries are = plain_back name (types.time64 a) nullable entries (free_name (types.time64 a) entries are)
+field_back name (types.duration a) nullable entries are = plain_back name (types.duration a) nullable entries (free_name (types.duration a) entries are)
+field_back name (types.interval a) nullable entries are = plain_back name (types.interval a) nullable entries (free_name (types.interval a) entries are)
+field_back name types.binary nullable entries are = plain_back name types.binary nullable entries (free_name types.binary entries are)
+field_back name (types.fixed_size_binary a) nullable entries are = plain_back name (types.fixed_size_binary a) nullable entries (free_name (types.fixed_size_binary a) entries are)
+field_back name types.large_binary nullable entries are = plain_back name types.large_binary nullable entries (free_name types.large_binary entries are)
+field_back name types.utf8 nullable entries are = plain_back name types.utf8 nullable entries (free_name types.utf8 entries are)
+field_back name types.large_utf8 nullable entries are = plain_back name types.large_utf8 nullable entries (free_name types.large_utf8 entries are)
+field_back name (types.list a) nullable entries are = plain_back name (types.list a) nullable entries (free_name (types.list a) entries are)
+field_back name (types.fixed_size_list a b) nullable entries are = plain_back name (types.fixed_size_list a b) nullable entries (free_name (types.fixed_size_list a b) entries are)
+field_back name (types.large_list a) nullable entries are = plain_back name (types.large_list a) nullable entries (free_name (types.large_list a) entries are)
+field_back name (types.struct a) nullable entries are = plain_back name (types.struct a) nullable entries (free_name (types.struct a) entries are)
+field_back name (types.union a b c) nullable entries are = plain_back name (types.union a b c) nullable entries (free_name (types.union a b c) entries are)
+field_back name (types.map a b) nullable entries are = plain_back name (types.map a b) nullable entries (free_name (types.map a b) entries are)
+field_back name (types.dictionary a b c) nullable entries are = plain_back name (types.dictionary a b c) nullable entries (free_name (types.dictionary a b c) entries are)
+field_back name (types.decimal a b) nullable entries are = plain_back name (types.decimal a b) nullable entries (free_name (types.decimal a b) entries are)
+field_back name (types.decimal256 a b) nullable entries are = plain_back name (types.decimal256 a b) nullable entries (free_name (types.decimal256 a b) entries are)
+field_back name (types.extension title type text) nullable entries are =
+    let is = spelled title text entries (free_name (types.extension title type text) entries are) (free_text title type text entries are) in
     rw (is.name, is.text_of, is.rest) refl

@@ -7,7 +7,8 @@ use Rattle.ipc_model.specs.declared.fault.NoForm.{NoForm}
 use Rattle.ipc_model.specs.declared.fault.NoForm.TheVariants as reasons
 use Rattle.ipc_words.specs.Writes.{IsTooLong}
 use Rattle.ipc_schema.specs.Types.{is_coarse, are_ids, children_of}
-use Rattle.ipc_schema.specs.Extensions.{extension_name, extension_metadata, has_key, stored, is_extension}
+use Rattle.ipc_schema.specs.Extensions.{extension_name, extension_metadata, has_key, stored, table_type, is_extension}
+use Rattle.ipc_schema.specs.Numbering.{have_dictionary}
 
 abbrev pub then_form : {A B : Type 0} → Result A NoForm → Result B NoForm → Result B NoForm
 then_form (Ok x) next = next
@@ -63,13 +64,28 @@ type_form (types.decimal digits after) = then_form (number_form digits) (number_
 type_form (types.decimal256 digits after) = then_form (number_form digits) (number_form after)
 type_form t = Err reasons.Type
 
--- an extension is not directly of an extension, and a field's own metadata has no key that spells one
-abbrev pub can_spell : TypeTree → Entries → Bool
-can_spell type entries = not (is_extension (stored type)) && (not (has_key extension_name entries) && not (is_extension type && has_key extension_metadata entries))
+-- an extension is not directly of an extension
+abbrev pub stands_alone : TypeTree → Bool
+stands_alone type = not (is_extension (stored type))
 
--- the same of a field
+-- the values of a dictionary are not directly a dictionary or an extension
+abbrev pub are_plain : TypeTree → Bool
+are_plain (types.dictionary key values ordered) = false
+are_plain (types.extension title type metadata) = false
+are_plain type = true
+
+abbrev pub can_encode : TypeTree → Bool
+can_encode (types.dictionary key values ordered) = are_plain values
+can_encode type = true
+
+-- a field's own metadata has no key that spells an extension
+abbrev pub are_free : TypeTree → Entries → Bool
+are_free type entries = not (has_key extension_name entries) && not (is_extension type && has_key extension_metadata entries)
+
+-- the first reason why a field is not written, its children aside
 unfoldable pub own_form : FieldTree → Result (Unit {0}) NoForm
-own_form (field name type nullable entries) = then_form (unless (can_spell type entries) reasons.Extension) (type_form (stored type))
+own_form (field name type nullable entries) =
+    then_form (unless (stands_alone type) reasons.Extension) (then_form (unless (can_encode (stored type)) reasons.Dictionary) (then_form (unless (are_free type entries) reasons.Extension) (type_form (table_type type))))
 
 -- the first reason of fields, by the reason of one
 unfoldable pub each_form : (FieldTree → Result (Unit {0}) NoForm) → List FieldTree → Result (Unit {0}) NoForm
@@ -79,23 +95,33 @@ each_form form (f ∷ fs) = then_form (form f) (each_form form fs)
 -- the first reason why a field is not written, which is to be so deep at most: its own comes before those of its children
 unfoldable pub field_form : ℕ → FieldTree → Result (Unit {0}) NoForm
 field_form zero f = Err reasons.Depth
-field_form (suc depth) f = then_form (own_form f) (each_form (field_form depth) (children_of (stored (field_type f))))
+field_form (suc depth) f = then_form (own_form f) (each_form (field_form depth) (children_of (table_type (field_type f))))
 
 -- the first reason why the fields of a schema are not written
+abbrev pub keyed_form : List FieldTree → Result (Unit {0}) NoForm
+keyed_form fs = each_form (field_form 64) fs
+
+-- the same where none may have a dictionary
 abbrev pub fields_form : List FieldTree → Result (Unit {0}) NoForm
-fields_form fs = each_form (field_form 64) fs
+fields_form fs = then_form (keyed_form fs) (unless (not (have_dictionary fs)) reasons.Type)
 
 -- why a schema is not written: for want of memory, for a field, or since its message of so many bytes passes 2^31 - 1
+abbrev pub IsUnformed : Result (Unit {0}) NoForm → ℕ → NoForm → Type 0
+IsUnformed form long why = (why ≡ reasons.Memory) ⊎ ((form ≡ Err why) ⊎ ((form ≡ Ok tt) × (why ≡ reasons.Size) × (2 ^ 31 ≤ long)))
+
 abbrev pub IsUnwritten : List FieldTree → ℕ → NoForm → Type 0
-IsUnwritten fields long why = (why ≡ reasons.Memory) ⊎ ((fields_form fields ≡ Err why) ⊎ ((fields_form fields ≡ Ok tt) × (why ≡ reasons.Size) × (2 ^ 31 ≤ long)))
+IsUnwritten fields long why = IsUnformed (fields_form fields) long why
 
 -- what is longer is not written either
+pub unformed_more : (form : Result (Unit {0}) NoForm) (part whole : ℕ) (why : NoForm) → part ≤ whole → IsUnformed form part why → IsUnformed form whole why
+unformed_more form part whole why le (inl memory) = inl memory
+unformed_more form part whole why le (inr (inl reason)) = inr (inl reason)
+unformed_more form part whole why le (inr (inr (ok, size, long))) = inr (inr (ok, size, omega arith))
+
 pub unwritten_more : (fields : List FieldTree) (part whole : ℕ) (why : NoForm) → part ≤ whole → IsUnwritten fields part why → IsUnwritten fields whole why
-unwritten_more fields part whole why le (inl memory) = inl memory
-unwritten_more fields part whole why le (inr (inl reason)) = inr (inl reason)
-unwritten_more fields part whole why le (inr (inr (form, size, long))) = inr (inr (form, size, omega arith))
+unwritten_more fields part whole why le is = unformed_more (fields_form fields) part whole why le is
 
 -- nor is what is too long, though each field is
-pub long_form : (fields : List FieldTree) (long : ℕ) (why : NoForm) → fields_form fields ≡ Ok tt → IsTooLong why long → IsUnwritten fields long why
-long_form fields long why form (inl memory) = inl memory
-long_form fields long why form (inr (size, past)) = inr (inr (form, size, past))
+pub long_form : (form : Result (Unit {0}) NoForm) (long : ℕ) (why : NoForm) → form ≡ Ok tt → IsTooLong why long → IsUnformed form long why
+long_form form long why ok (inl memory) = inl memory
+long_form form long why ok (inr (size, past)) = inr (inr (ok, size, past))

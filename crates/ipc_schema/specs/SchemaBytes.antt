@@ -1,6 +1,7 @@
 -- The bytes of a schema that is written. Each table's vtable stands at its head, what the table names behind it, and all parts are multiples of 8.
 use Rattle.std.specs.Prelude.{ℕ, zero, suc, ◌+◌, ◌-◌, ◌*◌, ℤ, Bool, List, [], ◌∷◌, ◌++◌, map, length, Option, Some, None}
 use Rattle.std.specs.Int.{from_bool}
+use Rattle.nest_memory.specs.Physical.{integer_tree}
 use Rattle.nest_memory.specs.TypeTree as types
 use Rattle.nest_memory.specs.TypeTree.{Letters, Entries, TypeTree, FieldTree, field}
 use Rattle.nest_memory.specs.declared.datatypes.TimeUnit.{TimeUnit}
@@ -9,11 +10,13 @@ use Rattle.nest_memory.specs.declared.datatypes.IntervalUnit.{IntervalUnit}
 use Rattle.nest_memory.specs.declared.datatypes.IntervalUnit.TheVariants.{YearMonth, DayTime, MonthDayNano}
 use Rattle.nest_memory.specs.declared.datatypes.UnionMode.{UnionMode}
 use Rattle.nest_memory.specs.declared.datatypes.UnionMode.TheVariants.{Dense, Sparse}
-use Rattle.ipc_words.specs.Bytes.{u32_bytes, i32_bytes, string_bytes, row_bytes, vector_bytes, vector_len, zeros}
+use Rattle.ipc_words.specs.Bytes.{u32_bytes, i32_bytes, i64_bytes, string_bytes, row_bytes, vector_bytes, vector_len, zeros}
 use Rattle.ipc_message.specs.MessageBytes.{message_bytes}
 use Rattle.ipc_message.specs.declared.message.Kind.TheVariants as kinds
 use Rattle.ipc_schema.specs.Types.{children_of}
-use Rattle.ipc_schema.specs.Extensions.{stored, all_pairs}
+use Rattle.ipc_schema.specs.declared.dictionaries.Encoding.{Encoding}
+use Rattle.ipc_schema.specs.Extensions.{table_type, all_pairs}
+use Rattle.ipc_schema.specs.Numbering.{encoding_of, behind_own, count_keyed, each_from}
 use Rattle.ipc_schema.specs.Schemas.{SchemaTree}
 
 -- `KeyValue`, at 8
@@ -143,27 +146,59 @@ type_number t = 0
 
 -- ---- fields
 
--- `Field`, at 24: its parts stand at 48, the type, whose table stands 12 bytes into it, then the children, the name, the metadata
-unfoldable pub field_head : Bool → ℕ → ℕ → ℕ → ℕ → List ℕ
-field_head nullable tag behind_type behind_children behind_name =
-    (18 ∷ 0 ∷ 24 ∷ 0 ∷ 4 ∷ 0 ∷ 20 ∷ 0 ∷ 21 ∷ 0 ∷ 8 ∷ 0 ∷ 0 ∷ 0 ∷ 12 ∷ 0 ∷ 16 ∷ 0 ∷ 0 ∷ 0 ∷ 0 ∷ 0 ∷ 0 ∷ 0 ∷ 24 ∷ 0 ∷ 0 ∷ 0 ∷ [])
-    ++ (u32_bytes (20 + behind_children) ++ ((28 ∷ 0 ∷ 0 ∷ 0 ∷ []) ++ (u32_bytes (12 + behind_type) ++ (u32_bytes (8 + behind_name) ++ (from_bool nullable ∷ tag ∷ 0 ∷ 0 ∷ [])))))
+-- `DictionaryEncoding`, to which its first four bytes point, at 16; the type of keys stands behind it
+unfoldable pub encoding_head : ℤ → Bool → List ℕ
+encoding_head id ordered =
+    (16 ∷ 0 ∷ 0 ∷ 0 ∷ 10 ∷ 0 ∷ 20 ∷ 0 ∷ 8 ∷ 0 ∷ 4 ∷ 0 ∷ 16 ∷ 0 ∷ 0 ∷ 0 ∷ 12 ∷ 0 ∷ 0 ∷ 0 ∷ 32 ∷ 0 ∷ 0 ∷ 0 ∷ []) ++ (i64_bytes id ++ (from_bool ordered ∷ 0 ∷ 0 ∷ 0 ∷ 0 ∷ 0 ∷ 0 ∷ 0 ∷ []))
 
-unfoldable pub field_parts : Bool → ℕ → List ℕ → List ℕ → List ℕ → List ℕ → List ℕ
-field_parts nullable tag type children name metadata =
-    field_head nullable tag (length type) (length type + length children) (length type + length children + length name) ++ (type ++ (children ++ (name ++ metadata)))
+unfoldable pub encoding_part : Encoding → List ℕ
+encoding_part e = encoding_head e.id e.is_ordered ++ type_bytes (integer_tree e.key)
 
--- a field whose children have these bytes
-abbrev pub parts_of_field : Bool → TypeTree → List ℕ → Letters → Entries → List ℕ
-parts_of_field nullable type children name entries = field_parts nullable (type_number type) (type_bytes type) children (string_bytes name) (entries_bytes entries)
+-- of a field that may have none
+abbrev pub encoding_bytes : Option Encoding → List ℕ
+encoding_bytes None = []
+encoding_bytes (Some e) = encoding_part e
 
--- a field and those inside of it, so deep at most
-unfoldable pub field_bytes : ℕ → FieldTree → List ℕ
-field_bytes zero f = []
-field_bytes (suc depth) (field name type nullable entries) = parts_of_field nullable (stored type) (row_bytes 24 (map (field_bytes depth) (children_of (stored type)))) name (all_pairs type entries)
+-- how long a field's table is, and where in it the offset of its dictionary stands
+abbrev pub table_len : Option Encoding → ℕ
+table_len None = 24
+table_len (Some e) = 28
+
+abbrev pub dictionary_slot : Option Encoding → ℕ
+dictionary_slot None = 0
+dictionary_slot (Some e) = 24
+
+-- `Field`, at 24, up to its first offset
+unfoldable pub field_vtable : Option Encoding → List ℕ
+field_vtable dictionary =
+    18 ∷ 0 ∷ table_len dictionary ∷ 0 ∷ 4 ∷ 0 ∷ 20 ∷ 0 ∷ 21 ∷ 0 ∷ 8 ∷ 0 ∷ dictionary_slot dictionary ∷ 0 ∷ 12 ∷ 0 ∷ 16 ∷ 0 ∷ 0 ∷ 0 ∷ 0 ∷ 0 ∷ 0 ∷ 0 ∷ 24 ∷ 0 ∷ 0 ∷ 0 ∷ []
+
+-- behind its table at 48 stand its dictionary, the type, whose table stands 12 bytes into it, then the children, the name, the metadata
+unfoldable pub field_head : Bool → ℕ → Option Encoding → ℕ → ℕ → ℕ → ℕ → List ℕ
+field_head nullable tag dictionary behind_dictionary behind_type behind_children behind_name =
+    field_vtable dictionary ++ (u32_bytes (20 + behind_children) ++ (u32_bytes (28 + behind_dictionary) ++ (u32_bytes (12 + behind_type) ++ (u32_bytes (8 + behind_name) ++ (from_bool nullable ∷ tag ∷ 0 ∷ 0 ∷ [])))))
+
+unfoldable pub field_parts : Bool → ℕ → Option Encoding → List ℕ → List ℕ → List ℕ → List ℕ → List ℕ
+field_parts nullable tag dictionary type children name metadata =
+    let d : ℕ = length (encoding_bytes dictionary) in
+    field_head nullable tag dictionary d (d + length type) (d + length type + length children) (d + length type + length children + length name) ++ (encoding_bytes dictionary ++ (type ++ (children ++ (name ++ metadata))))
+
+-- a field of a dictionary, or none, and of the type of its values, whose children have these bytes
+abbrev pub parts_of_field : Bool → Option Encoding → TypeTree → List ℕ → Letters → Entries → List ℕ
+parts_of_field nullable dictionary type children name entries = field_parts nullable (type_number type) dictionary (type_bytes type) children (string_bytes name) (entries_bytes entries)
+
+-- a field and those inside of it, so deep at most, whose dictionaries have the ids from the next one on
+unfoldable pub field_bytes : ℕ → ℕ → FieldTree → List ℕ
+field_bytes zero next f = []
+field_bytes (suc depth) next (field name type nullable entries) =
+    parts_of_field nullable (encoding_of next type) (table_type type) (row_bytes 24 (each_from (count_keyed depth) (field_bytes depth) (behind_own type next) (children_of (table_type type)))) name (all_pairs type entries)
+
+-- each of fields, so deep at most
+abbrev pub each_bytes : ℕ → ℕ → List FieldTree → List (List ℕ)
+each_bytes depth next fields = each_from (count_keyed depth) (field_bytes depth) next fields
 
 abbrev pub fields_bytes : List FieldTree → List ℕ
-fields_bytes fields = row_bytes 24 (map (field_bytes 64) fields)
+fields_bytes fields = row_bytes 24 (each_bytes 64 0 fields)
 
 -- `Schema`, at 16
 unfoldable pub schema_bytes : List ℕ → List ℕ → List ℕ

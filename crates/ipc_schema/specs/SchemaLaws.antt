@@ -1,5 +1,8 @@
 -- A schema that is written is read back.
-use Rattle.std.proofs.Common.{◌≡◌, ℕ, ◌+◌, ◌-◌, ◌*◌, ◌^◌, ◌<◌, ◌≤◌, List, [], ◌++◌, map, length, Some, None, Ok, refl, append_assoc, arith}
+use Rattle.std.proofs.Common.{◌≡◌, ℕ, ◌+◌, ◌-◌, ◌*◌, ◌^◌, ◌<◌, ◌≤◌, Bool, true, false, List, [], ◌++◌, length, Some, None, Result, Ok, refl, append_assoc, arith}
+use Rattle.std.specs.Prelude.{ℤ, not}
+use Rattle.ipc_model.specs.declared.fault.Fault.{Fault}
+use Rattle.ipc_model.specs.declared.fault.NoForm.TheVariants as reasons
 use Rattle.std.proofs.lemmas.List.{length-append}
 use Rattle.ipc_words.specs.Words.{offset_at, field_place, visit_table, items_at}
 use Rattle.ipc_words.specs.Bytes.{u32_bytes}
@@ -8,26 +11,38 @@ use Rattle.ipc_words.specs.PartLaws.{From_at, offset_in, table_in, visit_in, fie
 use Rattle.ipc_words.specs.RowLaws.{IsRead, row_is_long}
 use Rattle.ipc_schema.specs.FieldRows.{row_vector, row_tables}
 use Rattle.ipc_schema.specs.Dictionaries.{unseen, progress}
+use Rattle.ipc_schema.specs.Numbering.{total, count_all, have_dictionary, ids_from, seen_behind_all}
+use Rattle.ipc_schema.specs.NumberingLaws.{no_ids}
 use Rattle.ipc_message.specs.Messages.{message_at}
 use Rattle.ipc_message.specs.MessageBytes.{root_bytes, message_bytes, metadata_size, framed_bytes, padding}
 use Rattle.ipc_message.specs.MessageLaws.{padded, padded_long, padding_long, framed_long, root_long, written_parts, message_again, written_part}
 use Rattle.ipc_message.specs.declared.message.Kind.TheVariants as kinds
-use Rattle.ipc_schema.specs.Schemas.{SchemaTree, metadata_at, field_at, keyed_schema_at, schema_at, stream_schema_at}
-use Rattle.ipc_schema.specs.Forms.{fields_form}
-use Rattle.ipc_schema.specs.SchemaBytes.{field_bytes, fields_bytes, entries_bytes, schema_bytes, schema_message}
+use Rattle.ipc_schema.specs.Schemas.{SchemaTree, metadata_at, field_at, keyed_schema_at, schema_at, stream_schema_at, stream_keyed_schema_at}
+use Rattle.ipc_schema.specs.Forms.{unless, keyed_form, fields_form}
+use Rattle.ipc_schema.specs.TypeLaws.{both}
+use Rattle.ipc_schema.specs.SchemaBytes.{field_bytes, each_bytes, fields_bytes, entries_bytes, schema_bytes, schema_message}
 use Rattle.ipc_schema.specs.MetadataLaws.{AreTexts, IsRising, entries_cost, entries_pay, metadata_again}
-use Rattle.ipc_schema.specs.FieldLaws.{AllFit, costs, field_cost, fields_again, fields_pay}
+use Rattle.ipc_schema.specs.FieldLaws.{AllFit, field_cost, fields_again, fields_pay, fields_count}
 
 -- what a schema of the code has, and that it is written
-pub record SchemaFits (s : SchemaTree) : Type 0 where
-  pub form : fields_form s.fields ≡ Ok tt
+pub record KeyedFits (s : SchemaTree) : Type 0 where
+  pub form : keyed_form s.fields ≡ Ok tt
   pub fields : AllFit s.fields
   pub texts : AreTexts s.metadata
   pub rising : IsRising s.metadata
 
+-- the same where no field has a dictionary
+pub record SchemaFits (s : SchemaTree) : Type 0 where
+  pub form : fields_form s.fields ≡ Ok tt
+  pub keyed : KeyedFits s
+
+-- a schema with the ids that its fields are written with
+abbrev pub with_ids : SchemaTree → SchemaTree × List ℤ
+with_ids s = (s, ids_from 0 (count_all s.fields))
+
 -- what reading the rows takes of the budget
 abbrev pub row_cost : SchemaTree → ℕ
-row_cost s = 4 + length (map (field_bytes 64) s.fields) * 4 + costs (field_cost 64) s.fields
+row_cost s = 4 + length (each_bytes 64 0 s.fields) * 4 + total (field_cost 64) s.fields
 
 unfoldable pub schema_cost : SchemaTree → ℕ
 schema_cost s = 8 + row_cost s + entries_cost s.metadata
@@ -47,18 +62,20 @@ message_long s =
     let framed : length (message_bytes kinds.Schema 0 16 (part_of s)) ≡ length (framed_bytes metadata) = unfold message_bytes in refl in
     omega (arith, framed, framed_long metadata, root_long kinds.Schema 0 16 (part_of s))
 
-pub schema_pays : (s : SchemaTree) → SchemaFits s → schema_cost s ≤ length (part_of s)
+keyed_pays : (s : SchemaTree) → KeyedFits s → schema_cost s ≤ length (part_of s)
 unfolding schema_cost
-schema_pays s fits = omega (arith, part_long s, fields_pay s.fields fits.form fits.fields, row_is_long 24 (map (field_bytes 64) s.fields), entries_pay s.metadata)
+keyed_pays s fits = omega (arith, part_long s, fields_pay s.fields fits.form fits.fields, row_is_long 24 (each_bytes 64 0 s.fields), entries_pay s.metadata)
 
--- no field has a dictionary
-keyed_again : (s : SchemaTree) (whole : List ℕ) (p q left : ℕ) (after : List ℕ) → SchemaFits s → From whole p (part_of s ++ after) → length whole < 2 ^ 32 → q ≡ p + 16 → schema_cost s ≤ left → keyed_schema_at whole q left ≡ Ok ((s, []), left - schema_cost s)
+pub schema_pays : (s : SchemaTree) → SchemaFits s → schema_cost s ≤ length (part_of s)
+schema_pays s fits = keyed_pays s fits.keyed
+
+keyed_again : (s : SchemaTree) (whole : List ℕ) (p q left : ℕ) (after : List ℕ) → KeyedFits s → From whole p (part_of s ++ after) → length whole < 2 ^ 32 → q ≡ p + 16 → schema_cost s ≤ left → keyed_schema_at whole q left ≡ Ok (with_ids s, left - schema_cost s)
 unfolding keyed_schema_at schema_bytes u32_bytes items_at schema_cost
 keyed_again s whole p q left after fits h small at le =
     let row : List ℕ = fields_bytes s.fields in
     let metadata : List ℕ = entries_bytes s.metadata in
     let part : List ℕ = part_of s ++ after in
-    let n : ℕ = length (map (field_bytes 64) s.fields) in
+    let n : ℕ = length (each_bytes 64 0 s.fields) in
     let ends = From-length whole p part h in
     let long : 32 + length row + length metadata ≤ length part = omega (arith, length-append (row ++ metadata) after, length-append row metadata) in
     let v : visit_table whole (p + 16) left ≡ Ok (table_in p 16 10, left - 8) = visit_in whole p part 16 10 left h (omega arith) (omega arith) (omega arith) (omega arith) refl refl refl (omega arith) in
@@ -71,34 +88,67 @@ keyed_again s whole p q left after fits h small at le =
     let second : From whole (p + 16 + 4 + 12 + length row) (metadata ++ after) = From_next whole (p + 16 + 4 + 12) row (metadata ++ after) first in
     let there : p + 16 + 8 + (8 + length row) ≡ p + 16 + 4 + 12 + length row = omega arith in
     let start : ℕ = left - 8 - (4 + n * 4) in
-    let r = row_vector 24 (map (field_bytes 64) s.fields) whole (p + 16 + 4 + 12) (left - 8) (metadata ++ after) first small (omega arith) in
-    let r' = row_tables (field_at 64) 24 (map (field_bytes 64) s.fields) s.fields (progress start unseen) (progress (start - costs (field_cost 64) s.fields) unseen) whole (p + 16 + 4 + 12) (metadata ++ after) (fields_again s.fields fits.form fits.fields start (omega arith)) first small in
-    let rest : ℕ = left - 8 - (4 + n * 4) - costs (field_cost 64) s.fields in
+    let few : count_all s.fields ≤ 2 ^ 62 = omega (arith, fields_count 64 s.fields 0, row_is_long 24 (each_bytes 64 0 s.fields)) in
+    let r = row_vector 24 (each_bytes 64 0 s.fields) whole (p + 16 + 4 + 12) (left - 8) (metadata ++ after) first small (omega arith) in
+    let r' = row_tables (field_at 64) 24 (each_bytes 64 0 s.fields) s.fields (progress start unseen) (progress (start - total (field_cost 64) s.fields) (seen_behind_all 64 0 s.fields unseen)) whole (p + 16 + 4 + 12) (metadata ++ after) (fields_again s.fields fits.form fits.fields few start (omega arith)) first small in
+    let rest : ℕ = left - 8 - (4 + n * 4) - total (field_cost 64) s.fields in
     let m : metadata_at whole (Some (p + 16 + 4 + 12 + length row)) rest ≡ Ok (s.metadata, rest - entries_cost s.metadata) = metadata_again s.metadata whole (p + 16 + 4 + 12 + length row) rest after fits.texts fits.rising second small (omega arith) in
     let spent : rest - entries_cost s.metadata ≡ left - (8 + row_cost s + entries_cost s.metadata) = omega arith in
     rw (at, v, f0, f1, o1, r, r', f2, o2, there, m, spent) refl
 
-schema_again : (s : SchemaTree) (whole : List ℕ) (p q left : ℕ) (after : List ℕ) → SchemaFits s → From whole p (part_of s ++ after) → length whole < 2 ^ 32 → q ≡ p + 16 → schema_cost s ≤ left → schema_at whole q left ≡ Ok (s, left - schema_cost s)
-unfolding schema_at
-schema_again s whole p q left after fits h small at le = rw (keyed_again s whole p q left after fits h small at le) refl
-
 -- wherever the part stands
-pub table_again : (s : SchemaTree) → SchemaFits s → IsRead schema_at 16 (part_of s) s (schema_cost s)
-table_again s fits = record {
-  law = λ whole p q left after h small at le. schema_again s whole p q left after fits h small at le;
+pub keyed_table_again : (s : SchemaTree) → KeyedFits s → IsRead keyed_schema_at 16 (part_of s) (with_ids s) (schema_cost s)
+keyed_table_again s fits = record {
+  law = λ whole p q left after h small at le. keyed_again s whole p q left after fits h small at le;
   long = omega (arith, part_long s);
 }
 
--- the message of a schema is read, and what stands behind it is left
+-- no field has a dictionary
+none_has : (b : Bool) → unless (not b) reasons.Type ≡ Ok tt → b ≡ false
+none_has true h = absurd (cc h)
+none_has false h = refl
+
+without : (s : SchemaTree) → fields_form s.fields ≡ Ok tt → ids_from 0 (count_all s.fields) ≡ []
+without s form = no_ids s.fields (none_has (have_dictionary s.fields) (both (keyed_form s.fields) (unless (not (have_dictionary s.fields)) reasons.Type) form).1)
+
+pub table_again : (s : SchemaTree) → SchemaFits s → IsRead schema_at 16 (part_of s) s (schema_cost s)
+unfolding schema_at
+table_again s fits = record {
+  law = λ whole p q left after h small at le. rw (keyed_again s whole p q left after fits.keyed h small at le, without s fits.form) refl;
+  long = omega (arith, part_long s);
+}
+
+-- the message of a schema is read, and what stands behind it is left: what reads its table reads the message
+module _ {A : Type 0} (read : List ℕ → ℕ → ℕ → Result (A × ℕ) Fault) (s : SchemaTree) (x : A) (is : IsRead read 16 (part_of s) x (schema_cost s)) (pays : schema_cost s ≤ length (part_of s)) where
+  abbrev metadata : List ℕ
+  metadata = root_bytes kinds.Schema 0 16 (part_of s)
+
+  message_is : (rest : List ℕ) → metadata_size (schema_message s) < 2 ^ 31 → message_at (message_bytes kinds.Schema 0 16 (part_of s) ++ rest) ≡ Ok (Some (written_parts kinds.Schema 16 (part_of s) []), rest)
+  unfolding schema_message
+  message_is rest small =
+      let framed : length (message_bytes kinds.Schema 0 16 (part_of s)) ≡ length (framed_bytes metadata) = unfold message_bytes in refl in
+      message_again kinds.Schema 16 (part_of s) [] rest (omega arith) (omega arith) small
+
+  table_is_read : metadata_size (schema_message s) < 2 ^ 31 → read (padded metadata) 64 (64 * length (padded metadata) - 8) ≡ Ok (x, 64 * length (padded metadata) - 8 - schema_cost s)
+  unfolding schema_message
+  table_is_read small =
+      let whole : List ℕ = padded metadata in
+      let framed : length (message_bytes kinds.Schema 0 16 (part_of s)) ≡ length (framed_bytes metadata) = unfold message_bytes in refl in
+      let short : length whole < 2 ^ 31 = omega (arith, framed, framed_long metadata, padding_long (length metadata), padded_long metadata) in
+      let h : From whole 48 (part_of s ++ padding (length metadata)) = written_part kinds.Schema 0 16 (part_of s) in
+      let enough : schema_cost s ≤ 64 * length whole - 8 = omega (arith, pays, root_long kinds.Schema 0 16 (part_of s), padded_long metadata) in
+      is.law whole 48 64 (64 * length whole - 8) (padding (length metadata)) h (omega arith) (omega arith) enough
+
 pub stream_again : (s : SchemaTree) (rest : List ℕ) → SchemaFits s → metadata_size (schema_message s) < 2 ^ 31 → stream_schema_at (schema_message s ++ rest) ≡ Ok (s, rest)
 unfolding stream_schema_at schema_message
 stream_again s rest fits small =
-    let metadata : List ℕ = root_bytes kinds.Schema 0 16 (part_of s) in
-    let whole : List ℕ = padded metadata in
-    let framed : length (message_bytes kinds.Schema 0 16 (part_of s)) ≡ length (framed_bytes metadata) = unfold message_bytes in refl in
-    let m : message_at (message_bytes kinds.Schema 0 16 (part_of s) ++ rest) ≡ Ok (Some (written_parts kinds.Schema 16 (part_of s) []), rest) = message_again kinds.Schema 16 (part_of s) [] rest (omega arith) (omega arith) small in
-    let short : length whole < 2 ^ 31 = omega (arith, framed, framed_long metadata, padding_long (length metadata), padded_long metadata) in
-    let h : From whole 48 (part_of s ++ padding (length metadata)) = written_part kinds.Schema 0 16 (part_of s) in
-    let enough : schema_cost s ≤ 64 * length whole - 8 = omega (arith, schema_pays s fits, root_long kinds.Schema 0 16 (part_of s), padded_long metadata) in
-    let r : schema_at whole 64 (64 * length whole - 8) ≡ Ok (s, 64 * length whole - 8 - schema_cost s) = schema_again s whole 48 64 (64 * length whole - 8) (padding (length metadata)) fits h (omega arith) (omega arith) enough in
-    rw (m, r) refl
+    let is = table_again s fits in
+    let pays = schema_pays s fits in
+    rw (message_is schema_at s s is pays rest small, table_is_read schema_at s s is pays small) refl
+
+pub keyed_stream_again : (s : SchemaTree) (rest : List ℕ) → KeyedFits s → metadata_size (schema_message s) < 2 ^ 31 → stream_keyed_schema_at (schema_message s ++ rest) ≡ Ok (with_ids s, rest)
+unfolding stream_keyed_schema_at schema_message
+keyed_stream_again s rest fits small =
+    let is = keyed_table_again s fits in
+    let pays = keyed_pays s fits in
+    rw (message_is keyed_schema_at s (with_ids s) is pays rest small, table_is_read keyed_schema_at s (with_ids s) is pays small) refl

@@ -175,14 +175,45 @@ bare_read type = record {
   long = omega arith;
 }
 
-integer_read : (integer : IntegerType) (bits sign : ℕ) → bits < 2 ^ 31 → sign < 2 ^ 8 → integer_of bits (ltb 0 sign) ≡ Ok integer → IsRead (type_at leaves.Int) 12 (two_fields bits sign) (integer_tree integer) 8
+number_read : (integer : IntegerType) (bits sign : ℕ) → bits < 2 ^ 31 → sign < 2 ^ 8 → integer_of bits (ltb 0 sign) ≡ Ok integer → IsRead integer_at 12 (two_fields bits sign) integer 8
 unfolding integer_at
-integer_read integer bits sign small few is = record {
+number_read integer bits sign small few is = record {
   law = λ whole p q left after h within at le.
       let t = two_are bits sign whole p left after small (omega arith) h le in
       rw (at, t.visit, t.first, t.number.word, t.second, t.next.byte few, is) refl;
   long = two_long bits sign;
 }
+
+integer_read : (integer : IntegerType) (bits sign : ℕ) → bits < 2 ^ 31 → sign < 2 ^ 8 → integer_of bits (ltb 0 sign) ≡ Ok integer → IsRead (type_at leaves.Int) 12 (two_fields bits sign) (integer_tree integer) 8
+integer_read integer bits sign small few is =
+    let r = number_read integer bits sign small few is in
+    record {
+      law = λ whole p q left after h within at le. rw (r.law whole p q left after h within at le) refl;
+      long = r.long;
+    }
+
+-- the type of keys
+pub key_read : (key : IntegerType) → IsRead integer_at 12 (type_bytes (integer_tree key)) key 8
+unfolding type_bytes
+key_read Int8 = number_read Int8 8 1 (omega arith) (omega arith) refl
+key_read Int16 = number_read Int16 16 1 (omega arith) (omega arith) refl
+key_read Int32 = number_read Int32 32 1 (omega arith) (omega arith) refl
+key_read Int64 = number_read Int64 64 1 (omega arith) (omega arith) refl
+key_read UInt8 = number_read UInt8 8 0 (omega arith) (omega arith) refl
+key_read UInt16 = number_read UInt16 16 0 (omega arith) (omega arith) refl
+key_read UInt32 = number_read UInt32 32 0 (omega arith) (omega arith) refl
+key_read UInt64 = number_read UInt64 64 0 (omega arith) (omega arith) refl
+
+pub key_long : (key : IntegerType) → length (type_bytes (integer_tree key)) ≡ 24
+unfolding type_bytes two_fields u32_bytes
+key_long Int8 = refl
+key_long Int16 = refl
+key_long Int32 = refl
+key_long Int64 = refl
+key_long UInt8 = refl
+key_long UInt16 = refl
+key_long UInt32 = refl
+key_long UInt64 = refl
 
 decimal_read : (digits after : ℕ) → digits < 2 ^ 31 → after < 2 ^ 31 → IsRead decimal_at 12 (two_fields digits after) (types.decimal digits after) 8
 unfolding decimal_at

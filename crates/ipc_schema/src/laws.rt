@@ -5,10 +5,15 @@ ghost use Rattle.ipc_schema.specs.Examples.{worked_message, worked_tree};
 ghost use Rattle.ipc_schema.specs.NestedExamples.{AreNested, AreMaps, AreUnions};
 ghost use Rattle.ipc_schema.specs.ExtensionExamples.{AreExtended, ArePlain};
 ghost use Rattle.ipc_schema.specs.DictionaryExamples.{AreKeyed, AreOfOneId, AreLookedAt};
+ghost use Rattle.ipc_schema.specs.KeyedExamples.{AreWritten, AreNumbered, AreRefused};
 ghost use Rattle.ipc_schema.specs.TypeExamples.{AreDecimals, AreTimes, AreZones, AreIntervals, AreSizes};
-ghost use Rattle.ipc_schema.specs.Schemas.{SchemaTree, stream_schema_at};
+ghost use Rattle.ipc_schema.specs.Schemas.{SchemaTree, stream_schema_at, stream_keyed_schema_at};
 ghost use Rattle.ipc_schema.specs.SchemaBytes.{schema_message};
-ghost use Rattle.ipc_schema.specs.SchemaLaws.{SchemaFits};
+ghost use Rattle.ipc_schema.specs.SchemaLaws.{KeyedFits, SchemaFits, with_ids};
+ghost use Rattle.ipc_schema.specs.Picks.{all};
+ghost use Rattle.ipc_schema.specs.PickedSchemas.{stream_picked_at};
+ghost use Rattle.ipc_schema.specs.PickedLaws.{all_of_stream};
+ghost use Rattle.ipc_schema.specs.PickedExamples.{AreCounted, AreOfUnions, AreTags, AreOver, ArePicked};
 
 /// The message of another writer, byte by byte, spells one field.
 pub fn a_message_is_read()
@@ -48,4 +53,32 @@ pub fn dictionaries_are_read()
 /// The message of a schema that is written is read back, with anything behind it.
 pub fn schemas_are_read_back()
     ensures { (s : SchemaTree) (rest : List ℕ) → SchemaFits s → metadata_size (schema_message s) < 2 ^ 31 → stream_schema_at (schema_message s ++ rest) ≡ Ok (s, rest) }
+{}
+
+/// So is one with dictionaries, and they have the ids 0, 1, 2 and so on in pre-order.
+pub fn keyed_schemas_are_read_back()
+    ensures { (s : SchemaTree) (rest : List ℕ) → KeyedFits s → metadata_size (schema_message s) < 2 ^ 31 → stream_keyed_schema_at (schema_message s ++ rest) ≡ Ok (with_ids s, rest) }
+{}
+
+/// Fields with dictionaries are written byte by byte as the format says; their ids are numbers in pre-order, and name their
+/// values; each reason why one is not written comes in its place.
+pub fn dictionaries_are_written()
+    ensures bytes { AreWritten }
+    ensures ids { AreNumbered }
+    ensures reasons { AreRefused }
+{}
+
+/// Fields by position and by name, of schemas of another writer, byte by byte: what the others take in each batch is counted, of all
+/// types that there are. A union that is passed over is none of V4.
+pub fn columns_are_picked()
+    ensures buffers { AreCounted }
+    ensures unions { AreOfUnions }
+    ensures tags { AreTags }
+    ensures over { AreOver }
+    ensures fields { ArePicked }
+{}
+
+/// Where all fields are read, the schema by columns that a stream begins with is its schema, or the same fault.
+pub fn all_columns_are_the_schema()
+    ensures { (bytes : List ℕ) → stream_picked_at all bytes ≡ all_of_stream bytes }
 {}

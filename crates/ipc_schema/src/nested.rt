@@ -83,7 +83,8 @@ fn ids_at(
     }
 }
 
-fn mode_of(number: usize) -> Result<UnionMode, Fault>
+/// The mode of a union, by its number.
+pub fn mode_of(number: usize) -> Result<UnionMode, Fault>
     ensures { result ≡ mode_of_lem number }
 {
     match number {

@@ -146,9 +146,9 @@ fn field_over(
     Ok((field, left))
 }
 
-// A field and those inside of it, so deep at most.
+/// A field and those inside of it, so deep at most.
 #[cycle(fields)]
-fn field_at(
+pub fn field_at(
     alloc: Global,
     depth: u8,
     bytes: &[u8],
@@ -230,8 +230,8 @@ pub fn schema_at(
     without_ids(keyed, left)
 }
 
-// The message of a schema, without a body.
-fn schema_message(first: Option<Message<'_>>) -> Result<Message<'_>, Fault>
+/// The message of a schema, without a body.
+pub fn schema_message(first: Option<Message<'_>>) -> Result<Message<'_>, Fault>
     requires { IfSome first (λ m. length m.metadata.now < 2 ^ 31) }
     ensures parts { Spells parts_of result (schema_parts (message_of first.entry)) }
     ensures small { IfOk result (λ m. length m.metadata.now < 2 ^ 31) }

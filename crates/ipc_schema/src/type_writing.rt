@@ -195,8 +195,9 @@ fn put_one_field(out: &mut Vec<u8>, a: u32) -> Result<(), AllocError>
     out.extend_from_slice(&[0, 0, 0, 0])
 }
 
+/// Appends a table with numbers in its first two fields.
 #[tactic(auto, unfolding(crate::specs::SchemaBytes::two_fields))]
-fn put_two_fields(out: &mut Vec<u8>, a: u32, b: u32) -> Result<(), AllocError>
+pub fn put_two_fields(out: &mut Vec<u8>, a: u32, b: u32) -> Result<(), AllocError>
     ensures { OnOk result (out.new.items ≡ out.old.items ++ two_fields a b) }
 {
     out.extend_from_slice(&[8, 0, 12, 0, 4, 0, 8, 0, 0, 0, 0, 0, 12, 0, 0, 0])?;

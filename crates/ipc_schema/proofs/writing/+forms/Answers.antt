@@ -2,7 +2,7 @@ use Rattle.std.proofs.Common.{◌≡◌, ◌<◌, map, sym, ap, ◌∙◌, arith
 use Rattle.std.proofs.lemmas.Result.{err_from_is_err_and}
 use Rattle.nest_memory.specs.TypeOf.{field_of}
 use Rattle.nest_memory.specs.TypeTree.{field_type}
-use Rattle.ipc_schema.specs.Extensions.{stored}
+use Rattle.ipc_schema.specs.Extensions.{table_type}
 use Rattle.ipc_schema.specs.Types.{children_of}
 use Rattle.ipc_schema.specs.Forms.{field_form}
 use Rattle.ipc_schema.proofs.Fields.{form_more, form_ends, form_done}
@@ -33,5 +33,5 @@ pub field_form-returns : goal.field_form-returns
 field_form-returns t c =
     let f = field_of c.args.field.now in
     let deep : 0 < c.args.depth = omega (arith, c.if-depth-eq0.false) in
-    let kids : map field_of c.children_of.result.now ≡ children_of (stored (field_type f)) = c.children_of.ensures ∙ ap children_of (c.stored.ensures ∙ ap stored c.data_type.ensures) in
+    let kids : map field_of c.children_of.result.now ≡ children_of (table_type (field_type f)) = c.children_of.ensures ∙ ap children_of (c.table_type.ensures ∙ ap table_type c.data_type.ensures) in
     c.each_form.ensures ∙ rw kids (sym (own_goes_on c.args.depth f deep (sym c.in_ok-own_form.ensures)))

@@ -13,7 +13,7 @@ pub returns-in_err-put_type-clause-size : goal.returns-in_err-put_type-clause-si
 returns-in_err-put_type-clause-size c =
     let p = err_from_is_err_and c.from_residual.result c.from_residual.ensures.1 in
     let type = type_of c.args.data_type.now in
-    let long = field_parts_long c.args.is_nullable (type_number type) (type_bytes type) c.args.children.now (parts.string_bytes (string_bytes c.args.name.now)) (entries_bytes (entries_of c.args.own.now.entries)) in
+    let long = field_parts_long c.args.is_nullable (type_number type) c.args.dictionary.now (type_bytes type) c.args.children.now (parts.string_bytes (string_bytes c.args.name.now)) (entries_bytes (entries_of c.args.own.now.entries)) in
     rw (p.1, p.2) (too_long_more _ _ _ (omega (arith, long)) c.in_err-put_type.ensures.size)
 
 pub returns-in_err-put_string-clause-size : goal.returns-in_err-put_string-clause-size
@@ -21,12 +21,12 @@ returns-in_err-put_string-clause-size c =
     let p = err_from_is_err_and c.from_residual-in_err-put_string.result c.from_residual-in_err-put_string.ensures.1 in
     let text = string_bytes c.args.name.now in
     let type = type_of c.args.data_type.now in
-    let long = field_parts_long c.args.is_nullable (type_number type) (type_bytes type) c.args.children.now (parts.string_bytes text) (entries_bytes (entries_of c.args.own.now.entries)) in
+    let long = field_parts_long c.args.is_nullable (type_number type) c.args.dictionary.now (type_bytes type) c.args.children.now (parts.string_bytes text) (entries_bytes (entries_of c.args.own.now.entries)) in
     rw (p.1, p.2) (too_long_more _ _ _ (omega (arith, long, string_long text, ap length c.as_str.ensures.value)) c.in_err-put_string.ensures.size)
 
 pub returns-in_err-put_metadata-clause-size : goal.returns-in_err-put_metadata-clause-size
 returns-in_err-put_metadata-clause-size c =
     let p = err_from_is_err_and c.from_residual-in_err-put_metadata.result c.from_residual-in_err-put_metadata.ensures.1 in
     let type = type_of c.args.data_type.now in
-    let long = field_parts_long c.args.is_nullable (type_number type) (type_bytes type) c.args.children.now (parts.string_bytes (string_bytes c.args.name.now)) (entries_bytes (entries_of c.args.own.now.entries)) in
+    let long = field_parts_long c.args.is_nullable (type_number type) c.args.dictionary.now (type_bytes type) c.args.children.now (parts.string_bytes (string_bytes c.args.name.now)) (entries_bytes (entries_of c.args.own.now.entries)) in
     rw (p.1, p.2) (too_long_more _ _ _ (omega (arith, long)) c.in_err-put_metadata.ensures.size)

@@ -7,5 +7,5 @@ use Rattle.ipc_schema.proofs.writing.put_field.Goals as goal
 pub returns-in_err-put_head-clause-size : goal.returns-in_err-put_head-clause-size
 returns-in_err-put_head-clause-size c =
     let p = err_from_is_err_and c.from_residual.result c.from_residual.ensures.1 in
-    let long = field_parts_long c.args.is_nullable c.args.tag c.args.data_type.now c.args.children.now c.args.name.now c.args.metadata.now in
+    let long = field_parts_long c.args.is_nullable c.args.tag c.args.dictionary.now c.args.data_type.now c.args.children.now c.args.name.now c.args.metadata.now in
     rw (p.1, p.2) (too_long_more _ _ _ (omega (arith, long)) c.in_err-put_head.ensures.size)

@@ -1,4 +1,4 @@
-use Rattle.std.proofs.Common.{◌≡◌, ◌≤◌, List, ℕ, length, map, refl, ap, subst, arith}
+use Rattle.std.proofs.Common.{◌≡◌, ◌+◌, ◌≤◌, List, ℕ, length, map, refl, ap, subst, arith}
 use Rattle.std.proofs.lemmas.Result.{err_from_is_err_and}
 use Rattle.nest_memory.specs.TypeOf.{field_of}
 use Rattle.nest_memory.specs.declared.datatypes.field.Field.{Field}
@@ -6,7 +6,7 @@ use Rattle.ipc_words.specs.Bytes.{parts_of, row_bytes, together}
 use Rattle.ipc_words.specs.RowLaws.{row_is_long}
 use Rattle.ipc_words.specs.Writes.{too_long_more}
 use Rattle.ipc_schema.specs.Schemas.{SchemaTree, schema_of}
-use Rattle.ipc_schema.specs.SchemaBytes.{field_bytes, fields_bytes, entries_bytes, schema_bytes}
+use Rattle.ipc_schema.specs.SchemaBytes.{each_bytes, fields_bytes, entries_bytes, schema_bytes}
 use Rattle.ipc_schema.specs.FieldLaws.{AllFit}
 use Rattle.ipc_schema.specs.SchemaLaws.{part_of, part_long}
 use Rattle.ipc_schema.proofs.Maps.{rising_is}
@@ -16,7 +16,7 @@ pub returns-in_err-parts-clause-size : goal.returns-in_err-parts-clause-size
 returns-in_err-parts-clause-size c =
     let p = err_from_is_err_and c.from_residual.result c.from_residual.ensures.1 in
     let s : SchemaTree = schema_of c.args.schema.now in
-    let le : length (together (map (field_bytes 64) s.fields)) ≤ length (part_of s) = omega (arith, part_long s, row_is_long 24 (map (field_bytes 64) s.fields)) in
+    let le : 0 + length (together (each_bytes 64 0 s.fields)) ≤ length (part_of s) = omega (arith, part_long s, row_is_long 24 (each_bytes 64 0 s.fields)) in
     let e = rw c.deref.ensures.value at c.in_err-parts.ensures.size in
     rw (p.1, p.2) (too_long_more _ _ _ le e)
 
@@ -24,7 +24,7 @@ pub returns-in_err-put_row-clause-size : goal.returns-in_err-put_row-clause-size
 returns-in_err-put_row-clause-size c =
     let p = err_from_is_err_and c.from_residual-in_err-put_row.result c.from_residual-in_err-put_row.ensures.1 in
     let s : SchemaTree = schema_of c.args.schema.now in
-    let rows : parts_of c.deref-2.result.now ≡ map (field_bytes 64) s.fields = rw (c.deref-2.ensures.value, c.in_ok-parts.ensures.ok, c.deref.ensures.value) refl in
+    let rows : parts_of c.deref-2.result.now ≡ each_bytes 64 0 s.fields = rw (c.deref-2.ensures.value, c.in_ok-parts.ensures.ok, c.deref.ensures.value) refl in
     rw (p.1, p.2) (too_long_more _ _ _ (omega (arith, ap (λ (l : List (List ℕ)). length (row_bytes 24 l)) rows, part_long s)) c.in_err-put_row.ensures.size)
 
 pub returns-in_err-put_metadata-clause-size : goal.returns-in_err-put_metadata-clause-size
@@ -37,7 +37,7 @@ pub returns-in_err-put_schema-clause-size : goal.returns-in_err-put_schema-claus
 returns-in_err-put_schema-clause-size c =
     let p = err_from_is_err_and c.from_residual-in_err-put_schema.result c.from_residual-in_err-put_schema.ensures.1 in
     let s : SchemaTree = schema_of c.args.schema.now in
-    let rows : parts_of c.deref-2.result.now ≡ map (field_bytes 64) s.fields = rw (c.deref-2.ensures.value, c.in_ok-parts.ensures.ok, c.deref.ensures.value) refl in
+    let rows : parts_of c.deref-2.result.now ≡ each_bytes 64 0 s.fields = rw (c.deref-2.ensures.value, c.in_ok-parts.ensures.ok, c.deref.ensures.value) refl in
     let fields : c.deref-3.result.now ≡ fields_bytes s.fields = rw (c.deref-3.ensures.value, c.in_ok-put_row.ensures.ok, c.new-fields.ensures.items, rows) refl in
     let metadata : c.deref-4.result.now ≡ entries_bytes s.metadata = rw (c.deref-4.ensures.value, c.in_ok-put_metadata.ensures.ok, c.new-metadata.ensures.items) refl in
     let same : schema_bytes c.deref-3.result.now c.deref-4.result.now ≡ part_of s = rw (fields, metadata) refl in
@@ -46,7 +46,7 @@ returns-in_err-put_schema-clause-size c =
 pub returns-clause-ok : goal.returns-clause-ok
 returns-clause-ok c =
     let s : SchemaTree = schema_of c.args.schema.now in
-    let rows : parts_of c.deref-2.result.now ≡ map (field_bytes 64) s.fields = rw (c.deref-2.ensures.value, c.in_ok-parts.ensures.ok, c.deref.ensures.value) refl in
+    let rows : parts_of c.deref-2.result.now ≡ each_bytes 64 0 s.fields = rw (c.deref-2.ensures.value, c.in_ok-parts.ensures.ok, c.deref.ensures.value) refl in
     let fields : c.deref-3.result.now ≡ fields_bytes s.fields = rw (c.deref-3.ensures.value, c.in_ok-put_row.ensures.ok, c.new-fields.ensures.items, rows) refl in
     let metadata : c.deref-4.result.now ≡ entries_bytes s.metadata = rw (c.deref-4.ensures.value, c.in_ok-put_metadata.ensures.ok, c.new-metadata.ensures.items) refl in
     rw (c.in_ok-put_schema.ensures.ok, c.new-part.ensures.items, fields, metadata) refl

@@ -3,10 +3,10 @@ use Rattle.std.specs.Str.{is_utf8}
 use Rattle.std.proofs.lemmas.Result.{on_ok_weaker}
 use Rattle.nest_memory.specs.TypeOf.{type_of, field_of, entries_of}
 use Rattle.nest_memory.specs.TypeTree.{Letters, Entries, TypeTree}
-use Rattle.ipc_schema.specs.Extensions.{stored, all_pairs}
+use Rattle.ipc_schema.specs.Extensions.{table_type, all_pairs}
 use Rattle.ipc_schema.specs.MetadataLaws.{AreTexts, IsRising}
 use Rattle.ipc_schema.specs.TypeLaws.{TypeFits}
-use Rattle.ipc_schema.specs.FieldLaws.{own_entries, stored_of, all_of}
+use Rattle.ipc_schema.specs.FieldLaws.{own_entries, own_type, all_of}
 use Rattle.ipc_schema.proofs.Maps.{rising_is}
 use Rattle.ipc_schema.proofs.writing.table_of.Goals as goal
 
@@ -14,7 +14,7 @@ pub returns-in-None-clause-fits : goal.returns-in-None-clause-fits
 returns-in-None-clause-fits c =
     let f = field_of c.args.field.now in
     let own : entries_of c.own_metadata-own.result.now.entries ≡ own_entries f = c.own_metadata-own.ensures in
-    let type : type_of c.stored-data_type.result.now ≡ stored_of f = c.stored-data_type.ensures ∙ ap stored c.data_type.ensures in
+    let type : type_of c.table_type-data_type.result.now ≡ own_type f = c.table_type-data_type.ensures ∙ ap table_type c.data_type.ensures in
     let told : entries_of c.own_metadata-own.result.now.entries ≡ all_pairs (type_of c.data_type-2.result.now) (entries_of c.own_metadata-own.result.now.entries) = rw c.in-None.is at c.in_ok-all_metadata.ensures in
     let all : entries_of c.own_metadata-own.result.now.entries ≡ all_of f = told ∙ (λ i. all_pairs (c.data_type-2.ensures i) (own i)) in
     on_ok_weaker c.parts_together.result
@@ -25,7 +25,7 @@ pub returns-in-Some-clause-fits : goal.returns-in-Some-clause-fits
 returns-in-Some-clause-fits c =
     let f = field_of c.args.field.now in
     let own : entries_of c.own_metadata-own.result.now.entries ≡ own_entries f = c.own_metadata-own.ensures in
-    let type : type_of c.stored-data_type.result.now ≡ stored_of f = c.stored-data_type.ensures ∙ ap stored c.data_type.ensures in
+    let type : type_of c.table_type-data_type.result.now ≡ own_type f = c.table_type-data_type.ensures ∙ ap table_type c.data_type.ensures in
     let told : entries_of c.in-Some.all.entries ≡ all_pairs (type_of c.data_type-2.result.now) (entries_of c.own_metadata-own.result.now.entries) = rw c.in-Some.is at c.in_ok-all_metadata.ensures in
     let all : entries_of c.in-Some.all.entries ≡ all_of f = told ∙ (λ i. all_pairs (c.data_type-2.ensures i) (own i)) in
     on_ok_weaker c.parts_together-in-Some.result
