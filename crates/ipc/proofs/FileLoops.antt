@@ -1,8 +1,6 @@
--- Going through the blocks of a file, as loops do, and through batches that are written into one.
-use Rattle.std.proofs.Common.{◌≡◌, ℕ, ◌+◌, ◌<◌, ◌≤◌, List, [], ◌∷◌, ◌++◌, length, get_or, drop, map, Result, Ok, Err, refl, sym, ap, ◌∙◌, append_assoc, arith}
-use Rattle.std.specs.List.{flat_map}
-use Rattle.std.proofs.lemmas.List.{append-nil, map-append, drop_more, drop_all, length-append}
-use Rattle.std.proofs.lemmas.List.Concat.{flat_map-cons}
+-- Going through the blocks of a file, as loops do.
+use Rattle.std.proofs.Common.{◌≡◌, ℕ, ◌+◌, ◌<◌, ◌≤◌, List, [], ◌∷◌, ◌++◌, length, get_or, drop, map, Result, Ok, Err, refl, sym, ap, ◌∙◌, append_assoc}
+use Rattle.std.proofs.lemmas.List.{append-nil, map-append, drop_more, drop_all}
 use Rattle.ipc_model.specs.declared.fault.Fault.{Fault}
 use Rattle.ipc_model.specs.Reading.{◌>>=◌, Fails}
 use Rattle.ipc_message.specs.Messages.{Parts}
@@ -11,8 +9,6 @@ use Rattle.ipc_schema.specs.Schemas.{SchemaTree}
 use Rattle.ipc_footer.specs.declared.footer.Block.{Block}
 use Rattle.ipc.specs.Streams.{Arrays, dictionary_in}
 use Rattle.ipc.specs.Files.{block_in, block_batch_in, batches_at, dictionaries_at, no_block}
-use Rattle.ipc.specs.Written.{batch_bytes}
-use Rattle.ipc.specs.WrittenFiles.{written_block, blocks_from}
 
 -- ---- dictionaries
 
@@ -65,20 +61,3 @@ module _ (schema : SchemaTree) (bytes : List ℕ) (blocks : List Block) (i : ℕ
   pub batches_end : (front : List Arrays) (total : Result (List Arrays) Fault) → length blocks ≤ i → with_first front (batches_at schema bytes (drop i blocks)) ≡ total → total ≡ Ok front
   unfolding batches_at
   batches_end front total le so_far = sym so_far ∙ rw (drop_all i blocks le) (ap (λ (as_ : List Arrays). Ok as_) (append-nil front))
-
--- ---- batches that are written
-
-pub blocks_push : (place : ℕ) (bs : List Arrays) (b : Arrays) → blocks_from place (bs ++ b ∷ []) ≡ blocks_from place bs ++ written_block (place + length (flat_map batch_bytes bs)) b ∷ []
-unfolding blocks_from
-blocks_push place [] b =
-    let start : place + 0 ≡ place = omega arith in
-    rw start refl
-blocks_push place (c ∷ bs) b =
-    let next : ℕ = place + length (batch_bytes c) in
-    let all : length (flat_map batch_bytes (c ∷ bs)) ≡ length (batch_bytes c) + length (flat_map batch_bytes bs) = ap length (flat_map-cons batch_bytes c bs) ∙ length-append (batch_bytes c) (flat_map batch_bytes bs) in
-    let same : next + length (flat_map batch_bytes bs) ≡ place + length (flat_map batch_bytes (c ∷ bs)) = omega (arith, all) in
-    rw (blocks_push next bs b, same) refl
-
-pub blocks_more : (place : ℕ) (bs more : List Arrays) (b : Arrays) (old new : List Block) (block : Block) (start : ℕ) → more ≡ bs ++ b ∷ [] → new ≡ old ++ block ∷ [] → old ≡ blocks_from place bs → block ≡ written_block start b → start ≡ place + length (flat_map batch_bytes bs)
-    → new ≡ blocks_from place more
-blocks_more place bs more b old new block start e pushed so_far is there = rw (e, blocks_push place bs b, pushed, so_far, is, there) refl

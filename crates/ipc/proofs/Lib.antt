@@ -1,3 +1,5 @@
 pub mod Loops
 pub mod Writes
 pub mod FileLoops
+pub mod PickedLoops
+pub mod PickedFileLoops

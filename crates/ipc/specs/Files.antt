@@ -97,7 +97,7 @@ file_of f = record { schema = schema_of f.schema; batches = map arrays_of f.batc
 
 -- ---- a code of readers, by which a ghost value that is one is told apart from another
 
-abbrev coded_block : Coded Block
+abbrev pub coded_block : Coded Block
 coded_block = code_by (ℤ × (ℤ × ℤ)) (coded× coded_ℤ (coded× coded_ℤ coded_ℤ)) (λ b. (b.offset, (b.metadata_length, b.body_length))) (λ p. record { offset = p.0; metadata_length = p.1.0; body_length = p.1.1 }) (λ _. refl)
 
 abbrev pub coded_file_reader : Coded FileReaderTree

@@ -27,8 +27,8 @@ pub struct File {
     pub batches: Vec<Batch>,
 }
 
-// A message that has the lengths of its block.
-fn of_block(block: Block, next: Option<Message<'_>>) -> Result<Message<'_>, Fault>
+/// A message that has the lengths of its block.
+pub fn of_block(block: Block, next: Option<Message<'_>>) -> Result<Message<'_>, Fault>
     ensures parts { Spells parts_of result (of_block_lem block (message_of next.entry)) }
     ensures same { IfOk result (λ m. Some m ≡ next.entry) }
 {
@@ -46,7 +46,8 @@ fn of_block(block: Block, next: Option<Message<'_>>) -> Result<Message<'_>, Faul
     }
 }
 
-fn is_kind(kind: Kind, want: Kind) -> bool
+/// Whether a kind is another.
+pub fn is_kind(kind: Kind, want: Kind) -> bool
     ensures { result ≡ (tag_of kind == tag_of want) }
 {
     match kind {

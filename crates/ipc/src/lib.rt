@@ -4,6 +4,9 @@
 mod batch;
 mod file;
 pub mod laws;
+mod picked;
+mod picked_file;
+mod picked_reader;
 mod reader;
 mod reading;
 mod stream;
@@ -12,7 +15,11 @@ mod writing_files;
 
 pub use batch::Batch;
 pub use file::{File, FileReader, read_file};
+pub use picked::read_stream_columns;
+pub use picked_file::{FileColumns, read_file_columns};
+pub use picked_reader::StreamColumns;
 pub use reader::StreamReader;
+pub use reading::next_batch;
 pub use stream::{Stream, read_stream};
-pub use writing::write_stream;
+pub use writing::{put_batch, write_stream};
 pub use writing_files::write_file;

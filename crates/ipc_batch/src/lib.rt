@@ -3,10 +3,12 @@
 
 mod batch;
 pub mod laws;
+mod more_buffers;
 mod reading;
 mod regions;
 mod writing;
 
 pub use batch::BatchMetadata;
+pub use more_buffers::read_more_buffers;
 pub use reading::read_batch;
 pub use writing::write_batch;

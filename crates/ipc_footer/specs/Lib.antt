@@ -1,5 +1,6 @@
 -- What contracts cite.
 pub mod Footers
+pub mod PickedFooters
 pub mod FooterBytes
 pub mod FooterLaws
 pub mod Examples

@@ -63,7 +63,8 @@ fn blocks_in(
     Ok((blocks, left))
 }
 
-fn schema_place(to: Option<usize>) -> Result<usize, Fault>
+/// Where the schema stands.
+pub fn schema_place(to: Option<usize>) -> Result<usize, Fault>
     ensures { result ≡ schema_place_lem to }
 {
     match to {
@@ -72,8 +73,9 @@ fn schema_place(to: Option<usize>) -> Result<usize, Fault>
     }
 }
 
+/// The blocks of dictionaries, then those of batches.
 #[tactic(auto, unfolding(crate::specs::Footers::lists_at))]
-fn lists_at(
+pub fn lists_at(
     alloc: Global,
     bytes: &[u8],
     table: Table,
@@ -120,7 +122,8 @@ fn has_magic(bytes: &[u8]) -> bool
     bytes.starts_with(magic) && bytes.ends_with(magic)
 }
 
-fn check_ends(bytes: &[u8]) -> Result<(), Fault>
+/// That a file is marked at both ends.
+pub fn check_ends(bytes: &[u8]) -> Result<(), Fault>
     ensures value { result ≡ check_ends_lem bytes.now }
     ensures long { IfOk result (λ _. 18 ≤ length bytes.now) }
 {
@@ -133,7 +136,8 @@ fn check_ends(bytes: &[u8]) -> Result<(), Fault>
     Ok(())
 }
 
-fn footer_length(bytes: &[u8]) -> Result<usize, Fault>
+/// How long the footer is.
+pub fn footer_length(bytes: &[u8]) -> Result<usize, Fault>
     requires { 18 ≤ length bytes.now }
     ensures value { result ≡ footer_length_lem bytes.now }
     ensures within { IfOk result (λ long. (18 + long ≤ length bytes.now) × (long < 2 ^ 31)) }
@@ -147,8 +151,8 @@ fn footer_length(bytes: &[u8]) -> Result<usize, Fault>
     Ok(long)
 }
 
-// The bytes of the footer.
-fn footer_part(bytes: &[u8], long: usize) -> &[u8]
+/// The bytes of the footer.
+pub fn footer_part(bytes: &[u8], long: usize) -> &[u8]
     requires { 10 + long ≤ length bytes.now }
     ensures part { result.now ≡ take long (drop (footer_place long bytes.now) bytes.now) }
     ensures length { length result.now ≡ long }
@@ -158,8 +162,8 @@ fn footer_part(bytes: &[u8], long: usize) -> &[u8]
     footer
 }
 
-// A footer whose blocks lie before a place.
-fn placed(end: usize, footer: Footer) -> Result<Footer, Fault>
+/// A footer whose blocks lie before a place.
+pub fn placed(end: usize, footer: Footer) -> Result<Footer, Fault>
     ensures value { Gives footer_of result (placed_lem end (footer_of footer)) }
     ensures dictionaries { IfOk result (λ f. list_all (block_before end) f.dictionaries.items ≡ true) }
     ensures batches { IfOk result (λ f. list_all (block_before end) f.batches.items ≡ true) }

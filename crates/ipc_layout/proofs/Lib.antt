@@ -10,3 +10,4 @@ pub mod Offsets
 pub mod Nested
 pub mod Fields
 pub mod Marks
+pub mod Passing

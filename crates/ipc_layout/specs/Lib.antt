@@ -1,6 +1,7 @@
 -- What contracts cite.
 pub mod Stored
 pub mod Columns
+pub mod Picked
 pub mod Meant
 pub mod ReadParts
 pub mod ReadLaws
@@ -10,6 +11,8 @@ pub mod Written
 pub mod Kinds
 pub mod Examples
 pub mod ReadExamples
+pub mod PickedExamples
+pub mod PickedLaws
 pub mod StoredLaws
 pub mod StringLaws
 pub mod PackedLaws

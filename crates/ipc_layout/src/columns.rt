@@ -38,7 +38,8 @@ impl Typed for Field {
     }
 }
 
-fn none_left(left: Left<'_>) -> Result<(), Fault>
+/// That all nodes and buffers are used up.
+pub fn none_left(left: Left<'_>) -> Result<(), Fault>
     ensures { result ≡ none_left_lem (rest_of left.entry) }
 {
     if left.nodes.len() != 0 {

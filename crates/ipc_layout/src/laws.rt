@@ -1,12 +1,15 @@
 //! Examples of what is read and written, as functions with empty bodies.
-ghost use Rattle.std.specs.Prelude.{◌≡◌, [], ◌∷◌, List, map, Ok};
+ghost use Rattle.std.specs.Prelude.{◌≡◌, ℕ, [], ◌∷◌, List, map, Ok};
+ghost use Rattle.nest_memory.specs.TypeTree.{TypeTree};
 ghost use Rattle.nest_model.specs.Layout.{Layout};
-ghost use Rattle.ipc_layout.specs.Columns.{column_in};
+ghost use Rattle.ipc_layout.specs.Columns.{column_in, columns_in};
 ghost use Rattle.ipc_layout.specs.declared.parts.Wanted.TheVariants.{Rows};
 ghost use Rattle.ipc_layout.specs.Placed.{regions_from};
 ghost use Rattle.ipc_layout.specs.declared.parts.Wanted.TheVariants.{Rows};
 ghost use Rattle.ipc_layout.specs.Written.{column_node, shown, written, buffers_of, columns_body};
 ghost use Rattle.ipc_layout.specs.Examples.{worked_type, worked_body, worked_rest, worked_column, nothing, IsSpelledSo, IsWrittenSo, nulls, truths, wide, halves, days, months, sized, strings, texts, cut_strings};
+ghost use Rattle.ipc_layout.specs.Picked.{AheadTree, picked_in, all_read};
+ghost use Rattle.ipc_layout.specs.PickedExamples.{ArePassed, AreAround};
 
 /// The body of another writer, byte by byte, spells a column of the numbers 7 and null.
 pub fn a_column_is_read()
@@ -83,4 +86,16 @@ pub fn offsets_are_written_from_0()
 /// What is written depends on what is shown alone: arrays that differ outside of their cuts give equal nodes and bytes.
 pub fn what_is_shown_alone_is_written()
     ensures { (one other : List Layout) → map shown one ≡ map shown other → (written one ≡ written other) × (columns_body one ≡ columns_body other) }
+{}
+
+/// What is passed over takes its nodes, its buffers, and for each array of views as many buffers more as the batch counts; what lacks is
+/// refused. Columns around it are read, and all nodes and buffers are used up.
+pub fn columns_are_passed()
+    ensures passed { ArePassed }
+    ensures around { AreAround }
+{}
+
+/// Where each step reads, the columns by steps are the columns, or the same fault.
+pub fn all_steps_read_the_columns()
+    ensures { (types : List TypeTree) (rows : ℕ) (body : List ℕ) (ahead : AheadTree) → picked_in (all_read types) types rows body ahead ≡ columns_in types rows body ahead.rest }
 {}

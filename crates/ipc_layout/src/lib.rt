@@ -12,6 +12,7 @@ mod list;
 mod map;
 mod native;
 mod parts;
+mod picked;
 mod placing;
 pub mod read_examples;
 mod reading;
@@ -26,6 +27,7 @@ mod writing;
 
 pub use columns::{Typed, read_columns};
 pub use parts::{Counts, Left, Wanted};
+pub use picked::{Ahead, read_picked};
 pub use placing::{Placed, place_columns};
 pub use reading::read_column;
 pub use stored::{Stored, StoredOffset};

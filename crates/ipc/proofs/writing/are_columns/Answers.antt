@@ -4,7 +4,8 @@ use Rattle.nest_memory.specs.TypeOf.{field_of}
 use Rattle.nest_memory.specs.TypeTree.{field_type}
 use Rattle.nest_array.specs.Seen.{layout_of}
 use Rattle.ipc.specs.Written.{are_columns}
-use Rattle.ipc.proofs.Writes.{left, lengths_differ, column_fails, column_passes}
+use Rattle.ipc.proofs.Writes.{lengths_differ, column_fails, column_passes}
+use Rattle.ipc.specs.WrittenLists.{left}
 use Rattle.ipc.proofs.writing.are_columns.Goals as goal
 
 pub returns-then-fields-columns : goal.returns-then-fields-columns

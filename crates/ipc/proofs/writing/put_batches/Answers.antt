@@ -5,7 +5,7 @@ use Rattle.nest_memory.specs.TypeOf.{field_of}
 use Rattle.nest_memory.specs.TypeTree.{field_type}
 use Rattle.ipc.specs.Streams.{Arrays, arrays_of}
 use Rattle.ipc.specs.Written.{batch_refusal, batches_refusal, IsReadAgain}
-use Rattle.ipc.proofs.Writes.{taken, split, batches_refused, batches_push, all_push, bytes_push}
+use Rattle.ipc.specs.WrittenLists.{taken, split, batches_refused, batches_push, all_push, bytes_push}
 use Rattle.ipc.proofs.writing.put_batches.Goals as goal
 
 pub returns-in_err-put_batch-clause-err : goal.returns-in_err-put_batch-clause-err

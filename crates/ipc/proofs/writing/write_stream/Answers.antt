@@ -6,7 +6,7 @@ use Rattle.ipc_schema.specs.SchemaBytes.{schema_message}
 use Rattle.ipc.specs.Streams.{Arrays, arrays_of, types_of}
 use Rattle.ipc.specs.Written.{batch_bytes, stream_bytes, batches_refusal, IsReadAgain}
 use Rattle.ipc.specs.WrittenLaws.{stream_again}
-use Rattle.ipc.proofs.Writes.{all_same, columns_accepted}
+use Rattle.ipc.specs.WrittenLists.{all_same, columns_accepted}
 use Rattle.ipc.proofs.writing.write_stream.Goals as goal
 
 pub returns-clause-again : goal.returns-clause-again

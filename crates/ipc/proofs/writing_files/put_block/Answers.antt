@@ -8,7 +8,7 @@ use Rattle.ipc_layout.specs.Written.{columns_body}
 use Rattle.ipc.specs.Streams.{Arrays, arrays_of}
 use Rattle.ipc.specs.Written.{batch_head, batch_bytes}
 use Rattle.ipc.specs.FileLaws.{batch_long}
-use Rattle.ipc.proofs.Writes.{block_past, block_accepted}
+use Rattle.ipc.specs.WrittenLists.{block_past, block_accepted}
 use Rattle.ipc.proofs.writing_files.put_block.Goals as goal
 
 pub overflow_sub-metadata_length-2 : goal.overflow_sub-metadata_length-2

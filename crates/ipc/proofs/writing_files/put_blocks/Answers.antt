@@ -7,8 +7,7 @@ use Rattle.nest_memory.specs.TypeTree.{field_type}
 use Rattle.ipc.specs.Streams.{Arrays, arrays_of}
 use Rattle.ipc.specs.Written.{batch_bytes, IsReadAgain}
 use Rattle.ipc.specs.WrittenFiles.{blocks_from, block_refusal, blocks_refusal}
-use Rattle.ipc.proofs.Writes.{taken, split, batches_refused, batches_push, all_push, bytes_push}
-use Rattle.ipc.proofs.FileLoops.{blocks_more}
+use Rattle.ipc.specs.WrittenLists.{taken, split, batches_refused, batches_push, all_push, bytes_push, blocks_more}
 use Rattle.ipc.proofs.writing_files.put_blocks.Goals as goal
 
 pub loop-batch-init : goal.loop-batch-init

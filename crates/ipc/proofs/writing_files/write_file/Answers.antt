@@ -7,7 +7,7 @@ use Rattle.ipc.specs.Streams.{Arrays, arrays_of, types_of}
 use Rattle.ipc.specs.Written.{stream_bytes, IsReadAgain}
 use Rattle.ipc.specs.WrittenFiles.{blocks_from, written_footer, file_bytes, blocks_refusal}
 use Rattle.ipc.specs.FileLaws.{written_inside, file_again}
-use Rattle.ipc.proofs.Writes.{all_same, columns_accepted, stream_accepts}
+use Rattle.ipc.specs.WrittenLists.{all_same, columns_accepted, stream_accepts}
 use Rattle.ipc.proofs.writing_files.write_file.Goals as goal
 
 pub returns-clause-again : goal.returns-clause-again

@@ -1,0 +1,59 @@
+-- Going through the blocks of a file that is read by columns, as loops do.
+use Rattle.std.proofs.Common.{◌≡◌, ℕ, ◌+◌, ◌<◌, ◌≤◌, List, [], ◌∷◌, ◌++◌, length, get_or, drop, map, Result, Ok, Err, refl, sym, ap, ◌∙◌, append_assoc}
+use Rattle.std.proofs.lemmas.List.{append-nil, map-append, drop_more, drop_all}
+use Rattle.ipc_model.specs.declared.fault.Fault.{Fault}
+use Rattle.ipc_model.specs.Reading.{◌>>=◌, Fails}
+use Rattle.ipc_message.specs.Messages.{Parts}
+use Rattle.ipc_message.specs.declared.message.Kind.TheVariants.{DictionaryBatch}
+use Rattle.ipc_schema.specs.PickedSchemas.{PickedTree}
+use Rattle.ipc_footer.specs.declared.footer.Block.{Block}
+use Rattle.std.specs.Prelude.{Option}
+use Rattle.ipc.specs.Streams.{Arrays}
+use Rattle.ipc.specs.Picked.{picked_dictionary_in}
+use Rattle.ipc.specs.Files.{no_block}
+use Rattle.ipc.proofs.FileLoops.{with_first}
+use Rattle.ipc.specs.PickedFiles.{picked_block_in, picked_block_batch, picked_batches_at, picked_dictionaries_at}
+
+-- ---- dictionaries
+
+module _ (schema : PickedTree) (bytes : List ℕ) (blocks : List Block) (i : ℕ) (total : Result (Unit {0}) Fault) where
+  pub dictionary_lacks_message : (f : Fault) → i < length blocks → picked_block_in DictionaryBatch schema bytes (get_or blocks i no_block) ≡ Err f → picked_dictionaries_at schema bytes (drop i blocks) ≡ total → total ≡ Err f
+  unfolding picked_dictionaries_at
+  dictionary_lacks_message f lt read so_far = sym so_far ∙ rw (drop_more blocks i no_block lt, read) refl
+
+  pub dictionary_fails : (m : Parts) (f : Fault) → i < length blocks → picked_block_in DictionaryBatch schema bytes (get_or blocks i no_block) ≡ Ok m → Fails f (picked_dictionary_in schema.steps m) → picked_dictionaries_at schema bytes (drop i blocks) ≡ total → Fails f total
+  unfolding picked_dictionaries_at
+  dictionary_fails m f lt read fails so_far = λ known. sym so_far ∙ rw (drop_more blocks i no_block lt, read, fails known) refl
+
+  pub dictionary_goes_on : (m : Parts) (a : Option Arrays) → i < length blocks → picked_block_in DictionaryBatch schema bytes (get_or blocks i no_block) ≡ Ok m → picked_dictionary_in schema.steps m ≡ Ok a → picked_dictionaries_at schema bytes (drop i blocks) ≡ total → picked_dictionaries_at schema bytes (drop (i + 1) blocks) ≡ total
+  unfolding picked_dictionaries_at
+  dictionary_goes_on m a lt read given so_far =
+      let one : picked_dictionaries_at schema bytes (drop i blocks) ≡ picked_dictionaries_at schema bytes (drop (i + 1) blocks) = rw (drop_more blocks i no_block lt, read, given) refl in
+      sym one ∙ so_far
+
+  pub dictionaries_end : length blocks ≤ i → picked_dictionaries_at schema bytes (drop i blocks) ≡ total → total ≡ Ok tt
+  unfolding picked_dictionaries_at
+  dictionaries_end le so_far = sym so_far ∙ rw (drop_all i blocks le) refl
+
+-- ---- batches
+
+regroup : (front : List Arrays) (a : Arrays) (read : Result (List Arrays) Fault) → with_first front (read >>= λ batches. Ok (a ∷ batches)) ≡ with_first (front ++ a ∷ []) read
+regroup front a (Ok batches) = ap (λ (as_ : List Arrays). Ok as_) (sym (append_assoc front (a ∷ []) batches))
+regroup front a (Err f) = refl
+
+module _ (schema : PickedTree) (bytes : List ℕ) (blocks : List Block) (i : ℕ) where
+  pub batch_fails : (f : Fault) (front : List Arrays) (total : Result (List Arrays) Fault) → i < length blocks → Fails f (picked_block_batch schema bytes (get_or blocks i no_block)) → with_first front (picked_batches_at schema bytes (drop i blocks)) ≡ total → Fails f total
+  unfolding picked_batches_at
+  batch_fails f front total lt fails so_far = λ known. sym so_far ∙ rw (drop_more blocks i no_block lt, fails known) refl
+
+  pub batch_goes_on : {B : Type 0} (view : B → Arrays) (front new : List B) (b : B) (total : Result (List Arrays) Fault) → new ≡ front ++ b ∷ [] → i < length blocks → picked_block_batch schema bytes (get_or blocks i no_block) ≡ Ok (view b)
+      → with_first (map view front) (picked_batches_at schema bytes (drop i blocks)) ≡ total → with_first (map view new) (picked_batches_at schema bytes (drop (i + 1) blocks)) ≡ total
+  unfolding picked_batches_at
+  batch_goes_on view front new b total e lt read so_far =
+      let one : with_first (map view front) (picked_batches_at schema bytes (drop i blocks)) ≡ with_first (map view front ++ view b ∷ []) (picked_batches_at schema bytes (drop (i + 1) blocks)) =
+      rw (drop_more blocks i no_block lt, read) (regroup (map view front) (view b) (picked_batches_at schema bytes (drop (i + 1) blocks))) in
+      rw (e, map-append view front (b ∷ [])) (sym one ∙ so_far)
+
+  pub batches_end : (front : List Arrays) (total : Result (List Arrays) Fault) → length blocks ≤ i → with_first front (picked_batches_at schema bytes (drop i blocks)) ≡ total → total ≡ Ok front
+  unfolding picked_batches_at
+  batches_end front total le so_far = sym so_far ∙ rw (drop_all i blocks le) (ap (λ (as_ : List Arrays). Ok as_) (append-nil front))

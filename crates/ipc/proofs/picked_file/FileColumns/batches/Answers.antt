@@ -1,0 +1,25 @@
+use Rattle.std.proofs.Common.{map, arith}
+use Rattle.std.proofs.lemmas.Result.{err_from_is_err_and}
+use Rattle.ipc.specs.Streams.{arrays_of}
+use Rattle.ipc.specs.PickedFiles.{picked_batches_of}
+use Rattle.ipc.proofs.PickedFileLoops.{batch_fails, batch_goes_on, batches_end}
+use Rattle.ipc.proofs.picked_file.FileColumns.batches.Goals as goal
+
+pub returns-in_err-batch : goal.returns-in_err-batch
+returns-in_err-batch c =
+    let p = err_from_is_err_and c.from_residual.result c.from_residual.ensures.1 in
+    let r = c.args.self.now in
+    rw (p.1, p.2) (batch_fails r.picked r.bytes r.blocks c.loop-i.i c.in_err-batch.field-0.0 (map arrays_of c.loop-i.batches.items) (picked_batches_of r) (omega (arith, c.loop-i-test.true, c.loop-i.invariant.end)) c.in_err-batch.ensures c.loop-i.invariant.left)
+
+pub loop-i-preserved : goal.loop-i-preserved
+loop-i-preserved c =
+    let r = c.args.self.now in
+    record {
+      end = c.loop-i.invariant.end;
+      left = batch_goes_on r.picked r.bytes r.blocks c.loop-i.i arrays_of c.loop-i.batches.items c.push.new.self.items c.in_ok-batch.batch (picked_batches_of r) c.in_ok-push.ensures.items (omega (arith, c.loop-i-test.true, c.loop-i.invariant.end)) c.in_ok-batch.ensures c.loop-i.invariant.left;
+    }
+
+pub returns : goal.returns
+returns c =
+    let r = c.args.self.now in
+    batches_end r.picked r.bytes r.blocks c.loop-i.i (map arrays_of c.loop-i.batches.items) (picked_batches_of r) (omega (arith, c.loop-i-test.false, c.loop-i.invariant.end)) c.loop-i.invariant.left
