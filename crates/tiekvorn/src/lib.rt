@@ -4,15 +4,24 @@
 
 pub use ipc::Batch;
 pub use ipc::File;
+pub use ipc::FileColumns;
 pub use ipc::FileReader;
 pub use ipc::Stream;
+pub use ipc::StreamColumns;
 pub use ipc::StreamReader;
 pub use ipc::read_file;
+pub use ipc::read_file_columns;
 pub use ipc::read_stream;
+pub use ipc::read_stream_columns;
 pub use ipc::write_file;
 pub use ipc::write_stream;
+pub use ipc_device::DeviceReader;
+pub use ipc_device::ReadError;
+pub use ipc_device::StreamWriter;
+pub use ipc_device::WriteError;
 pub use ipc_model::Fault;
 pub use ipc_model::NoForm;
+pub use ipc_schema::Columns;
 pub use ipc_schema::Schema;
 pub use nest_any::AnyMutableArray;
 pub use nest_any::AnyMutableDictionary;

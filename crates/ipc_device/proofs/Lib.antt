@@ -1,0 +1,4 @@
+mod Puts
+mod Fetches
+mod Steps
+mod Answered

@@ -1,0 +1,18 @@
+//! Tests of `ipc_device`: its public calls, as a crate above sees them. They are run, not proved.
+//!
+//! | What the row shows | Test |
+//! |---|---|
+//! | What is written to a device, a byte at a time and interrupted, is what `write_stream` answers | `writers` |
+//! | A batch that has no form leaves the writer as it was; a device that fails at any byte gets nothing more, and has a beginning | `writers` |
+//! | A stream from a device, in pieces of any size and interrupted, has the batches of `StreamReader`; what stands behind the end mark is left | `readers` |
+//! | Each beginning of a stream, and each byte changed, has the answers of `StreamReader`; a device that fails at any byte is told, and nothing comes behind | `readers` |
+#![tactic(auto)]
+
+#[cfg(test)]
+mod devices;
+#[cfg(test)]
+mod readers;
+#[cfg(test)]
+mod worked;
+#[cfg(test)]
+mod writers;

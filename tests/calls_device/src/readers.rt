@@ -1,0 +1,163 @@
+//! Streams that are read from devices.
+use crate::devices::Source;
+use crate::worked::{batches, schema};
+use ipc::{Batch, StreamReader, write_stream};
+use ipc_device::{DeviceReader, ReadError};
+use nest_memory::datatypes::DataType;
+use std::alloc::Global;
+use std::io::ErrorKind;
+
+fn same(one: &Option<Batch>, other: &Option<Batch>) -> bool {
+    match (one, other) {
+        (None, None) => true,
+        (Some(one), Some(other)) => {
+            if one.rows != other.rows || one.columns.len() != other.columns.len() {
+                return false;
+            }
+            for k in 0..one.columns.len() {
+                if one.columns[k] != other.columns[k] {
+                    return false;
+                }
+            }
+            true
+        }
+        _ => false,
+    }
+}
+
+fn copy(alloc: Global, bytes: &[u8]) -> Option<Vec<u8>> {
+    let mut copied = Vec::new(alloc);
+    match copied.extend_from_slice(bytes) {
+        Ok(()) => Some(copied),
+        Err(_) => None,
+    }
+}
+
+// Whether a reader over a device answers as one over its bytes, six times.
+fn alike(alloc: Global, bytes: &[u8], most: usize) -> bool {
+    let copied = match copy(alloc, bytes) {
+        Some(copied) => copied,
+        None => return false,
+    };
+    let source = Source::new(copied, most, usize::MAX);
+    let mut plain = match StreamReader::new(alloc, bytes) {
+        Ok(plain) => plain,
+        Err(fault) => {
+            return match DeviceReader::new(alloc, source) {
+                Err(ReadError::Fault(other)) => fault == other,
+                _ => false,
+            };
+        }
+    };
+    let mut reader = match DeviceReader::new(alloc, source) {
+        Ok(reader) => reader,
+        Err(_) => return false,
+    };
+    for _ in 0..6 {
+        let one = plain.next_batch(alloc);
+        let other = reader.next_batch(alloc);
+        match (one, other) {
+            (Ok(one), Ok(other)) => {
+                if !same(&one, &other) {
+                    return false;
+                }
+            }
+            (Err(one), Err(ReadError::Fault(other))) => {
+                if one != other {
+                    return false;
+                }
+            }
+            _ => return false,
+        }
+    }
+    true
+}
+
+#[test]
+fn in_pieces(rt: HostRuntime) {
+    let alloc = rt.alloc();
+    let schema = schema(alloc, DataType::Int64).expect(&rt, "a schema");
+    for count in 0..5usize {
+        let batches = batches(alloc, count).expect(&rt, "batches");
+        let bytes = write_stream(alloc, &schema, &batches).expect(&rt, "a stream");
+        for most in [1usize, 3, 8, 1000000] {
+            assert!(rt; alike(alloc, &bytes, most));
+        }
+    }
+}
+
+#[test]
+fn each_beginning_and_each_byte_changed(rt: HostRuntime) {
+    let alloc = rt.alloc();
+    let schema = schema(alloc, DataType::Int64).expect(&rt, "a schema");
+    let batches = batches(alloc, 2).expect(&rt, "batches");
+    let mut bytes = write_stream(alloc, &schema, &batches).expect(&rt, "a stream");
+    for end in 0..bytes.len() {
+        assert!(rt; alike(alloc, &bytes[..end], 11), "{end}");
+    }
+    for i in 0..bytes.len() {
+        let was = bytes[i];
+        bytes[i] = was ^ 0x91;
+        assert!(rt; alike(alloc, &bytes, 100), "{i}");
+        bytes[i] = was;
+    }
+}
+
+#[test]
+fn a_body_that_is_told_and_does_not_come(rt: HostRuntime) {
+    let alloc = rt.alloc();
+    // metadata of 2^31 - 1 bytes, of which three come
+    let head = [255u8, 255, 255, 255, 255, 255, 255, 127, 1, 2, 3];
+    assert!(rt; alike(alloc, &head, 2));
+}
+
+#[test]
+fn what_stands_behind_the_end_is_left(rt: HostRuntime) {
+    let alloc = rt.alloc();
+    let schema = schema(alloc, DataType::Int64).expect(&rt, "a schema");
+    let batches = batches(alloc, 2).expect(&rt, "batches");
+    let mut bytes = write_stream(alloc, &schema, &batches).expect(&rt, "a stream");
+    let end = bytes.len();
+    assert!(rt; bytes.extend_from_slice(&[1, 2, 3]).is_ok());
+    let source = Source::new(bytes, 1000, usize::MAX);
+    let mut reader = match DeviceReader::new(alloc, source) {
+        Ok(reader) => reader,
+        Err(_) => return assert!(rt; false),
+    };
+    for _ in 0..5 {
+        assert!(rt; reader.next_batch(alloc).is_ok());
+    }
+    let source = reader.into_device();
+    assert!(rt; source.at == end);
+}
+
+#[test]
+fn a_device_that_fails_at_each_byte(rt: HostRuntime) {
+    let alloc = rt.alloc();
+    let schema = schema(alloc, DataType::Int64).expect(&rt, "a schema");
+    let batches = batches(alloc, 2).expect(&rt, "batches");
+    let bytes = write_stream(alloc, &schema, &batches).expect(&rt, "a stream");
+    for fails_at in 0..bytes.len() {
+        let copied = copy(alloc, &bytes).expect(&rt, "bytes");
+        let source = Source::new(copied, 6, fails_at);
+        match DeviceReader::new(alloc, source) {
+            Err(ReadError::Io(e)) => assert!(rt; e.kind() == ErrorKind::ConnectionReset),
+            Err(ReadError::Fault(_)) => assert!(rt; false),
+            Ok(mut reader) => {
+                let mut failed = false;
+                for _ in 0..4 {
+                    match reader.next_batch(alloc) {
+                        Ok(None) => assert!(rt; failed),
+                        Ok(Some(_)) => assert!(rt; !failed),
+                        Err(ReadError::Io(_)) => {
+                            assert!(rt; !failed);
+                            failed = true;
+                        }
+                        Err(ReadError::Fault(_)) => assert!(rt; false),
+                    }
+                }
+                assert!(rt; failed);
+            }
+        }
+    }
+}
