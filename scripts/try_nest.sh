@@ -9,7 +9,7 @@ trap 'rm -rf "$room"' EXIT
 failed=0
 
 # Streams and files of another writer: a column `a` of numbers and a column `b` of texts in batches of 2, 0 and 1 rows; one whose
-# body is compressed; three rows without a column.
+# body is compressed; three rows without a column; columns `a` and `b` of booleans.
 unpack() {
     base64 -d | gzip -dc >"$room/$1"
 }
@@ -17,6 +17,7 @@ unpack stream <<<'H4sIAAAAAAACA51RuxHCMAyVSMyF4MJAihQUFBSUDEHBGsl0jEHJVubFVohPhA
 unpack file <<<'H4sIAAAAAAACA81UO1IDMQyVNrvMsrgwZAsXFBQUlHCEzFDQMZMmdXKSHIKCI6RMmTJlSm4Ez7JMjFgSQoVm3koj6+s33sl0+jx7IHqHrIjIAx1dUItvDdupryaGrxUrfYkqIABPEnMFn6dLOXWSE3EN3AKMYIae4/xca3TADSV/lEfNCQpu0tkC8bHfGe0lzruD7qXbWPo7iUo17jSul1lH6NVDp7mczk5q36tdFX4ufFaaws5xrdHe5PiiH+neNNCPTe18Pl/s994e2Lv9trf75MwN7PsbaejvUpt7sXKMx3CER/6BRzZ9hu63OWFuNjxmfzB5owN75nyHHb1w4mTuWOMFeFWm8vvq/sE7yztt1H5Tnd/XWovuzL0sq6/xoSBiIv+cD4Qeli56BAAA'
 unpack packed <<<'H4sIAAAAAAACA31QsRHCMAx8xw5ngosAKVJQUFBQMgQFaySswjCMw0bOW5bBB3fo7i1ZeksvxxjjE0BPdNjA83SMg+YcDHNeonwCDTESN+HsmOuxlWqQNwkH4kQYkg39xPpae3TEETmf7KpvRoVpc20mP81b4WOUG1/0g0zby/wgrNzjorxBtFrWRvqka5CdrNaDch+6T8kXTRa/1lZx4fmqH1R/beXeqz9/9Xe6Y/tnflNpnOb7+x+SxAWQLvY2wAEAAA=='
 unpack bare <<<'H4sIAAAAAAACA/v///9/AwYGBgEg5mLgZuAAkixANg9UjIWBESjGAWZBSAgAavsfgEOfBFgdM1BEBEjzgNUwQNUyQ9kw89EByFyQMADHOIeamAAAAA=='
+unpack truths <<<'H4sIAAAAAAAC/2VQwQ3CMAy8hqiKSB4G+mAM3szQJWArNkBMwG48wtk1SkktXe5i+5I4tdb6BCDEHhmJa6QunosYmEumlhUIxJmYrefInOBg1WIe8bpiGAnyjV3q5dZCHdH43zc5tE99d+KKFnxufXtPwcnuL3ZSuxdej9hxmom8nK8zZa+rvrgOq3xwzthGXOlfX+r20nmkq3/8Ax6eeI1tLuUvfqcw3pABAAA='
 head -c 500 "$room/file" >"$room/cut"
 printf 'a,b\n1,2\n' >"$room/csv"
 
@@ -40,6 +41,9 @@ for file in "$room/stream" "$room/file" -; do
     expect 0 '{"a":null,"b":"b"}\n{"a":3,"b":null}\n' '' rows "$file" 1 5
     expect 0 '{"a":null,"b":"b"}\n' '' rows "$file" 1 1
     expect 0 '' '' rows "$file" 3 1
+    expect 0 '{"a":null,"b":"b"}\n{"a":3,"b":null}\n' '' cut "$file" 1 5
+    expect 1 '' "nest: $file: the column is not of booleans" where "$file" b
+    expect 1 '' "nest: $file: there is no column of that name" where "$file" c
     expect 0 '{"a":3,"b":null}\n{"a":1,"b":"a"}\n{"a":3,"b":null}\n' '' take "$file" 2 0 2
     expect 0 '' '' take "$file"
     expect 1 '' "nest: $file: there is no row at a place" take "$file" 0 3
@@ -54,6 +58,7 @@ for file in "$room/stream" "$room/file" -; do
 done
 expect 0 '' '' convert "$room/as" "$room/as"
 expect 0 "$all" '' rows "$room/as"
+expect 0 '{"a":true,"b":false}\n{"a":true,"b":true}\n{"a":true,"b":false}\n{"a":true,"b":true}\n{"a":true,"b":true}\n' '' where "$room/truths" a
 expect 1 '' "nest: $room/packed: the body is compressed" convert "$room/packed" "$room/as"
 expect 0 "$all" '' rows "$room/as"
 expect 1 '' "nest: $room/file: output cannot be written" convert "$room/file" "$room/none/as"
@@ -72,6 +77,10 @@ expect 2 '' "$unknown" convert "$room/file" - -
 expect 2 '' "$unknown" schema "$room/file" 0
 expect 2 '' "$unknown" rows "$room/file" 1
 expect 2 '' "$unknown" rows "$room/file" 1 x
+expect 2 '' "$unknown" cut "$room/file"
+expect 2 '' "$unknown" cut "$room/file" 1
+expect 2 '' "$unknown" where "$room/file"
+expect 2 '' "$unknown" where "$room/truths" a b
 expect 2 '' "$unknown" take "$room/file" 01
 expect 2 '' "$unknown" take "$room/file" 18446744073709551616
 

@@ -14,7 +14,9 @@ use std::{env, fs, io};
 const USAGE: &str = "\
 nest schema FILE                  a line for each column: its name and its type
 nest rows FILE [START COUNT]      rows as JSON, a line each; from a place on, so many at most
+nest cut FILE START COUNT         rows from a place on, so many at most
 nest take FILE PLACE ..           the row at each place, in that order
+nest where FILE COLUMN            rows at which a column of booleans is true; null is not true
 nest convert FILE OUT             FILE as a stream where OUT ends in .arrows, else as a file
 FILE is an Arrow file or stream; - is standard input, and as OUT standard output. Places count from 0.
 ";

@@ -1,5 +1,5 @@
 -- Arrays that are made of batches.
-use Rattle.std.proofs.Common.{◌≡◌, ℕ, List, [], ◌∷◌, ◌++◌, map, refl, sym, ap, subst, ◌∙◌, length, arith, None}
+use Rattle.std.proofs.Common.{◌≡◌, List, [], ◌∷◌, ◌++◌, map, refl, sym, ap, subst, ◌∙◌, None}
 use Rattle.std.specs.List.{AllByRecursion}
 use Rattle.std.proofs.lemmas.List.{map-append}
 use Rattle.nest_memory.specs.TypeTree.{TypeTree}
@@ -13,7 +13,7 @@ use Rattle.nest_array.specs.declared.any.AnyArray.{AnyArray}
 use Rattle.nest_answer.specs.Unmade.{IsUnmade}
 use Rattle.nest_answer.specs.Tables.{records, side_by_side}
 use Rattle.nest_answer.specs.declared.refusal.Refusal.{Refusal}
-use Rattle.nest_answer.specs.declared.refusal.Refusal.TheVariants.{Columns, Place, Memory}
+use Rattle.nest_answer.specs.declared.refusal.Refusal.TheVariants.{Columns, Place, NoColumn, NotBoolean, Memory}
 
 -- the columns of the code
 pub columns-side_by_side : (as_ : List AnyArray) → layouts_of as_ ≡ side_by_side (map layout_of as_)
@@ -32,6 +32,8 @@ refused t u as_ e same fault fits = pass-no_fault (checks (layouts.struct t (lay
 fault-weaker : (f : Refusal) (P Q : Type 0) → (Q → P) → IsUnmade f P → IsUnmade f Q
 fault-weaker Columns P Q k h = λ q. h (k q)
 fault-weaker Place P Q k h = h
+fault-weaker NoColumn P Q k h = h
+fault-weaker NotBoolean P Q k h = h
 fault-weaker Memory P Q k h = tt
 
 module _ {B : Type 0} (t : TypeTree) (view : B → List Layout) where

@@ -1,11 +1,18 @@
 -- What is answered of a table.
-use Rattle.std.specs.Prelude.{ℕ, List, Option, Some, option_map}
+use Rattle.std.specs.Prelude.{ℕ, List, Option, Some, None, option_map}
 use Rattle.nest_words.specs.Asked.{Query, columns, rows}
 use Rattle.nest_choose.specs.Choice.{choice}
 use Rattle.nest_lines.specs.Text.{text_of_columns, text_of_rows}
+use Rattle.nest_answer.specs.declared.refusal.Refusal.{Refusal}
+use Rattle.nest_answer.specs.Named.{column_fault}
 use Rattle.nest_answer.specs.Tables.{TableTree, table_rows}
 
--- the text that answers; nothing where there is no row at a place
+-- nothing where there is a fault
+abbrev pub unless_fault : {A : Type 0} → Option Refusal → Option A → Option A
+unless_fault None found = found
+unless_fault (Some refusal) found = None
+
+-- the text that answers; nothing where there is no row at a place, or no column of booleans of the name
 abbrev pub answer : Query → TableTree → Option (List ℕ)
 answer columns t = Some (text_of_columns t.fields)
-answer (rows c) t = option_map text_of_rows (choice c (table_rows t))
+answer (rows c) t = unless_fault (column_fault c t.fields) (option_map text_of_rows (choice c (table_rows t)))

@@ -1,19 +1,25 @@
 -- Why a table has no answer.
-use Rattle.std.specs.Prelude.{◌≡◌, Option, None}
+use Rattle.std.specs.Prelude.{◌≡◌, Option, Some, None}
 use Rattle.nest_words.specs.Asked.{Query}
 use Rattle.nest_answer.specs.Answer.{answer}
+use Rattle.nest_answer.specs.Named.{query_fault}
 use Rattle.nest_answer.specs.Tables.{TableTree, HasRows}
 use Rattle.nest_answer.specs.declared.refusal.Refusal.{Refusal}
-use Rattle.nest_answer.specs.declared.refusal.Refusal.TheVariants.{Columns, Place, Memory}
+use Rattle.nest_answer.specs.declared.refusal.Refusal.TheVariants.{Columns, Place, NoColumn, NotBoolean, Memory}
 
 -- there is no row at a place; or memory is wanting
 abbrev pub IsUnchosen : {A : Type 0} → Refusal → Option A → Type 0
-IsUnchosen Columns found = ⊥
 IsUnchosen Place found = found ≡ None
 IsUnchosen Memory found = Unit {0}
+IsUnchosen Columns found = ⊥
+IsUnchosen NoColumn found = ⊥
+IsUnchosen NotBoolean found = ⊥
 
--- the columns of a batch are no rows; there is no row at a place; or memory is wanting
+-- there is no column of a name, or it is not of booleans; the columns of a batch are no rows; there is no row at a place; or memory is
+-- wanting
 abbrev pub Refuses : Refusal → Query → TableTree → Type 0
-Refuses Columns q t = HasRows t → ⊥
-Refuses Place q t = answer q t ≡ None
+Refuses NoColumn q t = query_fault q t.fields ≡ Some NoColumn
+Refuses NotBoolean q t = query_fault q t.fields ≡ Some NotBoolean
+Refuses Columns q t = (query_fault q t.fields ≡ None) × (HasRows t → ⊥)
+Refuses Place q t = (query_fault q t.fields ≡ None) × (answer q t ≡ None)
 Refuses Memory q t = Unit {0}

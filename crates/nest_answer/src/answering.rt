@@ -11,6 +11,7 @@ ghost use Rattle.nest_answer.specs.Answer.{answer as answer_lem};
 ghost use Rattle.nest_answer.specs.Refusals.{IsUnchosen, Refuses};
 ghost use Rattle.nest_answer.specs.Tables.{table_of};
 
+use crate::named::column_refusal;
 use crate::records::records;
 use crate::refusal::Refusal;
 use crate::table::Table;
@@ -35,6 +36,10 @@ fn rows_of_table(alloc: Global, choice: &Choice, table: Table) -> Result<String,
     ensures text { IfOk result (λ text. answer_lem (rows (seen_choice choice.now)) (table_of table) ≡ Some (string_bytes text)) }
     ensures fault { IfErr result (λ e. Refuses e (rows (seen_choice choice.now)) (table_of table)) }
 {
+    if let Some(refusal) = column_refusal(choice, &table.fields) {
+        drop(table);
+        return Err(refusal);
+    }
     match records(alloc, table) {
         Err(refusal) => Err(refusal),
         Ok(arrays) => {
@@ -57,8 +62,9 @@ fn columns_of_table(alloc: Global, table: Table) -> Result<String, Refusal>
 /// The lines that answer a request, of a table: a line for each column, or for each row that is chosen.
 ///
 /// # Errors
-/// Of rows, `Columns` where the columns of a batch are not those of the fields, side by side, or there is none; then `Place` where there
-/// is no row at a place. `Memory` may come in the place of either.
+/// Of rows at which a column is true, first `NoColumn` where there is no column of that name, and `NotBoolean` where the first one is
+/// not of booleans. Of rows, then `Columns` where the columns of a batch are not those of the fields, side by side, or there is none;
+/// then `Place` where there is no row at a place. `Memory` may come in the place of any.
 pub fn answer(alloc: Global, request: &Request, table: Table) -> Result<String, Refusal>
     ensures text { IfOk result (λ text. answer_lem (seen request.now) (table_of table) ≡ Some (string_bytes text)) }
     ensures fault { IfErr result (λ e. Refuses e (seen request.now) (table_of table)) }

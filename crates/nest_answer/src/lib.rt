@@ -5,6 +5,8 @@
 #![tactic(auto)]
 
 mod answering;
+pub mod laws;
+mod named;
 mod records;
 mod refusal;
 mod table;

@@ -11,6 +11,10 @@ pub enum Refusal {
     Columns,
     /// There is no row at a place.
     Place,
+    /// There is no column of a name.
+    NoColumn,
+    /// The first column of a name is not of booleans.
+    NotBoolean,
     /// A request for memory was refused.
     Memory,
 }

@@ -1,2 +1,5 @@
-mod Chosen
-mod Cuts
+mod Found
+mod Columns
+mod Steps
+mod Alike
+mod OnlyOne

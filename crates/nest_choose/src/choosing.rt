@@ -1,12 +1,18 @@
 //! The rows that are asked for, as windows over arrays.
-ghost use Rattle.std.specs.Prelude.{◌≡◌, ◌++◌, IfOk, OnOk, length, map, nat_lt, option_map};
-ghost use Rattle.std.specs.List.{flat_map, list_all};
+ghost use Rattle.std.specs.Prelude.{◌≡◌, ◌<◌, ◌++◌, IfOk, OnOk, length, map, nat_lt, option_map, string_bytes};
+ghost use Rattle.std.specs.List.{filter, flat_map};
 ghost use Rattle.nest_memory.specs.Cut.{cut};
+ghost use Rattle.nest_model.specs.Meaning.{len};
 ghost use Rattle.nest_array.specs.Seen.{layout_of};
+ghost use Rattle.nest_array.specs.WindowParts.{window_parts};
+ghost use Rattle.nest_words.specs.Asked.{at};
 ghost use Rattle.nest_words.specs.Seen.{seen_choice};
 ghost use Rattle.nest_choose.specs.Choice.{choice as choice_lem};
-ghost use Rattle.nest_choose.specs.Rows.{rows_at, rows_in, rows_of};
+ghost use Rattle.nest_choose.specs.Rows.{rows_in, rows_of};
+ghost use Rattle.nest_choose.specs.Truths.{is_true_in};
 
+use crate::locating::{locate, starts};
+use crate::truths::{boolean_column, is_true};
 use nest_array::{AnyArray, Window};
 use nest_words::Choice;
 use std::alloc::{AllocError, Global};
@@ -59,7 +65,7 @@ fn rows_from(
 }
 
 /// Whether there is a row at a place.
-fn has_row(arrays: &[AnyArray], place: usize) -> bool
+pub(crate) fn has_row(arrays: &[AnyArray], place: usize) -> bool
     ensures { result ≡ nat_lt place (length (flat_map rows_of (map layout_of arrays.now))) }
 {
     let mut left = place;
@@ -73,35 +79,69 @@ fn has_row(arrays: &[AnyArray], place: usize) -> bool
     false
 }
 
-/// Whether there is a row at each place.
-fn have_rows(arrays: &[AnyArray], places: &[usize]) -> bool
-    ensures { result ≡ list_all (λ p. nat_lt p (length (flat_map rows_of (map layout_of arrays.now)))) places.now }
+/// The row of a slot.
+fn one_row(array: &AnyArray, i: usize) -> Window<'_>
+    requires { i < len (layout_of array.now) }
+    ensures { result ≡ window_parts (layout_of array.now) i 1 }
 {
-    for place in places {
-        if !has_row(arrays, *place) {
-            return false;
-        }
-    }
-    true
+    Window::new(array, i, 1)
 }
 
-/// The row at each place, in the order of the places.
+/// The row at each place, in the order of the places, if there is a row at each.
 fn rows_at_places<'a>(
     alloc: Global,
     arrays: &'a [AnyArray],
     places: &[usize],
-) -> Result<Vec<Window<'a>>, AllocError>
-    ensures { IfOk result (λ v. flat_map rows_in v.items ≡ rows_at (flat_map rows_of (map layout_of arrays.now)) places.now) }
+) -> Result<Option<Vec<Window<'a>>>, AllocError>
+    ensures { IfOk result (λ r. option_map (λ v. flat_map rows_in v.items) r ≡ choice_lem (at places.now) (flat_map rows_of (map layout_of arrays.now))) }
 {
+    let starts = starts(alloc, arrays)?;
     let mut windows = Vec::new(alloc);
     for place in places {
-        push_cut(&mut windows, arrays, *place, 1)?;
+        let Some((k, i)) = locate(&starts, arrays, *place) else {
+            return Ok(None);
+        };
+        windows.push(one_row(&arrays[k], i))?;
+    }
+    Ok(Some(windows))
+}
+
+/// Appends the rows of an array at which a column is true.
+fn push_true<'a>(
+    windows: &mut Vec<Window<'a>>,
+    array: &'a AnyArray,
+    name: &String,
+) -> Result<(), AllocError>
+    ensures { OnOk result (flat_map rows_in windows.new.items ≡ flat_map rows_in windows.old.items ++ filter (is_true_in (string_bytes name.now)) (rows_of (layout_of array.now))) }
+{
+    let Some((records, column)) = boolean_column(array, name) else {
+        return Ok(());
+    };
+    for i in 0..array.len() {
+        if is_true(records, column, i) {
+            windows.push(one_row(array, i))?;
+        }
+    }
+    Ok(())
+}
+
+/// The rows at which a column is true.
+fn true_rows<'a>(
+    alloc: Global,
+    arrays: &'a [AnyArray],
+    name: &String,
+) -> Result<Vec<Window<'a>>, AllocError>
+    ensures { IfOk result (λ v. flat_map rows_in v.items ≡ filter (is_true_in (string_bytes name.now)) (flat_map rows_of (map layout_of arrays.now))) }
+{
+    let mut windows = Vec::new(alloc);
+    for array in arrays {
+        push_true(&mut windows, array, name)?;
     }
     Ok(windows)
 }
 
-/// The rows of a choice over arrays, one array after another, if there is a row at each of its places. Nothing is copied; a window of
-/// each array stands for the rows of it that are chosen.
+/// The rows of a choice over arrays, one array after another, if there is a row at each of its places. Nothing is copied: windows over
+/// the arrays stand for the rows that are chosen.
 pub fn choose<'a>(
     alloc: Global,
     choice: &Choice,
@@ -112,11 +152,7 @@ pub fn choose<'a>(
     match choice {
         Choice::All => Ok(Some(all_rows(alloc, arrays)?)),
         Choice::Cut(o, n) => Ok(Some(rows_from(alloc, arrays, *o, *n)?)),
-        Choice::Places(places) => {
-            if !have_rows(arrays, places) {
-                return Ok(None);
-            }
-            Ok(Some(rows_at_places(alloc, arrays, places)?))
-        }
+        Choice::Places(places) => rows_at_places(alloc, arrays, places),
+        Choice::True(name) => Ok(Some(true_rows(alloc, arrays, name)?)),
     }
 }

@@ -1,7 +1,14 @@
-//! Rows of arrays that are chosen, as windows over the arrays: nothing is copied.
+//! Rows of arrays: those that are chosen, as windows over the arrays, and the first that differs from others. Nothing is copied.
+//!
+//! A statement whose value is never read (`x.known()`) shows the prover a fact that the next step needs, and does nothing when it runs.
 #![tactic(auto)]
 
 mod choosing;
+mod differing;
 pub mod laws;
+mod locating;
+mod truths;
 
 pub use choosing::choose;
+pub use differing::{TooManyRows, first_difference};
+pub use truths::is_named;

@@ -42,5 +42,7 @@ ConvertFault (faults.Form why) form read = HasHeld read (λ h. IsRefused (refusa
 ConvertFault faults.Memory form read = Unit {0}
 ConvertFault faults.Columns form read = ⊥
 ConvertFault faults.Place form read = ⊥
+ConvertFault faults.NoColumn form read = ⊥
+ConvertFault faults.NotBoolean form read = ⊥
 ConvertFault faults.Input form read = ⊥
 ConvertFault faults.Output form read = ⊥

@@ -5,9 +5,10 @@ use Rattle.ipc_model.specs.Reading.{Fails}
 use Rattle.ipc_model.specs.declared.fault.Fault as formats
 use Rattle.nest_words.specs.Asked.{Query}
 use Rattle.nest_answer.specs.Answer.{answer}
-use Rattle.nest_answer.specs.Tables.{HasRows}
+use Rattle.nest_answer.specs.Refusals as refusals
+use Rattle.nest_answer.specs.declared.refusal.Refusal.TheVariants as refusal
 use Rattle.nest_look.specs.declared.fault.Fault.{Fault}
-use Rattle.nest_look.specs.declared.fault.Fault.TheVariants.{Input, Format, Form, Columns, Place, Output, Memory}
+use Rattle.nest_look.specs.declared.fault.Fault.TheVariants.{Input, Format, Form, Columns, Place, NoColumn, NotBoolean, Output, Memory}
 use Rattle.nest_look.specs.Holding.{HeldTree, table_in}
 
 -- the text that answers, of what was read
@@ -20,12 +21,14 @@ abbrev pub HasHeld : Result HeldTree formats.Fault → (HeldTree → Type 0) →
 HasHeld (Ok h) P = P h
 HasHeld (Err fault) P = ⊥
 
--- why there is no answer, of what was read: the first fault of the bytes, unless it is want of memory; the columns of a batch are no
--- rows; there is no row at a place; or memory is wanting
+-- why there is no answer, of what was read: the first fault of the bytes, unless it is want of memory; a refusal of its table; or memory
+-- is wanting
 abbrev pub Refuses : Fault → Query → Result HeldTree formats.Fault → Type 0
 Refuses (Format fault) q read = Fails fault read
-Refuses Columns q read = HasHeld read (λ h. HasRows (table_in h) → ⊥)
-Refuses Place q read = HasHeld read (λ h. answer q (table_in h) ≡ None)
+Refuses Columns q read = HasHeld read (λ h. refusals.Refuses refusal.Columns q (table_in h))
+Refuses Place q read = HasHeld read (λ h. refusals.Refuses refusal.Place q (table_in h))
+Refuses NoColumn q read = HasHeld read (λ h. refusals.Refuses refusal.NoColumn q (table_in h))
+Refuses NotBoolean q read = HasHeld read (λ h. refusals.Refuses refusal.NotBoolean q (table_in h))
 Refuses Memory q read = Unit {0}
 Refuses (Form why) q read = ⊥
 Refuses Input q read = ⊥
@@ -43,6 +46,8 @@ IsInputOrMemory (Format fault) = ⊥
 IsInputOrMemory (Form why) = ⊥
 IsInputOrMemory Columns = ⊥
 IsInputOrMemory Place = ⊥
+IsInputOrMemory NoColumn = ⊥
+IsInputOrMemory NotBoolean = ⊥
 IsInputOrMemory Output = ⊥
 
 -- all of the bytes went out, or after a fault of the output a beginning of them, or for want of memory none
@@ -55,3 +60,5 @@ IsWritten (Err (Format fault)) old new bytes = ⊥
 IsWritten (Err (Form why)) old new bytes = ⊥
 IsWritten (Err Columns) old new bytes = ⊥
 IsWritten (Err Place) old new bytes = ⊥
+IsWritten (Err NoColumn) old new bytes = ⊥
+IsWritten (Err NotBoolean) old new bytes = ⊥

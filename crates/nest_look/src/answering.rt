@@ -46,6 +46,8 @@ fn answer_held(alloc: Global, request: &Request, held: Held) -> Result<String, F
         Ok(text) => Ok(text),
         Err(Refusal::Columns) => Err(Fault::Columns),
         Err(Refusal::Place) => Err(Fault::Place),
+        Err(Refusal::NoColumn) => Err(Fault::NoColumn),
+        Err(Refusal::NotBoolean) => Err(Fault::NotBoolean),
         Err(Refusal::Memory) => Err(Fault::Memory),
     }
 }
@@ -53,7 +55,8 @@ fn answer_held(alloc: Global, request: &Request, held: Held) -> Result<String, F
 /// The lines that answer a request, of the file or the stream that bytes hold. They are read whole, and all lines are made.
 ///
 /// # Errors
-/// `Format` with the first fault of the bytes in the order of reading. Then, of rows, `Columns` where the columns of a batch are not
+/// `Format` with the first fault of the bytes in the order of reading. Then, of rows at which a column is true, `NoColumn` where there is
+/// no column of that name, and `NotBoolean` where the first one is not of booleans. Then, of rows, `Columns` where the columns of a batch are not
 /// those of the schema, side by side, or there is none; and `Place` where there is no row at a place. `Memory`, also within `Format`,
 /// may come in the place of any.
 pub fn answer(alloc: Global, request: &Request, bytes: &[u8]) -> Result<String, Fault>

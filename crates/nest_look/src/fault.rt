@@ -23,6 +23,12 @@ pub enum Fault {
     /// There is no row at a place.
     #[error("there is no row at a place")]
     Place,
+    /// There is no column of a name.
+    #[error("there is no column of that name")]
+    NoColumn,
+    /// The first column of a name is not of booleans.
+    #[error("the column is not of booleans")]
+    NotBoolean,
     /// The output could not be written; a beginning of it may have gone out.
     #[error("output cannot be written")]
     Output,

@@ -1,6 +1,6 @@
 -- Words, and what they ask.
 use Rattle.std.specs.Prelude.{◌≡◌, [], ◌∷◌, Some, None, codes, refl}
-use Rattle.nest_words.specs.Asked.{all, at, columns, from, query_of, rows}
+use Rattle.nest_words.specs.Asked.{all, at, chosen_of, columns, from, query_of, rows, true_in}
 
 pub schema_asks : query_of (codes "schema") [] ≡ Some columns
 schema_asks = refl
@@ -25,3 +25,21 @@ take_no_number = refl
 
 pub other_asks : query_of (codes "show") [] ≡ None
 other_asks = refl
+
+pub cut_asks : query_of (codes "cut") (codes "10" ∷ codes "3" ∷ []) ≡ Some (rows (from 10 3))
+cut_asks = refl
+
+pub cut_no_number : query_of (codes "cut") [] ≡ None
+cut_no_number = refl
+
+pub where_asks : query_of (codes "where") (codes "ok" ∷ []) ≡ Some (rows (true_in (codes "ok")))
+where_asks = refl
+
+pub where_no_column : query_of (codes "where") [] ≡ None
+where_no_column = refl
+
+pub where_two : query_of (codes "where") (codes "ok" ∷ codes "ok" ∷ []) ≡ None
+where_two = refl
+
+pub rows_choose : chosen_of (codes "rows") (codes "10" ∷ codes "3" ∷ []) ≡ None
+rows_choose = refl

@@ -1,5 +1,6 @@
 -- Requests of the code as what they ask.
-use Rattle.nest_words.specs.Asked.{Chosen, all, from, at, Query, columns, rows}
+use Rattle.std.specs.Prelude.{string_bytes}
+use Rattle.nest_words.specs.Asked.{Chosen, all, from, at, true_in, Query, columns, rows}
 use Rattle.nest_words.specs.declared.request.Request.{Request}
 use Rattle.nest_words.specs.declared.request.Request.TheVariants as requests
 use Rattle.nest_words.specs.declared.request.Choice.{Choice}
@@ -9,6 +10,7 @@ abbrev pub seen_choice : Choice → Chosen
 seen_choice choices.All = all
 seen_choice (choices.Cut o n) = from o n
 seen_choice (choices.Places ps) = at ps.items
+seen_choice (choices.True name) = true_in (string_bytes name)
 
 abbrev pub seen : Request → Query
 seen requests.Columns = columns

@@ -1,19 +1,25 @@
 //! Words, and what they ask: each function's contract is an example, and its body is empty.
 ghost use Rattle.std.specs.Prelude.{◌≡◌, [], ◌∷◌, Some, None, codes};
-ghost use Rattle.nest_words.specs.Asked.{all, at, columns, from, query_of, rows};
+ghost use Rattle.nest_words.specs.Asked.{all, at, chosen_of, columns, from, query_of, rows, true_in};
 
-/// `schema`, `rows`, `rows 10 3`, `take 7 0 7`.
+/// `schema`, `rows`, `rows 10 3`, `cut 10 3`, `take 7 0 7`, `where ok`.
 pub fn words_ask()
     ensures schema { query_of (codes "schema") [] ≡ Some columns }
     ensures rows { query_of (codes "rows") [] ≡ Some (rows all) }
     ensures cut { query_of (codes "rows") (codes "10" ∷ codes "3" ∷ []) ≡ Some (rows (from 10 3)) }
+    ensures same_cut { query_of (codes "cut") (codes "10" ∷ codes "3" ∷ []) ≡ Some (rows (from 10 3)) }
     ensures places { query_of (codes "take") (codes "7" ∷ codes "0" ∷ codes "7" ∷ []) ≡ Some (rows (at (7 ∷ 0 ∷ 7 ∷ []))) }
+    ensures column { query_of (codes "where") (codes "ok" ∷ []) ≡ Some (rows (true_in (codes "ok"))) }
 {}
 
-/// `schema 0`, `rows 10`, `take 07`, `show`.
+/// `schema 0`, `rows 10`, `cut`, `take 07`, `where`, `where ok ok`, `show`; and `rows 10 3` chooses no rows that are written as Arrow.
 pub fn words_ask_nothing()
     ensures schema { query_of (codes "schema") (codes "0" ∷ []) ≡ None }
     ensures rows { query_of (codes "rows") (codes "10" ∷ []) ≡ None }
     ensures places { query_of (codes "take") (codes "07" ∷ []) ≡ None }
+    ensures cut { query_of (codes "cut") [] ≡ None }
+    ensures column { query_of (codes "where") [] ≡ None }
+    ensures columns { query_of (codes "where") (codes "ok" ∷ codes "ok" ∷ []) ≡ None }
     ensures other { query_of (codes "show") [] ≡ None }
+    ensures no_choice { chosen_of (codes "rows") (codes "10" ∷ codes "3" ∷ []) ≡ None }
 {}

@@ -7,4 +7,4 @@ mod numbers;
 mod request;
 
 pub use form::{Form, form_of};
-pub use request::{Choice, Request, parse_request};
+pub use request::{Choice, Request, parse_choice, parse_request};

@@ -8,7 +8,7 @@ use nest_flat::utf8::mutable::MutableUtf8Array;
 use nest_lines::{column_lines, row_lines};
 use nest_memory::datatypes::{DataType, Field};
 use nest_memory::error::Error;
-use nest_words::{Choice, Form, Request, form_of, parse_request};
+use nest_words::{Choice, Form, Request, form_of, parse_choice, parse_request};
 use std::alloc::{AllocError, Global};
 use std::test::*;
 
@@ -127,6 +127,7 @@ fn rows_are_shown(rt: HostRuntime) {
         (["rows"].as_slice(), [0usize, 1, 2].as_slice()),
         (["rows", "0", "1"].as_slice(), [0usize].as_slice()),
         (["rows", "1", "2"].as_slice(), [1usize, 2].as_slice()),
+        (["cut", "1", "2"].as_slice(), [1usize, 2].as_slice()),
         (
             ["rows", "1", "18446744073709551615"].as_slice(),
             [1usize, 2].as_slice(),
@@ -147,6 +148,20 @@ fn rows_are_shown(rt: HostRuntime) {
         let table = table(rt.alloc()).expect(&rt, "no table");
         let text = said(rt.alloc(), words, table).ok().expect(&rt, "no text");
         assert!(rt; are_rows(&text, places), "{text}");
+    }
+}
+
+#[test]
+fn refuses_names(rt: HostRuntime) {
+    for (name, want) in [
+        ("id", Refusal::NotBoolean),
+        ("name", Refusal::NotBoolean),
+        ("i", Refusal::NoColumn),
+        ("", Refusal::NoColumn),
+    ] {
+        let table = table(rt.alloc()).expect(&rt, "no table");
+        let refusal = said(rt.alloc(), &["where", name], table).err();
+        assert!(rt; refusal == Some(want), "{name}");
     }
 }
 
@@ -199,6 +214,29 @@ fn rows_are_chosen(rt: HostRuntime) {
     assert!(rt; text.as_str() == "8\n\"x\"\n", "{text}");
 }
 
+/// Whether a command and a word choose rows.
+fn chooses(alloc: Global, command: &str, word: &str) -> Result<bool, AllocError> {
+    let command = String::from_str(alloc, command)?;
+    let mut words = Vec::new(alloc);
+    words.push(String::from_str(alloc, word)?)?;
+    let chosen = parse_choice(alloc, &command, &words)?;
+    Ok(chosen.is_some())
+}
+
+#[test]
+fn words_choose_rows(rt: HostRuntime) {
+    for (command, word, want) in [
+        ("where", "ok", true),
+        ("take", "1", true),
+        ("take", "x", false),
+        ("cut", "1", false),
+        ("rows", "1", false),
+    ] {
+        let found = chooses(rt.alloc(), command, word);
+        assert!(rt; found.ok() == Some(want), "{command} {word}");
+    }
+}
+
 #[test]
 fn words_ask_nothing(rt: HostRuntime) {
     for words in [
@@ -212,6 +250,11 @@ fn words_ask_nothing(rt: HostRuntime) {
         ["take", "x"].as_slice(),
         ["take", ""].as_slice(),
         ["take", "1", "-1"].as_slice(),
+        ["cut"].as_slice(),
+        ["cut", "1"].as_slice(),
+        ["where"].as_slice(),
+        ["where", "a", "b"].as_slice(),
+        ["equal", "a"].as_slice(),
     ] {
         let asked = request(rt.alloc(), words).ok().expect(&rt, "memory");
         assert!(rt; asked.is_none(), "{}", words[0]);

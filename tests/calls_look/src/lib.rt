@@ -5,9 +5,11 @@
 //! |---|---|
 //! | Columns and rows of two batches, whole, cut, and at places in either | `answers::columns_are_shown`, `answers::rows_are_shown` |
 //! | Each refusal once: no column, columns of other types and of other lengths, a place without a row | `answers::refuses_columns`, `answers::refuses_places` |
+//! | A column of a name that is none, or is not of booleans | `answers::refuses_names` |
 //! | Windows over two arrays | `answers::rows_are_chosen` |
-//! | Words that ask nothing; the form that a name tells | `answers::words_ask_nothing`, `answers::names_tell_forms` |
+//! | Words that choose rows, words that ask nothing; the form that a name tells | `answers::words_choose_rows`, `answers::words_ask_nothing`, `answers::names_tell_forms` |
 //! | The columns and the rows of streams and files of another program, whole, cut, and at places; each fault of them, and its line | `looks` |
+//! | Rows at which a column is true, of nulls, trues and falses | `looks::true_rows_are_shown` |
 //! | Streams and files, each as either form | `looks::forms_are_converted` |
 #![tactic(auto)]
 

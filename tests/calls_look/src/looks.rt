@@ -144,6 +144,40 @@ fn requests_are_made_by_hand(rt: HostRuntime) -> Result<(), Fail> {
 }
 
 #[test]
+fn true_rows_are_shown(rt: HostRuntime) -> Result<(), Fail> {
+    let all = said(rt.alloc(), &["rows"], TRUTHS)?;
+    for (name, mark) in [
+        ("a", b"{\"a\":true,".as_slice()),
+        ("b", b",\"b\":true}".as_slice()),
+    ] {
+        let text = said(rt.alloc(), &["where", name], TRUTHS)?;
+        let mut rest = text.as_bytes();
+        for line in all.as_str().lines() {
+            let line = line.as_bytes();
+            let is_true = if name == "a" {
+                line.starts_with(mark)
+            } else {
+                line.ends_with(mark)
+            };
+            if is_true {
+                assert!(rt; rest.starts_with(line), "{text}");
+                rest = &rest[line.len() + 1..];
+            }
+        }
+        assert!(rt; rest.is_empty() && !text.is_empty(), "{text}");
+    }
+    for (name, want) in [("c", Fault::NoColumn), ("", Fault::NoColumn)] {
+        let fault = said(rt.alloc(), &["where", name], TRUTHS).err();
+        assert!(rt; fault == Some(want), "{name}");
+    }
+    for name in ["a", "b"] {
+        let fault = said(rt.alloc(), &["where", name], STREAM).err();
+        assert!(rt; fault == Some(Fault::NotBoolean), "{name}");
+    }
+    Ok(())
+}
+
+#[test]
 fn faults_are_printed(rt: HostRuntime) -> Result<(), Fail> {
     for (fault, want) in [
         (Fault::Input, "input cannot be read"),
@@ -157,6 +191,8 @@ fn faults_are_printed(rt: HostRuntime) -> Result<(), Fail> {
             "arrays of floats are not written",
         ),
         (Fault::Place, "there is no row at a place"),
+        (Fault::NoColumn, "there is no column of that name"),
+        (Fault::NotBoolean, "the column is not of booleans"),
         (Fault::Output, "output cannot be written"),
         (Fault::Memory, "out of memory"),
     ] {

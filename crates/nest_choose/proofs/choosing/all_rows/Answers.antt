@@ -1,7 +1,7 @@
 use Rattle.std.proofs.Common.{◌∙◌}
 use Rattle.nest_array.specs.Seen.{layout_of}
 use Rattle.nest_choose.specs.Rows.{rows_in, rows_of}
-use Rattle.nest_choose.proofs.Cuts.{all-behind, flat-more, whole-rows}
+use Rattle.nest_choose.specs.RowLaws.{all-behind, flat-more, whole-rows}
 use Rattle.nest_choose.proofs.choosing.all_rows.Goals as goal
 
 pub loop-array-preserved : goal.loop-array-preserved

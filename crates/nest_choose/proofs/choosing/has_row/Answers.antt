@@ -1,5 +1,5 @@
 use Rattle.std.proofs.Common.{sym, arith}
-use Rattle.nest_choose.proofs.Cuts.{row-behind, row-found}
+use Rattle.nest_choose.specs.RowLaws.{row-behind, row-found}
 use Rattle.nest_choose.proofs.choosing.has_row.Goals as goal
 
 pub returns-then-left-len : goal.returns-then-left-len

@@ -1,5 +1,5 @@
 use Rattle.std.proofs.Common.{◌≡◌, ◌+◌, length}
-use Rattle.nest_choose.proofs.Cuts.{rows_behind}
+use Rattle.nest_choose.specs.RowLaws.{rows_behind}
 use Rattle.nest_choose.proofs.choosing.has_row.Given as goal
 
 abbrev pub invariant-loop-array : goal.invariant-loop-array

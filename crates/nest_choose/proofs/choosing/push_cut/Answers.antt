@@ -1,5 +1,5 @@
 use Rattle.std.proofs.Common.{◌-◌, min, ap, ◌∙◌}
-use Rattle.nest_choose.proofs.Cuts.{cut-end, cut-more}
+use Rattle.nest_choose.specs.RowLaws.{cut-end, cut-more}
 use Rattle.nest_choose.proofs.choosing.push_cut.Goals as goal
 
 pub loop-array-preserved : goal.loop-array-preserved

@@ -2,7 +2,7 @@ use Rattle.std.proofs.Common.{◌≡◌, ◌++◌}
 use Rattle.std.specs.List.{flat_map}
 use Rattle.nest_memory.specs.Cut.{cut}
 use Rattle.nest_choose.specs.Rows.{rows_in}
-use Rattle.nest_choose.proofs.Cuts.{rows_behind}
+use Rattle.nest_choose.specs.RowLaws.{rows_behind}
 use Rattle.nest_choose.proofs.choosing.push_cut.Given as goal
 
 abbrev pub invariant-loop-array : goal.invariant-loop-array

@@ -14,7 +14,7 @@ use Rattle.nest_choose.specs.Rows.{Row, rows_in, rows_of}
 
 -- ---- lists
 
-drop-both : {X : Type 0} (n : ℕ) (xs ys : List X) → drop n (xs ++ ys) ≡ drop n xs ++ drop (n - length xs) ys
+pub drop-both : {X : Type 0} (n : ℕ) (xs ys : List X) → drop n (xs ++ ys) ≡ drop n xs ++ drop (n - length xs) ys
 drop-both zero xs ys = let e : 0 ≡ 0 - length xs = omega arith in ap (λ k. xs ++ drop k ys) e
 drop-both (suc n) [] ys = let e : suc n ≡ suc n - 0 = omega arith in ap (λ k. drop k ys) e
 drop-both (suc n) (x ∷ xs) ys = let e : n - length xs ≡ suc n - length (x ∷ xs) = omega arith in drop-both n xs ys ∙ ap (λ k. drop n xs ++ drop k ys) e
@@ -45,8 +45,17 @@ drop-map f zero xs = refl
 drop-map f (suc n) [] = refl
 drop-map f (suc n) (x ∷ xs) = drop-map f n xs
 
-cut-map : {X Y : Type 0} (f : X → Y) (xs : List X) (o n : ℕ) → cut (map f xs) o n ≡ map f (cut xs o n)
+pub cut-map : {X Y : Type 0} (f : X → Y) (xs : List X) (o n : ℕ) → cut (map f xs) o n ≡ map f (cut xs o n)
 cut-map f xs o n = ap (take n) (drop-map f o xs) ∙ take-map f n (drop o xs)
+
+-- a cut within the first of two lists
+pub cut-front : {X : Type 0} (front behind : List X) (o n : ℕ) → o + n ≤ length front → cut front o n ≡ cut (front ++ behind) o n
+cut-front [] behind zero zero h = refl
+cut-front [] behind zero (suc n) h = absurd (omega arith)
+cut-front [] behind (suc o) n h = absurd (omega arith)
+cut-front (z ∷ zs) behind zero zero h = refl
+cut-front (z ∷ zs) behind zero (suc n) h = ap (λ l. z ∷ l) (cut-front zs behind zero n (omega (arith, h)))
+cut-front (z ∷ zs) behind (suc o) n h = cut-front zs behind o n (omega (arith, h))
 
 pub cut-none : {X : Type 0} (o n : ℕ) → cut {A = X} [] o n ≡ []
 cut-none zero zero = refl

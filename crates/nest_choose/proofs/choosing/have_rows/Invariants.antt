@@ -1,8 +1,0 @@
-use Rattle.std.proofs.Common.{◌≡◌, length, map, nat_lt, take, true}
-use Rattle.std.specs.List.{flat_map, list_all}
-use Rattle.nest_array.specs.Seen.{layout_of}
-use Rattle.nest_choose.specs.Rows.{rows_of}
-use Rattle.nest_choose.proofs.choosing.have_rows.Given as goal
-
-abbrev pub invariant-loop-place : goal.invariant-loop-place
-invariant-loop-place l = list_all (λ p. nat_lt p (length (flat_map rows_of (map layout_of l.arrays)))) (take l.place-index l.places) ≡ true

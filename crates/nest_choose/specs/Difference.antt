@@ -1,0 +1,14 @@
+-- Where two lists differ first.
+use Rattle.std.specs.Prelude.{◌≡◌, ◌≤◌, ◌^◌, ℕ, List, take, length, Option, Some, None, Result, Ok, Err}
+use Rattle.nest_memory.specs.Cut.{cut}
+use Rattle.nest_choose.specs.declared.differing.TooManyRows.{TooManyRows}
+
+-- they are equal; or up to this place, where they have other items, or one has none
+abbrev pub IsDifference : {A : Type 0} → List A → List A → Option ℕ → Type 0
+IsDifference xs ys None = xs ≡ ys
+IsDifference xs ys (Some k) = (take k xs ≡ take k ys) × (cut xs k 1 ≡ cut ys k 1 → ⊥)
+
+-- that is answered; or they are equal in so many items that a number of 64 bits does not count them
+abbrev pub TellsDifference : {A : Type 0} → List A → List A → Result (Option ℕ) TooManyRows → Type 0
+TellsDifference xs ys (Ok place) = IsDifference xs ys place
+TellsDifference xs ys (Err e) = 2 ^ 64 ≤ length xs
