@@ -8,6 +8,7 @@
 //! | A schema that is written is read back, with its metadata, and so is a batch | `written` |
 //! | Schemas of another program have their text, or their faults; each type is read back; schemas drawn, over every type, are read back or have the first reason of a plain model; each beginning of a message and each byte of it changed is answered | `schemas` |
 //! | Schemas with dictionaries, of another program and laid down by hand, have their text and their ids; each fault of them, in its place of the order | `keyed_schemas` |
+//! | Schemas with dictionaries, of another program, drawn, and of each type of keys, are written and read back with the ids 0, 1, 2 and so on, or have the first reason of a plain model; without dictionaries both calls write the same | `keyed_written` |
 //! | Each schema without a form is refused by its reason | `written::refused_schemas` |
 //! | Each word of flatbuffers once | `words` |
 //! | A column is read from a body, of each kind of whole numbers; each of its faults once | `columns` |
@@ -20,6 +21,7 @@
 //! | Each fault once | `faults` |
 //! | Files of another program, streams of others as files, blocks in another order, batches in any order, and files that are written | `files` |
 //! | Each fault of files once; each beginning of a file, and each of its bytes changed, is answered, by `read_file` and by a reader alike | `file_faults` |
+//! | Streams by columns: by name, by position, all, none; columns of types that are not read are passed over, each beginning of their streams is answered, and each byte changed | `columns_read` |
 //! | Each beginning of ten streams, and each byte of three changed, is answered, by `read_stream` and by a reader alike | `hostile` |
 #![tactic(auto)]
 
@@ -27,6 +29,8 @@
 mod bodies;
 #[cfg(test)]
 mod columns;
+#[cfg(test)]
+mod columns_read;
 #[cfg(test)]
 mod faults;
 #[cfg(test)]
@@ -46,6 +50,8 @@ mod keyed_samples;
 #[cfg(test)]
 mod keyed_schemas;
 #[cfg(test)]
+mod keyed_written;
+#[cfg(test)]
 mod nested_read;
 #[cfg(test)]
 mod nested_written;
@@ -55,6 +61,8 @@ mod samples;
 mod samples_flat;
 #[cfg(test)]
 mod samples_nested;
+#[cfg(test)]
+mod samples_picked;
 #[cfg(test)]
 mod samples_read;
 #[cfg(test)]

@@ -1,8 +1,10 @@
-//! Streams of arrays with children, of another program: read, or refused; each beginning, and each byte of the short ones changed.
+//! Streams of arrays with children, of another program: read, or refused; each beginning, and each byte of the short ones
+//! changed; what is read is written again.
 use crate::samples::Sample;
 use crate::samples_nested::{READ_NESTED, REFUSED_NESTED};
 use crate::samples_read::bytes_of;
-use crate::texts::{answer, is_read};
+use crate::texts::{answer, file_answer, is_read};
+use ipc::{read_stream, write_file, write_stream};
 use ipc_model::Fault;
 use std::alloc::Global;
 
@@ -16,6 +18,28 @@ fn each_that_is_read(rt: HostRuntime) {
     for sample in &READ_NESTED {
         let text = answered(rt.alloc(), sample).expect(&rt, "no text");
         assert!(rt; text.as_str() == sample.answer, "{}: {text}", sample.name);
+    }
+}
+
+/// What is read of a sample that was read and written, as a stream and as a file.
+fn written_again(alloc: Global, sample: &Sample) -> Result<(String, String), Fault> {
+    let bytes = bytes_of(alloc, sample)?;
+    let stream = read_stream(alloc, &bytes)?;
+    let Ok(again) = write_stream(alloc, &stream.schema, &stream.batches) else {
+        return Err(Fault::Memory);
+    };
+    let Ok(file) = write_file(alloc, &stream.schema, &stream.batches) else {
+        return Err(Fault::Memory);
+    };
+    Ok((answer(alloc, &again)?, file_answer(alloc, &file)?))
+}
+
+#[test]
+fn each_is_written_again(rt: HostRuntime) {
+    for sample in &READ_NESTED {
+        let (stream, file) = written_again(rt.alloc(), sample).expect(&rt, "not written");
+        assert!(rt; stream.as_str() == sample.answer, "{}: {stream}", sample.name);
+        assert!(rt; file.as_str() == sample.answer, "{}: {file}", sample.name);
     }
 }
 

@@ -14,7 +14,12 @@ fn digit(letter: u8) -> u8 {
 
 /// The bytes of a sample.
 pub fn bytes_of(alloc: Global, sample: &Sample) -> Result<Vec<u8>, Fault> {
-    let digits = sample.digits.as_bytes();
+    bytes_of_digits(alloc, sample.digits)
+}
+
+/// The bytes of hexadecimal digits.
+pub fn bytes_of_digits(alloc: Global, digits: &str) -> Result<Vec<u8>, Fault> {
+    let digits = digits.as_bytes();
     let mut bytes = Vec::with_capacity(alloc, digits.len() / 2)?;
     for i in 0..digits.len() / 2 {
         bytes.push(digit(digits[2 * i]) * 16 + digit(digits[2 * i + 1]))?;

@@ -381,8 +381,20 @@ fn wanted(data_type: &DataType, depth: usize) -> Option<NoForm> {
                 Some(NoForm::Type)
             }
         }
-        DataType::Dictionary(_, _, _) | DataType::Extension(_, _, _) => Some(NoForm::Type),
+        DataType::Dictionary(_, values, _) => wanted(values, depth),
+        DataType::Extension(_, _, _) => Some(NoForm::Type),
         _ => None,
+    }
+}
+
+/// Whether a type is a dictionary whose values have no place for their own.
+fn is_crowded(data_type: &DataType) -> bool {
+    match data_type {
+        DataType::Dictionary(_, values, _) => match &**values {
+            DataType::Dictionary(_, _, _) | DataType::Extension(_, _, _) => true,
+            _ => false,
+        },
+        _ => false,
     }
 }
 
@@ -401,21 +413,26 @@ fn wanted_of_one(field: &Field, depth: usize) -> Option<NoForm> {
     if depth == 0 {
         return Some(NoForm::Depth);
     }
-    if has_key(field, "ARROW:extension:name") {
+    let (data_type, is_extended) = match &field.data_type {
+        DataType::Extension(_, inner, _) => (&**inner, true),
+        data_type => (data_type, false),
+    };
+    if is_extension(data_type) {
         return Some(NoForm::Extension);
     }
-    match &field.data_type {
-        DataType::Extension(_, inner, _) => {
-            if is_extension(inner) || has_key(field, "ARROW:extension:metadata") {
-                return Some(NoForm::Extension);
-            }
-            wanted(inner, depth - 1)
-        }
-        data_type => wanted(data_type, depth - 1),
+    if is_crowded(data_type) {
+        return Some(NoForm::Dictionary);
     }
+    if has_key(field, "ARROW:extension:name")
+        || is_extended && has_key(field, "ARROW:extension:metadata")
+    {
+        return Some(NoForm::Extension);
+    }
+    wanted(data_type, depth - 1)
 }
 
-fn wanted_of(fields: &[Field], depth: usize) -> Option<NoForm> {
+/// The first reason why one of fields is not written, by the model.
+pub fn wanted_of(fields: &[Field], depth: usize) -> Option<NoForm> {
     for field in fields {
         let why = wanted_of_one(field, depth);
         if why.is_some() {
@@ -423,6 +440,34 @@ fn wanted_of(fields: &[Field], depth: usize) -> Option<NoForm> {
         }
     }
     None
+}
+
+/// How many dictionaries are among fields, at any depth.
+pub fn count_dictionaries(fields: &[Field]) -> usize {
+    let mut count = 0;
+    for field in fields {
+        count += count_of(&field.data_type);
+    }
+    count
+}
+
+fn count_of(data_type: &DataType) -> usize {
+    match data_type {
+        DataType::Dictionary(_, values, _) => 1 + count_of(values),
+        DataType::Extension(_, inner, _) => count_of(inner),
+        DataType::List(field) | DataType::LargeList(field) | DataType::Map(field, _) => {
+            count_of(&field.data_type)
+        }
+        DataType::FixedSizeList(field, _) => count_of(&field.data_type),
+        DataType::Struct(fields) | DataType::Union(fields, _, _) => count_dictionaries(fields),
+        _ => 0,
+    }
+}
+
+/// The same where none may have a dictionary.
+fn plain_wanted(fields: &[Field]) -> Option<NoForm> {
+    let some = (count_dictionaries(fields) != 0).then_some(NoForm::Type);
+    wanted_of(fields, 64).or(some)
 }
 
 fn draw_metadata(alloc: Global, draw: &mut Draw) -> Result<Metadata, NoForm> {
@@ -438,7 +483,8 @@ fn draw_metadata(alloc: Global, draw: &mut Draw) -> Result<Metadata, NoForm> {
     Ok(metadata)
 }
 
-fn draw_schema(alloc: Global, draw: &mut Draw, depth: usize) -> Result<Schema, NoForm> {
+/// A schema of a few fields of any types.
+pub fn draw_schema(alloc: Global, draw: &mut Draw, depth: usize) -> Result<Schema, NoForm> {
     let mut fields = Vec::new(alloc);
     for _ in 0..draw.below(4) {
         let data_type = draw_type(alloc, draw, depth).map_err(|_| NoForm::Memory)?;
@@ -457,12 +503,12 @@ fn draw_schema(alloc: Global, draw: &mut Draw, depth: usize) -> Result<Schema, N
 /// Whether a schema is read back, or is refused by the reason that the model has.
 fn is_answered(alloc: Global, schema: &Schema) -> bool {
     match write_schema(alloc, schema) {
-        Err(why) => wanted_of(&schema.fields, 64) == Some(why),
+        Err(why) => plain_wanted(&schema.fields) == Some(why),
         Ok(bytes) => match read_schema(alloc, &bytes) {
             Err(_) => false,
             Ok((read, rest)) => {
                 rest.is_empty()
-                    && wanted_of(&schema.fields, 64).is_none()
+                    && plain_wanted(&schema.fields).is_none()
                     && read.fields == schema.fields
                     && read.metadata == schema.metadata
             }

@@ -132,8 +132,8 @@ pub fn put_rows(text: &mut String, rows: usize, columns: &[AnyArray]) -> Result<
     Ok(())
 }
 
-// A schema and batches.
-fn put_parts(text: &mut String, schema: &Schema, batches: &[Batch]) -> Result<(), Fault> {
+/// A schema and batches.
+pub fn put_parts(text: &mut String, schema: &Schema, batches: &[Batch]) -> Result<(), Fault> {
     put_schema(text, schema)?;
     for batch in batches {
         put_batch(text, batch)?;

@@ -1,9 +1,9 @@
-//! A schema with dictionaries inside of one another, under an extension, that is read; one with an extension that is written and read.
+//! A schema with dictionaries inside of one another, under an extension, that is read, and written and read again; one with an extension that is written and read.
 
 use crate::trial::Trial;
 use drawn_builders::wrong::{Wrong, expect};
 use ipc_model::{Fault, NoForm};
-use ipc_schema::{Schema, read_keyed_schema, read_schema, write_schema};
+use ipc_schema::{Schema, read_keyed_schema, read_schema, write_keyed_schema, write_schema};
 use nest_memory::datatypes::{DataType, Field};
 use nest_memory::error::Error;
 use std::alloc::{AllocError, Global};
@@ -72,9 +72,19 @@ fn both(alloc: Global) -> Result<usize, Error> {
     Ok(read.fields.len())
 }
 
+/// How many ids are read of what was written of what was read.
+fn keyed_again(alloc: Global) -> Result<usize, Error> {
+    let (keyed, _) = read_keyed_schema(alloc, &SCHEMA).map_err(unread)?;
+    let bytes = write_keyed_schema(alloc, &keyed.schema).map_err(unwritten)?;
+    let (again, _) = read_keyed_schema(alloc, &bytes).map_err(unread)?;
+    Ok(again.ids.len())
+}
+
 pub fn both_ways(trial: &mut Trial, alloc: Global) -> Result<(), Wrong> {
     let ids = trial.again(|| keyed(alloc))?;
     expect(ids == 3, "another number of ids")?;
+    let written = trial.again(|| keyed_again(alloc))?;
+    expect(written == 3, "another number of written ids")?;
     let fields = trial.again(|| both(alloc))?;
     expect(fields == 1, "another number of fields")
 }
