@@ -111,7 +111,7 @@ fn odd_places(alloc: Global, count: usize) -> Result<BooleanArray, Error> {
 }
 
 /// Three records of a text and a number.
-fn records(alloc: Global) -> Result<AnyArray, Error> {
+pub fn records(alloc: Global) -> Result<AnyArray, Error> {
     let children = vec![in alloc; texts(alloc)?, numbers(alloc, &[1, 2, 3])?]?;
     let data_type = record(alloc, DataType::LargeUtf8, DataType::Int32)?;
     let bits = validity(alloc, &[true, true, false])?;
@@ -119,7 +119,7 @@ fn records(alloc: Global) -> Result<AnyArray, Error> {
 }
 
 /// Maps of no, two, no and one entry, the third of them null.
-fn map_array(alloc: Global, entries: &AnyArray) -> Result<AnyArray, Error> {
+pub fn map_array(alloc: Global, entries: &AnyArray) -> Result<AnyArray, Error> {
     let data_type = entries.data_type().clone(alloc)?;
     let data_type = DataType::Map(Box::new(alloc, field(alloc, data_type)?)?, false);
     let ends = offsets(alloc, &[0, 0, 2, 2, 3])?;
@@ -134,7 +134,7 @@ pub fn maps(trial: &mut Trial, alloc: Global) -> Result<(), Wrong> {
 }
 
 /// Picks of both fields of records in turn.
-fn union_array(alloc: Global, records: &AnyArray, mode: UnionMode) -> Result<AnyArray, Error> {
+pub fn union_array(alloc: Global, records: &AnyArray, mode: UnionMode) -> Result<AnyArray, Error> {
     let mut fields = Vec::with_capacity(alloc, 2)?;
     let mut children = Vec::with_capacity(alloc, 2)?;
     if let AnyArray::Struct(records) = records {
@@ -196,7 +196,7 @@ fn texts(alloc: Global) -> Result<AnyArray, Error> {
 }
 
 /// Lists of lists of numbers.
-fn lists_of_lists(alloc: Global) -> Result<ListArray, Error> {
+pub fn lists_of_lists(alloc: Global) -> Result<ListArray, Error> {
     let inner = list_array(alloc, numbers(alloc, &[1, 2, 3])?, &[0, 1, 1, 3])?;
     list_array(alloc, inner.boxed(), &[0, 0, 2, 3])
 }
@@ -220,7 +220,7 @@ fn codes(alloc: Global) -> Result<AnyArray, Error> {
 }
 
 /// Lists of one number each.
-fn single_numbers(alloc: Global) -> Result<AnyArray, Error> {
+pub fn single_numbers(alloc: Global) -> Result<AnyArray, Error> {
     let items = numbers(alloc, &[4, 5, 6])?;
     let data_type = FixedSizeListArray::default_datatype(alloc, DataType::Int32, 1)?;
     let bits = validity(alloc, &[true, false, true])?;

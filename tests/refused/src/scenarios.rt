@@ -1,7 +1,7 @@
 //! What is tried.
 
 use crate::trial::Trial;
-use crate::{arrays, builders, parsed, program, schemas, streams, typed};
+use crate::{arrays, builders, nested, parsed, program, schemas, streams, typed};
 use drawn_builders::wrong::Wrong;
 use std::alloc::Global;
 
@@ -26,6 +26,7 @@ pub enum Scenario {
     ParsedTypes,
     Schemas,
     Streams,
+    NestedStreams,
 }
 
 impl Scenario {
@@ -50,6 +51,7 @@ impl Scenario {
             Scenario::ParsedTypes => parsed::types(trial, alloc),
             Scenario::Schemas => schemas::both_ways(trial, alloc),
             Scenario::Streams => streams::both_ways(trial, alloc),
+            Scenario::NestedStreams => nested::both_ways(trial, alloc),
         }
     }
 }

@@ -25,14 +25,14 @@ const STREAM: [u8; 296] = [
     0, 0, 0, 0, 0, 1, 0, 0, 0, 0, 0, 0, 0, 7, 0, 0, 0, 0, 0, 0, 0, 255, 255, 255, 255, 0, 0, 0, 0,
 ];
 
-fn refused(fault: Fault) -> Error {
+pub fn refused(fault: Fault) -> Error {
     match fault {
         Fault::Memory => Error::Memory(AllocError),
         _ => Error::NotYetImplemented,
     }
 }
 
-fn unwritten(why: NoForm) -> Error {
+pub fn unwritten(why: NoForm) -> Error {
     match why {
         NoForm::Memory => Error::Memory(AllocError),
         _ => Error::NotYetImplemented,
