@@ -7,19 +7,22 @@ use Rattle.std.proofs.lemmas.List.{append-nil, length-append}
 use Rattle.std.proofs.lemmas.List.FromFn.{length-range_with_len}
 use Rattle.std.proofs.lemmas.List.Sums.{count_by-le-length}
 use Rattle.nest_memory.specs.declared.datatypes.physical_type.PrimitiveType.{PrimitiveType}
-use Rattle.nest_model.specs.Accessors.{bits_of, bytes_of, natives_of, offsets_of, validity_of}
+use Rattle.nest_model.specs.Accessors.{bits_of, bytes_of, child_of, keys_of, natives_of, offsets_of, validity_of}
 use Rattle.nest_model.specs.Array.{TopFits}
-use Rattle.nest_model.specs.Layout.{Layout, boolean, primitive, binary, text, fixed_size_binary, layout_type}
+use Rattle.nest_model.specs.Fits.{ValidityFits}
+use Rattle.nest_model.specs.Layout.{Layout, boolean, primitive, binary, text, fixed_size_binary, dictionary, layout_type}
 use Rattle.nest_model.specs.Meaning.{len}
 use Rattle.nest_model.specs.Nullness.{null_count, is_null_at}
+use Rattle.ipc_layout.specs.Keys.{blanked}
+use Rattle.ipc_layout.specs.KeyLaws.{blanked_long}
 use Rattle.ipc_layout.specs.Packed.{packed}
 use Rattle.ipc_layout.specs.PackedLaws.{packed_long}
 use Rattle.ipc_layout.specs.Placed.{padded, body_of}
 use Rattle.ipc_layout.specs.PlacedLaws.{padded_long, body_more, body_none}
 use Rattle.ipc_layout.specs.Stored.{Form, form_of, values_bytes}
 use Rattle.ipc_layout.specs.StoredLaws.{IsSpelled, form_sized, values_long}
-use Rattle.ipc_layout.specs.Written.{valid_bytes, bytes_by, flat_buffers}
-use Rattle.ipc_layout.specs.WrittenLaws.{SpelledBy, OffsetsSpelled, IsWritable, eqb-zero}
+use Rattle.ipc_layout.specs.Written.{valid_bytes, bytes_by, shown_keys, key_buffers, flat_buffers}
+use Rattle.ipc_layout.specs.WrittenLaws.{SpelledBy, KeysSpelled, OffsetsSpelled, IsWritable, eqb-zero}
 
 -- ---- what holds of a call's answer
 
@@ -109,6 +112,39 @@ native_sizes a k form n m h e f = ap (map length) (native_buffers a k form h) �
 pub native_past : (a : Layout) (k : PrimitiveType) (form : Form) (p : ℕ) → IsOf a k form → 2 ^ 63 ≤ len a * form.size → 2 ^ 63 ≤ p + length (body_of (flat_buffers a))
 native_past a k form p h long =
     omega (arith, long, native_long a k form h, ap (λ (buffers : List (List ℕ)). length (body_of buffers)) (native_buffers a k form h), second_within (valid_bytes (validity_of a)) (values_bytes form (natives_of a)) [])
+
+-- ---- keys
+
+pub keys_buffers : (a : Layout) (k : PrimitiveType) (form : Form) → IsOf a k form → key_buffers (shown_keys a) ≡ valid_bytes (validity_of a) ∷ values_bytes form (blanked (validity_of a) (natives_of a)) ∷ []
+keys_buffers a k form h =
+    ap (λ (b : Layout). key_buffers (shown_keys b)) h.parts
+    ∙ ap (λ (o : Option Form). valid_bytes (validity_of a) ∷ bytes_by o (blanked (validity_of a) (natives_of a)) ∷ []) h.has
+
+pub keys_spelled : (a : Layout) (k : PrimitiveType) (form : Form) → IsOf a k form → AllByRecursion (IsSpelled form) (blanked (validity_of a) (natives_of a)) → KeysSpelled a
+keys_spelled a k form h all = subst KeysSpelled (sym h.parts) (subst (λ (o : Option Form). SpelledBy o (blanked (validity_of a) (natives_of a))) (sym h.has) all)
+
+pub keys_fit : (a : Layout) (k : PrimitiveType) (form : Form) → IsOf a k form → ValidityFits (validity_of a) (length (natives_of a))
+keys_fit a k form h = let fits : TopFits (primitive k (layout_type a) (natives_of a) (validity_of a)) = subst TopFits h.parts h.fits in fits.1.0
+
+keys_long : (a : Layout) (k : PrimitiveType) (form : Form) → IsOf a k form → length (values_bytes form (blanked (validity_of a) (natives_of a))) ≡ len a * form.size
+keys_long a k form h =
+    values_long form (blanked (validity_of a) (natives_of a)) (form_sized k form h.has).long
+    ∙ ap (λ (n : ℕ). n * form.size) (blanked_long (validity_of a) (natives_of a))
+    ∙ ap (λ (b : Layout). len b * form.size) (sym h.parts)
+
+pub keys_sizes : (a : Layout) (k : PrimitiveType) (form : Form) (n m : ℕ) → IsOf a k form → n ≡ length (valid_bytes (validity_of a)) → m ≡ len a * form.size → map length (key_buffers (shown_keys a)) ≡ n ∷ m ∷ []
+keys_sizes a k form n m h e f = ap (map length) (keys_buffers a k form h) ∙ (λ w. sym e w ∷ (keys_long a k form h ∙ sym f) w ∷ [])
+
+pub keys_past : (a : Layout) (k : PrimitiveType) (form : Form) (p : ℕ) → IsOf a k form → 2 ^ 63 ≤ len a * form.size → 2 ^ 63 ≤ p + length (body_of (key_buffers (shown_keys a)))
+keys_past a k form p h long =
+    omega (arith, long, keys_long a k form h, ap (λ (buffers : List (List ℕ)). length (body_of buffers)) (keys_buffers a k form h), second_within (valid_bytes (validity_of a)) (values_bytes form (blanked (validity_of a) (natives_of a))) [])
+
+-- a dictionary is written as its keys
+pub dictionary_buffers : (a ks : Layout) → a ≡ dictionary (layout_type a) (keys_of a) (child_of a) → ks ≡ keys_of a → key_buffers (shown_keys ks) ≡ flat_buffers a
+dictionary_buffers a ks parts keys = ap (λ (b : Layout). key_buffers (shown_keys b)) keys ∙ sym (ap flat_buffers parts)
+
+pub dictionary_writable : (a ks : Layout) → a ≡ dictionary (layout_type a) (keys_of a) (child_of a) → ks ≡ keys_of a → TopFits a → KeysSpelled ks → IsWritable a
+dictionary_writable a ks parts keys fits spelled = subst IsWritable (sym parts) (record { fits = subst TopFits parts fits; numbers = subst KeysSpelled keys spelled })
 
 -- ---- truths
 

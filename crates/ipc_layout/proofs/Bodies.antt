@@ -7,7 +7,7 @@ use Rattle.std.proofs.lemmas.Bool.{le-ltb, lt-ltb}
 use Rattle.std.proofs.lemmas.List.{append-nil, map-append, map_more, drop_more, take_more, take-append-drop, take_all, length-append, length-map}
 use Rattle.std.proofs.lemmas.List.Concat.{flat_map-cons, flat_map-append}
 use Rattle.ipc_model.specs.declared.fault.NoForm.{NoForm}
-use Rattle.ipc_model.specs.declared.fault.NoForm.TheVariants.{Size, «Type» as NotWritten}
+use Rattle.ipc_model.specs.declared.fault.NoForm.TheVariants.{Size}
 use Rattle.ipc_model.specs.declared.batch.Node.{Node}
 use Rattle.ipc_model.specs.declared.batch.Region.{Region}
 use Rattle.nest_model.specs.Layout.{Layout}
@@ -16,7 +16,7 @@ use Rattle.ipc_layout.specs.declared.placing.Placed.{Placed}
 use Rattle.ipc_layout.specs.Stored.{Form, values_bytes}
 use Rattle.ipc_layout.specs.Placed.{padded, body_of, regions_from}
 use Rattle.ipc_layout.specs.PlacedLaws.{padded_long, body_more, body_append, body_none, regions_append, all_in_body}
-use Rattle.ipc_layout.specs.Written.{column_node, own_buffers, buffers_of, written, columns_body, has_form, is_countable, have_room, no_form, IsPast, AreTooLong, IsUnwritten, IsLonger, IsMore, IsPlaced}
+use Rattle.ipc_layout.specs.Written.{column_node, own_buffers, buffers_of, written, columns_body, is_countable, have_room, no_form, IsPast, AreTooLong, IsUnwritten, IsLonger, IsMore, IsPlaced}
 use Rattle.ipc_layout.specs.ShownLaws.{pass_append}
 use Rattle.ipc_layout.specs.AgainLaws.{buffers_more, buffers_none, buffers_append}
 
@@ -39,22 +39,6 @@ module _ {A B : Type 0} (f : A → B) where
 pub all_push : {A : Type 0} (P : A → Type 0) (xs : List A) (x : A) → AllByRecursion P xs → P x → AllByRecursion P (xs ++ x ∷ [])
 all_push P [] x all p = (p, tt)
 all_push P (y ∷ xs) x all p = (all.0, all_push P xs x all.1 p)
-
-pub pass_push : {A : Type 0} (p : A → Bool) (xs : List A) (x : A) → list_all p xs ≡ true → p x ≡ true → list_all p (xs ++ x ∷ []) ≡ true
-pass_push p [] x all e = rw e refl
-pass_push p (y ∷ xs) x all e = both (p y) (list_all p xs) (list_all p (xs ++ x ∷ [])) all (λ h. pass_push p xs x h e)
-  where
-    both : (a b c : Bool) → (a && b) ≡ true → (b ≡ true → c ≡ true) → (a && c) ≡ true
-    both true b c h k = k h
-    both false b c h k = h
-
-pub pass_fails : {A : Type 0} (p : A → Bool) (xs : List A) (x : A) (ys : List A) → p x ≡ false → list_all p (xs ++ x ∷ ys) ≡ false
-pass_fails p [] x ys e = rw e refl
-pass_fails p (y ∷ xs) x ys e = still (p y) (list_all p (xs ++ x ∷ ys)) (pass_fails p xs x ys e)
-  where
-    still : (a b : Bool) → b ≡ false → (a && b) ≡ false
-    still true b h = h
-    still false b h = refl
 
 -- no buffer more
 pub longer_none : (placed : Placed) → placed.length < 2 ^ 63 → IsLonger placed placed []
@@ -218,19 +202,13 @@ no_room columns (inr long) =
     let past : ltb (length (columns_body columns)) (2 ^ 63) ≡ false = le-ltb _ _ (omega (arith, long)) in
     rw past (and_false (list_all is_countable (written columns)))
 
-size_refused : (columns : List Layout) → list_all has_form columns ≡ true → (list_all is_countable (written columns) ≡ false) ⊎ (2 ^ 63 ≤ 0 + length (columns_body columns)) → no_form columns ≡ Some Size
+size_refused : (columns : List Layout) → (list_all is_countable (written columns) ≡ false) ⊎ (2 ^ 63 ≤ 0 + length (columns_body columns)) → no_form columns ≡ Some Size
 unfolding no_form
-size_refused columns forms why =
-    let room : have_room columns ≡ false = no_room columns why in
-    rw (forms, room) refl
+size_refused columns why = rw (no_room columns why) refl
 
-pub past_unwritten : (why : NoForm) (columns : List Layout) → list_all has_form columns ≡ true → AreTooLong why 0 (written columns) → IsUnwritten columns why
-past_unwritten why columns forms (inl memory) = inl memory
-past_unwritten why columns forms (inr (size, long)) = inr (size_refused columns forms long ∙ ap (λ (f : NoForm). Some f) (sym size))
-
-pub type_refused : (columns : List Layout) → list_all has_form columns ≡ false → no_form columns ≡ Some NotWritten
-unfolding no_form
-type_refused columns e = rw e refl
+pub past_unwritten : (why : NoForm) (columns : List Layout) → AreTooLong why 0 (written columns) → IsUnwritten columns why
+past_unwritten why columns (inl memory) = inl memory
+past_unwritten why columns (inr (size, long)) = inr (size_refused columns long ∙ ap (λ (f : NoForm). Some f) (sym size))
 
 values_push : (form : Form) (values : List (List ℤ)) (v : List ℤ) → values_bytes form (values ++ v ∷ []) ≡ values_bytes form values ++ form.bytes v
 unfolding values_bytes
@@ -240,15 +218,8 @@ pub value_more : (form : Form) (old out new : List ℕ) (values more : List (Lis
 value_more form old out new values more v e so_far is =
     is ∙ ap (λ (x : List ℕ). x ++ form.bytes v) so_far ∙ append_assoc old (values_bytes form values) (form.bytes v) ∙ ap (λ (x : List ℕ). old ++ x) (sym (ap (values_bytes form) e ∙ values_push form values v))
 
-pub pass_in : {A : Type 0} (p : A → Bool) (front : List A) (x : A) (rest : List A) → list_all p (front ++ x ∷ rest) ≡ true → p x ≡ true
-pass_in p front x rest all = by (p x) refl
-  where
-    by : (b : Bool) → p x ≡ b → p x ≡ true
-    by true e = e
-    by false e = let f = pass_fails p front x rest e in cc
-
-pub form_is : (columns : List Layout) (placed : Placed) → list_all has_form columns ≡ true → IsPlaced columns placed → no_form columns ≡ None
+pub form_is : (columns : List Layout) (placed : Placed) → IsPlaced columns placed → no_form columns ≡ None
 unfolding no_form have_room
-form_is columns placed all is =
+form_is columns placed is =
     let fits : ltb (length (columns_body columns)) (2 ^ 63) ≡ true = lt-ltb _ _ (omega (arith, is.small, is.length)) in
-    rw (all, is.slots, fits) refl
+    rw (is.slots, fits) refl

@@ -11,3 +11,5 @@ pub mod Nested
 pub mod Fields
 pub mod Marks
 pub mod Passing
+pub mod Keyed
+pub mod Dictionaries

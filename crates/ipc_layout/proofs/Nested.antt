@@ -20,6 +20,7 @@ use Rattle.nest_model.specs.Meaning.{len, first_len}
 use Rattle.nest_model.specs.Part.{Validity, field_named}
 use Rattle.nest_model.specs.Runs.{product-exact}
 use Rattle.ipc_layout.specs.Columns.{Rest, Picks, column_in, node_in, picks_in, of_kind, names, means, are_ids, mean_fields, name_slots, are_there, wanted_by, union_over}
+use Rattle.ipc_layout.specs.KeyedLaws.{names_so as names_are}
 use Rattle.ipc_layout.specs.Meant.{CoversWhereSparse, IsPickable}
 use Rattle.ipc_layout.specs.ReadParts.{is_flat, array_read, item_read, items_read, union_read, flat_is, item_opens, column_opens}
 use Rattle.ipc_layout.specs.ReadLaws.{found, ArePicks, OffsetsFor, Suits, EachSuits, item_is as item_known_of, items_are, picks_are, kind_stored, item_stored, size_stored, fields_stored, ids_stored, dense_stored, pairs_stored}
@@ -155,13 +156,9 @@ struct_fits t fs slots cs va h some typed suits valid =
 
 -- ---- unions
 
-names_so : (z : ℤ) (n : ℕ) → names z n ≡ true → Names z n
+pub names_so : (z : ℤ) (n : ℕ) → names z n ≡ true → Names z n
 names_so (pos k) n e = ltb-true _ _ e
 names_so (negsuc k) n e = cc
-
-so_names : (z : ℤ) (n : ℕ) → Names z n → names z n ≡ true
-so_names (pos k) n h = lt-ltb _ _ h
-so_names (negsuc k) n h = absurd h
 
 means_so : (o : Option ℕ) (n : ℕ) → means o n ≡ true → MeansField o n
 means_so None n e = cc
@@ -232,7 +229,7 @@ each_named ids cs (z ∷ ks) (o ∷ os) l e (suc i) lt = each_named ids cs ks os
 named_each : (ids : Option (List ℤ)) (cs : Layouts) (ks os : List ℤ) → length os ≡ length ks → EachOffsetNames ids ks os cs → name_slots ids cs ks os ≡ true
 named_each ids cs [] os l h = refl
 named_each ids cs (z ∷ ks) [] l h = absurd (omega (arith, l))
-named_each ids cs (z ∷ ks) (o ∷ os) l h = and_from _ _ (so_names o _ (h 0 (omega arith))) (named_each ids cs ks os (omega (arith, l)) (λ i lt. h (suc i) (omega (arith, lt))))
+named_each ids cs (z ∷ ks) (o ∷ os) l h = and_from _ _ (names_are o _ (h 0 (omega arith))) (named_each ids cs ks os (omega (arith, l)) (λ i lt. h (suc i) (omega (arith, lt))))
 
 there : (ids : Option (List ℤ)) (cs : Layouts) (ks : List ℤ) (os : Option (List ℤ)) → OffsetsCount os (length ks) → SlotsThere ids ks cs os 0 → are_there ids cs ks os ≡ true
 there ids cs ks None l h = refl

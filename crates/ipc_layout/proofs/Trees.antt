@@ -1,36 +1,21 @@
 -- Windows and arrays, one after the other, as the functions of a tree go through them.
-use Rattle.std.proofs.Common.{◌≡◌, ℕ, zero, suc, ◌+◌, ◌<◌, ◌≤◌, Bool, true, false, List, [], ◌∷◌, ◌++◌, length, get_or, take, drop, refl, sym, ap, subst, ◌∙◌, append_assoc, arith}
-use Rattle.std.specs.Prelude.{◌&&◌}
-use Rattle.std.specs.List.{AllByRecursion, list_all, sum_by}
+use Rattle.std.proofs.Common.{◌≡◌, ℕ, zero, suc, ◌+◌, ◌<◌, ◌≤◌, List, [], ◌∷◌, ◌++◌, length, get_or, take, drop, sym, ap, subst, ◌∙◌, append_assoc, arith}
+use Rattle.std.specs.List.{AllByRecursion, sum_by}
 use Rattle.std.proofs.lemmas.List.{append-nil}
 use Rattle.std.proofs.lemmas.List.Sums.{sum_by-cons}
-use Rattle.nest_model.specs.Layout.{Layout, weight, weight_all}
-use Rattle.nest_array.specs.Seen.{layout_of, layouts_of}
+use Rattle.nest_model.specs.Layout.{Layout}
 use Rattle.nest_array.specs.WindowParts.{WindowParts}
-use Rattle.nest_array.specs.declared.any.AnyArray.{AnyArray}
 use Rattle.ipc_layout.specs.Placed.{body_of}
 use Rattle.ipc_layout.specs.PlacedLaws.{body_append, body_none}
 use Rattle.ipc_model.specs.declared.fault.NoForm.{NoForm}
 use Rattle.nest_model.specs.Meaning.{len}
 use Rattle.ipc_layout.specs.declared.placing.Placed.{Placed}
-use Rattle.ipc_layout.specs.AgainLaws.{IsAgain, buffers_append, buffers_none, buffers_more}
-use Rattle.ipc_layout.specs.ShownLaws.{load, shown_len, arrays_shown, written_more, written_none, pass_append}
-use Rattle.ipc_layout.specs.Written.{arrays_of, arrays_of_all, own_buffers, buffers_of, shown_in, shown_window, windows_below, written_windows, has_form, kind_has_form, IsPast, AreTooLong, IsMore}
+use Rattle.ipc_layout.specs.AgainLaws.{buffers_append, buffers_none, buffers_more}
+use Rattle.ipc_layout.specs.Rekeyed.{IsAgainOver}
+use Rattle.ipc_layout.specs.ShownLaws.{load, shown_len, arrays_shown, written_more, written_none}
+use Rattle.ipc_layout.specs.Written.{arrays_of, own_buffers, buffers_of, shown_in, shown_window, windows_below, written_windows, IsPast, AreTooLong, IsMore}
 use Rattle.ipc_layout.proofs.Covers.{next_place}
 use Rattle.ipc_layout.proofs.Bodies.{more_append, long_front, long_behind, long_slots, long_buffers}
-
-pub pass_at : {A : Type 0} (p : A → Bool) (xs : List A) (i : ℕ) (x : A) → list_all p xs ≡ true → i < length xs → x ≡ get_or xs i x → p x ≡ true
-pass_at p [] i x h lt is = absurd (omega arith)
-pass_at p (y ∷ xs) zero x h lt is = ap p is ∙ front (p y) (list_all p xs) h
-  where
-    front : (a b : Bool) → (a && b) ≡ true → a ≡ true
-    front true b e = refl
-    front false b e = e
-pass_at p (y ∷ xs) (suc i) x h lt is = pass_at p xs i x (behind (p y) (list_all p xs) h) (omega arith) is
-  where
-    behind : (a b : Bool) → (a && b) ≡ true → b ≡ true
-    behind true b e = e
-    behind false b e = cc
 
 pub load_at : (ws : List WindowParts) (i : ℕ) (w : WindowParts) → i < length ws → w ≡ get_or ws i w → load w ≤ sum_by load ws
 load_at [] i w lt is = absurd (omega arith)
@@ -78,43 +63,6 @@ body_first s rest = ap body_of (buffers_more s rest) ∙ body_append (own_buffer
 pub body_nothing : body_of (buffers_of (written_windows [])) ≡ []
 body_nothing = (λ w. body_of (buffers_of (written_none w))) ∙ ap body_of buffers_none ∙ body_none
 
--- ---- whether arrays are written
-
-forms_taken_next : (xs : List AnyArray) (i : ℕ) (x : AnyArray) → i < length xs → x ≡ get_or xs i x → list_all kind_has_form (arrays_of_all (layouts_of (take i xs))) ≡ true → has_form (layout_of x) ≡ true → list_all kind_has_form (arrays_of_all (layouts_of (take (suc i) xs))) ≡ true
-forms_taken_next [] i x lt is all form = absurd (omega arith)
-forms_taken_next (y ∷ xs) zero x lt is all form =
-    pass_append kind_has_form (arrays_of (layout_of y)) []
-    ∙ ap (λ (b : Bool). b && true) (ap (λ (z : AnyArray). has_form (layout_of z)) (sym is) ∙ form)
-forms_taken_next (y ∷ xs) (suc i) x lt is all form =
-    pass_append kind_has_form (arrays_of (layout_of y)) (arrays_of_all (layouts_of (take (suc i) xs)))
-    ∙ both (has_form (layout_of y)) (list_all kind_has_form (arrays_of_all (layouts_of (take i xs)))) (list_all kind_has_form (arrays_of_all (layouts_of (take (suc i) xs)))) (sym (pass_append kind_has_form (arrays_of (layout_of y)) (arrays_of_all (layouts_of (take i xs)))) ∙ all) (λ h. forms_taken_next xs i x (omega arith) is h form)
-  where
-    both : (a b c : Bool) → (a && b) ≡ true → (b ≡ true → c ≡ true) → (a && c) ≡ true
-    both true b c h k = k h
-    both false b c h k = h
-
-pub forms_taken : (xs : List AnyArray) (i : ℕ) (x : AnyArray) → i < length xs → x ≡ get_or xs i x → list_all kind_has_form (arrays_of_all (layouts_of (take i xs))) ≡ true → has_form (layout_of x) ≡ true → list_all kind_has_form (arrays_of_all (layouts_of (take (i + 1) xs))) ≡ true
-forms_taken xs i x lt is all form = ap (λ (k : ℕ). list_all kind_has_form (arrays_of_all (layouts_of (take k xs)))) (next_place i) ∙ forms_taken_next xs i x lt is all form
-
-pub forms_fail : (xs : List AnyArray) (i : ℕ) (x : AnyArray) → i < length xs → x ≡ get_or xs i x → has_form (layout_of x) ≡ false → list_all kind_has_form (arrays_of_all (layouts_of xs)) ≡ false
-forms_fail [] i x lt is form = absurd (omega arith)
-forms_fail (y ∷ xs) zero x lt is form =
-    pass_append kind_has_form (arrays_of (layout_of y)) (arrays_of_all (layouts_of xs))
-    ∙ ap (λ (b : Bool). b && list_all kind_has_form (arrays_of_all (layouts_of xs))) (ap (λ (z : AnyArray). has_form (layout_of z)) (sym is) ∙ form)
-forms_fail (y ∷ xs) (suc i) x lt is form =
-    pass_append kind_has_form (arrays_of (layout_of y)) (arrays_of_all (layouts_of xs))
-    ∙ ap (λ (b : Bool). has_form (layout_of y) && b) (forms_fail xs i x (omega arith) is form)
-    ∙ none (has_form (layout_of y))
-  where
-    none : (b : Bool) → (b && false) ≡ false
-    none true = refl
-    none false = refl
-
-pub weight_at : (xs : List AnyArray) (i : ℕ) (x : AnyArray) → i < length xs → x ≡ get_or xs i x → weight (layout_of x) < weight_all (layouts_of xs)
-weight_at [] i x lt is = absurd (omega arith)
-weight_at (y ∷ xs) zero x lt is = omega (arith, ap (λ (z : AnyArray). weight (layout_of z)) is)
-weight_at (y ∷ xs) (suc i) x lt is = omega (arith, weight_at xs i x (omega arith) is)
-
 -- ---- what is appended
 
 pub put_more : (old out new : List ℕ) (ws : List WindowParts) (i : ℕ) (w : WindowParts) → i < length ws → w ≡ get_or ws i w → out ≡ old ++ body_of (buffers_of (written_windows (take i ws))) → new ≡ out ++ body_of (buffers_of (arrays_of (shown_window w)))
@@ -136,13 +84,13 @@ window_put old out new a o n ws below own e =
     ∙ ap (λ (x : List ℕ). old ++ x) (sym (body_first (shown_in a o n) (written_windows (windows_below a o n))))
     ∙ ap (λ (x : List Layout). old ++ body_of (buffers_of x)) (sym (arrays_shown a o n))
 
-again_push_next : (ws : List WindowParts) (i : ℕ) (w : WindowParts) → i < length ws → w ≡ get_or ws i w → AllByRecursion IsAgain (take i ws) → IsAgain w → AllByRecursion IsAgain (take (suc i) ws)
+again_push_next : (ws : List WindowParts) (i : ℕ) (w : WindowParts) → i < length ws → w ≡ get_or ws i w → AllByRecursion IsAgainOver (take i ws) → IsAgainOver w → AllByRecursion IsAgainOver (take (suc i) ws)
 again_push_next [] i w lt is all one = absurd (omega arith)
-again_push_next (v ∷ ws) zero w lt is all one = (subst IsAgain is one, tt)
+again_push_next (v ∷ ws) zero w lt is all one = (subst IsAgainOver is one, tt)
 again_push_next (v ∷ ws) (suc i) w lt is all one = (all.0, again_push_next ws i w (omega arith) is all.1 one)
 
-pub again_push : (ws : List WindowParts) (i : ℕ) (w : WindowParts) → i < length ws → w ≡ get_or ws i w → AllByRecursion IsAgain (take i ws) → IsAgain w → AllByRecursion IsAgain (take (i + 1) ws)
-again_push ws i w lt is all one = subst (λ (k : ℕ). AllByRecursion IsAgain (take k ws)) (sym (next_place i)) (again_push_next ws i w lt is all one)
+pub again_push : (ws : List WindowParts) (i : ℕ) (w : WindowParts) → i < length ws → w ≡ get_or ws i w → AllByRecursion IsAgainOver (take i ws) → IsAgainOver w → AllByRecursion IsAgainOver (take (i + 1) ws)
+again_push ws i w lt is all one = subst (λ (k : ℕ). AllByRecursion IsAgainOver (take k ws)) (sym (next_place i)) (again_push_next ws i w lt is all one)
 
 -- ---- what is placed
 

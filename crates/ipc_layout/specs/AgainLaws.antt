@@ -19,6 +19,7 @@ use Rattle.nest_memory.specs.TypeTree.{TypeTree, FieldTrees, no_fields, more_fie
 use Rattle.nest_memory.specs.declared.datatypes.UnionMode.{UnionMode}
 use Rattle.nest_memory.specs.declared.datatypes.UnionMode.TheVariants.{Dense, Sparse}
 use Rattle.nest_memory.specs.declared.datatypes.physical_type.PhysicalType.TheVariants as physical
+use Rattle.nest_model.specs.Accessors.{validity_of}
 use Rattle.nest_model.specs.Array.{AreOffsets, TopFits}
 use Rattle.nest_model.specs.Checks.{most_fields, type_count}
 use Rattle.nest_model.specs.Cut.{cut_layout}
@@ -33,10 +34,9 @@ use Rattle.nest_model.specs.SameArray.{IsSameArray}
 use Rattle.nest_model.specs.SameArrayLaws.{same-from_places}
 use Rattle.nest_model.specs.Slot as slots
 use Rattle.nest_model.specs.Slot.{Slot, seal}
-use Rattle.nest_array.specs.Seen.{layout_of, layouts_of}
 use Rattle.nest_array.specs.WindowParts.{WindowParts, window_parts}
-use Rattle.nest_array.specs.declared.any.AnyArray.{AnyArray}
 use Rattle.ipc_layout.specs.Columns.{Rest, are_wanted, head_in, natives_in, rows_in, list_over, map_over, types_in, picks_in, wanted_by, mean_fields, means, names, name_slots, are_ids, union_over, array_in, item_in, items_in, column_in, each_in, columns_in}
+use Rattle.ipc_layout.specs.KeyedLaws.{names_so}
 use Rattle.ipc_layout.specs.Placed.{padded, body_of, regions_from}
 use Rattle.ipc_layout.specs.PlacedLaws.{body_append, regions_append, next_behind}
 use Rattle.ipc_layout.specs.Stored.{Form, offset_form, type_form, only, values_bytes}
@@ -45,15 +45,15 @@ use Rattle.ipc_layout.specs.StringLaws.{rebased_at, rebased_long}
 use Rattle.ipc_layout.specs.declared.parts.Counts.{Counts}
 use Rattle.ipc_layout.specs.declared.parts.Wanted.{Wanted}
 use Rattle.ipc_layout.specs.declared.parts.Wanted.TheVariants.{Rows, Exactly, AtLeast, Any}
-use Rattle.ipc_layout.specs.Written.{shown_validity, shown_flat, shown_in, shown, each_shown, all_shown, sparse_begin, rebased, valid_bytes, offset_bytes, numbers_bytes, own_buffers, flat_buffers, column_node, arrays_of, buffers_of, columns_body, each_window, whole_windows, windows_below, shown_window, written_windows, written, kind_has_form, has_form, is_flat, AreReadBack}
-use Rattle.ipc_layout.specs.WrittenLaws.{counts, rest_with, nulls_of, NumbersSpelled, IsWritable, OffsetsSpelled, AreSpelled, OwnSpelled, node_again, buffer_again, head_again, rows_again, rows_behind, no_regions, flat_again, flat_same, valid_again, eqb-same, eqb-zero}
-use Rattle.ipc_layout.specs.ShownLaws.{shown_len, shown_type, nulls_in, nulls_few, cut_fits, shown_node, written_more, written_none, each_written, all_written, flat_shown, kind_form}
+use Rattle.ipc_layout.specs.Written.{shown_validity, shown_flat, shown_in, shown, each_shown, all_shown, sparse_begin, rebased, valid_bytes, offset_bytes, numbers_bytes, own_buffers, own_dictionaries, dictionaries_of, flat_buffers, column_node, arrays_of, buffers_of, columns_body, each_window, whole_windows, windows_below, shown_window, written_windows, written, kind_has_form, is_flat, AreReadBack}
+use Rattle.ipc_layout.specs.WrittenLaws.{unset, counts, Later, rest_with, before, begun, nulls_of, NumbersSpelled, IsWritable, OffsetsSpelled, AreSpelled, OwnSpelled, node_again, buffer_again, head_again, rows_again, rows_behind, no_regions, flat_again, flat_same, valid_again, eqb-same, eqb-zero}
+use Rattle.ipc_layout.specs.ShownLaws.{shown_len, shown_type, nulls_in, nulls_few, cut_fits, shown_node, written_more, written_none, each_written, all_written, flat_shown}
 
 -- what a window is written as is read, wherever it stands in a body, as the array of the same slots, and what stands behind it is left
 pub record IsAgain (w : WindowParts) : Type 0 where
-  pub read : (wanted : Wanted) (whole : List ℕ) (place : ℕ) (behind : List ℕ) (ns : List Node) (more : List Region)
+  pub read : (wanted : Wanted) (whole : List ℕ) (place : ℕ) (behind : List ℕ) (ns : Later) (more : List Region)
       → are_wanted wanted w.count ≡ Ok tt → From whole place (body_of (buffers_of (arrays_of (shown_window w))) ++ behind)
-      → column_in (layout_type w.array) wanted whole (rest_with (map column_node (arrays_of (shown_window w)) ++ ns) (regions_from place (buffers_of (arrays_of (shown_window w))) ++ more))
+      → column_in (layout_type w.array) wanted whole (rest_with (before (arrays_of (shown_window w)) ns) (regions_from place (buffers_of (arrays_of (shown_window w))) ++ more))
       ≡ Ok (shown_window w, rest_with ns more)
   pub slots : (i : ℕ) → i < w.count → slot (shown_window w) i ≡ slot w.array (w.offset + i)
   pub long : len (shown_window w) ≡ w.count
@@ -121,22 +121,25 @@ union_in t s c whole rest k = cc
 -- its own buffers and those below are read by its numbers
 abbrev IsRead : Layout → ℕ → ℕ → List Layout → Type 0
 IsRead a o n below =
-    (whole : List ℕ) (place : ℕ) (behind : List ℕ) (ns : List Node) (more : List Region) → From whole place (body_of (own_buffers (shown_in a o n) ++ buffers_of below) ++ behind)
-    → array_in (layout_type a) (layout_type a) (record { slots = n; nulls = nulls_in a o n }) whole (rest_with (map column_node below ++ ns) (regions_from place (own_buffers (shown_in a o n) ++ buffers_of below) ++ more))
+    (whole : List ℕ) (place : ℕ) (behind : List ℕ) (ns : Later) (more : List Region) → From whole place (body_of (own_buffers (shown_in a o n) ++ buffers_of below) ++ behind)
+    → array_in (layout_type a) (layout_type a) (record { slots = n; nulls = nulls_in a o n }) whole (rest_with (begun (shown_in a o n) (before below ns)) (regions_from place (own_buffers (shown_in a o n) ++ buffers_of below) ++ more))
     ≡ Ok (shown_in a o n, rest_with ns more)
 
 -- so it is read with its node
-column_again : (a : Layout) (o n : ℕ) (below : List Layout) (wanted : Wanted) (whole : List ℕ) (place : ℕ) (behind : List ℕ) (ns : List Node) (more : List Region)
+column_again : (a : Layout) (o n : ℕ) (below : List Layout) (wanted : Wanted) (whole : List ℕ) (place : ℕ) (behind : List ℕ) (ns : Later) (more : List Region)
     → column_node (shown_in a o n) ≡ record { length = pos n; null_count = pos (nulls_in a o n) } → nulls_in a o n ≤ n → are_wanted wanted n ≡ Ok tt → IsRead a o n below
     → From whole place (body_of (buffers_of (shown_in a o n ∷ below)) ++ behind)
-    → column_in (layout_type a) wanted whole (rest_with (map column_node (shown_in a o n ∷ below) ++ ns) (regions_from place (buffers_of (shown_in a o n ∷ below)) ++ more)) ≡ Ok (shown_in a o n, rest_with ns more)
+    → column_in (layout_type a) wanted whole (rest_with (before (shown_in a o n ∷ below) ns) (regions_from place (buffers_of (shown_in a o n ∷ below)) ++ more)) ≡ Ok (shown_in a o n, rest_with ns more)
 column_again a o n below wanted whole place behind ns more node few is read h =
     let s : Layout = shown_in a o n in
     let buffers : buffers_of (s ∷ below) ≡ own_buffers s ++ buffers_of below = buffers_more s below in
     let from : From whole place (body_of (own_buffers s ++ buffers_of below) ++ behind) = subst (λ (x : List (List ℕ)). From whole place (body_of x ++ behind)) buffers h in
     let regions : List Region = regions_from place (own_buffers s ++ buffers_of below) ++ more in
-    let first = node_again wanted n (nulls_in a o n) (map column_node below ++ ns) regions few is in
-    (λ w. column_in (layout_type a) wanted whole (rest_with (node w ∷ (map column_node below ++ ns)) (regions_from place (buffers w) ++ more)))
+    let later : Later = begun s (before below ns) in
+    let first = node_again wanted n (nulls_in a o n) later regions few is in
+    let start : before (s ∷ below) ns ≡ record { nodes = record { length = pos n; null_count = pos (nulls_in a o n) } ∷ later.nodes; dictionaries = later.dictionaries } =
+    λ w. record { nodes = node w ∷ later.nodes; dictionaries = append_assoc (own_dictionaries s) (dictionaries_of below) ns.dictionaries w } in
+    (λ w. column_in (layout_type a) wanted whole (rest_with (start w) (regions_from place (buffers w) ++ more)))
     ∙ (rw first (read whole place behind ns more from))
 
 window_again : (a : Layout) (o n : ℕ) (below : List Layout) → TopFits a → kind_has_form a ≡ true → o + n ≤ len a → arrays_of (shown_in a o n) ≡ shown_in a o n ∷ below → IsRead a o n below
@@ -144,13 +147,28 @@ window_again : (a : Layout) (o n : ℕ) (below : List Layout) → TopFits a → 
 window_again a o n below fits form le arrays read same = record {
   read = λ wanted whole place behind ns more is h.
       let from : From whole place (body_of (buffers_of (shown_in a o n ∷ below)) ++ behind) = subst (λ (x : List Layout). From whole place (body_of (buffers_of x) ++ behind)) arrays h in
-      (λ w. column_in (layout_type a) wanted whole (rest_with (map column_node (arrays w) ++ ns) (regions_from place (buffers_of (arrays w)) ++ more)))
+      (λ w. column_in (layout_type a) wanted whole (rest_with (before (arrays w) ns) (regions_from place (buffers_of (arrays w)) ++ more)))
       ∙ column_again a o n below wanted whole place behind ns more (shown_node a o n fits form le) (nulls_few a o n fits le) is read from;
   slots = same;
   long = shown_len a o n le;
 }
 
 -- ---- windows without children
+
+-- the validity of a cut
+validity_cut : (a : Layout) (o n : ℕ) → validity_of (cut_layout a o n) ≡ cut_validity (validity_of a) o n
+validity_cut (null t m) o n = refl
+validity_cut (boolean t bs va) o n = refl
+validity_cut (primitive k t vs va) o n = refl
+validity_cut (binary l t os bs va) o n = refl
+validity_cut (text l t os bs va) o n = refl
+validity_cut (fixed_size_binary t bs va) o n = refl
+validity_cut (fixed_size_list t c va) o n = refl
+validity_cut (list_of l t os c va) o n = refl
+validity_cut (map_of t os c va) o n = refl
+validity_cut (struct t cs va) o n = refl
+validity_cut (union t ks cs os start) o n = refl
+validity_cut (dictionary t ks c) o n = validity_cut ks o n
 
 flat_nulls : (a : Layout) (o n : ℕ) → is_flat a ≡ true → nulls_of (cut_layout a o n) ≡ nulls_in a o n
 flat_nulls (null t m) o n flat = refl
@@ -159,6 +177,7 @@ flat_nulls (primitive k t vs va) o n flat = refl
 flat_nulls (binary l t os bs va) o n flat = refl
 flat_nulls (text l t os bs va) o n flat = refl
 flat_nulls (fixed_size_binary t bs va) o n flat = refl
+flat_nulls (dictionary t ks c) o n flat = ap unset (validity_cut ks o n)
 flat_nulls a o n flat = cc
 
 flat_numbers : (a : Layout) (o n : ℕ) → is_flat a ≡ true → OwnSpelled a o n → NumbersSpelled (cut_layout a o n)
@@ -168,6 +187,7 @@ flat_numbers (primitive k t vs va) o n flat h = h
 flat_numbers (binary l t os bs va) o n flat h = h
 flat_numbers (text l t os bs va) o n flat h = h
 flat_numbers (fixed_size_binary t bs va) o n flat h = h
+flat_numbers (dictionary t ks c) o n flat h = h
 flat_numbers a o n flat h = cc
 
 flat_slot : (a : Layout) (o n i : ℕ) → is_flat a ≡ true → i < n → slot (cut_layout a o n) i ≡ slot a (o + i)
@@ -179,7 +199,7 @@ flat_read a o n flat le ok whole place behind ns more h =
     let shown_so : shown_in a o n ≡ shown_flat b = flat_shown a o n flat in
     let alone : own_buffers (shown_in a o n) ++ buffers_of [] ≡ flat_buffers b = (λ w. own_buffers (shown_so w) ++ buffers_none w) ∙ append-nil (flat_buffers b) in
     let from : From whole place (body_of (flat_buffers b) ++ behind) = subst (λ (x : List (List ℕ)). From whole place (body_of x ++ behind)) alone h in
-    (λ w. array_in (sym (type-cut a o n) w) (sym (type-cut a o n) w) (record { slots = sym (len-cut a o n le) w; nulls = sym (flat_nulls a o n flat) w }) whole (rest_with ns (regions_from place (alone w) ++ more)))
+    (λ w. array_in (sym (type-cut a o n) w) (sym (type-cut a o n) w) (record { slots = sym (len-cut a o n le) w; nulls = sym (flat_nulls a o n flat) w }) whole (rest_with (begun (shown_so w) ns) (regions_from place (alone w) ++ more)))
     ∙ flat_again b whole place behind ns more ok from
     ∙ (λ w. Ok (sym shown_so w, rest_with ns more))
 
@@ -192,14 +212,14 @@ flat_window a o n fits flat form le spelled arrays =
 -- ---- lists and maps
 
 -- where the items of a window's rows begin and end
-record AreWithin (os : List ℕ) (o n : ℕ) : Type 0 where
-  rise : (i j : ℕ) → i ≤ j → j ≤ n → begin os (o + i) ≤ begin os (o + j)
+pub record AreWithin (os : List ℕ) (o n : ℕ) : Type 0 where
+  pub rise : (i j : ℕ) → i ≤ j → j ≤ n → begin os (o + i) ≤ begin os (o + j)
   first : begin (rebased (cut os o (n + 1))) 0 ≡ 0
   at : (i : ℕ) → i ≤ n → begin (rebased (cut os o (n + 1))) i ≡ begin os (o + i) - begin os o
   last : last_of (rebased (cut os o (n + 1))) ≡ begin os (o + n) - begin os o
   end : begin os (o + n) ≤ last_of os
 
-are_within : (os : List ℕ) (o n : ℕ) → AreOffsets os → o + n ≤ count_rows os → AreWithin os o n
+pub are_within : (os : List ℕ) (o n : ℕ) → AreOffsets os → o + n ≤ count_rows os → AreWithin os o n
 are_within os o n h le =
     let part : List ℕ = cut os o (n + 1) in
     let some : 0 < length os = h.0 in
@@ -246,10 +266,10 @@ abbrev paired : {H : Type 0} → H → Layout × Rest → Result (H × (Layout �
 paired h y = Ok (h, y)
 
 -- the items stand behind their offsets
-items_again : (large : Bool) (t : TypeTree) (os : List ℕ) (c : Layout) (va : Validity) (o n : ℕ) (whole : List ℕ) (place : ℕ) (behind : List ℕ) (ns : List Node) (more : List Region)
+items_again : (large : Bool) (t : TypeTree) (os : List ℕ) (c : Layout) (va : Validity) (o n : ℕ) (whole : List ℕ) (place : ℕ) (behind : List ℕ) (ns : Later) (more : List Region)
     → AreOffsets os → o + n ≤ count_rows os → OffsetsSpelled large (cut os o (n + 1)) → ValidityFits va (count_rows os) → item_type t ≡ Some (layout_type c) → IsAgain (window_parts c (begin os o) (begin os (o + n) - begin os o))
     → From whole place (body_of (valid_bytes (cut_validity va o n) ∷ offset_bytes large (rebased (cut os o (n + 1))) ∷ buffers_of (arrays_of (shown_in c (begin os o) (begin os (o + n) - begin os o)))) ++ behind)
-    → (rows_in large (counts n (cut_validity va o n)) whole (rest_with (map column_node (arrays_of (shown_in c (begin os o) (begin os (o + n) - begin os o))) ++ ns)
+    → (rows_in large (counts n (cut_validity va o n)) whole (rest_with (before (arrays_of (shown_in c (begin os o) (begin os (o + n) - begin os o))) ns)
     (regions_from place (valid_bytes (cut_validity va o n) ∷ offset_bytes large (rebased (cut os o (n + 1))) ∷ buffers_of (arrays_of (shown_in c (begin os o) (begin os (o + n) - begin os o)))) ++ more)) >>= λ head. of_item (item_type t) Any whole head.1 >>= λ items. paired head.0 items)
     ≡ paired (record { offsets = rebased (cut os o (n + 1)); validity = shown_validity (cut_validity va o n) }) (shown_in c (begin os o) (begin os (o + n) - begin os o), rest_with ns more)
 items_again large t os c va o n whole place behind ns more are le spelled fits typed child h =
@@ -257,7 +277,7 @@ items_again large t os c va o n whole place behind ns more are le spelled fits t
     let part : List ℕ = cut os o (n + 1) in
     let below : List Layout = arrays_of (shown_in c (begin os o) (begin os (o + n) - begin os o)) in
     let part_are : AreOffsets part = parts-cut (list_of large t os c va) o n are le in
-    let first = rows_again large part v n (buffers_of below) whole place behind (map column_node below ++ ns) more part_are (rows-cut os o n le) spelled (cut_fits va (count_rows os) o n fits le) h in
+    let first = rows_again large part v n (buffers_of below) whole place behind (before below ns) more part_are (rows-cut os o n le) spelled (cut_fits va (count_rows os) o n fits le) h in
     let next : ℕ = place + length (padded (valid_bytes v)) + length (padded (offset_bytes large (rebased part))) in
     let second = child.read Any whole next behind ns more refl (rows_behind large part v (buffers_of below) whole place behind h) in
     rw (first, typed, second) refl
@@ -322,7 +342,7 @@ sized_window t c va o n fits le child =
     let same : eqb (n * size) (n * size) ≡ true = eqb-same (n * size) in
     window_again (fixed_size_list t c va) o n below fits refl le refl
     (λ whole place behind ns more h.
-    let first = head_again n v whole place (buffers_of below) behind (map column_node below ++ ns) more (cut_fits va (len c / size) o n fits.1.1.1.1.1.0 le) h in
+    let first = head_again n v whole place (buffers_of below) behind (before below ns) more (cut_fits va (len c / size) o n fits.1.1.1.1.1.0 le) h in
     let next : ℕ = place + length (padded (valid_bytes v)) in
     let second = child.read (Exactly (n * size)) whole next behind ns more (rw same refl) (next_behind whole place (valid_bytes v) (buffers_of below) behind h) in
     sized_in t t _ whole _ fits.1.0 ∙ rw (some, first, fits.1.1.1.0, second) refl)
@@ -372,8 +392,18 @@ one_in : (f : types.FieldTree) (t : TypeTree) (wanted : Wanted) (whole : List �
 one_in (types.field x s b es) t wanted whole rest e = ap (λ (u : TypeTree). column_in u wanted whole rest) (sym e)
 
 -- where arrays stand before others
+dictionaries_split : (front rest : List Layout) (others : List (Option Layout)) → dictionaries_of (front ++ rest) ++ others ≡ dictionaries_of front ++ (dictionaries_of rest ++ others)
+dictionaries_split [] rest others = refl
+dictionaries_split (a ∷ front) rest others =
+    append_assoc (own_dictionaries a) (dictionaries_of (front ++ rest)) others
+    ∙ ap (λ (x : List (Option Layout)). own_dictionaries a ++ x) (dictionaries_split front rest others)
+    ∙ sym (append_assoc (own_dictionaries a) (dictionaries_of front) (dictionaries_of rest ++ others))
+
 nodes_split : (front rest : List Layout) (ns : List Node) → map column_node (front ++ rest) ++ ns ≡ map column_node front ++ (map column_node rest ++ ns)
 nodes_split front rest ns = ap (λ (x : List Node). x ++ ns) (map-append column_node front rest) ∙ append_assoc (map column_node front) (map column_node rest) ns
+
+before_split : (front rest : List Layout) (ns : Later) → before (front ++ rest) ns ≡ before front (before rest ns)
+before_split front rest ns = λ w. record { nodes = nodes_split front rest ns.nodes w; dictionaries = dictionaries_split front rest ns.dictionaries w }
 
 regions_split : (front rest : List Layout) (place : ℕ) (more : List Region)
     → regions_from place (buffers_of (front ++ rest)) ++ more ≡ regions_from place (buffers_of front) ++ (regions_from (place + length (body_of (buffers_of front))) (buffers_of rest) ++ more)
@@ -388,11 +418,11 @@ body_split front rest behind =
     ∙ ap (λ (x : List ℕ). x ++ behind) (body_append (buffers_of front) (buffers_of rest))
     ∙ append_assoc (body_of (buffers_of front)) (body_of (buffers_of rest)) behind
 
-fields_again : (fs : FieldTrees) (wanted : Wanted) (ws : List WindowParts) (whole : List ℕ) (place : ℕ) (behind : List ℕ) (ns : List Node) (more : List Region) → AreOf fs wanted ws → AllByRecursion IsAgain ws
+fields_again : (fs : FieldTrees) (wanted : Wanted) (ws : List WindowParts) (whole : List ℕ) (place : ℕ) (behind : List ℕ) (ns : Later) (more : List Region) → AreOf fs wanted ws → AllByRecursion IsAgain ws
     → From whole place (body_of (buffers_of (written_windows ws)) ++ behind)
-    → items_in fs wanted whole (rest_with (map column_node (written_windows ws) ++ ns) (regions_from place (buffers_of (written_windows ws)) ++ more)) ≡ Ok (shown_all ws, rest_with ns more)
+    → items_in fs wanted whole (rest_with (before (written_windows ws) ns) (regions_from place (buffers_of (written_windows ws)) ++ more)) ≡ Ok (shown_all ws, rest_with ns more)
 fields_again no_fields wanted [] whole place behind ns more of_ again h =
-    (λ w. Ok (no_layouts, rest_with (map column_node (written_none w) ++ ns) (regions_from place (buffers_of (written_none w)) ++ more)))
+    (λ w. Ok (no_layouts, rest_with (before (written_none w) ns) (regions_from place (buffers_of (written_none w)) ++ more)))
     ∙ (λ w. Ok (no_layouts, rest_with ns (regions_from place (buffers_none w) ++ more)))
     ∙ (λ w. Ok (no_layouts, rest_with ns (no_regions place w ++ more)))
 fields_again no_fields wanted (w ∷ ws) whole place behind ns more of_ again h = absurd of_
@@ -402,15 +432,15 @@ fields_again (more_fields f fs) wanted (w ∷ ws) whole place behind ns more of_
     let others : List Layout = written_windows ws in
     let next : ℕ = place + length (body_of (buffers_of here)) in
     let all : written_windows (w ∷ ws) ≡ here ++ others = written_more w ws in
-    let nodes : map column_node (written_windows (w ∷ ws)) ++ ns ≡ map column_node here ++ (map column_node others ++ ns) = ap (λ (x : List Layout). map column_node x ++ ns) all ∙ nodes_split here others ns in
+    let nodes : before (written_windows (w ∷ ws)) ns ≡ before here (before others ns) = ap (λ (x : List Layout). before x ns) all ∙ before_split here others ns in
     let regions : regions_from place (buffers_of (written_windows (w ∷ ws))) ++ more ≡ regions_from place (buffers_of here) ++ (regions_from next (buffers_of others) ++ more) =
     ap (λ (x : List Layout). regions_from place (buffers_of x) ++ more) all ∙ regions_split here others place more in
     let body : body_of (buffers_of (written_windows (w ∷ ws))) ++ behind ≡ body_of (buffers_of here) ++ (body_of (buffers_of others) ++ behind) =
     ap (λ (x : List Layout). body_of (buffers_of x) ++ behind) all ∙ body_split here others behind in
     let from : From whole place (body_of (buffers_of here) ++ (body_of (buffers_of others) ++ behind)) = record { is = h.is ∙ body; within = h.within } in
-    let first : item_in f wanted whole (rest_with (map column_node here ++ (map column_node others ++ ns)) (regions_from place (buffers_of here) ++ (regions_from next (buffers_of others) ++ more))) ≡ Ok (shown_window w, rest_with (map column_node others ++ ns) (regions_from next (buffers_of others) ++ more)) =
+    let first : item_in f wanted whole (rest_with (before here (before others ns)) (regions_from place (buffers_of here) ++ (regions_from next (buffers_of others) ++ more))) ≡ Ok (shown_window w, rest_with (before others ns) (regions_from next (buffers_of others) ++ more)) =
     one_in f (layout_type w.array) wanted whole _ of_.0.0
-    ∙ again.0.read wanted whole place (body_of (buffers_of others) ++ behind) (map column_node others ++ ns) (regions_from next (buffers_of others) ++ more) of_.0.1 from in
+    ∙ again.0.read wanted whole place (body_of (buffers_of others) ++ behind) (before others ns) (regions_from next (buffers_of others) ++ more) of_.0.1 from in
     let second = fields_again fs wanted ws whole next behind ns more of_.1 again.1 (From_next whole place (body_of (buffers_of here)) (body_of (buffers_of others) ++ behind) from) in
     (λ k. items_in (more_fields f fs) wanted whole (rest_with (nodes k) (regions k)))
     ∙ rw (first, second) refl
@@ -431,7 +461,7 @@ record_window t cs va o n fits le children =
     let wanted : are_wanted (Exactly n) n ≡ Ok tt = rw same refl in
     window_again (struct t cs va) o n below fits refl le (ap (λ (x : List Layout). shown_in (struct t cs va) o n ∷ x) (each_written cs o n))
     (λ whole place behind ns more h.
-    let first = head_again n v whole place (buffers_of below) behind (map column_node below ++ ns) more (cut_fits va (first_len cs) o n fits.1.1.1.1.1.1.0 le) h in
+    let first = head_again n v whole place (buffers_of below) behind (before below ns) more (cut_fits va (first_len cs) o n fits.1.1.1.1.1.1.0 le) h in
     let next : ℕ = place + length (padded (valid_bytes v)) in
     let second = fields_again (fields_of t) (Exactly n) ws whole next behind ns more (each_of (fields_of t) (Exactly n) cs o n fits.1.1.1.1.0 wanted) children (next_behind whole place (valid_bytes v) (buffers_of below) behind h) in
     record_in t t _ whole _ fits.1.0 ∙ rw (some, first, second) (ap (λ (x : Layouts). Ok (struct t x (shown_validity v), rest_with ns more)) (each_all cs o n)))
@@ -447,10 +477,6 @@ record UnionFits (t : TypeTree) (ks : List ℤ) (cs : Layouts) (os : Option (Lis
   formed : (nat_le (count_fields (fields_of t)) most_fields && are_ids (ids_of t) (count_fields (fields_of t))) ≡ true
   typed : EachType (fields_of t) cs
   meant : All (λ k. means (field_named (ids_of t) k) (count_fields (fields_of t)) ≡ true) ks
-
-names_so : (z : ℤ) (n : ℕ) → Names z n → names z n ≡ true
-names_so (pos k) n h = lt-ltb _ _ h
-names_so (negsuc k) n h = absurd h
 
 means_so : (m : Option ℕ) (n : ℕ) → MeansField m n → means m n ≡ true
 means_so None n h = absurd h
@@ -500,7 +526,7 @@ types_again : (ids : Option (List ℤ)) (fields n : ℕ) (zs : List ℤ) → len
 unfolding types_in
 types_again ids fields n zs long spelled meant = rw (numbers_again type_form zs n type_sized long spelled, only_again zs, meant) refl
 
-of_same : (m : Option ℕ) (f g : ℕ → Slot) → ((k : ℕ) → m ≡ Some k → f k ≡ g k) → of_field m f ≡ of_field m g
+pub of_same : (m : Option ℕ) (f g : ℕ → Slot) → ((k : ℕ) → m ≡ Some k → f k ≡ g k) → of_field m f ≡ of_field m g
 of_same None f g h = refl
 of_same (Some k) f g h = h k refl
 
@@ -538,7 +564,7 @@ sparse_read t ks cs start o n fits le spelled children whole place behind ns mor
     let sparse : is_dense t ≡ false = fits.1.1.1.1.1.1.0 in
     let same : leb n n ≡ true = le-leb _ _ (omega arith) in
     let wanted : are_wanted (AtLeast n) n ≡ Ok tt = rw same refl in
-    let first = buffer_again whole place bytes (buffers_of below) behind (map column_node below ++ ns) more h in
+    let first = buffer_again whole place bytes (buffers_of below) behind (before below ns) more h in
     let meant : mean_fields (ids_of t) (count_fields (fields_of t)) part ≡ true = all_so (λ z. means (field_named (ids_of t) z) (count_fields (fields_of t))) part (cut_all (λ z. means (field_named (ids_of t) z) (count_fields (fields_of t)) ≡ true) ks o n le u.meant) in
     let read = types_again (ids_of t) (count_fields (fields_of t)) n part (length-cut ks o n le) spelled meant in
     let next : ℕ = place + length (padded bytes) in
@@ -559,7 +585,7 @@ picked_whole f no_layouts k p again lt = refl
 picked_whole f (more_layouts c cs) zero p again lt = λ w. slots.pick f (shown_type c 0 (len c) w) ((again.0.slots p lt ∙ (let z : 0 + p ≡ p = omega arith in ap (slot c) z)) w)
 picked_whole f (more_layouts c cs) (suc k) p again lt = picked_whole f cs k p again.1 lt
 
-place_named : (z : ℤ) (n : ℕ) → Names z n → place z < n
+pub place_named : (z : ℤ) (n : ℕ) → Names z n → place z < n
 place_named (pos k) n h = h
 place_named (negsuc k) n h = absurd h
 
@@ -597,12 +623,12 @@ dense_read t ks cs os start o n fits le spelled offsets_spelled children whole p
     let below : List Layout = written_windows ws in
     let dense : is_dense t ≡ true = fits.1.1.1.1.1.1.0 in
     let many : length os ≡ length ks = fits.1.1.1.1.1.0 in
-    let first = buffer_again whole place bytes (offsets ∷ buffers_of below) behind (map column_node below ++ ns) more h in
+    let first = buffer_again whole place bytes (offsets ∷ buffers_of below) behind (before below ns) more h in
     let meant : mean_fields (ids_of t) (count_fields (fields_of t)) part ≡ true = all_so (λ z. means (field_named (ids_of t) z) (count_fields (fields_of t))) part (cut_all (λ z. means (field_named (ids_of t) z) (count_fields (fields_of t)) ≡ true) ks o n le u.meant) in
     let read = types_again (ids_of t) (count_fields (fields_of t)) n part (length-cut ks o n le) spelled meant in
     let next : ℕ = place + length (padded bytes) in
     let from = next_behind whole place bytes (offsets ∷ buffers_of below) behind h in
-    let second = buffer_again whole next offsets (buffers_of below) behind (map column_node below ++ ns) more from in
+    let second = buffer_again whole next offsets (buffers_of below) behind (before below ns) more from in
     let places_long : length places ≡ n = length-cut os o n (omega arith) in
     let places_read = numbers_again (offset_form false) places n (offset_sized false) places_long offsets_spelled in
     let far : ℕ = next + length (padded offsets) in
@@ -613,7 +639,7 @@ dense_read t ks cs os start o n fits le spelled offsets_spelled children whole p
 
 -- ---- windows of any kind
 
-pub again : (a : Layout) (o n : ℕ) → TopFits a → has_form a ≡ true → o + n ≤ len a → OwnSpelled a o n → AllByRecursion IsAgain (windows_below a o n) → IsAgain (window_parts a o n)
+pub again : (a : Layout) (o n : ℕ) → TopFits a → kind_has_form a ≡ true → o + n ≤ len a → OwnSpelled a o n → AllByRecursion IsAgain (windows_below a o n) → IsAgain (window_parts a o n)
 again (fixed_size_list t c va) o n fits form le spelled children = sized_window t c va o n fits le children.0
 again (list_of large t os c va) o n fits form le spelled children = list_window large t os c va o n fits le spelled children.0
 again (map_of t os c va) o n fits form le spelled children = map_window t os c va o n fits le spelled children.0
@@ -626,23 +652,19 @@ again (union t ks cs (Some os) start) o n fits form le spelled children =
     (dense_read t ks cs os start o n fits le spelled.0 spelled.1 children) (λ i lt. dense_slot t ks cs os start o n i le fits.1.1.1.1.1.1.1.1.1.1.0 children lt)
 again (null t m) o n fits form le spelled children = flat_window (null t m) o n fits refl refl le spelled refl
 again (boolean t bs va) o n fits form le spelled children = flat_window (boolean t bs va) o n fits refl refl le spelled refl
-again (primitive k t vs va) o n fits form le spelled children = flat_window (primitive k t vs va) o n fits (kind_form (primitive k t vs va) form) (kind_form (primitive k t vs va) form) le spelled refl
+again (primitive k t vs va) o n fits form le spelled children = flat_window (primitive k t vs va) o n fits form form le spelled refl
 again (binary large t os bs va) o n fits form le spelled children = flat_window (binary large t os bs va) o n fits refl refl le spelled refl
 again (text large t os bs va) o n fits form le spelled children = flat_window (text large t os bs va) o n fits refl refl le spelled refl
 again (fixed_size_binary t bs va) o n fits form le spelled children = flat_window (fixed_size_binary t bs va) o n fits refl refl le spelled refl
-again (dictionary t ks c) o n fits form le spelled children = cc
+again (dictionary t ks c) o n fits form le spelled children = flat_window (dictionary t ks c) o n fits refl refl le spelled refl
 
 -- ---- columns
 
-abbrev IsWhole : Layout → Type 0
+abbrev pub IsWhole : Layout → Type 0
 IsWhole a = IsAgain (window_parts a 0 (len a))
 
-whole_columns : (xs : List AnyArray) → AllByRecursion IsAgain (whole_windows (layouts_of xs)) → AllByRecursion IsWhole (map layout_of xs)
-whole_columns [] all = tt
-whole_columns (x ∷ xs) all = (all.0, whole_columns xs all.1)
-
-columns_again : (columns : List Layout) (rows : ℕ) (whole : List ℕ) (place : ℕ) (behind : List ℕ) (ns : List Node) (more : List Region) → AllByRecursion IsWhole columns → AllByRecursion (λ a. len a ≡ rows) columns → From whole place (columns_body columns ++ behind)
-    → each_in (map layout_type columns) rows whole (rest_with (map column_node (written columns) ++ ns) (regions_from place (buffers_of (written columns)) ++ more)) ≡ Ok (map shown columns, rest_with ns more)
+columns_again : (columns : List Layout) (rows : ℕ) (whole : List ℕ) (place : ℕ) (behind : List ℕ) (ns : Later) (more : List Region) → AllByRecursion IsWhole columns → AllByRecursion (λ a. len a ≡ rows) columns → From whole place (columns_body columns ++ behind)
+    → each_in (map layout_type columns) rows whole (rest_with (before (written columns) ns) (regions_from place (buffers_of (written columns)) ++ more)) ≡ Ok (map shown columns, rest_with ns more)
 unfolding each_in
 columns_again [] rows whole place behind ns more ok long h =
     let none : regions_from place (buffers_of (written [])) ≡ [] = unfold written buffers_of regions_from in refl in
@@ -653,7 +675,7 @@ columns_again (a ∷ columns) rows whole place behind ns more ok long h =
     let others : List Layout = written columns in
     let next : ℕ = place + length (body_of (buffers_of here)) in
     let all : written (a ∷ columns) ≡ here ++ others = unfold written in flat_map-cons (λ (x : Layout). arrays_of (shown x)) a columns in
-    let nodes : map column_node (written (a ∷ columns)) ++ ns ≡ map column_node here ++ (map column_node others ++ ns) = ap (λ (x : List Layout). map column_node x ++ ns) all ∙ nodes_split here others ns in
+    let nodes : before (written (a ∷ columns)) ns ≡ before here (before others ns) = ap (λ (x : List Layout). before x ns) all ∙ before_split here others ns in
     let regions : regions_from place (buffers_of (written (a ∷ columns))) ++ more ≡ regions_from place (buffers_of here) ++ (regions_from next (buffers_of others) ++ more) =
     ap (λ (x : List Layout). regions_from place (buffers_of x) ++ more) all ∙ regions_split here others place more in
     let body : columns_body (a ∷ columns) ++ behind ≡ body_of (buffers_of here) ++ (body_of (buffers_of others) ++ behind) =
@@ -661,21 +683,24 @@ columns_again (a ∷ columns) rows whole place behind ns more ok long h =
     let from : From whole place (body_of (buffers_of here) ++ (body_of (buffers_of others) ++ behind)) = record { is = h.is ∙ body; within = h.within } in
     let same : eqb (len a) rows ≡ true = ap (eqb (len a)) (sym long.0) ∙ eqb-same (len a) in
     let wanted : are_wanted (Rows rows) (len a) ≡ Ok tt = rw same refl in
-    let first = ok.0.read (Rows rows) whole place (body_of (buffers_of others) ++ behind) (map column_node others ++ ns) (regions_from next (buffers_of others) ++ more) wanted from in
+    let first = ok.0.read (Rows rows) whole place (body_of (buffers_of others) ++ behind) (before others ns) (regions_from next (buffers_of others) ++ more) wanted from in
     let second = columns_again columns rows whole next behind ns more ok.1 long.1 (From_next whole place (body_of (buffers_of here)) (body_of (buffers_of others) ++ behind) from) in
-    rw (nodes, regions, first, second) refl
+    (λ w. each_in (map layout_type (a ∷ columns)) rows whole (rest_with (nodes w) (regions w)))
+    ∙ rw (first, second) refl
 
 batch_again : (columns : List Layout) (rows : ℕ) → AllByRecursion IsWhole columns → AllByRecursion (λ a. len a ≡ rows) columns
-    → columns_in (map layout_type columns) rows (columns_body columns) (record { nodes = map column_node (written columns); regions = regions_from 0 (buffers_of (written columns)) }) ≡ Ok (map shown columns)
+    → columns_in (map layout_type columns) rows (columns_body columns) (record { nodes = map column_node (written columns); regions = regions_from 0 (buffers_of (written columns)); dictionaries = dictionaries_of (written columns) }) ≡ Ok (map shown columns)
 unfolding columns_in
 batch_again columns rows ok long =
     let whole : List ℕ = columns_body columns in
-    let nodes : List Node = map column_node (written columns) in
+    let all : Later = record { nodes = map column_node (written columns); dictionaries = dictionaries_of (written columns) } in
+    let none : Later = record { nodes = []; dictionaries = [] } in
     let regions : List Region = regions_from 0 (buffers_of (written columns)) in
     let start : From whole 0 (columns_body columns ++ []) = record { is = sym (append-nil whole); within = omega arith } in
-    let each : each_in (map layout_type columns) rows whole (rest_with nodes regions) ≡ Ok (map shown columns, rest_with [] []) =
-    (λ w. each_in (map layout_type columns) rows whole (rest_with (sym (append-nil nodes) w) (sym (append-nil regions) w)))
-    ∙ columns_again columns rows whole 0 [] [] [] ok long start in
+    let whole_all : all ≡ before (written columns) none = λ w. record { nodes = sym (append-nil all.nodes) w; dictionaries = sym (append-nil all.dictionaries) w } in
+    let each : each_in (map layout_type columns) rows whole (rest_with all regions) ≡ Ok (map shown columns, rest_with none []) =
+    (λ w. each_in (map layout_type columns) rows whole (rest_with (whole_all w) (sym (append-nil regions) w)))
+    ∙ columns_again columns rows whole 0 [] none [] ok long start in
     rw each refl
 
 whole_same : (a : Layout) → IsWhole a → IsSameArray a (shown a)
@@ -687,7 +712,5 @@ all_same : (columns : List Layout) → AllByRecursion IsWhole columns → AllByR
 all_same [] ok = tt
 all_same (a ∷ columns) ok = (whole_same a ok.0, all_same columns ok.1)
 
-pub read_back : (xs : List AnyArray) → AllByRecursion IsAgain (whole_windows (layouts_of xs)) → AreReadBack (map layout_of xs)
-read_back xs all =
-    let ok = whole_columns xs all in
-    record { read = λ rows long. batch_again (map layout_of xs) rows ok long; same = all_same (map layout_of xs) ok }
+pub all_read_back : (columns : List Layout) → AllByRecursion IsWhole columns → AreReadBack columns
+all_read_back columns ok = record { read = λ rows long. batch_again columns rows ok long; same = all_same columns ok }

@@ -1,42 +1,46 @@
 -- What nodes, buffers and a body spell as arrays: "Recordbatch message" of the Arrow columnar format, in the order of reading. Each word is a
 -- partial function: the value, with what is left of the nodes and buffers, or the fault.
-use Rattle.std.specs.Prelude.{ℕ, ◌+◌, ◌*◌, ℤ, pos, negsuc, Bool, true, false, ◌&&◌, ◌==◌, not, if◌then◌else◌, nat_le, nat_lt, count_by, List, [], ◌∷◌, length, map, take, Option, Some, None, Result, Ok, Err}
+use Rattle.std.specs.Prelude.{ℕ, ◌+◌, ◌*◌, ℤ, pos, negsuc, Bool, true, false, ◌&&◌, ◌||◌, ◌==◌, not, if◌then◌else◌, nat_le, nat_lt, count_by, List, [], ◌∷◌, length, map, take, Option, Some, None, Result, Ok, Err}
 use Rattle.std.specs.List.{list_all, range_with_len}
 use Rattle.std.specs.Str.{is_utf8}
 use Rattle.ipc_model.specs.Reading.{◌>>=◌, check}
 use Rattle.ipc_model.specs.declared.fault.Fault.{Fault}
-use Rattle.ipc_model.specs.declared.fault.Fault.TheVariants.{TypeRange, RowCount, ChildLength, NodeCount, NodeRange, BufferCount, BufferRange, BufferShort, NullCount, Offsets, OffsetPastChild, Text, UnionType, UnionSlot, UnsupportedType}
+use Rattle.ipc_model.specs.declared.fault.Fault.TheVariants.{TypeRange, RowCount, ChildLength, NodeCount, NodeRange, BufferCount, BufferRange, BufferShort, NullCount, Offsets, OffsetPastChild, Text, UnionType, UnionSlot, MissingDictionary, KeyRange, UnsupportedType}
 use Rattle.ipc_model.specs.declared.batch.Node.{Node}
 use Rattle.ipc_model.specs.declared.batch.Region.{Region}
 use Rattle.nest_memory.specs.Bits.{bits_from}
 use Rattle.nest_memory.specs.Cut.{cut}
-use Rattle.nest_memory.specs.Physical.{physical_type}
+use Rattle.nest_memory.specs.Physical.{physical_type, primitive_tree}
 use Rattle.nest_memory.specs.Rising.{are_offsets, last_of, to_nat}
 use Rattle.nest_memory.specs.TypeTree as types
-use Rattle.nest_memory.specs.TypeTree.{TypeTree, FieldTree, FieldTrees, field, no_fields, more_fields, field_type, count_fields, size_of, is_pair}
+use Rattle.nest_memory.specs.TypeTree.{TypeTree, FieldTree, FieldTrees, field, no_fields, more_fields, field_type, count_fields, size_of, is_pair, value_type}
+use Rattle.nest_memory.specs.declared.datatypes.IntegerType.{IntegerType}
 use Rattle.nest_memory.specs.declared.datatypes.UnionMode.{UnionMode}
 use Rattle.nest_memory.specs.declared.datatypes.UnionMode.TheVariants.{Dense, Sparse}
 use Rattle.nest_memory.specs.declared.datatypes.physical_type.PhysicalType.{PhysicalType}
 use Rattle.nest_memory.specs.declared.datatypes.physical_type.PhysicalType.TheVariants as physical
 use Rattle.nest_memory.specs.declared.datatypes.physical_type.PrimitiveType.{PrimitiveType}
+use Rattle.nest_model.specs.Accessors.{validity_of, key_at}
 use Rattle.nest_model.specs.Checks.{most_fields, type_count}
 use Rattle.nest_model.specs.Fits.{child_len}
-use Rattle.nest_model.specs.Layout.{Layout, Layouts, null, boolean, primitive, binary, text, fixed_size_binary, fixed_size_list, list as list_of, map as map_of, struct, union, no_layouts, more_layouts}
+use Rattle.nest_model.specs.Layout.{Layout, Layouts, null, boolean, primitive, binary, text, fixed_size_binary, fixed_size_list, list as list_of, map as map_of, struct, union, dictionary, no_layouts, more_layouts, layout_type}
 use Rattle.nest_model.specs.Meaning.{len}
-use Rattle.nest_model.specs.Part.{Validity, begin, extent, count_rows, field_named}
+use Rattle.nest_model.specs.Part.{Validity, begin, extent, count_rows, field_named, valid_at}
+use Rattle.ipc_layout.specs.Keys.{key_form, key_native, blanked, are_logically, dictionary_of}
 use Rattle.ipc_layout.specs.Stored.{Form, form_of, offset_form, type_form, only, values_in}
 use Rattle.ipc_layout.specs.declared.parts.Counts.{Counts}
 use Rattle.ipc_layout.specs.declared.parts.Left.{Left}
 use Rattle.ipc_layout.specs.declared.parts.Wanted.{Wanted}
 use Rattle.ipc_layout.specs.declared.parts.Wanted.TheVariants.{Rows, Exactly, AtLeast, Any}
 
--- nodes and buffers that no array has taken yet
+-- nodes and buffers that no array has taken yet, and for each array of keys that is yet to come the values that its keys name, none where they are missing
 pub record Rest : Type 0 where
   pub nodes : List Node
   pub regions : List Region
+  pub dictionaries : List (Option Layout)
 
 abbrev pub rest_of : Left → Rest
-rest_of l = record { nodes = l.nodes.now; regions = l.regions.now }
+rest_of l = record { nodes = l.nodes.now; regions = l.regions.now; dictionaries = map dictionary_of l.dictionaries.now }
 
 -- an array's numbers: none is negative, and there are no more nulls than slots
 abbrev pub counts_of : ℤ → ℤ → Result Counts Fault
@@ -119,11 +123,11 @@ unfoldable pub node_in : Wanted → Rest → Result (Counts × Rest) Fault
 node_in wanted rest = do
   node ← next_counts rest.nodes
   same ← are_wanted wanted node.0.slots
-  Ok (node.0, record { nodes = node.1; regions = rest.regions })
+  Ok (node.0, record { nodes = node.1; regions = rest.regions; dictionaries = rest.dictionaries })
 
 -- the bytes of the next buffer
 unfoldable pub buffer_in : List ℕ → Rest → Result (List ℕ × Rest) Fault
-buffer_in body rest = next_bytes body rest.regions >>= λ bytes. Ok (bytes.0, record { nodes = rest.nodes; regions = bytes.1 })
+buffer_in body rest = next_bytes body rest.regions >>= λ bytes. Ok (bytes.0, record { nodes = rest.nodes; regions = bytes.1; dictionaries = rest.dictionaries })
 
 -- the validity of an array with these numbers
 unfoldable pub head_in : Counts → List ℕ → Rest → Result (Validity × Rest) Fault
@@ -192,6 +196,52 @@ text_in large t counts body rest = do
   a ← text_of large t s.0
   Ok (a, s.1)
 
+-- ---- dictionaries: keys, of values that came in another message
+
+-- a number names one of so many
+abbrev pub names : ℤ → ℕ → Bool
+names (pos k) n = nat_lt k n
+names (negsuc k) n = false
+
+-- keys of one kind, whose data type says no more; under a null stands none
+unfoldable pub keys_by : Form → PrimitiveType → Counts → List ℕ → Rest → Result (Layout × Rest) Fault
+keys_by form k counts body rest = do
+  head ← head_in counts body rest
+  bytes ← buffer_in body head.1
+  values ← natives_in form counts.slots bytes.0
+  Ok (primitive k (primitive_tree k) (blanked head.0 values) head.0, bytes.1)
+
+abbrev pub keys_in : IntegerType → Counts → List ℕ → Rest → Result (Layout × Rest) Fault
+keys_in k counts body rest = keys_by (key_form k) (key_native k) counts body rest
+
+-- each key that is valid names a value
+abbrev pub key_names : Layout → ℕ → ℕ → Bool
+key_names ks n i = not (valid_at (validity_of ks) i) || names (key_at ks i) n
+
+abbrev pub keys_name : Layout → ℕ → Bool
+keys_name ks n = list_all (key_names ks n) (range_with_len 0 (len ks))
+
+-- keys over values, which have the type of the dictionary's values, extensions looked through; values of another type are not those of its keys
+abbrev pub over_values : TypeTree → Layout → Layout → Result Layout Fault
+over_values t ks values =
+    check (are_logically (value_type t) (layout_type values)) MissingDictionary >>= λ same. check (keys_name ks (len values)) KeyRange >>= λ named. Ok (dictionary t ks values)
+
+-- the values that the next keys name, where they are there
+unfoldable pub next_values : List (Option Layout) → Result (Layout × List (Option Layout)) Fault
+next_values [] = Err MissingDictionary
+next_values (None ∷ others) = Err MissingDictionary
+next_values (Some values ∷ others) = Ok (values, others)
+
+unfoldable pub known_in : Rest → Result (Layout × Rest) Fault
+known_in rest = next_values rest.dictionaries >>= λ values. Ok (values.0, record { nodes = rest.nodes; regions = rest.regions; dictionaries = values.1 })
+
+unfoldable pub dictionary_in : IntegerType → TypeTree → Counts → List ℕ → Rest → Result (Layout × Rest) Fault
+dictionary_in k t counts body rest = do
+  keys ← keys_in k counts body rest
+  values ← known_in keys.1
+  a ← over_values t keys.0 values.0
+  Ok (a, values.1)
+
 -- the array of a kind of native values; kinds without a form are not read
 abbrev pub of_form : Option Form → PrimitiveType → TypeTree → Counts → List ℕ → Rest → Result (Layout × Rest) Fault
 of_form None k t counts body rest = Err UnsupportedType
@@ -207,6 +257,7 @@ of_kind physical.Binary t counts body rest = binary_in false t counts body rest
 of_kind physical.LargeBinary t counts body rest = binary_in true t counts body rest
 of_kind physical.Utf8 t counts body rest = text_in false t counts body rest
 of_kind physical.LargeUtf8 t counts body rest = text_in true t counts body rest
+of_kind (physical.Dictionary k) t counts body rest = dictionary_in k t counts body rest
 of_kind p t counts body rest = Err UnsupportedType
 
 -- ---- kinds of arrays with children: their own buffers, then their children in order, then what ties both
@@ -217,11 +268,6 @@ list_over large t head items = check (nat_le (last_of head.offsets) (len items.0
 
 abbrev pub map_over : TypeTree → RowsHead → Layout × Rest → Result (Layout × Rest) Fault
 map_over t head entries = check (nat_le (last_of head.offsets) (len entries.0)) OffsetPastChild >>= λ within. Ok (map_of t head.offsets entries.0 head.validity, entries.1)
-
--- a number names one of so many
-abbrev pub names : ℤ → ℕ → Bool
-names (pos k) n = nat_lt k n
-names (negsuc k) n = false
 
 -- a field is meant, one of so many
 abbrev pub means : Option ℕ → ℕ → Bool
@@ -279,7 +325,7 @@ abbrev pub union_over : TypeTree → Option (List ℤ) → Picks → Layouts × 
 union_over t ids picks children = check (are_there ids children.0 picks.types picks.offsets) UnionSlot >>= λ there. Ok (union t picks.types children.0 picks.offsets 0, children.1)
 
 -- The array of a data type with these numbers, which is stored as another: extensions are looked through. What no schema has is `TypeRange`: a size
--- of 0, a struct without a field, a map whose entries are no pair, ids that are no types. Dictionaries are not read yet.
+-- of 0, a struct without a field, a map whose entries are no pair, ids that are no types.
 abbrev mutual
   pub array_in : TypeTree → TypeTree → Counts → List ℕ → Rest → Result (Layout × Rest) Fault
   array_in t (types.extension x s m) counts body rest = array_in t s counts body rest

@@ -28,13 +28,14 @@ abbrev pub worked_rest : Rest
 worked_rest = record {
   nodes = record { length = pos 2; null_count = pos 1 } ∷ [];
   regions = record { offset = pos 0; length = pos 1 } ∷ record { offset = pos 8; length = pos 8 } ∷ [];
+  dictionaries = [];
 }
 
 abbrev pub worked_column : Layout
 worked_column = primitive Int32 worked_type ((pos 7 ∷ []) ∷ (pos 0 ∷ []) ∷ []) (Some (true ∷ false ∷ []))
 
 abbrev pub nothing : Rest
-nothing = record { nodes = []; regions = [] }
+nothing = record { nodes = []; regions = []; dictionaries = [] }
 
 pub worked_read : column_in worked_type (Rows 2) worked_body worked_rest ≡ Ok (worked_column, nothing)
 unfolding bit bits_from values_in next_counts bytes_of next_bytes bits_in validity_in node_in buffer_in head_in natives_in native_in
@@ -82,7 +83,7 @@ nulls = record {
   type = types.null;
   rows = 3;
   body = [];
-  rest = record { nodes = record { length = pos 3; null_count = pos 3 } ∷ []; regions = [] };
+  rest = record { nodes = record { length = pos 3; null_count = pos 3 } ∷ []; regions = []; dictionaries = [] };
   column = null types.null 3;
 }
 
@@ -92,7 +93,7 @@ truths = record {
   type = types.boolean;
   rows = 10;
   body = 253 ∷ 3 ∷ zeros 6 (5 ∷ 2 ∷ zeros 6 []);
-  rest = record { nodes = record { length = pos 10; null_count = pos 1 } ∷ []; regions = at 0 2 ∷ at 8 2 ∷ [] };
+  rest = record { nodes = record { length = pos 10; null_count = pos 1 } ∷ []; regions = at 0 2 ∷ at 8 2 ∷ []; dictionaries = [] };
   column = boolean types.boolean (true ∷ false ∷ true ∷ false ∷ false ∷ false ∷ false ∷ false ∷ false ∷ true ∷ []) (Some (true ∷ false ∷ true ∷ true ∷ true ∷ true ∷ true ∷ true ∷ true ∷ true ∷ []));
 }
 
@@ -102,7 +103,7 @@ wide = record {
   type = types.decimal 9 2;
   rows = 1;
   body = 254 ∷ replicate 15 255;
-  rest = record { nodes = record { length = pos 1; null_count = pos 0 } ∷ []; regions = at 0 0 ∷ at 0 16 ∷ [] };
+  rest = record { nodes = record { length = pos 1; null_count = pos 0 } ∷ []; regions = at 0 0 ∷ at 0 16 ∷ []; dictionaries = [] };
   column = primitive Int128 (types.decimal 9 2) ((negsuc 1 ∷ []) ∷ []) None;
 }
 
@@ -112,7 +113,7 @@ halves = record {
   type = types.decimal256 9 2;
   rows = 1;
   body = 3 ∷ zeros 15 (2 ∷ zeros 15 []);
-  rest = record { nodes = record { length = pos 1; null_count = pos 0 } ∷ []; regions = at 0 0 ∷ at 0 32 ∷ [] };
+  rest = record { nodes = record { length = pos 1; null_count = pos 0 } ∷ []; regions = at 0 0 ∷ at 0 32 ∷ []; dictionaries = [] };
   column = primitive Int256 (types.decimal256 9 2) ((pos 2 ∷ pos 3 ∷ []) ∷ []) None;
 }
 
@@ -122,7 +123,7 @@ days = record {
   type = types.interval DayTime;
   rows = 1;
   body = 1 ∷ zeros 3 (2 ∷ zeros 3 []);
-  rest = record { nodes = record { length = pos 1; null_count = pos 0 } ∷ []; regions = at 0 0 ∷ at 0 8 ∷ [] };
+  rest = record { nodes = record { length = pos 1; null_count = pos 0 } ∷ []; regions = at 0 0 ∷ at 0 8 ∷ []; dictionaries = [] };
   column = primitive DaysMs (types.interval DayTime) ((pos 1 ∷ pos 2 ∷ []) ∷ []) None;
 }
 
@@ -132,7 +133,7 @@ months = record {
   type = types.interval Months;
   rows = 1;
   body = 1 ∷ zeros 3 (2 ∷ zeros 3 (replicate 8 255));
-  rest = record { nodes = record { length = pos 1; null_count = pos 0 } ∷ []; regions = at 0 0 ∷ at 0 16 ∷ [] };
+  rest = record { nodes = record { length = pos 1; null_count = pos 0 } ∷ []; regions = at 0 0 ∷ at 0 16 ∷ []; dictionaries = [] };
   column = primitive MonthDayNano (types.interval Months) ((pos 1 ∷ pos 2 ∷ negsuc 0 ∷ []) ∷ []) None;
 }
 
@@ -142,7 +143,7 @@ sized = record {
   type = types.fixed_size_binary 3;
   rows = 2;
   body = 1 ∷ 2 ∷ 3 ∷ 4 ∷ 5 ∷ 6 ∷ 0 ∷ 0 ∷ [];
-  rest = record { nodes = record { length = pos 2; null_count = pos 0 } ∷ []; regions = at 0 0 ∷ at 0 6 ∷ [] };
+  rest = record { nodes = record { length = pos 2; null_count = pos 0 } ∷ []; regions = at 0 0 ∷ at 0 6 ∷ []; dictionaries = [] };
   column = fixed_size_binary (types.fixed_size_binary 3) (1 ∷ 2 ∷ 3 ∷ 4 ∷ 5 ∷ 6 ∷ []) None;
 }
 
@@ -152,7 +153,7 @@ strings = record {
   type = types.binary;
   rows = 2;
   body = zeros 4 (2 ∷ zeros 3 (3 ∷ zeros 3 (zeros 4 (200 ∷ 7 ∷ 9 ∷ zeros 5 []))));
-  rest = record { nodes = record { length = pos 2; null_count = pos 0 } ∷ []; regions = at 0 0 ∷ at 0 12 ∷ at 16 3 ∷ [] };
+  rest = record { nodes = record { length = pos 2; null_count = pos 0 } ∷ []; regions = at 0 0 ∷ at 0 12 ∷ at 16 3 ∷ []; dictionaries = [] };
   column = binary false types.binary (0 ∷ 2 ∷ 3 ∷ []) (200 ∷ 7 ∷ 9 ∷ []) None;
 }
 
@@ -162,7 +163,7 @@ texts = record {
   type = types.large_utf8;
   rows = 1;
   body = zeros 8 (2 ∷ zeros 7 (104 ∷ 105 ∷ zeros 6 []));
-  rest = record { nodes = record { length = pos 1; null_count = pos 0 } ∷ []; regions = at 0 0 ∷ at 0 16 ∷ at 16 2 ∷ [] };
+  rest = record { nodes = record { length = pos 1; null_count = pos 0 } ∷ []; regions = at 0 0 ∷ at 0 16 ∷ at 16 2 ∷ []; dictionaries = [] };
   column = text true types.large_utf8 (0 ∷ 2 ∷ []) (104 ∷ 105 ∷ []) None;
 }
 

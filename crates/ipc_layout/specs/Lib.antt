@@ -1,9 +1,12 @@
 -- What contracts cite.
 pub mod Stored
+pub mod Keys
 pub mod Columns
 pub mod Picked
 pub mod Meant
 pub mod ReadParts
+pub mod KeyLaws
+pub mod KeyedLaws
 pub mod ReadLaws
 pub mod Packed
 pub mod Placed
@@ -19,5 +22,7 @@ pub mod PackedLaws
 pub mod PlacedLaws
 pub mod WrittenLaws
 pub mod ShownLaws
+pub mod Keyless
 pub mod AgainLaws
+pub mod Rekeyed
 pub mod WriteExamples

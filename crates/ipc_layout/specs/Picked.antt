@@ -32,13 +32,13 @@ views_in (suc n) (count ∷ more) regions = do
   rest ← behind BufferCount size regions
   views_in n more rest
 
--- behind a column that is passed over, whose nodes and buffers are not looked at
+-- behind a column that is passed over, whose nodes and buffers are not looked at, and whose dictionaries are not among those to come
 unfoldable pub passed_in : Span → AheadTree → Result AheadTree Fault
 passed_in s ahead = do
   nodes ← behind NodeCount s.nodes ahead.rest.nodes
   regions ← behind BufferCount s.buffers ahead.rest.regions
   views ← views_in s.views ahead.more regions
-  Ok (record { rest = record { nodes = nodes; regions = views.0 }; more = views.1 })
+  Ok (record { rest = record { nodes = nodes; regions = views.0; dictionaries = ahead.rest.dictionaries }; more = views.1 })
 
 -- arrays of data types in order, one for each step that reads; no step reads behind the last data type
 unfoldable pub steps_in : List Step → List TypeTree → ℕ → List ℕ → AheadTree → Result (List Layout × Rest) Fault

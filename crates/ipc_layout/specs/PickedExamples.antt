@@ -20,7 +20,7 @@ abbrev span : ℕ → ℕ → ℕ → Span
 span nodes buffers views = record { nodes = nodes; buffers = buffers; views = views; has_union = false; has_dictionary = false }
 
 abbrev ahead : List Node → List Region → List ℤ → AheadTree
-ahead nodes regions more = record { rest = record { nodes = nodes; regions = regions }; more = more }
+ahead nodes regions more = record { rest = record { nodes = nodes; regions = regions; dictionaries = [] }; more = more }
 
 -- a struct of two arrays of views: three nodes, five buffers, and three more
 abbrev views_ahead : List ℤ → AheadTree

@@ -9,24 +9,28 @@ use Rattle.std.proofs.lemmas.List.FromFn.{length-range_with_len}
 use Rattle.std.proofs.lemmas.Result.{IfOk-weaker}
 use Rattle.ipc_model.specs.Reading.{◌>>=◌, check}
 use Rattle.ipc_model.specs.declared.fault.Fault.{Fault}
-use Rattle.ipc_model.specs.declared.fault.Fault.TheVariants.{TypeRange, BufferShort, Offsets, OffsetPastChild, Text, UnionType, UnionSlot}
+use Rattle.ipc_model.specs.declared.fault.Fault.TheVariants.{TypeRange, BufferShort, Offsets, OffsetPastChild, Text, UnionType, UnionSlot, MissingDictionary, KeyRange}
 use Rattle.nest_memory.specs.Bits.{bit, bits_from}
-use Rattle.nest_memory.specs.Physical.{physical_type}
+use Rattle.nest_memory.specs.Physical.{physical_type, primitive_tree}
 use Rattle.nest_memory.specs.Rising.{are_offsets, last_of, to_nat}
 use Rattle.nest_memory.specs.TypeTree as types
-use Rattle.nest_memory.specs.TypeTree.{TypeTree, FieldTree, FieldTrees, field, no_fields, more_fields, field_type, logical_type, item_type, count_fields, size_of, fields_of, ids_of, is_dense, is_dense_mode, is_pair, has_pairs}
+use Rattle.nest_memory.specs.TypeTree.{TypeTree, FieldTree, FieldTrees, field, no_fields, more_fields, field_type, logical_type, item_type, count_fields, size_of, fields_of, ids_of, is_dense, is_dense_mode, is_pair, has_pairs, value_type}
+use Rattle.nest_memory.specs.declared.datatypes.IntegerType.{IntegerType}
 use Rattle.nest_memory.specs.declared.datatypes.UnionMode.{UnionMode}
 use Rattle.nest_memory.specs.declared.datatypes.UnionMode.TheVariants.{Dense, Sparse}
 use Rattle.nest_memory.specs.declared.datatypes.physical_type.PhysicalType.{PhysicalType}
 use Rattle.nest_memory.specs.declared.datatypes.physical_type.PhysicalType.TheVariants as physical
 use Rattle.nest_memory.specs.declared.datatypes.physical_type.PrimitiveType.{PrimitiveType}
+use Rattle.nest_model.specs.Accessors.{key_kind, key_type_of}
 use Rattle.nest_model.specs.Checks.{most_fields}
 use Rattle.nest_model.specs.Fits.{EachType}
 use Rattle.nest_model.specs.Layout.{Layout, Layouts, no_layouts, more_layouts, layout_type, text}
 use Rattle.nest_model.specs.Meaning.{len, first_len}
 use Rattle.nest_model.specs.Part.{count_rows}
+use Rattle.ipc_layout.specs.Keys.{key_native, key_form, AreBlank, AreKeysOf, are_logically}
+use Rattle.ipc_layout.specs.KeyLaws.{blanked_long, blank_key, native_key, keyed_type}
 use Rattle.ipc_layout.specs.Stored.{Form, form_of, offset_form, type_form, only, values_in}
-use Rattle.ipc_layout.specs.Columns.{Rest, RowsHead, Strings, Picks, are_texts, next_counts, bits_in, natives_in, bytes_in, offsets_from, offsets_in, covered_in, are_wanted, node_in, buffer_in, head_in, boolean_in, native_in, fixed_size_binary_in, rows_in, strings_in, binary_in, text_of, text_in, of_form, of_kind, are_ids, mean_fields, types_in, picks_in, wanted_by, are_there, array_in, item_in, items_in}
+use Rattle.ipc_layout.specs.Columns.{Rest, RowsHead, Strings, Picks, are_texts, next_counts, bits_in, natives_in, bytes_in, offsets_from, offsets_in, covered_in, are_wanted, node_in, buffer_in, head_in, boolean_in, native_in, fixed_size_binary_in, rows_in, strings_in, binary_in, text_of, text_in, keys_by, keys_in, keys_name, over_values, known_in, dictionary_in, of_form, of_kind, are_ids, mean_fields, types_in, picks_in, wanted_by, are_there, array_in, item_in, items_in}
 use Rattle.ipc_layout.specs.declared.parts.Counts.{Counts}
 use Rattle.ipc_layout.specs.declared.parts.Wanted.{Wanted}
 use Rattle.ipc_layout.specs.declared.parts.Wanted.TheVariants.{Rows, Exactly, AtLeast, Any}
@@ -154,6 +158,56 @@ text_is large t counts body rest =
     found (λ (b : Layout). (layout_type b ≡ t) × (len b ≡ counts.slots)) (text_of large t s.0) a g
     (text_of_is large t s.0 counts.slots (found (λ (x : Strings × Rest). count_rows x.0.offsets ≡ counts.slots) _ _ e (strings_long large counts body rest)))))
 
+-- ---- dictionaries
+
+-- keys of a type, with so many slots, of which those under nulls are 0
+pub record AreRead (k : Option IntegerType) (n : ℕ) (ks : Layout) : Type 0 where
+  pub typed : key_type_of ks ≡ k
+  pub long : len ks ≡ n
+  pub blank : AreBlank ks
+
+keys_by_are : (form : Form) (k : PrimitiveType) (counts : Counts) (body : List ℕ) (rest : Rest) → IfOk (keys_by form k counts body rest) (λ x. AreRead (key_kind k) counts.slots x.0)
+unfolding keys_by
+keys_by_are form k counts body rest =
+    after (λ (x : Layout × Rest). AreRead (key_kind k) counts.slots x.0) (head_in counts body rest) _
+    (λ head e. after (λ (x : Layout × Rest). AreRead (key_kind k) counts.slots x.0) (buffer_in body head.1) _
+    (λ bytes g. after (λ (x : Layout × Rest). AreRead (key_kind k) counts.slots x.0) (natives_in form counts.slots bytes.0) _
+    (λ values h.
+    let size = blanked_long head.0 values in
+    record {
+      typed = refl;
+      long = size ∙ found (λ (vs : List (List ℤ)). length vs ≡ counts.slots) _ _ h (natives_long form counts.slots bytes.0);
+      blank = λ i lt none. blank_key k (primitive_tree k) head.0 values i (omega (arith, lt, size)) none;
+    })))
+
+pub keys_are : (k : IntegerType) (counts : Counts) (body : List ℕ) (rest : Rest) → IfOk (keys_in k counts body rest) (λ x. AreRead (Some k) counts.slots x.0)
+keys_are k counts body rest =
+    subst (λ (o : Option IntegerType). IfOk (keys_in k counts body rest) (λ x. AreRead o counts.slots x.0)) (native_key k) (keys_by_are (key_form k) (key_native k) counts body rest)
+
+over_is : (t : TypeTree) (ks values : Layout) → IfOk (over_values t ks values) (λ a. (layout_type a ≡ t) × (len a ≡ len ks))
+over_is t ks values =
+    checked (λ (a : Layout). (layout_type a ≡ t) × (len a ≡ len ks)) (are_logically (value_type t) (layout_type values)) MissingDictionary _
+    (λ same. checked (λ (a : Layout). (layout_type a ≡ t) × (len a ≡ len ks)) (keys_name ks (len values)) KeyRange _ (λ named. (refl, refl)))
+
+dictionary_is : (k : IntegerType) (t : TypeTree) (counts : Counts) (body : List ℕ) (rest : Rest) → IfOk (dictionary_in k t counts body rest) (IsOf t counts.slots)
+unfolding dictionary_in
+dictionary_is k t counts body rest =
+    after (IsOf t counts.slots) (keys_in k counts body rest) _
+    (λ keys e. after (IsOf t counts.slots) (known_in keys.1) _
+    (λ values g. after (IsOf t counts.slots) (over_values t keys.0 values.0) _
+    (λ a h.
+    let known = found (λ (b : Layout). (layout_type b ≡ t) × (len b ≡ len keys.0)) _ _ h (over_is t keys.0 values.0) in
+    (known.0, known.1 ∙ (found (λ (x : Layout × Rest). AreRead (Some k) counts.slots x.0) _ _ e (keys_are k counts body rest)).long))))
+
+-- so keys are, that are read for dictionaries of a type
+pub keys_of_type : (k : IntegerType) (t : TypeTree) (counts : Counts) (body : List ℕ) (rest : Rest) (x : Layout × Rest) → physical_type t ≡ physical.Dictionary k → keys_in k counts body rest ≡ Ok x → AreKeysOf t x.0
+keys_of_type k t counts body rest x h e =
+    let type = keyed_type t k h in
+    let known = found (λ (x : Layout × Rest). AreRead (Some k) counts.slots x.0) _ _ e (keys_are k counts body rest) in
+    record { kind = type.0; typed = type.1 ∙ sym known.typed; blank = known.blank }
+
+-- ---- arrays without children
+
 kind_is : (p : PhysicalType) (t : TypeTree) (counts : Counts) (body : List ℕ) (rest : Rest) → IfOk (of_kind p t counts body rest) (IsOf t counts.slots)
 kind_is physical.Null t counts body rest = (refl, refl)
 kind_is physical.Boolean t counts body rest = boolean_is t counts body rest
@@ -163,6 +217,7 @@ kind_is physical.Binary t counts body rest = binary_is false t counts body rest
 kind_is physical.LargeBinary t counts body rest = binary_is true t counts body rest
 kind_is physical.Utf8 t counts body rest = text_is false t counts body rest
 kind_is physical.LargeUtf8 t counts body rest = text_is true t counts body rest
+kind_is (physical.Dictionary k) t counts body rest = dictionary_is k t counts body rest
 kind_is p t counts body rest = tt
 
 -- ---- children

@@ -6,7 +6,7 @@ use Rattle.std.proofs.lemmas.List.{append-nil}
 use Rattle.std.proofs.lemmas.List.Concat.{flat_map-cons}
 use Rattle.std.proofs.lemmas.List.Sums.{sum_by-cons}
 use Rattle.nest_memory.specs.Cut.{cut}
-use Rattle.nest_memory.specs.TypeTree.{size_of}
+use Rattle.nest_memory.specs.TypeTree.{TypeTree, size_of}
 use Rattle.nest_model.specs.Accessors.{validity_of}
 use Rattle.nest_model.specs.Array.{AreKeys, TopFits}
 use Rattle.nest_model.specs.Cut.{cut_layout}
@@ -18,16 +18,20 @@ use Rattle.nest_model.specs.Nullness.{null_count, is_null_at}
 use Rattle.nest_model.specs.NullnessLaws.{null_count-null}
 use Rattle.nest_model.specs.Part.{Validity, begin, cut_validity, valid_at, count_rows}
 use Rattle.nest_model.specs.Runs.{length-cut, rows-cut, product-fits, product-over}
-use Rattle.nest_model.specs.ValidityLaws.{len-with_validity}
 use Rattle.nest_array.specs.Seen.{layout_of, layouts_of}
 use Rattle.nest_array.specs.WindowParts.{WindowParts, window_parts}
 use Rattle.nest_array.specs.declared.any.AnyArray.{AnyArray}
 use Rattle.ipc_layout.specs.StringLaws.{rows_again}
-use Rattle.ipc_layout.specs.Written.{shown_validity, shown_flat, shown_in, shown, each_shown, all_shown, sparse_begin, arrays_of, arrays_of_all, each_window, whole_windows, windows_below, shown_window, written_windows, written, kind_has_form, has_form, window_has_form, is_flat, column_node, buffers_of, columns_body}
+use Rattle.ipc_layout.specs.Written.{shown_validity, shown_keys, shown_flat, shown_in, shown, each_shown, all_shown, sparse_begin, arrays_of, arrays_of_all, each_window, whole_windows, windows_below, shown_window, written_windows, written, kind_has_form, is_flat, column_node, buffers_of, columns_body}
 use Rattle.ipc_layout.specs.Placed.{body_of}
+use Rattle.ipc_layout.specs.KeyLaws.{blanked_long}
 use Rattle.ipc_layout.specs.WrittenLaws.{unset, unset_few, nulls_are, eqb-zero}
 
 -- ---- lengths and types
+
+keys_len : (ks : Layout) → len (shown_keys ks) ≡ len ks
+keys_len (primitive k t vs va) = blanked_long va vs
+keys_len ks = refl
 
 flat_len : (a : Layout) → len (shown_flat a) ≡ len a
 flat_len (binary large t os bs va) = rows_again os
@@ -41,7 +45,7 @@ flat_len (list_of large t os c va) = refl
 flat_len (map_of t os c va) = refl
 flat_len (struct t cs va) = refl
 flat_len (union t ks cs os start) = refl
-flat_len (dictionary t ks c) = len-with_validity ks (shown_validity (validity_of ks))
+flat_len (dictionary t ks c) = keys_len ks
 
 cut_len : (a : Layout) (o n : ℕ) → o + n ≤ len a → len (shown_flat (cut_layout a o n)) ≡ n
 cut_len a o n le = flat_len (cut_layout a o n) ∙ len-cut a o n le
@@ -137,9 +141,15 @@ nulls_by s va m o n some is fits le long =
 cut_few : (va : Validity) (m o n : ℕ) → ValidityFits va m → o + n ≤ m → unset (cut_validity va o n) ≤ n
 cut_few va m o n fits le = unset_few (cut_validity va o n) n (cut_fits va m o n fits le)
 
+keys_nulls : (t : TypeTree) (ks c : Layout) (o n : ℕ) → AreKeys ks → o + n ≤ len ks → null_count (shown_in (dictionary t ks c) o n) ≡ unset (cut_validity (validity_of ks) o n)
+keys_nulls t (primitive k u vs va) c o n are le =
+    let s : Layout = shown_in (dictionary t (primitive k u vs va) c) o n in
+    nulls_by s va (length vs) o n refl refl are.1.0 le (shown_len (dictionary t (primitive k u vs va) c) o n le)
+keys_nulls t ks c o n are le = absurd are
+
 pub shown_nulls : (a : Layout) (o n : ℕ) → TopFits a → kind_has_form a ≡ true → o + n ≤ len a → null_count (shown_in a o n) ≡ nulls_in a o n
 shown_nulls (null t m) o n fits form le = null_count-null (null t n) refl refl
-shown_nulls (dictionary t ks c) o n fits form le = cc
+shown_nulls (dictionary t ks c) o n fits form le = keys_nulls t ks c o n fits.0 le
 shown_nulls (boolean t bs va) o n fits form le = nulls_by (shown_in (boolean t bs va) o n) va (len (boolean t bs va)) o n refl refl (validity_fits (boolean t bs va) fits) le (shown_len (boolean t bs va) o n le)
 shown_nulls (primitive k t vs va) o n fits form le = nulls_by (shown_in (primitive k t vs va) o n) va (len (primitive k t vs va)) o n refl refl (validity_fits (primitive k t vs va) fits) le (shown_len (primitive k t vs va) o n le)
 shown_nulls (binary l t os bs va) o n fits form le = nulls_by (shown_in (binary l t os bs va) o n) va (len (binary l t os bs va)) o n refl refl (validity_fits (binary l t os bs va) fits) le (shown_len (binary l t os bs va) o n le)
@@ -235,19 +245,7 @@ columns_written (x ∷ xs) =
     ∙ ap (λ (y : List Layout). arrays_of (shown (layout_of x)) ++ y) (columns_written xs)
     ∙ sym (flat_map-cons (λ (a : Layout). arrays_of (shown a)) (layout_of x) (map layout_of xs))
 
--- ---- whether they are written
-
-and_true : (b : Bool) → (b && true) ≡ b
-and_true true = refl
-and_true false = refl
-
-first_true : (a b : Bool) → (a && b) ≡ true → a ≡ true
-first_true true b e = refl
-first_true false b e = e
-
-second_true : (a b : Bool) → (a && b) ≡ true → b ≡ true
-second_true true b e = e
-second_true false b e = cc
+-- ---- windows without children
 
 pub pass_append : {A : Type 0} (p : A → Bool) (xs ys : List A) → list_all p (xs ++ ys) ≡ (list_all p xs && list_all p ys)
 pass_append p [] ys = refl
@@ -257,41 +255,6 @@ pass_append p (x ∷ xs) ys = ap (λ (b : Bool). p x && b) (pass_append p xs ys)
     and_assoc true b c = refl
     and_assoc false b c = refl
 
-pub kind_form : (a : Layout) → has_form a ≡ true → kind_has_form a ≡ true
-kind_form (dictionary t ks c) form = cc
-kind_form (primitive k t vs va) form = first_true (kind_has_form (primitive k t vs va)) true form
-kind_form a form = refl
-
-each_form : (cs : Layouts) (o n : ℕ) → list_all window_has_form (each_window cs o n) ≡ list_all kind_has_form (arrays_of_all cs)
-each_form no_layouts o n = refl
-each_form (more_layouts c cs) o n = ap (λ (b : Bool). has_form c && b) (each_form cs o n) ∙ sym (pass_append kind_has_form (arrays_of c) (arrays_of_all cs))
-
-pub whole_form : (cs : Layouts) → list_all window_has_form (whole_windows cs) ≡ list_all kind_has_form (arrays_of_all cs)
-whole_form no_layouts = refl
-whole_form (more_layouts c cs) = ap (λ (b : Bool). has_form c && b) (whole_form cs) ∙ sym (pass_append kind_has_form (arrays_of c) (arrays_of_all cs))
-
-pub columns_form : (xs : List AnyArray) → list_all kind_has_form (arrays_of_all (layouts_of xs)) ≡ list_all has_form (map layout_of xs)
-columns_form [] = refl
-columns_form (x ∷ xs) = pass_append kind_has_form (arrays_of (layout_of x)) (arrays_of_all (layouts_of xs)) ∙ ap (λ (b : Bool). has_form (layout_of x) && b) (columns_form xs)
-
-pub below_form : (a : Layout) (o n : ℕ) → has_form a ≡ true → list_all window_has_form (windows_below a o n) ≡ true
-below_form (fixed_size_list t c va) o n form = and_true (has_form c) ∙ form
-below_form (list_of l t os c va) o n form = and_true (has_form c) ∙ form
-below_form (map_of t os c va) o n form = and_true (has_form c) ∙ form
-below_form (struct t cs va) o n form = each_form cs o n ∙ form
-below_form (union t ks cs None start) o n form = each_form cs (sparse_begin start o n) n ∙ form
-below_form (union t ks cs (Some os) start) o n form = whole_form cs ∙ form
-below_form a o n form = refl
-
-pub flat_form : (a : Layout) → is_flat a ≡ true → has_form a ≡ true
-flat_form (null t m) flat = refl
-flat_form (boolean t bs va) flat = refl
-flat_form (primitive k t vs va) flat = and_true (kind_has_form (primitive k t vs va)) ∙ flat
-flat_form (binary l t os bs va) flat = refl
-flat_form (text l t os bs va) flat = refl
-flat_form (fixed_size_binary t bs va) flat = refl
-flat_form a flat = cc
-
 -- a window without children is shown as its cut
 pub flat_shown : (a : Layout) (o n : ℕ) → is_flat a ≡ true → shown_in a o n ≡ shown_flat (cut_layout a o n)
 flat_shown (null t m) o n flat = refl
@@ -300,6 +263,7 @@ flat_shown (primitive k t vs va) o n flat = refl
 flat_shown (binary l t os bs va) o n flat = refl
 flat_shown (text l t os bs va) o n flat = refl
 flat_shown (fixed_size_binary t bs va) o n flat = refl
+flat_shown (dictionary t ks c) o n flat = refl
 flat_shown a o n flat = cc
 
 pub flat_cut : (a : Layout) (o n : ℕ) → is_flat a ≡ true → is_flat (cut_layout a o n) ≡ true
@@ -309,6 +273,7 @@ flat_cut (primitive k t vs va) o n flat = flat
 flat_cut (binary l t os bs va) o n flat = refl
 flat_cut (text l t os bs va) o n flat = refl
 flat_cut (fixed_size_binary t bs va) o n flat = refl
+flat_cut (dictionary t ks c) o n flat = refl
 flat_cut a o n flat = cc
 
 -- ---- what they weigh

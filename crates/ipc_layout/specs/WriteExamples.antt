@@ -1,16 +1,28 @@
--- Arrays with children that are cut, and what is written of them, byte by byte.
-use Rattle.std.specs.Prelude.{◌≡◌, ℕ, pos, true, false, List, [], ◌∷◌, ◌++◌, map, replicate, Some, None, refl}
+-- Arrays with children that are cut, and dictionaries, and what is written of them, byte by byte.
+use Rattle.std.specs.Prelude.{◌≡◌, ℕ, ℤ, pos, true, false, List, [], ◌∷◌, ◌++◌, map, replicate, Option, Some, None, Ok, refl}
+use Rattle.nest_memory.specs.Bits.{bit, bits_from}
+use Rattle.nest_memory.specs.Rising.{are_offsets}
 use Rattle.nest_memory.specs.TypeTree as types
-use Rattle.nest_memory.specs.TypeTree.{TypeTree, FieldTree, no_fields, more_fields}
+use Rattle.nest_memory.specs.TypeTree.{TypeTree, FieldTree, FieldTrees, no_fields, more_fields}
+use Rattle.nest_memory.specs.declared.datatypes.IntegerType.TheVariants.{Int8 as Keys8, Int32 as Keys32}
 use Rattle.nest_memory.specs.declared.datatypes.UnionMode.TheVariants.{Dense, Sparse}
-use Rattle.nest_memory.specs.declared.datatypes.physical_type.PrimitiveType.TheVariants.{Int8}
-use Rattle.nest_model.specs.Layout.{Layout, boolean, primitive, fixed_size_list, list as list_of, map as map_of, struct, union, no_layouts, more_layouts}
+use Rattle.nest_memory.specs.declared.datatypes.physical_type.PrimitiveType.TheVariants.{Int8, Int32}
+use Rattle.std.proofs.Common.{ap, ◌∙◌}
+use Rattle.nest_model.specs.Accessors.{child_of}
+use Rattle.nest_model.specs.Cut.{cut_layout}
+use Rattle.nest_model.specs.Layout.{Layout, Layouts, boolean, primitive, text, fixed_size_list, list as list_of, map as map_of, struct, union, dictionary, no_layouts, more_layouts, layout_type}
+use Rattle.nest_model.specs.Meaning.{len, slots_of}
+use Rattle.nest_model.specs.Slot as slots
+use Rattle.nest_model.specs.Part.{Validity}
 use Rattle.ipc_model.specs.declared.batch.Region.{Region}
 use Rattle.ipc_model.specs.declared.batch.Node.{Node}
-use Rattle.ipc_layout.specs.Stored.{values_bytes}
+use Rattle.ipc_layout.specs.Columns.{next_counts, bytes_of, next_bytes, bits_in, validity_in, node_in, buffer_in, head_in, natives_in, offsets_from, offsets_in, rows_in, keys_by, next_values, known_in, dictionary_in, each_in, columns_in}
+use Rattle.ipc_layout.specs.Keys.{blanked}
+use Rattle.ipc_layout.specs.Rekeyed.{AreSameValues, AreAlike}
+use Rattle.ipc_layout.specs.Stored.{values_in, values_bytes}
 use Rattle.ipc_layout.specs.Packed.{number_of, packed}
 use Rattle.ipc_layout.specs.Placed.{padded, body_of, regions_from}
-use Rattle.ipc_layout.specs.Written.{column_node, written, buffers_of, columns_body}
+use Rattle.ipc_layout.specs.Written.{column_node, written, buffers_of, columns_body, dictionaries_of}
 
 -- a column, its nodes, its regions, its body
 pub record Column : Type 0 where
@@ -116,6 +128,116 @@ dense_pick = record {
   body = 1 ∷ zeros 7 (3 ∷ zeros 7 (23 ∷ zeros 7 (10 ∷ 11 ∷ 12 ∷ 0 ∷ 14 ∷ zeros 3 (12 ∷ zeros 7 []))));
 }
 
+-- ---- dictionaries
+
+-- a column, the values that its keys name, and the array that it is read back as
+pub record Keyed : Type 0 where
+  pub written_as : Column
+  pub dictionaries : List (Option Layout)
+  pub read : Layout
+
+-- its keys are written, and its values are what they name; so it is read back
+abbrev pub IsKeyedAs : Keyed → Type 0
+IsKeyedAs k =
+    IsWrittenAs k.written_as
+    × (dictionaries_of (written (k.written_as.column ∷ [])) ≡ k.dictionaries)
+    × (columns_in (layout_type k.written_as.column ∷ []) (len k.written_as.column) k.written_as.body (record { nodes = k.written_as.nodes; regions = k.written_as.regions; dictionaries = k.dictionaries }) ≡ Ok (k.read ∷ []))
+
+abbrev keyed_type : TypeTree
+keyed_type = types.dictionary Keys8 types.utf8 false
+
+-- "a" and "bc"
+abbrev words : Layout
+words = text false types.utf8 (0 ∷ 1 ∷ 3 ∷ []) (97 ∷ 98 ∷ 99 ∷ []) None
+
+abbrev keys_of : List (List ℤ) → Validity → Layout
+keys_of keys validity = dictionary keyed_type (primitive Int8 types.int8 keys validity) words
+
+-- "bc", null over the key 1, "a", "bc"
+abbrev pub four_words : Layout
+four_words = keys_of ((pos 1 ∷ []) ∷ (pos 1 ∷ []) ∷ (pos 0 ∷ []) ∷ (pos 1 ∷ []) ∷ []) (Some (true ∷ false ∷ true ∷ true ∷ []))
+
+-- the key under the null is written as 0
+abbrev pub keyed_words : Keyed
+keyed_words = record {
+  written_as = record {
+    column = four_words;
+    nodes = node 4 1 ∷ [];
+    regions = at 0 1 ∷ at 8 4 ∷ [];
+    body = 13 ∷ zeros 7 (1 ∷ 0 ∷ 0 ∷ 1 ∷ zeros 4 []);
+  };
+  dictionaries = Some words ∷ [];
+  read = keys_of ((pos 1 ∷ []) ∷ (pos 0 ∷ []) ∷ (pos 0 ∷ []) ∷ (pos 1 ∷ []) ∷ []) (Some (true ∷ false ∷ true ∷ true ∷ []));
+}
+
+-- the last two slots: of the keys those two, of the values all
+abbrev pub cut_words : Keyed
+cut_words = record {
+  written_as = record {
+    column = cut_layout four_words 2 2;
+    nodes = node 2 0 ∷ [];
+    regions = at 0 0 ∷ at 0 2 ∷ [];
+    body = 0 ∷ 1 ∷ zeros 6 [];
+  };
+  dictionaries = Some words ∷ [];
+  read = keys_of ((pos 0 ∷ []) ∷ (pos 1 ∷ []) ∷ []) None;
+}
+
+-- keys of a data type of their own are read back as those of no other than their kind
+abbrev pub dated_words : Keyed
+dated_words = record {
+  written_as = record {
+    column = dictionary (types.dictionary Keys32 types.utf8 false) (primitive Int32 types.date32 ((pos 1 ∷ []) ∷ []) None) words;
+    nodes = node 1 0 ∷ [];
+    regions = at 0 0 ∷ at 0 4 ∷ [];
+    body = 1 ∷ zeros 7 [];
+  };
+  dictionaries = Some words ∷ [];
+  read = dictionary (types.dictionary Keys32 types.utf8 false) (primitive Int32 types.int32 ((pos 1 ∷ []) ∷ []) None) words;
+}
+
+-- a list of two of the words, the null and "a"
+abbrev pub listed_words : Keyed
+listed_words = record {
+  written_as = record {
+    column = list_of false (types.list (types.field [] keyed_type true [])) (1 ∷ 3 ∷ []) four_words None;
+    nodes = node 1 0 ∷ node 2 1 ∷ [];
+    regions = at 0 0 ∷ at 0 8 ∷ at 8 1 ∷ at 16 2 ∷ [];
+    body = zeros 4 (2 ∷ zeros 3 (2 ∷ zeros 7 (0 ∷ 0 ∷ zeros 6 [])));
+  };
+  dictionaries = Some words ∷ [];
+  read = list_of false (types.list (types.field [] keyed_type true [])) (0 ∷ 2 ∷ []) (keys_of ((pos 0 ∷ []) ∷ (pos 0 ∷ []) ∷ []) (Some (false ∷ true ∷ []))) None;
+}
+
+-- the same words, over bytes of which some are no word's
+abbrev moved_words : Layout
+moved_words = text false types.utf8 (2 ∷ 3 ∷ 5 ∷ []) (120 ∷ 120 ∷ 97 ∷ 98 ∷ 99 ∷ []) None
+
+-- the words in another order
+abbrev turned_words : Layout
+turned_words = text false types.utf8 (0 ∷ 2 ∷ 3 ∷ []) (98 ∷ 99 ∷ 97 ∷ []) None
+
+abbrev over_words : Layout → Layout
+over_words values = list_of false (types.list (types.field [] keyed_type true [])) (1 ∷ 3 ∷ []) (dictionary keyed_type (primitive Int8 types.int8 ((pos 1 ∷ []) ∷ (pos 1 ∷ []) ∷ (pos 0 ∷ []) ∷ []) None) values) None
+
+-- lists of words are alike where the words are the same
+abbrev pub AreAlikeWords : Type 0
+AreAlikeWords = AreAlike (over_words words ∷ []) (over_words moved_words ∷ []) × (AreAlike (over_words words ∷ []) (over_words turned_words ∷ []) → ⊥)
+
+-- a list of records of these fields
+abbrev listed_records : FieldTrees → Layouts → Layout
+listed_records fields values = list_of false (types.list (types.field [] (types.struct fields) true [])) (0 ∷ 4 ∷ []) (struct (types.struct fields) values None) None
+
+abbrev four_truths : Layout
+four_truths = boolean types.boolean (true ∷ false ∷ true ∷ true ∷ []) None
+
+-- of which one has a dictionary
+abbrev pub keyed_records : Layout
+keyed_records = listed_records (more_fields (types.field [] types.boolean true []) (more_fields (types.field [] keyed_type true []) no_fields)) (more_layouts four_truths (more_layouts four_words no_layouts))
+
+abbrev pub plain_records : Layout
+plain_records = listed_records (more_fields (types.field [] types.boolean true []) no_fields) (more_layouts four_truths no_layouts)
+
 pub row_written : IsWrittenAs cut_row
 unfolding values_bytes number_of packed padded body_of regions_from written buffers_of
 row_written = (refl, refl, refl)
@@ -147,3 +269,30 @@ none_written = (refl, refl, refl)
 pub dense_written : IsWrittenAs dense_pick
 unfolding values_bytes number_of packed padded body_of regions_from written buffers_of
 dense_written = (refl, refl, refl)
+
+pub keyed_are : IsKeyedAs keyed_words
+unfolding bit bits_from values_in values_bytes number_of packed padded body_of regions_from written buffers_of next_counts bytes_of next_bytes bits_in validity_in node_in buffer_in head_in natives_in blanked keys_by next_values known_in dictionary_in each_in columns_in
+keyed_are = ((refl, refl, refl), refl, refl)
+
+pub cut_are : IsKeyedAs cut_words
+unfolding bit bits_from values_in values_bytes number_of packed padded body_of regions_from written buffers_of next_counts bytes_of next_bytes bits_in validity_in node_in buffer_in head_in natives_in blanked keys_by next_values known_in dictionary_in each_in columns_in
+cut_are = ((refl, refl, refl), refl, refl)
+
+pub dated_are : IsKeyedAs dated_words
+unfolding bit bits_from values_in values_bytes number_of packed padded body_of regions_from written buffers_of next_counts bytes_of next_bytes bits_in validity_in node_in buffer_in head_in natives_in blanked keys_by next_values known_in dictionary_in each_in columns_in
+dated_are = ((refl, refl, refl), refl, refl)
+
+pub listed_are : IsKeyedAs listed_words
+unfolding bit bits_from values_in values_bytes number_of packed padded body_of regions_from written buffers_of next_counts bytes_of next_bytes bits_in validity_in node_in buffer_in head_in natives_in are_offsets offsets_from offsets_in rows_in blanked keys_by next_values known_in dictionary_in each_in columns_in
+listed_are = ((refl, refl, refl), refl, refl)
+
+turned_unlike : AreAlike (over_words words ∷ []) (over_words turned_words ∷ []) → ⊥
+turned_unlike h =
+    let keyed : turned_words ≡ h.0.2.0 = ap (λ (a : Layout). child_of (child_of a)) h.0.1 ∙ ap child_of h.0.2.1 in
+    let same : (slots.text (98 ∷ 99 ∷ []) ∷ slots.text (97 ∷ []) ∷ []) ≡ (slots.text (97 ∷ []) ∷ slots.text (98 ∷ 99 ∷ []) ∷ []) = ap slots_of keyed ∙ h.0.2.2.slots in
+    cc
+
+pub words_alike : AreAlikeWords
+words_alike =
+    let own : AreSameValues words moved_words = record { logical = refl; slots = refl } in
+    (((dictionary keyed_type (primitive Int8 types.int8 ((pos 1 ∷ []) ∷ (pos 1 ∷ []) ∷ (pos 0 ∷ []) ∷ []) None) moved_words, refl, (moved_words, refl, own)), tt), turned_unlike)

@@ -2,12 +2,13 @@
 use Rattle.std.specs.Prelude.{◌≡◌, ◌<◌, ◌≤◌, ◌^◌, ◌⊎◌, ℕ, ◌-◌, ◌*◌, ℤ, pos, Bool, true, false, not, ◌&&◌, ◌==◌, if◌then◌else◌, nat_lt, count_by, List, [], ◌∷◌, ◌++◌, ◌+◌, map, length, Option, Some, None, is_some, Ok}
 use Rattle.std.specs.List.{flat_map, list_all, AllByRecursion}
 use Rattle.ipc_model.specs.declared.fault.NoForm.{NoForm}
-use Rattle.ipc_model.specs.declared.fault.NoForm.TheVariants.{Memory, «Type» as NotWritten, Size}
+use Rattle.ipc_model.specs.declared.fault.NoForm.TheVariants.{Memory, Size}
 use Rattle.ipc_model.specs.declared.batch.Node.{Node}
 use Rattle.nest_memory.specs.Native.{unsigned}
 use Rattle.nest_model.specs.Accessors.{validity_of, with_validity}
 use Rattle.nest_model.specs.Fits.{covered}
 use Rattle.nest_memory.specs.Cut.{cut}
+use Rattle.nest_memory.specs.Physical.{primitive_tree}
 use Rattle.nest_memory.specs.TypeTree.{size_of}
 use Rattle.nest_model.specs.Cut.{cut_layout}
 use Rattle.nest_model.specs.Layout.{Layout, Layouts, null, boolean, primitive, binary, text, fixed_size_binary, fixed_size_list, list as list_of, map as map_of, struct, union, dictionary, no_layouts, more_layouts, layout_type}
@@ -18,6 +19,7 @@ use Rattle.nest_model.specs.SameArray.{IsSameArray}
 use Rattle.nest_array.specs.WindowParts.{WindowParts, window_parts}
 use Rattle.ipc_batch.specs.Batches.{all_within}
 use Rattle.ipc_layout.specs.Columns.{without_nulls, columns_in}
+use Rattle.ipc_layout.specs.Keys.{blanked}
 use Rattle.ipc_layout.specs.Packed.{packed}
 use Rattle.ipc_layout.specs.Placed.{body_of, regions_from}
 use Rattle.ipc_layout.specs.Stored.{Form, form_of, offset_form, type_form, values_bytes}
@@ -32,10 +34,17 @@ shown_validity (Some bits) = without_nulls (count_by not bits) bits
 abbrev pub rebased : List ℕ → List ℕ
 rebased os = map (λ n. n - begin os 0) os
 
--- the array that an array without children is read back as: of the bytes of strings, those that the offsets cover
+-- the keys that keys are read back as: what lies under a null is 0
+abbrev pub shown_keys : Layout → Layout
+shown_keys (primitive k t values va) = primitive k (primitive_tree k) (blanked va values) (shown_validity va)
+shown_keys a = a
+
+-- the array that an array without children is read back as: of the bytes of strings, those that the offsets cover; the values of a dictionary are
+-- those that are known by then
 abbrev pub shown_flat : Layout → Layout
 shown_flat (binary large t os bs va) = binary large t (rebased os) (covered os bs) (shown_validity va)
 shown_flat (text large t os bs va) = text large t (rebased os) (covered os bs) (shown_validity va)
+shown_flat (dictionary t ks c) = dictionary t (shown_keys ks) c
 shown_flat a = with_validity a (shown_validity (validity_of a))
 
 -- where the n slots from place o of a sparse union begin in its children; none begins anywhere
@@ -111,6 +120,11 @@ column_node a = record { length = pos (len a); null_count = pos (null_count a) }
 abbrev pub numbers_bytes : Form → List ℤ → List ℕ
 numbers_bytes form zs = values_bytes form (map (λ z. z ∷ []) zs)
 
+-- those of keys
+abbrev pub key_buffers : Layout → List (List ℕ)
+key_buffers (primitive k t values va) = validity_bytes va ∷ bytes_by (form_of k) values ∷ []
+key_buffers a = []
+
 -- its own buffers, without those of its children; nulls have none
 abbrev pub own_buffers : Layout → List (List ℕ)
 own_buffers (boolean t bits va) = validity_bytes va ∷ packed bits ∷ []
@@ -124,9 +138,15 @@ own_buffers (map_of t os c va) = validity_bytes va ∷ offset_bytes false os ∷
 own_buffers (struct t cs va) = validity_bytes va ∷ []
 own_buffers (union t ks cs None start) = numbers_bytes type_form ks ∷ []
 own_buffers (union t ks cs (Some os) start) = numbers_bytes type_form ks ∷ numbers_bytes (offset_form false) os ∷ []
+own_buffers (dictionary t ks c) = key_buffers ks
 own_buffers a = []
 
--- an array and those below it, each before its children
+-- the values that its keys name, where it has keys
+abbrev pub own_dictionaries : Layout → List (Option Layout)
+own_dictionaries (dictionary t ks c) = Some c ∷ []
+own_dictionaries a = []
+
+-- an array and those below it, each before its children; the values of a dictionary are none of them
 abbrev mutual
   pub arrays_of : Layout → List Layout
   arrays_of (fixed_size_list t c va) = fixed_size_list t c va ∷ arrays_of c
@@ -159,6 +179,11 @@ written columns = flat_map (λ a. arrays_of (shown a)) columns
 unfoldable pub buffers_of : List Layout → List (List ℕ)
 buffers_of arrays = flat_map own_buffers arrays
 
+-- what their keys name
+abbrev pub dictionaries_of : List Layout → List (Option Layout)
+dictionaries_of [] = []
+dictionaries_of (a ∷ arrays) = own_dictionaries a ++ dictionaries_of arrays
+
 -- the body of a batch of columns
 abbrev pub columns_body : List Layout → List ℕ
 columns_body columns = body_of (buffers_of (written columns))
@@ -171,20 +196,13 @@ is_flat (primitive k t values va) = is_some (form_of k)
 is_flat (fixed_size_binary t bs va) = true
 is_flat (binary large t os bs va) = true
 is_flat (text large t os bs va) = true
+is_flat (dictionary t ks c) = true
 is_flat a = false
 
 -- whether arrays of its kind are written
 abbrev pub kind_has_form : Layout → Bool
 kind_has_form (primitive k t values va) = is_some (form_of k)
-kind_has_form (dictionary t ks c) = false
 kind_has_form a = true
-
--- whether it and those below it are
-abbrev pub has_form : Layout → Bool
-has_form a = list_all kind_has_form (arrays_of a)
-
-abbrev pub window_has_form : WindowParts → Bool
-window_has_form w = has_form w.array
 
 -- no number of slots and no place in the body passes 2^63 - 1
 abbrev pub is_countable : Layout → Bool
@@ -195,7 +213,7 @@ have_room columns = list_all is_countable (written columns) && nat_lt (length (c
 
 -- the first reason why columns are not written
 unfoldable pub no_form : List Layout → Option NoForm
-no_form columns = if list_all has_form columns then (if have_room columns then None else Some Size) else Some NotWritten
+no_form columns = if have_room columns then None else Some Size
 
 -- for that reason, or for want of memory
 abbrev pub IsUnwritten : List Layout → NoForm → Type 0
@@ -230,8 +248,8 @@ pub record IsPlaced (columns : List Layout) (placed : Placed) : Type 0 where
   pub slots : list_all is_countable (written columns) ≡ true
   pub within : all_within placed.length placed.regions.items ≡ Ok tt
 
--- from the body that is written are read the same arrays, all nodes and buffers used up
+-- from the body that is written are read the same arrays, all nodes and buffers used up, where the values of each dictionary are known
 pub record AreReadBack (columns : List Layout) : Type 0 where
   pub read : (rows : ℕ) → AllByRecursion (λ a. len a ≡ rows) columns
-      → columns_in (map layout_type columns) rows (columns_body columns) (record { nodes = map column_node (written columns); regions = regions_from 0 (buffers_of (written columns)) }) ≡ Ok (map shown columns)
+      → columns_in (map layout_type columns) rows (columns_body columns) (record { nodes = map column_node (written columns); regions = regions_from 0 (buffers_of (written columns)); dictionaries = dictionaries_of (written columns) }) ≡ Ok (map shown columns)
   pub same : AllByRecursion (λ a. IsSameArray a (shown a)) columns

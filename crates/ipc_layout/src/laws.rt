@@ -1,12 +1,14 @@
 //! Examples of what is read and written, as functions with empty bodies.
-ghost use Rattle.std.specs.Prelude.{◌≡◌, ℕ, [], ◌∷◌, List, map, Ok};
+ghost use Rattle.std.specs.Prelude.{◌≡◌, ℕ, [], ◌∷◌, List, map, true, Ok};
 ghost use Rattle.nest_memory.specs.TypeTree.{TypeTree};
 ghost use Rattle.nest_model.specs.Layout.{Layout};
 ghost use Rattle.ipc_layout.specs.Columns.{column_in, columns_in};
 ghost use Rattle.ipc_layout.specs.declared.parts.Wanted.TheVariants.{Rows};
+ghost use Rattle.ipc_layout.specs.Keyless.{are_keyless};
 ghost use Rattle.ipc_layout.specs.Placed.{regions_from};
 ghost use Rattle.ipc_layout.specs.declared.parts.Wanted.TheVariants.{Rows};
-ghost use Rattle.ipc_layout.specs.Written.{column_node, shown, written, buffers_of, columns_body};
+ghost use Rattle.ipc_layout.specs.Rekeyed.{AreAlike, AreWrittenAlike};
+ghost use Rattle.ipc_layout.specs.Written.{column_node, shown, written, buffers_of, columns_body, dictionaries_of};
 ghost use Rattle.ipc_layout.specs.Examples.{worked_type, worked_body, worked_rest, worked_column, nothing, IsSpelledSo, IsWrittenSo, nulls, truths, wide, halves, days, months, sized, strings, texts, cut_strings};
 ghost use Rattle.ipc_layout.specs.Picked.{AheadTree, picked_in, all_read};
 ghost use Rattle.ipc_layout.specs.PickedExamples.{ArePassed, AreAround};
@@ -86,6 +88,16 @@ pub fn offsets_are_written_from_0()
 /// What is written depends on what is shown alone: arrays that differ outside of their cuts give equal nodes and bytes.
 pub fn what_is_shown_alone_is_written()
     ensures { (one other : List Layout) → map shown one ≡ map shown other → (written one ≡ written other) × (columns_body one ≡ columns_body other) }
+{}
+
+/// The values of dictionaries are written elsewhere: arrays that differ in those alone have equal nodes and buffers.
+pub fn values_are_not_written()
+    ensures { (columns others : List Layout) → AreAlike columns others → AreWrittenAlike columns others }
+{}
+
+/// Columns without dictionaries name no values.
+pub fn keyless_columns_name_no_values()
+    ensures { (columns : List Layout) → are_keyless columns ≡ true → dictionaries_of (written columns) ≡ [] }
 {}
 
 /// What is passed over takes its nodes, its buffers, and for each array of views as many buffers more as the batch counts; what lacks is

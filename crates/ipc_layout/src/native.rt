@@ -65,8 +65,8 @@ pub(crate) fn read_values<T: Stored>(
     Ok(copy_values(alloc, slots, bytes)?)
 }
 
-// The array of parts that fit.
-fn fitting<T: Stored>(
+/// The array of parts that fit.
+pub(crate) fn fitting<T: Stored>(
     data_type: DataType,
     values: Buffer<T>,
     validity: Option<Bitmap>,

@@ -1,15 +1,20 @@
 //! Nodes and buffers, taken one after the other.
-ghost use Rattle.std.specs.Prelude.{◌≡◌};
+ghost use Rattle.std.specs.Prelude.{◌≡◌, map};
 ghost use Rattle.ipc_model.specs.Reading.{Spells};
-ghost use Rattle.ipc_layout.specs.Columns.{rest_of, counts_of as counts_of_lem, bytes_of as bytes_of_lem, next_counts as next_counts_lem, next_bytes as next_bytes_lem, are_wanted as are_wanted_lem, node_in, buffer_in};
+ghost use Rattle.nest_array.specs.Seen.{layout_of};
+ghost use Rattle.ipc_layout.specs.Columns.{rest_of, counts_of as counts_of_lem, bytes_of as bytes_of_lem, next_counts as next_counts_lem, next_bytes as next_bytes_lem, next_values as next_values_lem, are_wanted as are_wanted_lem, node_in, buffer_in, known_in};
+ghost use Rattle.ipc_layout.specs.Keys.{dictionary_of};
 
 use ipc_model::{Fault, Node, Region};
+use nest_array::any::AnyArray;
 
 /// The nodes and buffers of a batch that no array has taken yet.
 #[derive(Clone, Copy)]
 pub struct Left<'a> {
     pub nodes: &'a [Node],
     pub regions: &'a [Region],
+    /// For each array of keys that is yet to come the values that its keys name, none where they are missing.
+    pub dictionaries: &'a [Option<&'a AnyArray>],
 }
 
 /// How many slots an array may have.
@@ -102,7 +107,15 @@ pub(crate) fn next_node<'a>(wanted: Wanted, left: Left<'a>) -> Result<(Counts, L
     let (counts, nodes) = next_counts(left.nodes)?;
     are_wanted(wanted, counts.slots)?;
     let regions = left.regions;
-    Ok((counts, Left { nodes, regions }))
+    let dictionaries = left.dictionaries;
+    Ok((
+        counts,
+        Left {
+            nodes,
+            regions,
+            dictionaries,
+        },
+    ))
 }
 
 /// The bytes of the next buffer.
@@ -112,5 +125,47 @@ pub(crate) fn next_buffer<'a>(body: &'a [u8], left: Left<'a>) -> Result<(&'a [u8
 {
     let (bytes, regions) = next_bytes(body, left.regions)?;
     let nodes = left.nodes;
-    Ok((bytes, Left { nodes, regions }))
+    let dictionaries = left.dictionaries;
+    Ok((
+        bytes,
+        Left {
+            nodes,
+            regions,
+            dictionaries,
+        },
+    ))
+}
+
+// The values that the next keys name, and those behind.
+#[tactic(auto, unfolding(crate::specs::Columns::next_values))]
+fn next_values<'a>(
+    dictionaries: &'a [Option<&'a AnyArray>],
+) -> Result<(&'a AnyArray, &'a [Option<&'a AnyArray>]), Fault>
+    ensures { Spells (λ x. (layout_of x.0.now, map dictionary_of x.1.now)) result (next_values_lem (map dictionary_of dictionaries.now)) }
+{
+    match dictionaries {
+        [] => Err(Fault::MissingDictionary),
+        [first, rest @ ..] => match *first {
+            None => Err(Fault::MissingDictionary),
+            Some(values) => Ok((values, rest)),
+        },
+    }
+}
+
+/// The values that the next keys name.
+#[tactic(auto, unfolding(crate::specs::Columns::known_in))]
+pub(crate) fn known_values<'a>(left: Left<'a>) -> Result<(&'a AnyArray, Left<'a>), Fault>
+    ensures { Spells (λ x. (layout_of x.0.now, rest_of x.1)) result (known_in (rest_of left.entry)) }
+{
+    let (values, dictionaries) = next_values(left.dictionaries)?;
+    let nodes = left.nodes;
+    let regions = left.regions;
+    Ok((
+        values,
+        Left {
+            nodes,
+            regions,
+            dictionaries,
+        },
+    ))
 }

@@ -87,7 +87,12 @@ fn pass(span: Span, ahead: Ahead<'_>) -> Result<Ahead<'_>, Fault>
     let nodes = nodes_behind(span.nodes, ahead.left.nodes)?;
     let regions = regions_behind(span.buffers, ahead.left.regions)?;
     let (regions, more) = views_behind(span.views, ahead.more, regions)?;
-    let left = Left { nodes, regions };
+    let dictionaries = ahead.left.dictionaries;
+    let left = Left {
+        nodes,
+        regions,
+        dictionaries,
+    };
     Ok(Ahead { left, more })
 }
 

@@ -1,19 +1,20 @@
 //! What a batch's metadata says of columns that are written.
 ghost use Rattle.std.specs.Prelude.{◌≡◌, ◌<◌, ◌≤◌, ◌^◌, ◌⊎◌, ◌+◌, ◌*◌, ◌++◌, List, ℕ, [], ◌∷◌, pos, map, length, IfOk, IfErr, OnOk, true, None};
 ghost use Rattle.std.specs.Int.{div_ceil};
-ghost use Rattle.std.specs.List.{list_all};
 ghost use Rattle.std.specs.Option.{option_map};
 ghost use Rattle.ipc_model.specs.declared.fault.NoForm.TheVariants.{Memory, Size};
 ghost use Rattle.nest_model.specs.Cut.{cut_layout};
 ghost use Rattle.nest_model.specs.Nullness.{null_count as null_count_lem};
-ghost use Rattle.nest_array.specs.Seen.{layout_of, layouts_of};
-ghost use Rattle.ipc_layout.specs.Kinds.{is_null, is_written};
+ghost use Rattle.nest_array.specs.Seen.{layout_of};
+ghost use Rattle.ipc_layout.specs.Keyless.{has_no_keys};
+ghost use Rattle.ipc_layout.specs.Kinds.{is_null, is_plain, is_written};
 ghost use Rattle.ipc_layout.specs.Placed.{body_of};
 ghost use Rattle.ipc_layout.specs.ShownLaws.{is_nulls as is_nulls_lem};
 ghost use Rattle.ipc_layout.specs.WrittenLaws.{unset};
-ghost use Rattle.ipc_layout.specs.Written.{column_node, valid_bytes, own_buffers, flat_buffers, arrays_of, arrays_of_all, written_windows, shown_window, is_flat, has_form as has_form_lem, kind_has_form, window_has_form, no_form, IsPast, AreTooLong, IsUnwritten, IsLonger, IsMore, IsPlaced};
+ghost use Rattle.ipc_layout.specs.Written.{column_node, valid_bytes, own_buffers, flat_buffers, arrays_of, written_windows, shown_window, is_flat, kind_has_form, no_form, IsPast, AreTooLong, IsUnwritten, IsLonger, IsMore, IsPlaced};
 
 use crate::boolean::place_boolean;
+use crate::dictionary::place_dictionary;
 use crate::fixed_size_binary::place_fixed_size_binary;
 use crate::list::place_rows;
 use crate::native::place_primitive;
@@ -97,14 +98,15 @@ fn unset_bits(validity: &Option<Bitmap>) -> usize
 
 // How many slots of a window are null; of unions none is.
 fn null_count(window: &Window<'_>) -> Result<usize, NoForm>
-    requires { kind_has_form window.now.array ≡ true }
     ensures ok { IfOk result (λ n. n ≡ null_count_lem (shown_window window.now)) }
     ensures few { IfOk result (λ n. n ≤ window.now.count) }
     ensures err { IfErr result (λ why. why ≡ Memory) }
 {
     window.known();
-    window.array().known();
-    if is_nulls(window.array()) {
+    let array = window.array();
+    array.known();
+    kind(array);
+    if is_nulls(array) {
         return Ok(window.len());
     }
     let validity = cut_validity(window)?;
@@ -112,7 +114,6 @@ fn null_count(window: &Window<'_>) -> Result<usize, NoForm>
 }
 
 fn place_node(placed: &mut Placed, window: &Window<'_>) -> Result<(), NoForm>
-    requires { kind_has_form window.now.array ≡ true }
     ensures regions { placed.new.regions ≡ placed.old.regions }
     ensures length { placed.new.length ≡ placed.old.length }
     ensures ok { OnOk result (placed.new.nodes.items ≡ placed.old.nodes.items ++ column_node (shown_window window.now) ∷ []) }
@@ -152,6 +153,7 @@ fn place_parts(placed: &mut Placed, column: &AnyArray) -> Result<(), NoForm>
         AnyArray::LargeBinary(array) => place_binary(placed, array),
         AnyArray::Utf8(array) => place_text(placed, array),
         AnyArray::LargeUtf8(array) => place_text(placed, array),
+        AnyArray::Dictionary(array) => place_dictionary(placed, array),
         _ => unreachable!(),
     }
 }
@@ -198,7 +200,6 @@ fn place_validity(placed: &mut Placed, validity: Option<&Bitmap>) -> Result<(), 
 fn place_own(alloc: Global, placed: &mut Placed, window: &Window<'_>) -> Result<(), NoForm>
     requires small { placed.old.length < 2 ^ 63 }
     requires slots { window.now.count < 2 ^ 63 }
-    requires form { kind_has_form window.now.array ≡ true }
     ensures nodes { placed.new.nodes ≡ placed.old.nodes }
     ensures ok { OnOk result (IsLonger placed.old placed.new (own_buffers (shown_window window.now))) }
     ensures err { IfErr result (λ why. IsPast why (placed.old.length + length (body_of (own_buffers (shown_window window.now))))) }
@@ -237,19 +238,15 @@ fn place_own(alloc: Global, placed: &mut Placed, window: &Window<'_>) -> Result<
         | AnyArray::Binary(_)
         | AnyArray::LargeBinary(_)
         | AnyArray::Utf8(_)
-        | AnyArray::LargeUtf8(_) => place_flat(alloc, placed, window),
-        AnyArray::Dictionary(array) => {
-            array.known();
-            unreachable!()
-        }
+        | AnyArray::LargeUtf8(_)
+        | AnyArray::Dictionary(_) => place_flat(alloc, placed, window),
     }
 }
 
 /// What the metadata says of a window's array and of those below it.
 #[cycle(place)]
 fn place_window(alloc: Global, placed: &mut Placed, window: &Window<'_>) -> Result<(), NoForm>
-    requires small { placed.old.length < 2 ^ 63 }
-    requires form { window_has_form window.now ≡ true }
+    requires { placed.old.length < 2 ^ 63 }
     ensures ok { OnOk result (IsMore placed.old placed.new (arrays_of (shown_window window.now))) }
     ensures err { IfErr result (λ why. AreTooLong why placed.old.length (arrays_of (shown_window window.now))) }
 {
@@ -262,8 +259,7 @@ fn place_window(alloc: Global, placed: &mut Placed, window: &Window<'_>) -> Resu
 
 #[cycle(place)]
 fn place_windows(alloc: Global, placed: &mut Placed, windows: &[Window<'_>]) -> Result<(), NoForm>
-    requires small { placed.old.length < 2 ^ 63 }
-    requires forms { list_all window_has_form windows.now ≡ true }
+    requires { placed.old.length < 2 ^ 63 }
     ensures ok { OnOk result (IsMore placed.old placed.new (written_windows windows.now)) }
     ensures err { IfErr result (λ why. AreTooLong why placed.old.length (written_windows windows.now)) }
 {
@@ -275,8 +271,10 @@ fn place_windows(alloc: Global, placed: &mut Placed, windows: &[Window<'_>]) -> 
 
 /// What the variant of an array says of its kind.
 pub(crate) fn kind(array: &AnyArray)
+    ensures form { kind_has_form (layout_of array.now) ≡ true }
     ensures flat { is_flat (layout_of array.now) ≡ is_written array.now }
     ensures nulls { is_nulls_lem (layout_of array.now) ≡ is_null array.now }
+    ensures keys { has_no_keys (layout_of array.now) ≡ is_plain array.now }
 {
     match array {
         AnyArray::Null(array) => array.known(),
@@ -297,76 +295,14 @@ pub(crate) fn kind(array: &AnyArray)
     }
 }
 
-/// Whether an array and those below it are of kinds that are written.
-#[cycle(form)]
-fn has_form(array: &AnyArray) -> bool
-    ensures { result ≡ has_form_lem (layout_of array.now) }
-{
-    kind(array);
-    match array {
-        AnyArray::FixedSizeList(array) => {
-            array.known();
-            has_form(array.values())
-        }
-        AnyArray::List(array) => {
-            array.known();
-            has_form(array.values())
-        }
-        AnyArray::LargeList(array) => {
-            array.known();
-            has_form(array.values())
-        }
-        AnyArray::Map(array) => {
-            array.known();
-            has_form(array.field())
-        }
-        AnyArray::Struct(array) => {
-            array.known();
-            all_have_forms(array.values())
-        }
-        AnyArray::Union(array) => {
-            array.known();
-            all_have_forms(array.fields())
-        }
-        AnyArray::Dictionary(array) => {
-            array.known();
-            false
-        }
-        AnyArray::Null(_)
-        | AnyArray::Boolean(_)
-        | AnyArray::Primitive(_)
-        | AnyArray::FixedSizeBinary(_)
-        | AnyArray::Binary(_)
-        | AnyArray::LargeBinary(_)
-        | AnyArray::Utf8(_)
-        | AnyArray::LargeUtf8(_) => true,
-    }
-}
-
-/// Whether all arrays are.
-#[cycle(form)]
-pub(crate) fn all_have_forms(arrays: &[AnyArray]) -> bool
-    ensures { result ≡ list_all kind_has_form (arrays_of_all (layouts_of arrays.now)) }
-{
-    for array in arrays {
-        if !has_form(array) {
-            return false;
-        }
-    }
-    true
-}
-
 /// Where the buffers of columns stand in the body of their batch, and what its metadata says of the columns and of the arrays
-/// below them. Refused where a dictionary is among those (`Type`), where one has more than 2^63 - 1 slots or the body more than
-/// 2^63 - 1 bytes (`Size`), or for want of memory.
+/// below them. Refused where one of those has more than 2^63 - 1 slots or the body more than 2^63 - 1 bytes (`Size`), or for want of
+/// memory.
 pub fn place_columns(alloc: Global, columns: &[AnyArray]) -> Result<Placed, NoForm>
     ensures ok { IfOk result (IsPlaced (map layout_of columns.now)) }
     ensures form { OnOk result (no_form (map layout_of columns.now) ≡ None) }
     ensures err { IfErr result (IsUnwritten (map layout_of columns.now)) }
 {
-    if !all_have_forms(columns) {
-        return Err(NoForm::Type);
-    }
     let windows = whole(alloc, columns)?;
     let mut placed = Placed {
         nodes: Vec::new(alloc),

@@ -1,6 +1,6 @@
 //! Examples of columns with children, as functions with empty bodies.
-ghost use Rattle.ipc_model.specs.declared.fault.Fault.TheVariants.{BufferCount, ChildLength, NodeCount, OffsetPastChild, TypeRange, UnionSlot, UnionType};
-ghost use Rattle.ipc_layout.specs.ReadExamples.{IsRead, IsRefused, lists, lists_read, short_lists, bare_lists, no_lists, no_lists_read, large_lists, large_lists_read, pairs, pairs_read, long_pairs, no_pairs, records, records_read, first_long, second_long, no_records, maps, maps_read, short_maps, no_maps, choices, choices_read, short_choices, odd_choices, unnamed_choices, negative_choices, picks, picks_read, past_picks, other_picks, negative_picks, odd_picks, bare_picks};
+ghost use Rattle.ipc_model.specs.declared.fault.Fault.TheVariants.{BufferCount, BufferShort, ChildLength, KeyRange, MissingDictionary, NodeCount, OffsetPastChild, TypeRange, UnionSlot, UnionType};
+ghost use Rattle.ipc_layout.specs.ReadExamples.{IsRead, IsRefused, lists, lists_read, short_lists, bare_lists, no_lists, no_lists_read, large_lists, large_lists_read, pairs, pairs_read, long_pairs, no_pairs, records, records_read, first_long, second_long, no_records, maps, maps_read, short_maps, no_maps, choices, choices_read, short_choices, odd_choices, unnamed_choices, negative_choices, picks, picks_read, past_picks, other_picks, negative_picks, odd_picks, bare_picks, keyed, keyed_read, wide_keyed, wide_keyed_read, null_keyed, null_keyed_read, both_keyed, both_keyed_read, past_keyed, negative_keyed, missing_keyed, bare_keyed, unlike_keyed, short_keyed};
 
 /// Lists whose items stand before their offsets, which begin at 1 and leave an item at the end; with an item too few, or no node of items, they
 /// are refused.
@@ -57,4 +57,24 @@ pub fn dense_unions_are_read()
     ensures negative { IsRefused negative_picks UnionSlot }
     ensures odd { IsRefused odd_picks UnionType }
     ensures bare { IsRefused bare_picks BufferCount }
+{}
+
+/// Keys of texts, of which one is null, over another number than 0, which is read as 0; keys of another width, of values whose type extends that of
+/// texts; nulls over no value, whose keys would name none; a record of two keys, each of which takes its own values.
+pub fn keys_are_read()
+    ensures read { IsRead keyed keyed_read }
+    ensures wide { IsRead wide_keyed wide_keyed_read }
+    ensures null { IsRead null_keyed null_keyed_read }
+    ensures both { IsRead both_keyed both_keyed_read }
+{}
+
+/// Keys are refused where one that is valid is past the values or negative, where the values are missing or, looked at before the keys are, of
+/// another type, and where there are too few bytes of keys, before the values are looked for.
+pub fn keys_are_refused()
+    ensures past { IsRefused past_keyed KeyRange }
+    ensures negative { IsRefused negative_keyed KeyRange }
+    ensures missing { IsRefused missing_keyed MissingDictionary }
+    ensures bare { IsRefused bare_keyed MissingDictionary }
+    ensures unlike { IsRefused unlike_keyed MissingDictionary }
+    ensures short { IsRefused short_keyed BufferShort }
 {}

@@ -11,6 +11,7 @@ ghost use Rattle.ipc_layout.specs.Columns.{Rest, rest_of, of_kind, column_in};
 ghost use Rattle.ipc_layout.specs.ReadParts.{is_flat as is_flat_lem, array_read, item_read, items_read};
 
 use crate::boolean::read_boolean;
+use crate::dictionary::read_dictionary;
 use crate::fixed_size_binary::read_fixed_size_binary;
 use crate::fixed_size_list::read_fixed_size_list;
 use crate::list::{read_large_list, read_list};
@@ -106,6 +107,12 @@ fn read_flat<'a>(
             in_variant!(
                 LargeUtf8,
                 read_text::<i64>(alloc, data_type, counts, body, left)
+            )
+        }
+        PhysicalType::Dictionary(kind) => {
+            in_variant!(
+                Dictionary,
+                read_dictionary(alloc, kind, data_type, counts, body, left)
             )
         }
         _ => Err(Fault::UnsupportedType),

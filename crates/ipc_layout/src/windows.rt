@@ -87,10 +87,7 @@ pub(crate) fn below<'a>(alloc: Global, window: &Window<'a>) -> Result<Vec<Window
         | AnyArray::Binary(_)
         | AnyArray::LargeBinary(_)
         | AnyArray::Utf8(_)
-        | AnyArray::LargeUtf8(_) => Ok(Vec::new(alloc)),
-        AnyArray::Dictionary(array) => {
-            array.known();
-            Ok(Vec::new(alloc))
-        }
+        | AnyArray::LargeUtf8(_)
+        | AnyArray::Dictionary(_) => Ok(Vec::new(alloc)),
     }
 }

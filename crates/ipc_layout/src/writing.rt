@@ -1,19 +1,20 @@
 //! Writes columns into a body.
 ghost use Rattle.std.specs.Prelude.{◌≡◌, ◌∷◌, ◌++◌, [], true, map, IfErr, OnOk};
-ghost use Rattle.std.specs.List.{list_all, AllByRecursion};
+ghost use Rattle.std.specs.List.{AllByRecursion};
 ghost use Rattle.std.specs.Option.{option_map};
 ghost use Rattle.ipc_model.specs.declared.fault.NoForm.TheVariants.{Memory};
 ghost use Rattle.nest_array.specs.Seen.{layout_of};
 ghost use Rattle.ipc_layout.specs.Placed.{body_of};
-ghost use Rattle.ipc_layout.specs.Written.{valid_bytes, own_buffers, flat_buffers, arrays_of, buffers_of, written_windows, shown_window, columns_body, is_flat, kind_has_form, window_has_form, IsUnwritten, AreReadBack};
+ghost use Rattle.ipc_layout.specs.Written.{valid_bytes, own_buffers, flat_buffers, arrays_of, buffers_of, written_windows, shown_window, columns_body, is_flat, AreReadBack};
 ghost use Rattle.ipc_layout.specs.WrittenLaws.{IsWritable, OwnSpelled};
-ghost use Rattle.ipc_layout.specs.AgainLaws.{IsAgain};
+ghost use Rattle.ipc_layout.specs.Rekeyed.{IsAgainOver, AreReadOver};
 
 use crate::boolean::put_boolean;
+use crate::dictionary::put_dictionary;
 use crate::fixed_size_binary::put_fixed_size_binary;
 use crate::list::put_rows;
 use crate::native::put_primitive;
-use crate::placing::{all_have_forms, cut_of, kind};
+use crate::placing::{cut_of, kind};
 use crate::strings::{put_binary, put_text};
 use crate::union::put_picks;
 use crate::validity::{cut_validity, put_validity};
@@ -42,6 +43,7 @@ fn put_parts(out: &mut Vec<u8>, column: &AnyArray) -> Result<(), AllocError>
         AnyArray::LargeBinary(array) => put_binary(out, array),
         AnyArray::Utf8(array) => put_text(out, array),
         AnyArray::LargeUtf8(array) => put_text(out, array),
+        AnyArray::Dictionary(array) => put_dictionary(out, array),
         _ => unreachable!(),
     }
 }
@@ -75,7 +77,6 @@ fn put_alone(out: &mut Vec<u8>, validity: Option<&Bitmap>) -> Result<(), NoForm>
 
 // Appends a window's own buffers.
 fn put_own(alloc: Global, out: &mut Vec<u8>, window: &Window<'_>) -> Result<(), NoForm>
-    requires { kind_has_form window.now.array ≡ true }
     ensures ok { OnOk result (out.new.items ≡ out.old.items ++ body_of (own_buffers (shown_window window.now))) }
     ensures spelled { OnOk result (OwnSpelled window.now.array window.now.offset window.now.count) }
     ensures err { IfErr result (λ why. why ≡ Memory) }
@@ -118,24 +119,22 @@ fn put_own(alloc: Global, out: &mut Vec<u8>, window: &Window<'_>) -> Result<(), 
         | AnyArray::Binary(_)
         | AnyArray::LargeBinary(_)
         | AnyArray::Utf8(_)
-        | AnyArray::LargeUtf8(_) => put_flat(alloc, out, window),
-        AnyArray::Dictionary(array) => {
-            array.known();
-            unreachable!()
-        }
+        | AnyArray::LargeUtf8(_)
+        | AnyArray::Dictionary(_) => put_flat(alloc, out, window),
     }
 }
 
 /// Appends the buffers of a window's array and of those below it.
 #[cycle(put)]
 fn put_window(alloc: Global, out: &mut Vec<u8>, window: &Window<'_>) -> Result<(), NoForm>
-    requires { window_has_form window.now ≡ true }
     ensures ok { OnOk result (out.new.items ≡ out.old.items ++ body_of (buffers_of (arrays_of (shown_window window.now)))) }
-    ensures again { OnOk result (IsAgain window.now) }
+    ensures again { OnOk result (IsAgainOver window.now) }
     ensures err { IfErr result (λ why. why ≡ Memory) }
 {
     window.known();
-    window.array().known();
+    let array = window.array();
+    array.known();
+    kind(array);
     put_own(alloc, out, window)?;
     let children = below(alloc, window)?;
     put_windows(alloc, out, &children)
@@ -143,9 +142,8 @@ fn put_window(alloc: Global, out: &mut Vec<u8>, window: &Window<'_>) -> Result<(
 
 #[cycle(put)]
 fn put_windows(alloc: Global, out: &mut Vec<u8>, windows: &[Window<'_>]) -> Result<(), NoForm>
-    requires { list_all window_has_form windows.now ≡ true }
     ensures ok { OnOk result (out.new.items ≡ out.old.items ++ body_of (buffers_of (written_windows windows.now))) }
-    ensures again { OnOk result (AllByRecursion IsAgain windows.now) }
+    ensures again { OnOk result (AllByRecursion IsAgainOver windows.now) }
     ensures err { IfErr result (λ why. why ≡ Memory) }
 {
     for window in windows {
@@ -154,16 +152,14 @@ fn put_windows(alloc: Global, out: &mut Vec<u8>, windows: &[Window<'_>]) -> Resu
     Ok(())
 }
 
-/// Appends the body of a batch of columns, from which the same arrays are read back. Refused where a dictionary is among the
-/// columns and the arrays below them (`Type`), or for want of memory.
+/// Appends the body of a batch of columns, from which the same arrays are read back where the values of their dictionaries are
+/// known, or others of the same slots. Refused for want of memory.
 pub fn put_columns(out: &mut Vec<u8>, columns: &[AnyArray]) -> Result<(), NoForm>
     ensures ok { OnOk result (out.new.items ≡ out.old.items ++ columns_body (map layout_of columns.now)) }
     ensures again { OnOk result (AreReadBack (map layout_of columns.now)) }
-    ensures err { IfErr result (IsUnwritten (map layout_of columns.now)) }
+    ensures over { OnOk result (AreReadOver (map layout_of columns.now)) }
+    ensures err { IfErr result (λ why. why ≡ Memory) }
 {
-    if !all_have_forms(columns) {
-        return Err(NoForm::Type);
-    }
     let alloc = *out.allocator();
     let windows = whole(alloc, columns)?;
     put_windows(alloc, out, &windows)

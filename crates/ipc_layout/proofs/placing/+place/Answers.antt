@@ -1,15 +1,15 @@
-use Rattle.std.proofs.Common.{◌≡◌, true, sym, subst, ap, ◌∙◌, arith}
-use Rattle.std.specs.List.{list_all, sum_by}
+use Rattle.std.proofs.Common.{sym, subst, ap, ◌∙◌, arith}
+use Rattle.std.specs.List.{sum_by}
 use Rattle.std.proofs.lemmas.Result.{err_from_is_err_and}
-use Rattle.ipc_layout.specs.ShownLaws.{load, written_none, below_form, below_load, shown_len}
-use Rattle.ipc_layout.specs.Written.{window_has_form, shown_window, IsMore}
+use Rattle.ipc_layout.specs.ShownLaws.{load, written_none, below_load, shown_len}
+use Rattle.ipc_layout.specs.Written.{shown_window, IsMore}
 use Rattle.ipc_layout.proofs.Arrays.{on_ok, if_err}
 use Rattle.ipc_layout.proofs.Bodies.{more_none, more_one}
 use Rattle.ipc_layout.proofs.Trees.{windows_more, windows_long, window_more, window_slots, window_buffers, window_long}
 use Rattle.ipc_layout.proofs.placing.+place.Goals as goal
 
 pub place_windows-loop-window-init : goal.place_windows-loop-window-init
-place_windows-loop-window-init t c = subst (IsMore c.args.placed.now c.args.placed.now) (sym written_none) (more_none c.args.placed.now c.requires.small)
+place_windows-loop-window-init t c = subst (IsMore c.args.placed.now c.args.placed.now) (sym written_none) (more_none c.args.placed.now c.requires)
 
 pub place_windows-returns-in_err-place_window-clause-err : goal.place_windows-returns-in_err-place_window-clause-err
 place_windows-returns-in_err-place_window-clause-err t c =
@@ -36,7 +36,7 @@ pub place_window-place_windows-requires : goal.place_window-place_windows-requir
 place_window-place_windows-requires t c =
     let v = c.args.window.now in
     let e = c.deref.ensures.value ∙ c.in_ok-children.ensures in
-    (omega (arith, ap (sum_by load) e, below_load v.array v.offset v.count), (c.in_ok-place_own.ensures.ok.small, subst (λ ws. list_all window_has_form ws ≡ true) (sym e) (below_form v.array v.offset v.count c.requires.form)))
+    (omega (arith, ap (sum_by load) e, below_load v.array v.offset v.count), c.in_ok-place_own.ensures.ok.small)
 
 pub place_window-returns-clause-ok : goal.place_window-returns-clause-ok
 place_window-returns-clause-ok t c =

@@ -1,25 +1,16 @@
-use Rattle.std.proofs.Common.{◌≡◌, ◌∙◌, refl, inr, sym, ap, subst, map, true}
-use Rattle.std.specs.List.{list_all}
+use Rattle.std.proofs.Common.{◌∙◌, refl, ap, subst, map}
 use Rattle.std.proofs.lemmas.Result.{err_from_is_err_and}
-use Rattle.nest_array.specs.Seen.{layout_of, layouts_of}
-use Rattle.ipc_layout.specs.ShownLaws.{columns_form, columns_written, whole_form}
-use Rattle.ipc_layout.specs.Written.{written_windows, window_has_form, AreTooLong, IsMore}
-use Rattle.ipc_layout.proofs.Bodies.{type_refused, past_unwritten, placed_all, form_is}
+use Rattle.nest_array.specs.Seen.{layout_of}
+use Rattle.ipc_layout.specs.ShownLaws.{columns_written}
+use Rattle.ipc_layout.specs.Written.{written_windows, AreTooLong, IsMore}
+use Rattle.ipc_layout.proofs.Bodies.{past_unwritten, placed_all, form_is}
 use Rattle.ipc_layout.proofs.placing.place_columns.Goals as goal
-
-pub returns-then-not-all_have_forms-clause-err : goal.returns-then-not-all_have_forms-clause-err
-returns-then-not-all_have_forms-clause-err c = inr (type_refused (map layout_of c.args.columns.now) (sym (columns_form c.args.columns.now) ∙ sym c.all_have_forms.ensures ∙ c.if-not-all_have_forms.true))
-
-pub place_windows-requires-clause-forms : goal.place_windows-requires-clause-forms
-place_windows-requires-clause-forms c =
-    let e = c.deref.ensures.value ∙ c.in_ok-windows.ensures in
-    subst (λ ws. list_all window_has_form ws ≡ true) (sym e) (whole_form (layouts_of c.args.columns.now) ∙ sym c.all_have_forms.ensures ∙ c.if-not-all_have_forms.false)
 
 pub returns-in_err-place_windows-clause-err : goal.returns-in_err-place_windows-clause-err
 returns-in_err-place_windows-clause-err c =
     let e = ap written_windows (c.deref.ensures.value ∙ c.in_ok-windows.ensures) ∙ columns_written c.args.columns.now in
     let p = err_from_is_err_and c.from_residual-in_err-place_windows.result c.from_residual-in_err-place_windows.ensures.1 in
-    rw (p.1, p.2) (past_unwritten _ (map layout_of c.args.columns.now) (sym (columns_form c.args.columns.now) ∙ sym c.all_have_forms.ensures ∙ c.if-not-all_have_forms.false) (subst (AreTooLong _ 0) e c.in_err-place_windows.ensures.err))
+    rw (p.1, p.2) (past_unwritten _ (map layout_of c.args.columns.now) (subst (AreTooLong _ 0) e c.in_err-place_windows.ensures.err))
 
 pub returns-clause-ok : goal.returns-clause-ok
 returns-clause-ok c =
@@ -29,5 +20,4 @@ returns-clause-ok c =
 pub returns-clause-form : goal.returns-clause-form
 returns-clause-form c =
     let e = ap written_windows (c.deref.ensures.value ∙ c.in_ok-windows.ensures) ∙ columns_written c.args.columns.now in
-    let all = sym (columns_form c.args.columns.now) ∙ sym c.all_have_forms.ensures ∙ c.if-not-all_have_forms.false in
-    form_is (map layout_of c.args.columns.now) _ all (placed_all (map layout_of c.args.columns.now) _ _ c.new.ensures.items c.new-2.ensures.items refl (subst (IsMore _ _) e c.in_ok-place_windows.ensures.ok))
+    form_is (map layout_of c.args.columns.now) _ (placed_all (map layout_of c.args.columns.now) _ _ c.new.ensures.items c.new-2.ensures.items refl (subst (IsMore _ _) e c.in_ok-place_windows.ensures.ok))

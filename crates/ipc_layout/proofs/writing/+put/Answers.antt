@@ -1,10 +1,10 @@
-use Rattle.std.proofs.Common.{◌≡◌, ◌++◌, true, sym, subst, ap, ◌∙◌, arith}
-use Rattle.std.specs.List.{AllByRecursion, list_all, sum_by}
+use Rattle.std.proofs.Common.{◌++◌, sym, subst, ap, ◌∙◌, arith}
+use Rattle.std.specs.List.{AllByRecursion, sum_by}
 use Rattle.std.proofs.lemmas.List.{append-nil}
 use Rattle.nest_model.specs.Array.{TopFits}
-use Rattle.ipc_layout.specs.AgainLaws.{IsAgain, again}
-use Rattle.ipc_layout.specs.ShownLaws.{load, below_form, below_load}
-use Rattle.ipc_layout.specs.Written.{window_has_form}
+use Rattle.ipc_layout.specs.Rekeyed.{IsAgainOver, again_over}
+use Rattle.ipc_layout.specs.ShownLaws.{load, below_load}
+use Rattle.ipc_layout.specs.Written.{kind_has_form}
 use Rattle.ipc_layout.proofs.Arrays.{on_ok}
 use Rattle.ipc_layout.proofs.Trees.{body_nothing, put_more, window_put, again_push}
 use Rattle.ipc_layout.proofs.writing.+put.Goals as goal
@@ -26,7 +26,7 @@ pub put_window-put_windows-requires : goal.put_window-put_windows-requires
 put_window-put_windows-requires t c =
     let v = c.args.window.now in
     let e = c.deref.ensures.value ∙ c.in_ok-children.ensures in
-    (omega (arith, ap (sum_by load) e, below_load v.array v.offset v.count), subst (λ ws. list_all window_has_form ws ≡ true) (sym e) (below_form v.array v.offset v.count c.requires))
+    omega (arith, ap (sum_by load) e, below_load v.array v.offset v.count)
 
 pub put_window-returns-clause-ok : goal.put_window-returns-clause-ok
 put_window-returns-clause-ok t c =
@@ -39,4 +39,4 @@ put_window-returns-clause-again t c =
     let v = c.args.window.now in
     let e = c.deref.ensures.value ∙ c.in_ok-children.ensures in
     on_ok c.put_windows.result c.put_windows.ensures.again
-    (λ h. again v.array v.offset v.count (subst TopFits c.array.ensures c.known-2.ensures) c.requires c.known.ensures c.in_ok-put_own.ensures.spelled (subst (AllByRecursion IsAgain) e h))
+    (λ h. again_over v.array v.offset v.count (subst TopFits c.array-array.ensures c.known-2.ensures) (ap kind_has_form (sym c.array-array.ensures) ∙ c.kind.ensures.form) c.known.ensures c.in_ok-put_own.ensures.spelled (subst (AllByRecursion IsAgainOver) e h))

@@ -1,7 +1,7 @@
 use Rattle.std.proofs.Common.{◌≡◌, ◌*◌, ◌+◌, ◌++◌, take}
 use Rattle.std.specs.List.{AllByRecursion, sum_by}
 use Rattle.nest_model.specs.Layout.{weight}
-use Rattle.ipc_layout.specs.AgainLaws.{IsAgain}
+use Rattle.ipc_layout.specs.Rekeyed.{IsAgainOver}
 use Rattle.ipc_layout.specs.Placed.{body_of}
 use Rattle.ipc_layout.specs.ShownLaws.{load}
 use Rattle.ipc_layout.specs.Written.{buffers_of, written_windows}
@@ -16,5 +16,5 @@ decreases-put_windows l = 2 * sum_by load l.windows.now
 abbrev pub invariant-put_windows-loop-window : goal.invariant-put_windows-loop-window
 invariant-put_windows-loop-window l = record {
   written : l.out.items ≡ l.initial.out.items ++ body_of (buffers_of (written_windows (take l.window-index l.windows)));
-  again : AllByRecursion IsAgain (take l.window-index l.windows);
+  again : AllByRecursion IsAgainOver (take l.window-index l.windows);
 }
