@@ -16,10 +16,13 @@ use Rattle.ipc_words.specs.Bytes.{u32_bytes, i32_bytes, i64_bytes, vector_bytes}
 use Rattle.ipc_words.specs.Laws.{From, From_next}
 use Rattle.ipc_words.specs.PartLaws.{From_at, i16_in, i32_in, i64_in, offset_in, table_in, visit_in, field_in}
 use Rattle.ipc_words.specs.RowLaws.{IsStruct, vector_again}
-use Rattle.ipc_schema.specs.Schemas.{schema_at}
-use Rattle.ipc_schema.specs.SchemaLaws.{SchemaFits, part_of, schema_cost, schema_pays, table_again}
+use Rattle.ipc_schema.specs.Picks.{all}
+use Rattle.ipc_schema.specs.PickedSchemas.{picked_schema_at}
+use Rattle.ipc_schema.specs.SchemaLaws.{KeyedFits, part_of, schema_cost, keyed_pays}
+use Rattle.ipc_schema.specs.PickedLaws.{all_written, table_picked}
 use Rattle.ipc_footer.specs.declared.footer.Block.{Block}
-use Rattle.ipc_footer.specs.Footers.{FooterTree, block_at, blocks_in, lists_at, footer_at, is_before, block_before, blocks_before, magic, has_magic, file_footer_in}
+use Rattle.ipc_footer.specs.Footers.{FooterTree, block_at, blocks_in, lists_at, is_before, block_before, blocks_before, magic, has_magic}
+use Rattle.ipc_footer.specs.PickedFooters.{PickedFooterTree, picked_footer_at, file_picked_in}
 use Rattle.ipc_footer.specs.FooterBytes.{written_block, footer_head, footer_parts, footer_bytes, file_end, file_head}
 
 -- ---- blocks
@@ -62,7 +65,7 @@ vector_long bs = omega (arith, blocks_long bs)
 
 -- what a footer of the code has
 pub record FooterFits (f : FooterTree) : Type 0 where
-  pub schema : SchemaFits f.schema
+  pub schema : KeyedFits f.schema
   pub dictionaries : AllByRecursion BlockFits f.dictionaries
   pub batches : AllByRecursion BlockFits f.batches
 
@@ -74,8 +77,12 @@ footer_long f =
     let gap : List ℕ = 0 ∷ 0 ∷ 0 ∷ 0 ∷ [] in
     omega (arith, vector_long f.dictionaries, vector_long f.batches, length-append dictionaries (gap ++ (batches ++ part_of f.schema)), length-append batches (part_of f.schema))
 
-pub footer_again : (f : FooterTree) → FooterFits f → length (footer_bytes f) < 2 ^ 31 → footer_at (footer_bytes f) ≡ Ok f
-unfolding footer_at blocks_in lists_at footer_parts footer_head u32_bytes
+-- a footer that is written, as it is read where all of its fields are
+abbrev pub read_again : FooterTree → PickedFooterTree
+read_again f = record { picked = all_written f.schema; dictionaries = f.dictionaries; batches = f.batches }
+
+pub footer_again : (f : FooterTree) → FooterFits f → length (footer_bytes f) < 2 ^ 31 → picked_footer_at all (footer_bytes f) ≡ Ok (read_again f)
+unfolding picked_footer_at blocks_in lists_at footer_parts footer_head u32_bytes
 footer_again f fits small =
     let d : ℕ = length f.dictionaries in
     let n : ℕ = length f.batches in
@@ -86,7 +93,7 @@ footer_again f fits small =
     let whole : List ℕ = footer_bytes f in
     let left : ℕ = 64 * length whole in
     let long = footer_long f in
-    let pays = schema_pays f.schema fits.schema in
+    let pays = keyed_pays f.schema fits.schema in
     let h : From whole 0 whole = record { is = refl; within = omega arith } in
     let root : offset_at whole 0 ≡ Ok 16 = offset_in whole 0 whole 0 0 16 h (omega arith) refl (omega arith) refl in
     let inner : List ℕ = drop 4 whole in
@@ -105,8 +112,8 @@ footer_again f fits small =
     let second : From whole (28 + (16 + 24 * d)) (batches ++ schema) = From_at whole (36 + length dictionaries) (28 + (16 + 24 * d)) 4 (gap ++ (batches ++ schema)) (batches ++ schema) behind (omega arith) (omega (arith, vector_long f.dictionaries)) refl in
     let third : From whole (28 + (16 + 24 * d) + length batches) schema = From_next whole (28 + (16 + 24 * d)) batches schema second in
     let last : From whole (28 + (16 + 24 * d) + length batches) (schema ++ []) = record { is = third.is ∙ sym (append-nil schema); within = third.within } in
-    let s : schema_at whole (20 + (44 + 24 * d + 24 * n)) (left - 8) ≡ Ok (f.schema, left - 8 - schema_cost f.schema) =
-    (table_again f.schema fits.schema).law whole (28 + (16 + 24 * d) + length batches) (20 + (44 + 24 * d + 24 * n)) (left - 8) [] last (omega arith) (omega (arith, vector_long f.batches)) (omega arith) in
+    let s : picked_schema_at all whole (20 + (44 + 24 * d + 24 * n)) (left - 8) ≡ Ok (all_written f.schema, left - 8 - schema_cost f.schema) =
+    (table_picked f.schema fits.schema).law whole (28 + (16 + 24 * d) + length batches) (20 + (44 + 24 * d + 24 * n)) (left - 8) [] last (omega arith) (omega (arith, vector_long f.batches)) (omega arith) in
     let rest : ℕ = left - 8 - schema_cost f.schema in
     let ds : vector_at (block_at whole) 24 whole (Some (24 + 12)) rest ≡ Ok (f.dictionaries, rest - (4 + d * 24)) =
     vector_again block_at 24 written_block f.dictionaries whole (24 + 12) rest (gap ++ (batches ++ schema)) (blocks_again f.dictionaries fits.dictionaries) first (omega arith) (omega arith) (omega arith) in
@@ -137,8 +144,8 @@ ending : (n : ℕ) → length (u32_bytes n ++ magic) ≡ 10
 unfolding u32_bytes
 ending n = refl
 
-pub file_again : (f : FooterTree) (inner : List ℕ) → FooterFits f → length (footer_bytes f) < 2 ^ 31 → blocks_before (8 + length inner) (f.dictionaries ++ f.batches) ≡ true → file_footer_in (file_bytes inner f) ≡ Ok f
-unfolding file_footer_in file_end
+pub file_again : (f : FooterTree) (inner : List ℕ) → FooterFits f → length (footer_bytes f) < 2 ^ 31 → blocks_before (8 + length inner) (f.dictionaries ++ f.batches) ≡ true → file_picked_in all (file_bytes inner f) ≡ Ok (read_again f)
+unfolding file_picked_in file_end
 file_again f inner fits small inside =
     let footer : List ℕ = footer_bytes f in
     let n : ℕ = length footer in
@@ -161,7 +168,7 @@ file_again f inner fits small inside =
 
 -- behind whatever stands between the first 8 bytes of a file and its end, where all blocks lie in it, the footer is read back
 abbrev pub IsReadBack : FooterTree → Type 0
-IsReadBack f = (inner : List ℕ) → blocks_before (8 + length inner) (f.dictionaries ++ f.batches) ≡ true → file_footer_in (file_head ++ (inner ++ file_end f)) ≡ Ok f
+IsReadBack f = (inner : List ℕ) → blocks_before (8 + length inner) (f.dictionaries ++ f.batches) ≡ true → file_picked_in all (file_head ++ (inner ++ file_end f)) ≡ Ok (read_again f)
 
 -- ---- what lies before a place lies before a later one
 

@@ -1,27 +1,27 @@
--- The footer of a file, and where its blocks lie: "IPC File Format" of the Arrow columnar format, `Footer` and `Block` of `File.fbs`, in the order of reading.
-use Rattle.std.specs.Prelude.{ℕ, ◌+◌, ◌-◌, ◌*◌, ℤ, pos, negsuc, nat_eq, Bool, false, ◌&&◌, List, ◌++◌, map, sum, length, take, drop, codes, Option, Some, None, Result, Ok, Err, nat_le, unsigned_abs, if◌then◌else◌}
-use Rattle.std.specs.Int.{w16, w32, w64, from_le_bytes, cast_signed}
+-- Parts of the footer of a file, where its blocks lie, and the ends of the file: "IPC File Format" of the Arrow columnar format, `Footer` and `Block` of `File.fbs`, in the order of reading.
+use Rattle.std.specs.Prelude.{ℕ, ◌+◌, ◌-◌, ℤ, pos, negsuc, nat_eq, Bool, false, ◌&&◌, List, map, sum, length, take, drop, codes, Option, Some, None, Result, Ok, Err, nat_le, unsigned_abs}
+use Rattle.std.specs.Int.{w32, w64, from_le_bytes, cast_signed}
 use Rattle.std.specs.List.{list_all, starts_with, ends_with}
 use Rattle.ipc_model.specs.Reading.{◌>>=◌, check}
 use Rattle.ipc_model.specs.declared.fault.Fault.{Fault}
-use Rattle.ipc_model.specs.declared.fault.Fault.TheVariants as faults
 use Rattle.ipc_model.specs.declared.fault.Fault.TheVariants.{Truncated, Magic, FooterLength, NoSchema}
-use Rattle.ipc_words.specs.Words.{natural, signed_at, offset_at, field, offset_field, visit_table, vector_at}
+use Rattle.ipc_words.specs.Words.{natural, signed_at, offset_field, vector_at}
 use Rattle.ipc_words.specs.declared.tables.Table.{Table}
-use Rattle.ipc_message.specs.Messages.{version_of}
-use Rattle.ipc_schema.specs.Schemas.{SchemaTree, schema_at, schema_of}
-use Rattle.ipc_schema.specs.Unions.{have_union, in_version}
+use Rattle.ipc_schema.specs.Schemas.{SchemaTree, schema_of}
 use Rattle.ipc_schema.specs.declared.schema.Schema.{Schema}
 use Rattle.ipc_footer.specs.declared.footer.Block.{Block}
-use Rattle.ipc_footer.specs.declared.footer.Footer.{Footer}
 
--- ---- the footer
+-- ---- parts of the footer
 
--- a footer without where it lies in memory
+-- a footer as it is written
 pub record FooterTree : Type 0 where
   pub schema : SchemaTree
   pub dictionaries : List Block
   pub batches : List Block
+
+-- that of a schema of the code
+abbrev pub footer_with : Schema → List Block → List Block → FooterTree
+footer_with schema dictionaries batches = record { schema = schema_of schema; dictionaries = dictionaries; batches = batches }
 
 -- `Block`: behind the length of the metadata is a gap of four bytes
 abbrev pub block_at : List ℕ → ℕ → Result Block Fault
@@ -47,20 +47,6 @@ lists_at bytes table left = do
   dictionaries ← blocks_in bytes table 2 left
   batches ← blocks_in bytes table 3 dictionaries.1
   Ok (dictionaries.0, batches.0)
-
--- `Footer`, whose parts may cost 64 times its bytes
-unfoldable pub footer_at : List ℕ → Result FooterTree Fault
-footer_at bytes = do
-  place ← offset_at bytes 0
-  table ← visit_table bytes place (64 * length bytes)
-  number ← field (signed_at w16 bytes) (pos 0) bytes table.0 0
-  version ← version_of number
-  to ← offset_field bytes table.0 1
-  there ← schema_place to
-  schema ← schema_at bytes there table.1
-  allowed ← in_version version (have_union schema.0.fields)
-  lists ← lists_at bytes table.0 schema.1
-  Ok (record { schema = schema.0; dictionaries = lists.0; batches = lists.1 })
 
 -- ---- blocks
 
@@ -111,23 +97,3 @@ footer_length bytes = do
 -- where a footer of so many bytes begins
 abbrev pub footer_place : ℕ → List ℕ → ℕ
 footer_place long bytes = length bytes - (10 + long)
-
--- a footer whose blocks lie before a place
-abbrev pub placed : ℕ → FooterTree → Result FooterTree Fault
-placed end f = if blocks_before end (f.dictionaries ++ f.batches) then Ok f else Err faults.Block
-
--- the footer of a file, all blocks of which lie before it
-unfoldable pub file_footer_in : List ℕ → Result FooterTree Fault
-file_footer_in bytes = do
-  ends ← check_ends bytes
-  long ← footer_length bytes
-  footer ← footer_at (take long (drop (footer_place long bytes) bytes))
-  placed (footer_place long bytes) footer
-
--- a footer of the code
-abbrev pub footer_of : Footer → FooterTree
-footer_of f = record { schema = schema_of f.schema; dictionaries = f.dictionaries.items; batches = f.batches.items }
-
--- the footer of a schema of the code and blocks
-abbrev pub footer_with : Schema → List Block → List Block → FooterTree
-footer_with schema dictionaries batches = record { schema = schema_of schema; dictionaries = dictionaries; batches = batches }

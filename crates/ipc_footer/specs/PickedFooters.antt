@@ -1,16 +1,25 @@
--- The footer of a file that is read by columns, in the order of reading: its schema of the fields that are read, and what is done with each field.
-use Rattle.std.specs.Prelude.{ℕ, ◌*◌, pos, List, length, take, drop, Result, Ok}
+-- The footer of a file, in the order of reading: its schema by columns, where the blocks lie of its dictionaries and of its batches.
+use Rattle.std.specs.Prelude.{ℕ, ◌*◌, pos, List, ◌++◌, length, take, drop, Result, Ok, Err, if◌then◌else◌}
 use Rattle.std.specs.Int.{w16}
 use Rattle.ipc_model.specs.Reading.{◌>>=◌}
 use Rattle.ipc_model.specs.declared.fault.Fault.{Fault}
-use Rattle.ipc_model.specs.declared.spans.Step.{Step}
+use Rattle.ipc_model.specs.declared.fault.Fault.TheVariants as faults
 use Rattle.ipc_words.specs.Words.{signed_at, offset_at, field, offset_field, visit_table}
 use Rattle.ipc_message.specs.Messages.{version_of}
 use Rattle.ipc_schema.specs.Picks.{Picks}
-use Rattle.ipc_schema.specs.PickedSchemas.{in_any_version, picked_schema_at}
-use Rattle.ipc_footer.specs.Footers.{FooterTree, schema_place, lists_at, check_ends, footer_length, footer_place, placed}
+use Rattle.ipc_schema.specs.PickedSchemas.{PickedTree, in_any_version, picked_schema_at, picked_of}
+use Rattle.ipc_footer.specs.declared.footer.Block.{Block}
+use Rattle.ipc_footer.specs.declared.footer.PickedFooter.{PickedFooter}
+use Rattle.ipc_footer.specs.Footers.{schema_place, lists_at, blocks_before, check_ends, footer_length, footer_place}
 
-unfoldable pub picked_footer_at : Picks → List ℕ → Result (FooterTree × List Step) Fault
+-- a footer without where it lies in memory
+pub record PickedFooterTree : Type 0 where
+  pub picked : PickedTree
+  pub dictionaries : List Block
+  pub batches : List Block
+
+-- `Footer`, whose parts may cost 64 times its bytes
+unfoldable pub picked_footer_at : Picks → List ℕ → Result PickedFooterTree Fault
 picked_footer_at picks bytes = do
   place ← offset_at bytes 0
   table ← visit_table bytes place (64 * length bytes)
@@ -21,13 +30,20 @@ picked_footer_at picks bytes = do
   picked ← picked_schema_at picks bytes there table.1
   allowed ← in_any_version version picked.0.schema.fields picked.0.steps
   lists ← lists_at bytes table.0 picked.1
-  Ok (record { schema = picked.0.schema; dictionaries = lists.0; batches = lists.1 }, picked.0.steps)
+  Ok (record { picked = picked.0; dictionaries = lists.0; batches = lists.1 })
+
+-- a footer whose blocks lie before a place
+abbrev pub placed : ℕ → PickedFooterTree → Result PickedFooterTree Fault
+placed end f = if blocks_before end (f.dictionaries ++ f.batches) then Ok f else Err faults.Block
 
 -- the footer of a file, all blocks of which lie before it
-unfoldable pub file_picked_in : Picks → List ℕ → Result (FooterTree × List Step) Fault
+unfoldable pub file_picked_in : Picks → List ℕ → Result PickedFooterTree Fault
 file_picked_in picks bytes = do
   ends ← check_ends bytes
   long ← footer_length bytes
   footer ← picked_footer_at picks (take long (drop (footer_place long bytes) bytes))
-  before ← placed (footer_place long bytes) footer.0
-  Ok (before, footer.1)
+  placed (footer_place long bytes) footer
+
+-- a footer of the code
+abbrev pub picked_footer_of : PickedFooter → PickedFooterTree
+picked_footer_of f = record { picked = picked_of f.picked; dictionaries = f.dictionaries.items; batches = f.batches.items }

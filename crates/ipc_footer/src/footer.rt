@@ -1,5 +1,5 @@
 //! What a file's footer says.
-use ipc_schema::Schema;
+use ipc_schema::PickedSchema;
 
 /// Where a message lies in a file, and how long it and its body are: `Block` of `File.fbs` of the Arrow format.
 #[derive(Clone, Copy, Debug, PartialEq, Eq)]
@@ -12,11 +12,11 @@ pub struct Block {
     pub body_length: i64,
 }
 
-/// The footer of a file, `Footer` of `File.fbs` of the Arrow format.
+/// The footer of a file of which some columns are read, `Footer` of `File.fbs` of the Arrow format.
 #[derive(Drop)]
-pub struct Footer {
-    /// The columns of all batches.
-    pub schema: Schema,
+pub struct PickedFooter {
+    /// The columns of all batches that are read, and what the others take in each batch.
+    pub picked: PickedSchema,
     /// Where the batches of dictionaries lie, in the order of reading.
     pub dictionaries: Vec<Block>,
     /// Where the record batches lie, in their order.

@@ -4,12 +4,10 @@
 mod blocks;
 mod footer;
 pub mod laws;
-mod picked;
 mod reading;
 mod writing;
 
 pub use blocks::block_bytes;
-pub use footer::{Block, Footer};
-pub use picked::read_picked_footer;
+pub use footer::{Block, PickedFooter};
 pub use reading::read_footer;
 pub use writing::write_footer;

@@ -3,14 +3,15 @@ ghost use Rattle.std.specs.Prelude.{◌≡◌, ◌<◌, ◌≤◌, ◌^◌, ◌+
 ghost use Rattle.std.specs.List.{list_all};
 ghost use Rattle.ipc_model.specs.Reading.{Gives};
 ghost use Rattle.ipc_words.specs.Words.{structs_at};
-ghost use Rattle.ipc_schema.specs.Schemas.{schema_of};
-ghost use Rattle.ipc_footer.specs.Footers.{block_at as block_at_lem, schema_place as schema_place_lem, blocks_in as blocks_in_lem, lists_at as lists_at_lem, check_ends as check_ends_lem, placed as placed_lem, footer_at as footer_at_lem, has_magic as has_magic_lem, footer_length as footer_length_lem, footer_place, file_footer_in, footer_of, block_before};
+ghost use Rattle.ipc_schema.specs.Picks.{picks_of, IsMade};
+ghost use Rattle.ipc_footer.specs.Footers.{block_at as block_at_lem, schema_place as schema_place_lem, blocks_in as blocks_in_lem, lists_at as lists_at_lem, check_ends as check_ends_lem, has_magic as has_magic_lem, footer_length as footer_length_lem, footer_place, block_before};
+ghost use Rattle.ipc_footer.specs.PickedFooters.{picked_footer_at as picked_footer_at_lem, placed as placed_lem, file_picked_in, picked_footer_of};
 
 use crate::blocks::blocks_before;
-use crate::footer::{Block, Footer};
+use crate::footer::{Block, PickedFooter};
 use ipc_message::version_of;
 use ipc_model::Fault;
-use ipc_schema::{in_version, schema_at};
+use ipc_schema::{Columns, Picker, in_any_version, picked_schema_at};
 use ipc_words::{
     Items, Table, i16_field, i32_at, i64_at, items_at, natural, offset_at, offset_field,
     visit_table,
@@ -63,8 +64,8 @@ fn blocks_in(
     Ok((blocks, left))
 }
 
-/// Where the schema stands.
-pub fn schema_place(to: Option<usize>) -> Result<usize, Fault>
+// Where the schema stands.
+fn schema_place(to: Option<usize>) -> Result<usize, Fault>
     ensures { result ≡ schema_place_lem to }
 {
     match to {
@@ -73,9 +74,9 @@ pub fn schema_place(to: Option<usize>) -> Result<usize, Fault>
     }
 }
 
-/// The blocks of dictionaries, then those of batches.
+// The blocks of dictionaries, then those of batches.
 #[tactic(auto, unfolding(crate::specs::Footers::lists_at))]
-pub fn lists_at(
+fn lists_at(
     alloc: Global,
     bytes: &[u8],
     table: Table,
@@ -92,22 +93,23 @@ pub fn lists_at(
 }
 
 // The footer that its own bytes spell.
-#[tactic(auto, unfolding(crate::specs::Footers::footer_at))]
-fn footer_at(alloc: Global, bytes: &[u8]) -> Result<Footer, Fault>
-    requires { length bytes.now < 2 ^ 31 }
-    ensures { Gives footer_of result (footer_at_lem bytes.now) }
+#[tactic(auto, unfolding(crate::specs::PickedFooters::picked_footer_at))]
+fn picked_footer_at(alloc: Global, picker: &Picker<'_>, bytes: &[u8]) -> Result<PickedFooter, Fault>
+    requires made { IsMade picker.now }
+    requires length { length bytes.now < 2 ^ 31 }
+    ensures { Gives picked_footer_of result (picked_footer_at_lem (picks_of picker.now.columns) bytes.now) }
 {
     let place = offset_at(bytes, 0)?;
     let (table, left) = visit_table(bytes, place, 64 * bytes.len())?;
     let version = version_of(i16_field(bytes, table, 0, 0)?)?;
     let place = schema_place(offset_field(bytes, table, 1)?)?;
-    let (schema, left) = schema_at(alloc, bytes, place, left)?;
-    match in_version(version, &schema.fields) {
+    let (picked, left) = picked_schema_at(alloc, picker, bytes, place, left)?;
+    match in_any_version(version, &picked.schema.fields, &picked.steps) {
         Err(fault) => Err(fault),
         Ok(_) => match lists_at(alloc, bytes, table, left) {
             Err(fault) => Err(fault),
-            Ok((dictionaries, batches)) => Ok(Footer {
-                schema,
+            Ok((dictionaries, batches)) => Ok(PickedFooter {
+                picked,
                 dictionaries,
                 batches,
             }),
@@ -122,8 +124,8 @@ fn has_magic(bytes: &[u8]) -> bool
     bytes.starts_with(magic) && bytes.ends_with(magic)
 }
 
-/// That a file is marked at both ends.
-pub fn check_ends(bytes: &[u8]) -> Result<(), Fault>
+// That a file is marked at both ends.
+fn check_ends(bytes: &[u8]) -> Result<(), Fault>
     ensures value { result ≡ check_ends_lem bytes.now }
     ensures long { IfOk result (λ _. 18 ≤ length bytes.now) }
 {
@@ -136,8 +138,8 @@ pub fn check_ends(bytes: &[u8]) -> Result<(), Fault>
     Ok(())
 }
 
-/// How long the footer is.
-pub fn footer_length(bytes: &[u8]) -> Result<usize, Fault>
+// How long the footer is.
+fn footer_length(bytes: &[u8]) -> Result<usize, Fault>
     requires { 18 ≤ length bytes.now }
     ensures value { result ≡ footer_length_lem bytes.now }
     ensures within { IfOk result (λ long. (18 + long ≤ length bytes.now) × (long < 2 ^ 31)) }
@@ -151,8 +153,8 @@ pub fn footer_length(bytes: &[u8]) -> Result<usize, Fault>
     Ok(long)
 }
 
-/// The bytes of the footer.
-pub fn footer_part(bytes: &[u8], long: usize) -> &[u8]
+// The bytes of the footer.
+fn footer_part(bytes: &[u8], long: usize) -> &[u8]
     requires { 10 + long ≤ length bytes.now }
     ensures part { result.now ≡ take long (drop (footer_place long bytes.now) bytes.now) }
     ensures length { length result.now ≡ long }
@@ -162,9 +164,9 @@ pub fn footer_part(bytes: &[u8], long: usize) -> &[u8]
     footer
 }
 
-/// A footer whose blocks lie before a place.
-pub fn placed(end: usize, footer: Footer) -> Result<Footer, Fault>
-    ensures value { Gives footer_of result (placed_lem end (footer_of footer)) }
+// A footer whose blocks lie before a place.
+fn placed(end: usize, footer: PickedFooter) -> Result<PickedFooter, Fault>
+    ensures value { Gives picked_footer_of result (placed_lem end (picked_footer_of footer)) }
     ensures dictionaries { IfOk result (λ f. list_all (block_before end) f.dictionaries.items ≡ true) }
     ensures batches { IfOk result (λ f. list_all (block_before end) f.batches.items ≡ true) }
 {
@@ -175,15 +177,17 @@ pub fn placed(end: usize, footer: Footer) -> Result<Footer, Fault>
     }
 }
 
-/// The footer of a file: its schema, and its blocks, which all lie before it; or the first fault in the order of reading.
-#[tactic(auto, unfolding(crate::specs::Footers::file_footer_in))]
-pub fn read_footer(alloc: Global, bytes: &[u8]) -> Result<Footer, Fault>
-    ensures footer { Gives footer_of result (file_footer_in bytes.now) }
+/// The footer of a file: the schema of the columns that are read, and the file's blocks, which all lie before it; or the first
+/// fault in the order of reading.
+#[tactic(auto, unfolding(crate::specs::PickedFooters::file_picked_in))]
+pub fn read_footer(alloc: Global, columns: Columns<'_>, bytes: &[u8]) -> Result<PickedFooter, Fault>
+    ensures footer { Gives picked_footer_of result (file_picked_in (picks_of columns.entry) bytes.now) }
     ensures dictionaries { IfOk result (λ f. list_all (block_before (length bytes.now)) f.dictionaries.items ≡ true) }
     ensures batches { IfOk result (λ f. list_all (block_before (length bytes.now)) f.batches.items ≡ true) }
 {
     check_ends(bytes)?;
     let long = footer_length(bytes)?;
-    let footer = footer_at(alloc, footer_part(bytes, long))?;
+    let picker = Picker::new(alloc, columns)?;
+    let footer = picked_footer_at(alloc, &picker, footer_part(bytes, long))?;
     placed(bytes.len() - (10 + long), footer)
 }

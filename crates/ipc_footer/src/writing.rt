@@ -3,14 +3,14 @@ ghost use Rattle.std.specs.Prelude.{◌≡◌, ◌<◌, ◌≤◌, ◌^◌, ◌+
 ghost use Rattle.std.specs.List.{flat_map, AllByRecursion};
 ghost use Rattle.ipc_words.specs.Bytes.{vector_bytes};
 ghost use Rattle.ipc_schema.specs.Schemas.{schema_of};
-ghost use Rattle.ipc_schema.specs.Forms.{fields_form, IsUnwritten};
+ghost use Rattle.ipc_schema.specs.Forms.{keyed_form, IsUnformed};
 ghost use Rattle.ipc_footer.specs.Footers.{footer_with};
 ghost use Rattle.ipc_footer.specs.FooterBytes.{written_block, footer_head, footer_parts, footer_bytes, file_end};
 ghost use Rattle.ipc_footer.specs.FooterLaws.{BlockFits, IsReadBack};
 
 use crate::footer::Block;
 use ipc_model::NoForm;
-use ipc_schema::{Schema, schema_table};
+use ipc_schema::{Schema, keyed_schema_table};
 use ipc_words::{put_i32, put_i64, put_u32};
 use std::alloc::{AllocError, Global};
 
@@ -94,11 +94,11 @@ pub fn write_footer(
 ) -> Result<(), NoForm>
     ensures bytes { OnOk result (out.new.items ≡ out.old.items ++ file_end (footer_with schema.now dictionaries.now batches.now)) }
     ensures again { OnOk result (IsReadBack (footer_with schema.now dictionaries.now batches.now)) }
-    ensures form { OnOk result (fields_form (schema_of schema.now).fields ≡ Ok tt) }
+    ensures form { OnOk result (keyed_form (schema_of schema.now).fields ≡ Ok tt) }
     ensures small { OnOk result (length (footer_bytes (footer_with schema.now dictionaries.now batches.now)) < 2 ^ 31) }
-    ensures err { IfErr result (IsUnwritten (schema_of schema.now).fields (length (footer_bytes (footer_with schema.now dictionaries.now batches.now)))) }
+    ensures err { IfErr result (IsUnformed (keyed_form (schema_of schema.now).fields) (length (footer_bytes (footer_with schema.now dictionaries.now batches.now)))) }
 {
-    let part = schema_table(alloc, schema)?;
+    let part = keyed_schema_table(alloc, schema)?;
     let count = dictionaries.len() + batches.len();
     if count >= 1 << 27 {
         return Err(NoForm::Size);

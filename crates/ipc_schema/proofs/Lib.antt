@@ -6,3 +6,4 @@ pub mod Named
 pub mod Skipped
 pub mod Chosen
 pub mod Sought
+pub mod Passed

@@ -1,5 +1,5 @@
 -- Fields that are not read, one after the other, and what they cost.
-use Rattle.std.proofs.Common.{◌≡◌, ℕ, zero, suc, ◌-◌, ◌+◌, ◌*◌, ◌≤◌, ◌<◌, Bool, true, false, List, Option, Some, None, Result, Ok, Err, refl, sym, ap, ◌∙◌, arith, leb}
+use Rattle.std.proofs.Common.{◌≡◌, ℕ, suc, ◌-◌, ◌+◌, ◌*◌, ◌≤◌, ◌<◌, Bool, true, false, List, Option, Some, None, Result, Ok, Err, refl, sym, ap, ◌∙◌, arith}
 use Rattle.std.specs.Prelude.{IfOk, nat_le, ◌||◌, if◌then◌else◌}
 use Rattle.std.proofs.lemmas.Bool.{leb-true}
 use Rattle.std.specs.Int.{w32}
@@ -8,7 +8,6 @@ use Rattle.ipc_model.specs.declared.fault.Fault.TheVariants as faults
 use Rattle.ipc_model.specs.declared.spans.Span.{Span}
 use Rattle.ipc_model.specs.Reading.{◌>>=◌}
 use Rattle.ipc_words.specs.Words.{number_at, spend, table_at, offset_at, visit_table, visit_vector, items_at}
-use Rattle.ipc_words.specs.declared.vectors.Items.{Items}
 use Rattle.ipc_schema.specs.Spans.{no_span, plus, spans_at, span_over, span_at}
 
 -- ---- what is paid

@@ -12,6 +12,7 @@ use Rattle.ipc_model.specs.declared.fault.Fault.TheVariants.{TypeRange, Dictiona
 use Rattle.ipc_words.specs.Words.{offset_at, back_from, table_at, field_place, spend, visit_table, visit_vector, visit_string, tables_at, items_at, text_at}
 use Rattle.ipc_schema.specs.Types.{bare_at, integer_at}
 use Rattle.ipc_schema.specs.Dictionaries.{Seen, unseen, progress, with_values, key_at, encoding_at}
+use Rattle.ipc_schema.specs.Outer.{outer_within, outer_ids}
 use Rattle.ipc_schema.specs.Unions.{field_has_union, have_union}
 use Rattle.ipc_schema.specs.FieldRows.{rows_at}
 use Rattle.ipc_schema.specs.Schemas.{pair_at, metadata_at, field_at}
@@ -88,6 +89,17 @@ AreKeyed = (field_at 64 colors_bytes 88 (progress 300 unseen) ≡ Ok (colors, pr
 
 pub are_keyed : AreKeyed
 are_keyed = (colors_is, keyless_is, nested_is)
+
+-- ---- ids that are inside of no other's values
+
+-- of lists of texts by keys, by keys the outer id, that inside of it by itself, and those of more such columns; ids that name nothing
+abbrev pub AreOuter : Type 0
+AreOuter = (outer_ids nested_seen.named nested_seen.ids ≡ pos 0 ∷ []) × (outer_ids nested_seen.named (pos 1 ∷ []) ≡ pos 1 ∷ [])
+    × (outer_ids nested_seen.named (pos 0 ∷ pos 1 ∷ pos 1 ∷ pos 0 ∷ pos 1 ∷ []) ≡ pos 0 ∷ pos 1 ∷ pos 0 ∷ []) × (outer_ids [] (pos 7 ∷ pos 7 ∷ []) ≡ pos 7 ∷ pos 7 ∷ [])
+
+pub are_outer : AreOuter
+unfolding outer_within
+are_outer = (refl, refl, refl, refl)
 
 -- ---- fields of one id
 

@@ -7,8 +7,9 @@ use Rattle.nest_memory.specs.TypeTree as types
 use Rattle.nest_memory.specs.TypeTree.{FieldTree, field}
 use Rattle.ipc_words.specs.Words.{offset_at, back_from, table_at, field_place, spend, visit_table, visit_vector, visit_string, tables_at, items_at, text_at}
 use Rattle.ipc_message.specs.Messages.{root_at, front, behind_mark, parts_at, sized_at, message_at}
+use Rattle.ipc_schema.specs.Dictionaries.{unseen}
 use Rattle.ipc_schema.specs.FieldRows.{rows_at}
-use Rattle.ipc_schema.specs.Schemas.{SchemaTree, pair_at, metadata_at, integer_at, field_at, keyed_schema_at, schema_at, stream_schema_at}
+use Rattle.ipc_schema.specs.Schemas.{SchemaTree, pair_at, metadata_at, integer_at, field_at, keyed_schema_at, stream_keyed_schema_at}
 
 abbrev pub worked_message : List ℕ
 worked_message =
@@ -20,6 +21,6 @@ worked_tree = record { fields = field (97 ∷ []) types.int32 true [] ∷ []; me
 is_text : is_utf8 (97 ∷ []) ≡ true
 is_text = is_utf8-from_IsUtf8 (97 ∷ []) (IsUtf8-from_ascii (97 ∷ []) (search (rules, arith)))
 
-pub worked : stream_schema_at worked_message ≡ Ok (worked_tree, [])
-unfolding offset_at back_from table_at field_place spend visit_table visit_vector visit_string tables_at rows_at items_at text_at root_at front behind_mark parts_at sized_at message_at pair_at metadata_at integer_at field_at keyed_schema_at schema_at stream_schema_at
+pub worked : stream_keyed_schema_at worked_message ≡ Ok ((worked_tree, unseen), [])
+unfolding offset_at back_from table_at field_place spend visit_table visit_vector visit_string tables_at rows_at items_at text_at root_at front behind_mark parts_at sized_at message_at pair_at metadata_at integer_at field_at keyed_schema_at stream_keyed_schema_at
 worked = rw is_text refl

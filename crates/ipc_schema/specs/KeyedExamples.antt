@@ -1,8 +1,8 @@
 -- Fields with dictionaries as they are written: byte by byte, by hand from the format, and what their ids name.
-use Rattle.std.specs.Prelude.{◌≡◌, ℕ, ℤ, pos, true, false, List, [], ◌∷◌, Some, None, Ok, Err, refl}
+use Rattle.std.specs.Prelude.{◌≡◌, ℕ, ℤ, pos, true, false, List, [], ◌∷◌, None, Ok, Err, refl}
 use Rattle.nest_memory.specs.TypeTree as types
 use Rattle.nest_memory.specs.TypeTree.{FieldTree, field, no_fields, more_fields}
-use Rattle.nest_memory.specs.declared.datatypes.IntegerType.TheVariants.{Int8, Int16, Int64, UInt32}
+use Rattle.nest_memory.specs.declared.datatypes.IntegerType.TheVariants.{Int8, Int64, UInt32}
 use Rattle.ipc_model.specs.declared.fault.NoForm.TheVariants as reasons
 use Rattle.ipc_words.specs.Bytes.{u32_bytes, i64_bytes, string_bytes, offsets, together, row_bytes}
 use Rattle.ipc_schema.specs.Dictionaries.{Values}

@@ -4,6 +4,7 @@ pub mod Leaves
 pub mod Shapes
 pub mod Extensions
 pub mod Dictionaries
+pub mod Outer
 pub mod SeenOf
 pub mod FieldRows
 pub mod Unions
@@ -15,6 +16,7 @@ pub mod Numbering
 pub mod Forms
 pub mod SchemaBytes
 pub mod NumberingLaws
+pub mod OuterLaws
 pub mod MetadataLaws
 pub mod TypeLaws
 pub mod ExtensionLaws

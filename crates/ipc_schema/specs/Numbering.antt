@@ -7,7 +7,7 @@ use Rattle.nest_memory.specs.declared.datatypes.IntegerType.{IntegerType}
 use Rattle.ipc_schema.specs.declared.dictionaries.Encoding.{Encoding}
 use Rattle.ipc_schema.specs.Dictionaries.{Values, Seen}
 use Rattle.ipc_schema.specs.Types.{children_of}
-use Rattle.ipc_schema.specs.Extensions.{stored, values_type, table_type}
+use Rattle.ipc_schema.specs.Extensions.{stored, table_type}
 
 -- ---- one field
 

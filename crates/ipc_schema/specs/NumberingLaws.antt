@@ -1,20 +1,19 @@
 -- What is seen of dictionaries behind fields whose ids are numbers in a row: each is new, and names what it says.
-use Rattle.std.proofs.Common.{◌≡◌, ℕ, zero, suc, ◌+◌, ◌<◌, ◌≤◌, Bool, true, false, ltb, List, [], ◌∷◌, ◌++◌, length, drop, Option, Some, None, Result, Ok, refl, sym, ap, ◌∙◌, append_assoc, arith}
+use Rattle.std.proofs.Common.{◌≡◌, ℕ, zero, suc, ◌+◌, ◌<◌, ◌≤◌, Bool, true, false, ltb, List, [], ◌∷◌, ◌++◌, length, drop, Option, Some, None, Ok, refl, ap, ◌∙◌, subst, append_assoc, arith}
 use Rattle.std.specs.Prelude.{ℤ, pos, ◌||◌, is_some}
 use Rattle.std.specs.BTreeMap.{insert_entry, is_at}
 use Rattle.std.specs.List.{AllByRecursion, list_any}
 use Rattle.std.specs.Map.{lookup}
 use Rattle.std.specs.Ordering.{int_cmp}
-use Rattle.std.specs.declared.cmp.Ordering.TheVariants.{Less, Equal, Greater}
+use Rattle.std.specs.declared.cmp.Ordering.TheVariants.{Less, Greater}
 use Rattle.std.proofs.lemmas.Bool.{lt-ltb, le-ltb}
 use Rattle.nest_memory.specs.TypeTree as types
 use Rattle.nest_memory.specs.TypeTree.{TypeTree, FieldTree, field_type}
 use Rattle.nest_memory.specs.declared.datatypes.IntegerType.{IntegerType}
-use Rattle.ipc_model.specs.declared.fault.Fault.{Fault}
-use Rattle.ipc_schema.specs.Dictionaries.{Values, Seen, with_id, with_values, keyed}
+use Rattle.ipc_schema.specs.Dictionaries.{Values, Seen, unseen, with_id, with_values, keyed}
 use Rattle.ipc_schema.specs.Types.{children_of}
 use Rattle.ipc_schema.specs.Extensions.{stored, values_type, table_type}
-use Rattle.ipc_schema.specs.Numbering.{keys_of, numbered, behind, behind_own, total, each_from, count_keyed, count_all, has_dictionary, have_dictionary, ids_from, own_named, joined, named_from, seen_more}
+use Rattle.ipc_schema.specs.Numbering.{keys_of, numbered, behind, total, each_from, count_keyed, count_all, has_dictionary, have_dictionary, ids_from, own_named, joined, named_from, seen_more, seen_behind_all}
 
 abbrev pub Keys : Type 0
 Keys = Option (IntegerType × Bool)
@@ -84,7 +83,7 @@ pub within_both : (first end : ℕ) (xs ys : List (ℤ × Values)) → AreWithin
 within_both first end [] ys xs-are ys-are = ys-are
 within_both first end (x ∷ xs) ys (one, rest) ys-are = (one, within_both first end xs ys rest ys-are)
 
-greater : (n k : ℕ) → k < n → int_cmp (pos n) (pos k) ≡ Greater
+pub greater : (n k : ℕ) → k < n → int_cmp (pos n) (pos k) ≡ Greater
 greater n k lt =
     let a : ltb n k ≡ false = le-ltb n k (omega arith) in
     let b : ltb k n ≡ true = lt-ltb k n lt in
@@ -201,6 +200,15 @@ none_counted (suc depth) f none =
     let parts = or_parts (is_some keys) (list_any (has_dictionary depth) cs) none in
     behind_none keys (total (count_keyed depth) cs) parts.0 ∙ each_none depth (none_counted depth) cs parts.1
 
-pub no_ids : (fs : List FieldTree) → have_dictionary fs ≡ false → ids_from 0 (count_all fs) ≡ []
+none_within : (named : List (ℤ × Values)) → AreWithin 0 0 named → named ≡ []
+none_within [] are = refl
+none_within (e ∷ es) (one, rest) = absurd (omega (arith, one.3))
+
+-- nothing is seen
+pub none_seen : (fs : List FieldTree) → have_dictionary fs ≡ false → seen_behind_all 64 0 fs unseen ≡ unseen
 unfolding ids_from
-no_ids fs none = rw (each_none 64 (none_counted 64) fs none) refl
+none_seen fs none =
+    let count : count_all fs ≡ 0 = each_none 64 (none_counted 64) fs none in
+    let end : 0 + count_all fs ≡ 0 = omega (arith, count) in
+    let named : joined (each_from (count_keyed 64) (named_from 64) 0 fs) ≡ [] = none_within _ (subst (λ (n : ℕ). AreWithin 0 n (joined (each_from (count_keyed 64) (named_from 64) 0 fs))) end (all_within 64 0 fs)) in
+    rw (count, named) refl

@@ -1,12 +1,12 @@
 -- The schema of the fields that are read of one that metadata spells, in the order of reading, and what is done with each of its fields.
-use Rattle.std.specs.Prelude.{ℕ, zero, suc, ◌+◌, pos, Bool, true, false, List, [], ◌∷◌, ◌++◌, map, length, ◌==◌, Result, Ok, Err}
+use Rattle.std.specs.Prelude.{ℕ, zero, suc, ◌+◌, pos, Bool, true, false, List, [], ◌∷◌, ◌++◌, map, Result, Ok}
 use Rattle.std.specs.List.{list_any}
 use Rattle.std.specs.Int.{w16}
 use Rattle.std.specs.Ordering.{int_eq}
 use Rattle.nest_memory.specs.TypeTree.{FieldTree}
 use Rattle.ipc_model.specs.Reading.{◌>>=◌, check}
 use Rattle.ipc_model.specs.declared.fault.Fault.{Fault}
-use Rattle.ipc_model.specs.declared.fault.Fault.TheVariants.{Endianness, UnsupportedType}
+use Rattle.ipc_model.specs.declared.fault.Fault.TheVariants.{Endianness}
 use Rattle.ipc_model.specs.declared.spans.Span.{Span}
 use Rattle.ipc_model.specs.declared.spans.Step.{Step}
 use Rattle.ipc_model.specs.declared.spans.Step.TheVariants.{Read, Skip}
@@ -19,7 +19,8 @@ use Rattle.ipc_schema.specs.declared.picked.PickedSchema.{PickedSchema}
 use Rattle.ipc_schema.specs.declared.picked.Parts.{Parts}
 use Rattle.ipc_schema.specs.declared.picked.Item as declared
 use Rattle.ipc_schema.specs.declared.picked.Item.TheVariants as items
-use Rattle.ipc_schema.specs.Dictionaries.{Progress, unseen, progress}
+use Rattle.ipc_schema.specs.Dictionaries.{Seen, Progress, unseen, progress}
+use Rattle.ipc_schema.specs.SeenOf.{seen_of}
 use Rattle.ipc_schema.specs.Schemas.{SchemaTree, metadata_at, field_at, schema_of, schema_parts}
 use Rattle.ipc_schema.specs.Spans.{span_at}
 use Rattle.ipc_schema.specs.Picks.{Picks, is_picked_at}
@@ -67,10 +68,11 @@ joined p q = record { steps = p.steps ++ q.steps; fields = p.fields ++ q.fields 
 
 -- ---- schemas
 
--- the schema of the fields that are read, and what is done with each field
+-- the schema of the fields that are read, what is done with each field, and what is seen of the dictionaries of those that are read
 pub record PickedTree : Type 0 where
   pub schema : SchemaTree
   pub steps : List Step
+  pub seen : Seen
 
 abbrev pub has_union : Step → Bool
 has_union Read = false
@@ -79,10 +81,6 @@ has_union (Skip s) = s.has_union
 -- metadata of V4 is not read where there is a union, also in what is passed over
 abbrev pub in_any_version : versions.Version → List FieldTree → List Step → Result (Unit {0}) Fault
 in_any_version version fields steps = in_version version (have_union fields) >>= λ read. in_version version (list_any has_union steps)
-
--- no field that is read has a dictionary
-abbrev pub check_ids : Progress → Result (Unit {0}) Fault
-check_ids so_far = check (length so_far.seen.ids == 0) UnsupportedType
 
 unfoldable pub picked_schema_at : Picks → List ℕ → ℕ → ℕ → Result (PickedTree × ℕ) Fault
 picked_schema_at picks bytes place left = do
@@ -94,8 +92,7 @@ picked_schema_at picks bytes place left = do
   picked ← picked_at picks bytes 0 items.0.count items.0.first (progress items.1 unseen)
   to ← offset_field bytes table.0 2
   metadata ← metadata_at bytes to picked.1.left
-  plain ← check_ids picked.1
-  Ok (record { schema = record { fields = picked.0.fields; metadata = metadata.0 }; steps = picked.0.steps }, metadata.1)
+  Ok (record { schema = record { fields = picked.0.fields; metadata = metadata.0 }; steps = picked.0.steps; seen = picked.1.seen }, metadata.1)
 
 -- of the schema that a stream begins with, and what stands behind its message
 unfoldable pub stream_picked_at : Picks → List ℕ → Result (PickedTree × List ℕ) Fault
@@ -116,4 +113,4 @@ abbrev pub parts_of : Parts → Picked
 parts_of p = record { steps = p.steps.items; fields = map field_of p.fields.items }
 
 abbrev pub picked_of : PickedSchema → PickedTree
-picked_of s = record { schema = schema_of s.schema; steps = s.steps.items }
+picked_of s = record { schema = schema_of s.schema; steps = s.steps.items; seen = seen_of s.dictionaries }

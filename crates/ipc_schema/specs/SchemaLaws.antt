@@ -1,7 +1,6 @@
 -- A schema that is written is read back.
-use Rattle.std.proofs.Common.{◌≡◌, ℕ, ◌+◌, ◌-◌, ◌*◌, ◌^◌, ◌<◌, ◌≤◌, Bool, true, false, List, [], ◌++◌, length, Some, None, Result, Ok, refl, append_assoc, arith}
-use Rattle.std.specs.Prelude.{ℤ, not}
-use Rattle.ipc_model.specs.declared.fault.Fault.{Fault}
+use Rattle.std.proofs.Common.{◌≡◌, ℕ, ◌+◌, ◌-◌, ◌*◌, ◌^◌, ◌<◌, ◌≤◌, Bool, true, false, List, [], ◌++◌, length, Some, None, Ok, refl, ap, ◌∙◌, subst, append_assoc, arith}
+use Rattle.std.specs.Prelude.{not}
 use Rattle.ipc_model.specs.declared.fault.NoForm.TheVariants as reasons
 use Rattle.std.proofs.lemmas.List.{length-append}
 use Rattle.ipc_words.specs.Words.{offset_at, field_place, visit_table, items_at}
@@ -10,17 +9,17 @@ use Rattle.ipc_words.specs.Laws.{From, From-length, From_next}
 use Rattle.ipc_words.specs.PartLaws.{From_at, offset_in, table_in, visit_in, field_in, field_out}
 use Rattle.ipc_words.specs.RowLaws.{IsRead, row_is_long}
 use Rattle.ipc_schema.specs.FieldRows.{row_vector, row_tables}
-use Rattle.ipc_schema.specs.Dictionaries.{unseen, progress}
-use Rattle.ipc_schema.specs.Numbering.{total, count_all, have_dictionary, ids_from, seen_behind_all}
-use Rattle.ipc_schema.specs.NumberingLaws.{no_ids}
+use Rattle.ipc_schema.specs.Dictionaries.{Seen, unseen, progress}
+use Rattle.ipc_schema.specs.Numbering.{total, count_all, have_dictionary, seen_behind_all}
+use Rattle.ipc_schema.specs.NumberingLaws.{none_seen}
 use Rattle.ipc_message.specs.Messages.{message_at}
 use Rattle.ipc_message.specs.MessageBytes.{root_bytes, message_bytes, metadata_size, framed_bytes, padding}
 use Rattle.ipc_message.specs.MessageLaws.{padded, padded_long, padding_long, framed_long, root_long, written_parts, message_again, written_part}
 use Rattle.ipc_message.specs.declared.message.Kind.TheVariants as kinds
-use Rattle.ipc_schema.specs.Schemas.{SchemaTree, metadata_at, field_at, keyed_schema_at, schema_at, stream_schema_at, stream_keyed_schema_at}
+use Rattle.ipc_schema.specs.Schemas.{SchemaTree, metadata_at, field_at, keyed_schema_at, stream_keyed_schema_at}
 use Rattle.ipc_schema.specs.Forms.{unless, keyed_form, fields_form}
 use Rattle.ipc_schema.specs.TypeLaws.{both}
-use Rattle.ipc_schema.specs.SchemaBytes.{field_bytes, each_bytes, fields_bytes, entries_bytes, schema_bytes, schema_message}
+use Rattle.ipc_schema.specs.SchemaBytes.{each_bytes, fields_bytes, entries_bytes, schema_bytes, schema_message}
 use Rattle.ipc_schema.specs.MetadataLaws.{AreTexts, IsRising, entries_cost, entries_pay, metadata_again}
 use Rattle.ipc_schema.specs.FieldLaws.{AllFit, field_cost, fields_again, fields_pay, fields_count}
 
@@ -36,9 +35,9 @@ pub record SchemaFits (s : SchemaTree) : Type 0 where
   pub form : fields_form s.fields ≡ Ok tt
   pub keyed : KeyedFits s
 
--- a schema with the ids that its fields are written with
-abbrev pub with_ids : SchemaTree → SchemaTree × List ℤ
-with_ids s = (s, ids_from 0 (count_all s.fields))
+-- a schema, and what is seen of the dictionaries of its fields as they are written
+abbrev pub with_ids : SchemaTree → SchemaTree × Seen
+with_ids s = (s, seen_behind_all 64 0 s.fields unseen)
 
 -- what reading the rows takes of the budget
 abbrev pub row_cost : SchemaTree → ℕ
@@ -62,12 +61,9 @@ message_long s =
     let framed : length (message_bytes kinds.Schema 0 16 (part_of s)) ≡ length (framed_bytes metadata) = unfold message_bytes in refl in
     omega (arith, framed, framed_long metadata, root_long kinds.Schema 0 16 (part_of s))
 
-keyed_pays : (s : SchemaTree) → KeyedFits s → schema_cost s ≤ length (part_of s)
+pub keyed_pays : (s : SchemaTree) → KeyedFits s → schema_cost s ≤ length (part_of s)
 unfolding schema_cost
 keyed_pays s fits = omega (arith, part_long s, fields_pay s.fields fits.form fits.fields, row_is_long 24 (each_bytes 64 0 s.fields), entries_pay s.metadata)
-
-pub schema_pays : (s : SchemaTree) → SchemaFits s → schema_cost s ≤ length (part_of s)
-schema_pays s fits = keyed_pays s fits.keyed
 
 keyed_again : (s : SchemaTree) (whole : List ℕ) (p q left : ℕ) (after : List ℕ) → KeyedFits s → From whole p (part_of s ++ after) → length whole < 2 ^ 32 → q ≡ p + 16 → schema_cost s ≤ left → keyed_schema_at whole q left ≡ Ok (with_ids s, left - schema_cost s)
 unfolding keyed_schema_at schema_bytes u32_bytes items_at schema_cost
@@ -103,23 +99,8 @@ keyed_table_again s fits = record {
   long = omega (arith, part_long s);
 }
 
--- no field has a dictionary
-none_has : (b : Bool) → unless (not b) reasons.Type ≡ Ok tt → b ≡ false
-none_has true h = absurd (cc h)
-none_has false h = refl
-
-without : (s : SchemaTree) → fields_form s.fields ≡ Ok tt → ids_from 0 (count_all s.fields) ≡ []
-without s form = no_ids s.fields (none_has (have_dictionary s.fields) (both (keyed_form s.fields) (unless (not (have_dictionary s.fields)) reasons.Type) form).1)
-
-pub table_again : (s : SchemaTree) → SchemaFits s → IsRead schema_at 16 (part_of s) s (schema_cost s)
-unfolding schema_at
-table_again s fits = record {
-  law = λ whole p q left after h small at le. rw (keyed_again s whole p q left after fits.keyed h small at le, without s fits.form) refl;
-  long = omega (arith, part_long s);
-}
-
--- the message of a schema is read, and what stands behind it is left: what reads its table reads the message
-module _ {A : Type 0} (read : List ℕ → ℕ → ℕ → Result (A × ℕ) Fault) (s : SchemaTree) (x : A) (is : IsRead read 16 (part_of s) x (schema_cost s)) (pays : schema_cost s ≤ length (part_of s)) where
+-- the message of a schema is read, and what stands behind it is left
+module _ (s : SchemaTree) (fits : KeyedFits s) where
   abbrev metadata : List ℕ
   metadata = root_bytes kinds.Schema 0 16 (part_of s)
 
@@ -129,26 +110,32 @@ module _ {A : Type 0} (read : List ℕ → ℕ → ℕ → Result (A × ℕ) Fau
       let framed : length (message_bytes kinds.Schema 0 16 (part_of s)) ≡ length (framed_bytes metadata) = unfold message_bytes in refl in
       message_again kinds.Schema 16 (part_of s) [] rest (omega arith) (omega arith) small
 
-  table_is_read : metadata_size (schema_message s) < 2 ^ 31 → read (padded metadata) 64 (64 * length (padded metadata) - 8) ≡ Ok (x, 64 * length (padded metadata) - 8 - schema_cost s)
+  table_is_read : metadata_size (schema_message s) < 2 ^ 31 → keyed_schema_at (padded metadata) 64 (64 * length (padded metadata) - 8) ≡ Ok (with_ids s, 64 * length (padded metadata) - 8 - schema_cost s)
   unfolding schema_message
   table_is_read small =
       let whole : List ℕ = padded metadata in
       let framed : length (message_bytes kinds.Schema 0 16 (part_of s)) ≡ length (framed_bytes metadata) = unfold message_bytes in refl in
       let short : length whole < 2 ^ 31 = omega (arith, framed, framed_long metadata, padding_long (length metadata), padded_long metadata) in
       let h : From whole 48 (part_of s ++ padding (length metadata)) = written_part kinds.Schema 0 16 (part_of s) in
-      let enough : schema_cost s ≤ 64 * length whole - 8 = omega (arith, pays, root_long kinds.Schema 0 16 (part_of s), padded_long metadata) in
-      is.law whole 48 64 (64 * length whole - 8) (padding (length metadata)) h (omega arith) (omega arith) enough
-
-pub stream_again : (s : SchemaTree) (rest : List ℕ) → SchemaFits s → metadata_size (schema_message s) < 2 ^ 31 → stream_schema_at (schema_message s ++ rest) ≡ Ok (s, rest)
-unfolding stream_schema_at schema_message
-stream_again s rest fits small =
-    let is = table_again s fits in
-    let pays = schema_pays s fits in
-    rw (message_is schema_at s s is pays rest small, table_is_read schema_at s s is pays small) refl
+      let enough : schema_cost s ≤ 64 * length whole - 8 = omega (arith, keyed_pays s fits, root_long kinds.Schema 0 16 (part_of s), padded_long metadata) in
+      keyed_again s whole 48 64 (64 * length whole - 8) (padding (length metadata)) fits h (omega arith) (omega arith) enough
 
 pub keyed_stream_again : (s : SchemaTree) (rest : List ℕ) → KeyedFits s → metadata_size (schema_message s) < 2 ^ 31 → stream_keyed_schema_at (schema_message s ++ rest) ≡ Ok (with_ids s, rest)
 unfolding stream_keyed_schema_at schema_message
-keyed_stream_again s rest fits small =
-    let is = keyed_table_again s fits in
-    let pays = keyed_pays s fits in
-    rw (message_is keyed_schema_at s (with_ids s) is pays rest small, table_is_read keyed_schema_at s (with_ids s) is pays small) refl
+keyed_stream_again s rest fits small = rw (message_is s fits rest small, table_is_read s fits small) refl
+
+-- ---- where no field has a dictionary
+
+none_has : (b : Bool) → unless (not b) reasons.Type ≡ Ok tt → b ≡ false
+none_has true h = absurd (cc h)
+none_has false h = refl
+
+-- nothing is seen
+pub plain_ids : (s : SchemaTree) → fields_form s.fields ≡ Ok tt → with_ids s ≡ (s, unseen)
+plain_ids s form = ap (λ (seen : Seen). (s, seen)) (none_seen s.fields (none_has (have_dictionary s.fields) (both (keyed_form s.fields) (unless (not (have_dictionary s.fields)) reasons.Type) form).1))
+
+pub table_again : (s : SchemaTree) → SchemaFits s → IsRead keyed_schema_at 16 (part_of s) (s, unseen) (schema_cost s)
+table_again s fits = subst (λ (x : SchemaTree × Seen). IsRead keyed_schema_at 16 (part_of s) x (schema_cost s)) (plain_ids s fits.form) (keyed_table_again s fits.keyed)
+
+pub stream_again : (s : SchemaTree) (rest : List ℕ) → SchemaFits s → metadata_size (schema_message s) < 2 ^ 31 → stream_keyed_schema_at (schema_message s ++ rest) ≡ Ok ((s, unseen), rest)
+stream_again s rest fits small = keyed_stream_again s rest fits.keyed small ∙ ap (λ (x : SchemaTree × Seen). Ok (x, rest)) (plain_ids s fits.form)

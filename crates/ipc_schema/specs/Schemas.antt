@@ -1,5 +1,5 @@
 -- The schema that metadata spells: `Schema`, `Field`, `Int` and `KeyValue` of `Schema.fbs` of the Arrow format, in the order of reading.
-use Rattle.std.specs.Prelude.{ℕ, zero, suc, ℤ, pos, Bool, true, false, ◌&&◌, List, [], ◌∷◌, map, length, Option, Some, None, is_some, Result, Ok, Err, nat_lt, ◌==◌, if◌then◌else◌}
+use Rattle.std.specs.Prelude.{ℕ, zero, suc, pos, Bool, true, false, ◌&&◌, List, [], ◌∷◌, map, length, Option, Some, None, is_some, Result, Ok, Err, nat_lt, ◌==◌, if◌then◌else◌}
 use Rattle.std.specs.BTreeMap.{insert_entry}
 use Rattle.std.specs.Cmp.Lexicographic.{slice_cmp}
 use Rattle.std.specs.Ordering.{nat_cmp, int_eq}
@@ -8,7 +8,7 @@ use Rattle.nest_memory.specs.TypeOf.{entries_of, field_of}
 use Rattle.nest_memory.specs.TypeTree.{Letters, Entries, TypeTree, FieldTree}
 use Rattle.ipc_model.specs.Reading.{◌>>=◌, check}
 use Rattle.ipc_model.specs.declared.fault.Fault.{Fault}
-use Rattle.ipc_model.specs.declared.fault.Fault.TheVariants.{NoSchema, BodyLength, Endianness, Depth, UnsupportedType, ChildCount, Metadata}
+use Rattle.ipc_model.specs.declared.fault.Fault.TheVariants.{NoSchema, BodyLength, Endianness, Depth, ChildCount, Metadata}
 use Rattle.ipc_words.specs.Words as words
 use Rattle.ipc_words.specs.Words.{number_at, signed_at, offset_field, visit_table, text_at, items_at, tables_at}
 use Rattle.ipc_message.specs.Messages.{Parts, message_at}
@@ -18,6 +18,7 @@ use Rattle.ipc_schema.specs.declared.schema.Schema.{Schema}
 use Rattle.ipc_schema.specs.declared.schema.KeyedSchema.{KeyedSchema}
 use Rattle.ipc_schema.specs.declared.dictionaries.Encoding.{Encoding}
 use Rattle.ipc_schema.specs.Dictionaries.{Seen, Progress, unseen, progress, with_id, with_values, keyed, dictionary_at}
+use Rattle.ipc_schema.specs.SeenOf.{seen_of}
 use Rattle.ipc_schema.specs.FieldRows.{rows_at}
 use Rattle.ipc_schema.specs.Extensions.{field_with_all}
 use Rattle.ipc_schema.specs.Types.{type_place, shape_at, can_have, with_children}
@@ -93,8 +94,8 @@ pub record SchemaTree : Type 0 where
   pub fields : List FieldTree
   pub metadata : Entries
 
--- a schema, and the id of each field that has a dictionary, in pre-order
-unfoldable pub keyed_schema_at : List ℕ → ℕ → ℕ → Result ((SchemaTree × List ℤ) × ℕ) Fault
+-- a schema, and what is seen of dictionaries: the id of each field that has one, in pre-order, and what ids name
+unfoldable pub keyed_schema_at : List ℕ → ℕ → ℕ → Result ((SchemaTree × Seen) × ℕ) Fault
 keyed_schema_at bytes place left = do
   table ← visit_table bytes place left
   endianness ← words.field (signed_at w16 bytes) (pos 0) bytes table.0 0
@@ -104,15 +105,7 @@ keyed_schema_at bytes place left = do
   fields ← rows_at (field_at 64 bytes) bytes items.0.count items.0.first (progress items.1 unseen)
   to ← offset_field bytes table.0 2
   metadata ← metadata_at bytes to fields.1.left
-  Ok ((record { fields = fields.0; metadata = metadata.0 }, fields.1.seen.ids), metadata.1)
-
-abbrev pub without_ids : (SchemaTree × List ℤ) × ℕ → Result (SchemaTree × ℕ) Fault
-without_ids ((schema, []), left) = Ok (schema, left)
-without_ids ((schema, id ∷ ids), left) = Err UnsupportedType
-
--- a schema without dictionaries
-unfoldable pub schema_at : List ℕ → ℕ → ℕ → Result (SchemaTree × ℕ) Fault
-schema_at bytes place left = keyed_schema_at bytes place left >>= without_ids
+  Ok ((record { fields = fields.0; metadata = metadata.0 }, fields.1.seen), metadata.1)
 
 -- a schema's message, which has no body
 abbrev pub is_schema : Kind → Bool
@@ -124,17 +117,8 @@ abbrev pub schema_parts : Option Parts → Result Parts Fault
 schema_parts None = Err NoSchema
 schema_parts (Some parts) = if is_schema parts.root.kind then (if parts.root.body_length == 0 then Ok parts else Err BodyLength) else Err NoSchema
 
--- the schema that a stream begins with, and what stands behind its message
-unfoldable pub stream_schema_at : List ℕ → Result (SchemaTree × List ℕ) Fault
-stream_schema_at bytes = do
-  first ← message_at bytes
-  parts ← schema_parts first.0
-  schema ← schema_at parts.metadata parts.root.header parts.root.left
-  allowed ← in_version parts.root.version (have_union schema.0.fields)
-  Ok (schema.0, first.1)
-
--- the same with ids
-unfoldable pub stream_keyed_schema_at : List ℕ → Result ((SchemaTree × List ℤ) × List ℕ) Fault
+-- that which a stream begins with, and what stands behind its message
+unfoldable pub stream_keyed_schema_at : List ℕ → Result ((SchemaTree × Seen) × List ℕ) Fault
 stream_keyed_schema_at bytes = do
   first ← message_at bytes
   parts ← schema_parts first.0
@@ -146,5 +130,5 @@ stream_keyed_schema_at bytes = do
 abbrev pub schema_of : Schema → SchemaTree
 schema_of s = record { fields = map field_of s.fields.items; metadata = entries_of s.metadata.entries }
 
-abbrev pub keyed_schema_of : KeyedSchema → SchemaTree × List ℤ
-keyed_schema_of s = (schema_of s.schema, s.ids.items)
+abbrev pub keyed_schema_of : KeyedSchema → SchemaTree × Seen
+keyed_schema_of s = (schema_of s.schema, seen_of s.dictionaries)

@@ -100,19 +100,19 @@ pub struct Values {
     pub inside: Vec<i64>,
 }
 
-/// What was seen of dictionaries: the id of each field that has one so far, in pre-order, and what ids name.
+/// The id of each field that has a dictionary, in pre-order, a field's own before those inside of it, and what ids name.
 #[derive(Drop)]
-pub struct Seen {
+pub struct Dictionaries {
     pub ids: Vec<i64>,
     pub named: BTreeMap<i64, Values>,
 }
 
-impl Seen {
-    /// Nothing was seen.
-    pub fn new(alloc: Global) -> Seen
+impl Dictionaries {
+    /// No field was seen.
+    pub fn new(alloc: Global) -> Dictionaries
         ensures { seen_of result ≡ unseen }
     {
-        Seen {
+        Dictionaries {
             ids: Vec::new(alloc),
             named: BTreeMap::new(alloc),
         }
@@ -120,7 +120,7 @@ impl Seen {
 }
 
 /// A field's id comes before those inside of it.
-pub fn see_id(seen: &mut Seen, dictionary: Option<Encoding>) -> Result<(), Fault>
+pub fn see_id(seen: &mut Dictionaries, dictionary: Option<Encoding>) -> Result<(), Fault>
     ensures { Gives (λ x. seen_of seen.new) result (Ok (with_id_lem dictionary (seen_of seen.old))) }
 {
     if let Some(encoding) = dictionary {
@@ -135,7 +135,7 @@ fn same_values(old: &Values, new: &Values) -> bool
     old.data_type == new.data_type && old.inside == new.inside
 }
 
-fn insert(seen: &mut Seen, id: i64, new: Values) -> Result<(), AllocError>
+fn insert(seen: &mut Dictionaries, id: i64, new: Values) -> Result<(), AllocError>
     ensures { OnOk result (seen_of seen.new ≡ with_name id (values_of new) (seen_of seen.old)) }
 {
     seen.named.insert(id, new)?;
@@ -143,7 +143,7 @@ fn insert(seen: &mut Seen, id: i64, new: Values) -> Result<(), AllocError>
 }
 
 // Whether an id names the values, if it names some.
-fn names_as(seen: &Seen, id: &i64, new: &Values) -> Option<bool>
+fn names_as(seen: &Dictionaries, id: &i64, new: &Values) -> Option<bool>
     ensures { result ≡ option_map (λ old. same_values_lem old (values_of new.now)) (lookup (is_at (int_cmp id.now)) (seen_of seen.now).named) }
 {
     match seen.named.get(id) {
@@ -153,7 +153,7 @@ fn names_as(seen: &Seen, id: &i64, new: &Values) -> Option<bool>
 }
 
 // An id names the same values everywhere.
-fn name_values(seen: &mut Seen, id: i64, new: Values) -> Result<(), Fault>
+fn name_values(seen: &mut Dictionaries, id: i64, new: Values) -> Result<(), Fault>
     ensures { Gives (λ x. seen_of seen.new) result (name_values_lem id (values_of new) (seen_of seen.old) (lookup (is_at (int_cmp id)) (seen_of seen.old).named)) }
 {
     match names_as(seen, &id, &new) {
@@ -180,7 +180,7 @@ fn ids_behind(alloc: Global, ids: &[i64], before: usize) -> Result<Vec<i64>, All
 // The values of a field of which an id stands behind so many.
 fn values_behind(
     alloc: Global,
-    seen: &Seen,
+    seen: &Dictionaries,
     data_type: &DataType,
     before: usize,
 ) -> Result<Values, Fault>
@@ -196,7 +196,7 @@ fn values_behind(
 /// Once a field and what is inside of it is read: its id names values of this type. So many ids were seen before its own.
 pub fn see_values(
     alloc: Global,
-    seen: &mut Seen,
+    seen: &mut Dictionaries,
     dictionary: Option<Encoding>,
     data_type: &DataType,
     before: usize,

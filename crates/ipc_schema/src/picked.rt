@@ -7,10 +7,10 @@ ghost use Rattle.ipc_schema.specs.Dictionaries.{progress};
 ghost use Rattle.ipc_schema.specs.SeenOf.{seen_of};
 ghost use Rattle.ipc_schema.specs.Schemas.{schema_of};
 ghost use Rattle.ipc_schema.specs.Picks.{picks_of, IsMade};
-ghost use Rattle.ipc_schema.specs.PickedSchemas.{item_by as item_by_lem, item_at as item_at_lem, picked_at as picked_at_lem, check_ids as check_ids_lem, has_union as has_union_lem, in_any_version as in_any_version_lem, picked_schema_at as picked_schema_at_lem, stream_picked_at, picked_of, none_picked, with_item, joined, item_of, parts_of};
+ghost use Rattle.ipc_schema.specs.PickedSchemas.{item_by as item_by_lem, item_at as item_at_lem, picked_at as picked_at_lem, has_union as has_union_lem, in_any_version as in_any_version_lem, picked_schema_at as picked_schema_at_lem, stream_picked_at, picked_of, none_picked, with_item, joined, item_of, parts_of};
 
 use crate::columns::{Columns, Picker};
-use crate::dictionaries::Seen;
+use crate::dictionaries::Dictionaries;
 use crate::metadata::metadata_at;
 use crate::reading::{field_at, schema_message};
 use crate::schema::Schema;
@@ -22,11 +22,13 @@ use ipc_words::{Items, i16_field, items_at, offset_at, offset_field, visit_table
 use nest_memory::datatypes::Field;
 use std::alloc::{AllocError, Global};
 
-/// The schema of the fields that are read, and what is done with each field that there is.
+/// The schema of the fields that are read, what is done with each field that there is, and the dictionaries of those that are
+/// read.
 #[derive(Drop)]
 pub struct PickedSchema {
     pub schema: Schema,
     pub steps: Vec<Step>,
+    pub dictionaries: Dictionaries,
 }
 
 // A field: read, or passed over.
@@ -49,7 +51,7 @@ fn item_by(
     bytes: &[u8],
     place: usize,
     left: usize,
-    seen: &mut Seen,
+    seen: &mut Dictionaries,
 ) -> Result<(Item, usize), Fault>
     requires { length bytes.now < 2 ^ 32 }
     ensures { Gives (λ x. (item_of x.0, progress x.1 (seen_of seen.new))) result (item_by_lem picked bytes.now place (progress left (seen_of seen.old))) }
@@ -71,7 +73,7 @@ fn item_at(
     bytes: &[u8],
     place: usize,
     left: usize,
-    seen: &mut Seen,
+    seen: &mut Dictionaries,
 ) -> Result<(Item, usize), Fault>
     requires made { IsMade picker.now }
     requires length { length bytes.now < 2 ^ 32 }
@@ -101,7 +103,7 @@ fn picked_at(
     bytes: &[u8],
     items: Items,
     left: usize,
-    seen: &mut Seen,
+    seen: &mut Dictionaries,
 ) -> Result<(Parts, usize), Fault>
     requires made { IsMade picker.now }
     requires length { length bytes.now < 2 ^ 32 }
@@ -122,18 +124,7 @@ fn picked_at(
     Ok((parts, rest))
 }
 
-fn check_ids(seen: &Seen, left: usize) -> Result<(), Fault>
-    ensures { result ≡ check_ids_lem (progress left (seen_of seen.now)) }
-{
-    if seen.ids.is_empty() {
-        Ok(())
-    } else {
-        Err(Fault::UnsupportedType)
-    }
-}
-
-/// The schema of the fields that are read of a table of metadata, and what is left to spend. A field that is read and has a
-/// dictionary is refused.
+/// The schema of the fields that are read of a table of metadata, and what is left to spend.
 #[tactic(auto, unfolding(crate::specs::PickedSchemas::picked_schema_at))]
 pub fn picked_schema_at(
     alloc: Global,
@@ -151,14 +142,18 @@ pub fn picked_schema_at(
         return Err(Fault::Endianness);
     }
     let (items, left) = items_at(4, bytes, offset_field(bytes, table, 1)?, left)?;
-    let mut seen = Seen::new(alloc);
-    let (parts, left) = picked_at(alloc, picker, bytes, items, left, &mut seen)?;
+    let mut dictionaries = Dictionaries::new(alloc);
+    let (parts, left) = picked_at(alloc, picker, bytes, items, left, &mut dictionaries)?;
     let to = offset_field(bytes, table, 2)?;
-    let (metadata, rest) = metadata_at(alloc, bytes, to, left)?;
-    check_ids(&seen, left)?;
+    let (metadata, left) = metadata_at(alloc, bytes, to, left)?;
     let Parts { steps, fields } = parts;
     let schema = Schema { fields, metadata };
-    Ok((PickedSchema { schema, steps }, rest))
+    let picked = PickedSchema {
+        schema,
+        steps,
+        dictionaries,
+    };
+    Ok((picked, left))
 }
 
 fn has_union(step: Step) -> bool

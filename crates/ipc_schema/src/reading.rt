@@ -10,9 +10,9 @@ ghost use Rattle.ipc_schema.specs.SeenOf.{seen_of};
 ghost use Rattle.ipc_message.specs.Messages.{parts_of, message_of};
 ghost use Rattle.ipc_schema.specs.Types.{can_have as can_have_lem, with_children as with_children_lem};
 ghost use Rattle.ipc_schema.specs.Shapes.{shape_tree};
-ghost use Rattle.ipc_schema.specs.Schemas.{field_of_type, field_over as field_over_lem, field_at as field_at_lem, keyed_schema_at as keyed_schema_at_lem, schema_at as schema_at_lem, without_ids as without_ids_lem, schema_parts, stream_schema_at, stream_keyed_schema_at, schema_of, keyed_schema_of};
+ghost use Rattle.ipc_schema.specs.Schemas.{field_of_type, field_over as field_over_lem, field_at as field_at_lem, keyed_schema_at, schema_parts, stream_keyed_schema_at, keyed_schema_of};
 
-use crate::dictionaries::{Encoding, Seen, dictionary_at, keyed, see_id, see_values};
+use crate::dictionaries::{Dictionaries, Encoding, dictionary_at, keyed, see_id, see_values};
 use crate::metadata::{metadata_at, take};
 use crate::nested::shape_at;
 use crate::schema::{KeyedSchema, Schema};
@@ -43,16 +43,6 @@ fn counted(shape: &Shape<'_>, count: usize) -> Result<(), Fault>
 struct Keys {
     dictionary: Option<Encoding>,
     before: usize,
-}
-
-fn without_ids(keyed: KeyedSchema, left: usize) -> Result<(Schema, usize), Fault>
-    ensures { Gives (λ x. (schema_of x.0, x.1)) result (without_ids_lem (keyed_schema_of keyed, left)) }
-{
-    if keyed.ids.is_empty() {
-        Ok((keyed.schema, left))
-    } else {
-        Err(Fault::UnsupportedType)
-    }
 }
 
 // A field of its type and of all its metadata, which may spell an extension.
@@ -95,7 +85,7 @@ fn field_with(
     is_nullable: bool,
     metadata: Metadata,
     keys: Keys,
-    seen: &mut Seen,
+    seen: &mut Dictionaries,
 ) -> Result<Field, Fault>
     ensures { Gives (λ x. (field_of x, seen_of seen.new)) result (field_of_type name.now is_nullable (entries_of metadata.entries) keys.dictionary keys.before (seen_of seen.old) (with_children_lem (shape_tree shape.entry) (map field_of fields.items))) }
 {
@@ -114,7 +104,7 @@ fn field_over(
     bytes: &[u8],
     place: usize,
     left: usize,
-    seen: &mut Seen,
+    seen: &mut Dictionaries,
 ) -> Result<(Field, usize), Fault>
     requires { length bytes.now < 2 ^ 32 }
     ensures { Gives (λ x. (field_of x.0, progress x.1 (seen_of seen.new))) result (field_over_lem (field_at_lem depth bytes.now) bytes.now place (progress left (seen_of seen.old))) }
@@ -154,7 +144,7 @@ pub fn field_at(
     bytes: &[u8],
     place: usize,
     left: usize,
-    seen: &mut Seen,
+    seen: &mut Dictionaries,
 ) -> Result<(Field, usize), Fault>
     requires { length bytes.now < 2 ^ 32 }
     ensures { Gives (λ x. (field_of x.0, progress x.1 (seen_of seen.new))) result (field_at_lem depth bytes.now place (progress left (seen_of seen.old))) }
@@ -173,7 +163,7 @@ fn fields_at(
     bytes: &[u8],
     items: Items,
     left: usize,
-    seen: &mut Seen,
+    seen: &mut Dictionaries,
 ) -> Result<(Vec<Field>, usize), Fault>
     requires length { length bytes.now < 2 ^ 32 }
     requires within { items.first + items.count * 4 ≤ length bytes.now }
@@ -190,44 +180,32 @@ fn fields_at(
     Ok((fields, rest))
 }
 
-/// The schema of a table of metadata with the id of each field that has a dictionary, and what is left to spend.
+/// The schema of a table of metadata with the dictionaries of its fields, and what is left to spend.
 #[tactic(auto, unfolding(crate::specs::Schemas::keyed_schema_at))]
-pub fn keyed_schema_at(
+pub fn schema_at(
     alloc: Global,
     bytes: &[u8],
     place: usize,
     left: usize,
 ) -> Result<(KeyedSchema, usize), Fault>
     requires { length bytes.now < 2 ^ 32 }
-    ensures { Gives (λ x. (keyed_schema_of x.0, x.1)) result (keyed_schema_at_lem bytes.now place left) }
+    ensures { Gives (λ x. (keyed_schema_of x.0, x.1)) result (keyed_schema_at bytes.now place left) }
 {
     let (table, left) = visit_table(bytes, place, left)?;
     if i16_field(bytes, table, 0, 0)? != 0 {
         return Err(Fault::Endianness);
     }
     let (items, left) = items_at(4, bytes, offset_field(bytes, table, 1)?, left)?;
-    let mut seen = Seen::new(alloc);
-    let (fields, left) = fields_at(alloc, 64, bytes, items, left, &mut seen)?;
+    let mut dictionaries = Dictionaries::new(alloc);
+    let (fields, left) = fields_at(alloc, 64, bytes, items, left, &mut dictionaries)?;
     let to = offset_field(bytes, table, 2)?;
     let (metadata, left) = metadata_at(alloc, bytes, to, left)?;
     let schema = Schema { fields, metadata };
-    let Seen { ids, named: _ } = seen;
-    Ok((KeyedSchema { schema, ids }, left))
-}
-
-/// The schema of a table of metadata, and what is left to spend. One with a dictionary is refused.
-#[tactic(auto, unfolding(crate::specs::Schemas::schema_at))]
-pub fn schema_at(
-    alloc: Global,
-    bytes: &[u8],
-    place: usize,
-    left: usize,
-) -> Result<(Schema, usize), Fault>
-    requires { length bytes.now < 2 ^ 32 }
-    ensures { Gives (λ x. (schema_of x.0, x.1)) result (schema_at_lem bytes.now place left) }
-{
-    let (keyed, left) = keyed_schema_at(alloc, bytes, place, left)?;
-    without_ids(keyed, left)
+    let keyed = KeyedSchema {
+        schema,
+        dictionaries,
+    };
+    Ok((keyed, left))
 }
 
 /// The message of a schema, without a body.
@@ -250,31 +228,15 @@ pub fn schema_message(first: Option<Message<'_>>) -> Result<Message<'_>, Fault>
     }
 }
 
-/// The schema that a stream begins with, and what stands behind its message.
-#[tactic(auto, unfolding(crate::specs::Schemas::stream_schema_at))]
-pub fn read_schema(alloc: Global, bytes: &[u8]) -> Result<(Schema, &[u8]), Fault>
-    ensures { Gives (λ x. (schema_of x.0, x.1.now)) result (stream_schema_at bytes.now) }
-{
-    let (first, rest) = next_message(bytes)?;
-    let message = schema_message(first)?;
-    let root = message.root;
-    let (schema, _) = schema_at(alloc, message.metadata, root.header, root.left)?;
-    match in_version(root.version, &schema.fields) {
-        Err(fault) => Err(fault),
-        Ok(_) => Ok((schema, rest)),
-    }
-}
-
-/// The schema that a stream begins with and the id of each field that has a dictionary, in pre-order, and what stands
-/// behind its message.
+/// The schema that a stream begins with and the dictionaries of its fields, and what stands behind its message.
 #[tactic(auto, unfolding(crate::specs::Schemas::stream_keyed_schema_at))]
-pub fn read_keyed_schema(alloc: Global, bytes: &[u8]) -> Result<(KeyedSchema, &[u8]), Fault>
+pub fn read_schema(alloc: Global, bytes: &[u8]) -> Result<(KeyedSchema, &[u8]), Fault>
     ensures { Gives (λ x. (keyed_schema_of x.0, x.1.now)) result (stream_keyed_schema_at bytes.now) }
 {
     let (first, rest) = next_message(bytes)?;
     let message = schema_message(first)?;
     let root = message.root;
-    let (keyed, _) = keyed_schema_at(alloc, message.metadata, root.header, root.left)?;
+    let (keyed, _) = schema_at(alloc, message.metadata, root.header, root.left)?;
     match in_version(root.version, &keyed.schema.fields) {
         Err(fault) => Err(fault),
         Ok(_) => Ok((keyed, rest)),

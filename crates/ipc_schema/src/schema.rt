@@ -1,4 +1,5 @@
 //! What a stream's batches hold.
+use crate::dictionaries::Dictionaries;
 use nest_memory::datatypes::{Field, Metadata};
 
 /// The columns of all batches of a stream, `Schema` of `Schema.fbs` of the Arrow format.
@@ -10,9 +11,9 @@ pub struct Schema {
     pub metadata: Metadata,
 }
 
-/// A schema, and the id of each field that has a dictionary, in pre-order: a field's own before those inside of it, as nodes and buffers stand.
+/// A schema, and the dictionaries of its fields, whose ids stand as nodes and buffers do.
 #[derive(Drop)]
 pub struct KeyedSchema {
     pub schema: Schema,
-    pub ids: Vec<i64>,
+    pub dictionaries: Dictionaries,
 }

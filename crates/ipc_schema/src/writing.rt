@@ -10,7 +10,8 @@ ghost use Rattle.ipc_words.specs.Writes.{IsTooLong};
 ghost use Rattle.ipc_words.specs.RowLaws.{IsRead};
 ghost use Rattle.ipc_message.specs.MessageBytes.{message_bytes, metadata_size};
 ghost use Rattle.ipc_message.specs.declared.message.Kind.TheVariants.{Schema as SchemaKind};
-ghost use Rattle.ipc_schema.specs.Schemas.{schema_of, keyed_schema_at, schema_at, stream_keyed_schema_at, stream_schema_at};
+ghost use Rattle.ipc_schema.specs.Schemas.{schema_of, keyed_schema_at, stream_keyed_schema_at};
+ghost use Rattle.ipc_schema.specs.Dictionaries.{unseen};
 ghost use Rattle.ipc_schema.specs.Numbering.{total, count_keyed};
 ghost use Rattle.ipc_schema.specs.Forms.{type_form as type_form_lem, are_free as are_free_lem, own_form as own_form_lem, each_form as each_form_lem, field_form as field_form_lem, keyed_form, fields_form, IsUnformed, IsUnwritten};
 ghost use Rattle.ipc_schema.specs.SchemaBytes.{field_vtable, field_head, entries_bytes, parts_of_field, field_bytes, each_bytes, field_parts, schema_bytes, schema_message};
@@ -367,7 +368,7 @@ pub fn keyed_schema_table(alloc: Global, schema: &Schema) -> Result<Vec<u8>, NoF
 
 /// The same of a schema without dictionaries: one with a dictionary is refused behind the reasons of its fields.
 pub fn schema_table(alloc: Global, schema: &Schema) -> Result<Vec<u8>, NoForm>
-    ensures again { OnOk result (IsRead schema_at 16 (part_of (schema_of schema.now)) (schema_of schema.now) (schema_cost (schema_of schema.now))) }
+    ensures again { OnOk result (IsRead keyed_schema_at 16 (part_of (schema_of schema.now)) (schema_of schema.now, unseen) (schema_cost (schema_of schema.now))) }
     ensures bytes { IfOk result (λ part. part.items ≡ part_of (schema_of schema.now)) }
     ensures fits { OnOk result (SchemaFits (schema_of schema.now)) }
     ensures err { IfErr result (IsUnwritten (schema_of schema.now).fields (length (part_of (schema_of schema.now)))) }
@@ -405,7 +406,7 @@ pub fn write_keyed_schema(alloc: Global, schema: &Schema) -> Result<Vec<u8>, NoF
 /// The message of a schema without dictionaries: whatever stands behind it, reading gives the schema back. Refused with the
 /// first reason in the order of writing, a dictionary behind the reasons of the fields.
 pub fn write_schema(alloc: Global, schema: &Schema) -> Result<Vec<u8>, NoForm>
-    ensures again { IfOk result (λ out. (rest : List ℕ) → stream_schema_at (out.items ++ rest) ≡ Ok (schema_of schema.now, rest)) }
+    ensures again { IfOk result (λ out. (rest : List ℕ) → stream_keyed_schema_at (out.items ++ rest) ≡ Ok ((schema_of schema.now, unseen), rest)) }
     ensures bytes { IfOk result (λ out. out.items ≡ schema_message (schema_of schema.now)) }
     ensures form { OnOk result (fields_form (schema_of schema.now).fields ≡ Ok tt) }
     ensures small { OnOk result (metadata_size (schema_message (schema_of schema.now)) < 2 ^ 31) }

@@ -1,7 +1,7 @@
 use Rattle.std.proofs.Common.{◌≡◌, ◌+◌, ◌*◌, ◌<◌, ◌^◌, ◌++◌, length, refl, ap, ◌∙◌, inr, append_assoc, arith}
 use Rattle.std.proofs.lemmas.Result.{err_from_is_err_and}
 use Rattle.ipc_words.specs.Bytes.{u32_bytes}
-use Rattle.ipc_schema.specs.Forms.{unwritten_more}
+use Rattle.ipc_schema.specs.Forms.{keyed_form, unformed_more}
 use Rattle.ipc_schema.specs.SchemaLaws.{part_of}
 use Rattle.ipc_footer.specs.Footers.{FooterTree, footer_with, magic}
 use Rattle.ipc_footer.specs.FooterBytes.{footer_bytes, file_end}
@@ -12,7 +12,7 @@ pub returns-in_err-part-clause-err : goal.returns-in_err-part-clause-err
 returns-in_err-part-clause-err c =
     let p = err_from_is_err_and c.from_residual.result c.from_residual.ensures.1 in
     let f : FooterTree = footer_with c.args.schema.now c.args.dictionaries.now c.args.batches.now in
-    rw (p.1, p.2) (unwritten_more f.schema.fields (length (part_of f.schema)) (length (footer_bytes f)) _ (omega (arith, footer_long f)) c.in_err-part.ensures.err)
+    rw (p.1, p.2) (unformed_more (keyed_form f.schema.fields) (length (part_of f.schema)) (length (footer_bytes f)) _ (omega (arith, footer_long f)) c.in_err-part.ensures.err)
 
 pub returns-then-count-clause-err : goal.returns-then-count-clause-err
 returns-then-count-clause-err c =

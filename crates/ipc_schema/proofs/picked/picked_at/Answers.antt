@@ -4,7 +4,7 @@ use Rattle.ipc_schema.specs.Dictionaries.{progress}
 use Rattle.ipc_schema.specs.SeenOf.{seen_of}
 use Rattle.ipc_schema.specs.Picks.{picks_of}
 use Rattle.ipc_schema.specs.PickedSchemas.{picked_at, item_of, parts_of}
-use Rattle.ipc_schema.proofs.Chosen.{pick_starts, pick_goes_on, pick_lacks_offset, pick_ends, pick_is_done}
+use Rattle.ipc_schema.proofs.Chosen.{pick_goes_on, pick_lacks_offset, pick_ends, pick_is_done}
 use Rattle.ipc_schema.proofs.picked.picked_at.Goals as goal
 
 pub returns-in_err-place : goal.returns-in_err-place

@@ -1,7 +1,7 @@
-use Rattle.std.proofs.Common.{◌≡◌, ◌<◌, ◌≤◌, ◌+◌, sym, ◌∙◌, arith}
+use Rattle.std.proofs.Common.{◌<◌, sym, ◌∙◌, arith}
 use Rattle.std.proofs.lemmas.Result.{err_from_is_err_and}
-use Rattle.ipc_schema.specs.Spans.{no_span, spans_at, span_at}
-use Rattle.ipc_schema.proofs.Skipped.{span_goes_on, span_lacks_offset, span_ends, span_is_done, span_starts, span_level, no_span_level}
+use Rattle.ipc_schema.specs.Spans.{spans_at, span_at}
+use Rattle.ipc_schema.proofs.Skipped.{span_goes_on, span_lacks_offset, span_ends, span_is_done, span_level, no_span_level}
 use Rattle.ipc_schema.proofs.spans.+spans.Goals as goal
 
 pub span_at-returns-then-depth-eq0-clause-value : goal.span_at-returns-then-depth-eq0-clause-value

@@ -1,23 +1,20 @@
 use Rattle.std.proofs.Common.{◌≡◌, ◌≤◌, ◌+◌, ◌-◌, ◌++◌, ◌∷◌, List, [], ℕ, length, map, drop, sym, ap, ◌∙◌, subst, refl, arith}
 use Rattle.std.specs.List.{AllByRecursion}
-use Rattle.std.specs.Prelude.{Option, IfOk, IfErr}
 use Rattle.std.proofs.lemmas.List.{append-nil, length-append, map_push}
-use Rattle.std.proofs.lemmas.Result.{err_from_is_err_and, on_ok_weaker}
+use Rattle.std.proofs.lemmas.Result.{err_from_is_err_and}
 use Rattle.std.specs.Global.{Vec}
 use Rattle.nest_memory.specs.TypeOf.{field_of}
 use Rattle.nest_memory.specs.TypeTree.{TypeTree, FieldTree, field_type}
 use Rattle.ipc_words.specs.Bytes.{together, parts_of, row_bytes}
 use Rattle.ipc_words.specs.RowLaws.{row_is_long}
-use Rattle.ipc_words.specs.Writes.{IsTooLong, too_long_more}
-use Rattle.ipc_schema.specs.declared.dictionaries.Encoding.{Encoding}
+use Rattle.ipc_words.specs.Writes.{too_long_more}
 use Rattle.ipc_schema.specs.Extensions.{table_type}
 use Rattle.ipc_schema.specs.Types.{children_of}
 use Rattle.ipc_schema.specs.Forms.{field_form}
 use Rattle.ipc_schema.specs.Numbering.{encoding_of, behind_own, total, count_keyed}
 use Rattle.ipc_schema.specs.SchemaBytes.{field_bytes, each_bytes}
-use Rattle.ipc_schema.specs.MetadataLaws.{one_of}
 use Rattle.ipc_schema.specs.FieldLaws.{FieldFits, form_is, own_type, table_bytes, field_counts}
-use Rattle.ipc_schema.proofs.Fields.{form_next, parts_more, made_left, counts_left, nothing_counted, nothing_made, fits_more, fits_done}
+use Rattle.ipc_schema.proofs.Fields.{form_next, parts_more, made_left, counts_left, nothing_counted, nothing_made, fits_more}
 use Rattle.ipc_schema.proofs.Levels.{deep_is, forms_are, bytes_level, behind_level, fits_level, inner_long}
 use Rattle.ipc_schema.proofs.writing.+parts.Goals as goal
 
