@@ -5,29 +5,29 @@ use Rattle.ipc_model.specs.declared.fault.Fault.{Fault}
 use Rattle.ipc_model.specs.Reading.{◌>>=◌, Fails}
 use Rattle.ipc_message.specs.Messages.{Parts}
 use Rattle.ipc_message.specs.declared.message.Kind.TheVariants.{DictionaryBatch}
-use Rattle.ipc_schema.specs.Schemas.{SchemaTree}
 use Rattle.ipc_footer.specs.declared.footer.Block.{Block}
-use Rattle.ipc.specs.Streams.{Arrays, dictionary_in}
+use Rattle.std.specs.Prelude.{true}
+use Rattle.ipc.specs.Streams.{Arrays, State, dictionary_in}
 use Rattle.ipc.specs.Files.{block_in, block_batch_in, batches_at, dictionaries_at, no_block}
 
 -- ---- dictionaries
 
-module _ (schema : SchemaTree) (bytes : List ℕ) (blocks : List Block) (i : ℕ) (total : Result (Unit {0}) Fault) where
-  pub dictionary_lacks_message : (f : Fault) → i < length blocks → block_in DictionaryBatch schema bytes (get_or blocks i no_block) ≡ Err f → dictionaries_at schema bytes (drop i blocks) ≡ total → total ≡ Err f
+module _ (s : State) (bytes : List ℕ) (blocks : List Block) (i : ℕ) (total : Result State Fault) where
+  pub dictionary_lacks_message : (f : Fault) → i < length blocks → block_in DictionaryBatch s.picked bytes (get_or blocks i no_block) ≡ Err f → dictionaries_at s bytes (drop i blocks) ≡ total → total ≡ Err f
   unfolding dictionaries_at
   dictionary_lacks_message f lt read so_far = sym so_far ∙ rw (drop_more blocks i no_block lt, read) refl
 
-  pub dictionary_fails : (m : Parts) (f : Fault) → i < length blocks → block_in DictionaryBatch schema bytes (get_or blocks i no_block) ≡ Ok m → Fails f (dictionary_in m) → dictionaries_at schema bytes (drop i blocks) ≡ total → Fails f total
+  pub dictionary_fails : (m : Parts) (f : Fault) → i < length blocks → block_in DictionaryBatch s.picked bytes (get_or blocks i no_block) ≡ Ok m → Fails f (dictionary_in true s m) → dictionaries_at s bytes (drop i blocks) ≡ total → Fails f total
   unfolding dictionaries_at
   dictionary_fails m f lt read fails so_far = λ known. sym so_far ∙ rw (drop_more blocks i no_block lt, read, fails known) refl
 
-  pub dictionary_goes_on : (m : Parts) (a : Arrays) → i < length blocks → block_in DictionaryBatch schema bytes (get_or blocks i no_block) ≡ Ok m → dictionary_in m ≡ Ok a → dictionaries_at schema bytes (drop i blocks) ≡ total → dictionaries_at schema bytes (drop (i + 1) blocks) ≡ total
+  pub dictionary_goes_on : (m : Parts) (t : State) → i < length blocks → block_in DictionaryBatch s.picked bytes (get_or blocks i no_block) ≡ Ok m → dictionary_in true s m ≡ Ok t → dictionaries_at s bytes (drop i blocks) ≡ total → dictionaries_at t bytes (drop (i + 1) blocks) ≡ total
   unfolding dictionaries_at
-  dictionary_goes_on m a lt read given so_far =
-      let one : dictionaries_at schema bytes (drop i blocks) ≡ dictionaries_at schema bytes (drop (i + 1) blocks) = rw (drop_more blocks i no_block lt, read, given) refl in
+  dictionary_goes_on m t lt read given so_far =
+      let one : dictionaries_at s bytes (drop i blocks) ≡ dictionaries_at t bytes (drop (i + 1) blocks) = rw (drop_more blocks i no_block lt, read, given) refl in
       sym one ∙ so_far
 
-  pub dictionaries_end : length blocks ≤ i → dictionaries_at schema bytes (drop i blocks) ≡ total → total ≡ Ok tt
+  pub dictionaries_end : length blocks ≤ i → dictionaries_at s bytes (drop i blocks) ≡ total → total ≡ Ok s
   unfolding dictionaries_at
   dictionaries_end le so_far = sym so_far ∙ rw (drop_all i blocks le) refl
 
@@ -45,7 +45,7 @@ pub batches_start : (read : Result (List Arrays) Fault) → with_first [] read �
 batches_start (Ok batches) = refl
 batches_start (Err f) = refl
 
-module _ (schema : SchemaTree) (bytes : List ℕ) (blocks : List Block) (i : ℕ) where
+module _ (schema : State) (bytes : List ℕ) (blocks : List Block) (i : ℕ) where
   pub batch_fails : (f : Fault) (front : List Arrays) (total : Result (List Arrays) Fault) → i < length blocks → Fails f (block_batch_in schema bytes (get_or blocks i no_block)) → with_first front (batches_at schema bytes (drop i blocks)) ≡ total → Fails f total
   unfolding batches_at
   batch_fails f front total lt fails so_far = λ known. sym so_far ∙ rw (drop_more blocks i no_block lt, fails known) refl

@@ -1,5 +1,4 @@
+pub mod Entries
 pub mod Loops
 pub mod Writes
 pub mod FileLoops
-pub mod PickedLoops
-pub mod PickedFileLoops

@@ -10,6 +10,7 @@ use Rattle.ipc_message.specs.MessageBytes.{metadata_size}
 use Rattle.ipc_batch.specs.BatchBytes as batches
 use Rattle.ipc_layout.specs.Written.{no_form, IsUnwritten}
 use Rattle.ipc.specs.Streams.{Arrays}
+use Rattle.ipc_layout.specs.Keyless.{are_keyless}
 use Rattle.ipc.specs.Written.{batch_tree, batch_head, is_column, are_columns, else_for, size_if, arrays_refusal, batch_refusal, IsRefused}
 
 -- ---- columns
@@ -57,9 +58,9 @@ message_refused b why form (inr (size, inr long)) =
     let past : leb (2 ^ 31) (metadata_size (batch_head b)) ≡ true = le-leb _ _ long in
     inr (rw (form, size) (size_first (leb (2 ^ 63) b.rows) (leb (2 ^ 31) (metadata_size (batch_head b))) None past))
 
-pub batch_refused : (types : List TypeTree) (b : Arrays) (why : NoForm) → are_columns types b.rows b.columns ≡ true → IsRefused (arrays_refusal b) why → IsRefused (batch_refusal types b) why
-batch_refused types b why are (inl memory) = inl memory
-batch_refused types b why are (inr reason) = inr (rw are reason)
+pub batch_refused : (types : List TypeTree) (b : Arrays) (why : NoForm) → are_columns types b.rows b.columns ≡ true → are_keyless b.columns ≡ true → IsRefused (arrays_refusal b) why → IsRefused (batch_refusal types b) why
+batch_refused types b why are keyless (inl memory) = inl memory
+batch_refused types b why are keyless (inr reason) = inr (rw (are, keyless) reason)
 
-pub batch_accepted : (types : List TypeTree) (b : Arrays) → are_columns types b.rows b.columns ≡ true → arrays_refusal b ≡ None → batch_refusal types b ≡ None
-batch_accepted types b are none = rw are none
+pub batch_accepted : (types : List TypeTree) (b : Arrays) → are_columns types b.rows b.columns ≡ true → are_keyless b.columns ≡ true → arrays_refusal b ≡ None → batch_refusal types b ≡ None
+batch_accepted types b are keyless none = rw (are, keyless) none

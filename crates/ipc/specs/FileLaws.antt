@@ -15,11 +15,16 @@ use Rattle.ipc_schema.specs.Schemas.{SchemaTree}
 use Rattle.ipc_schema.specs.SchemaBytes.{schema_message}
 use Rattle.ipc_layout.specs.Written.{columns_body}
 use Rattle.ipc_footer.specs.declared.footer.Block.{Block}
-use Rattle.ipc_footer.specs.Footers.{block_before, block_length, blocks_before, file_footer_in}
+use Rattle.ipc_footer.specs.Footers.{block_before, block_length, blocks_before}
+use Rattle.ipc_footer.specs.PickedFooters.{PickedFooterTree, file_picked_in}
+use Rattle.ipc_schema.specs.Dictionaries.{unseen}
+use Rattle.ipc_schema.specs.PickedLaws.{all_picked}
+use Rattle.ipc_schema.specs.Picks.{all}
 use Rattle.ipc_footer.specs.FooterBytes.{file_head, file_end}
-use Rattle.ipc.specs.Streams.{Arrays, record_batch_in, types_of}
-use Rattle.ipc.specs.Files.{block_in, block_batch_in, batches_at, dictionaries_at, no_block, file_reader_in, file_in}
-use Rattle.ipc.specs.Written.{batch_head, batch_bytes, stream_bytes, are_columns, shown_arrays, IsReadAgain}
+use Rattle.ipc.specs.Streams.{Arrays, State, record_batch_in}
+use Rattle.ipc.specs.Files.{block_in, block_batch_in, batches_at, dictionaries_at, no_block, file_reader_in, picked_file_in, file_in}
+use Rattle.ipc.specs.Written.{batch_head, batch_bytes, stream_bytes, shown_arrays, ReadsAll, IsReadAgain}
+use Rattle.ipc.specs.WrittenLaws.{plain_start}
 use Rattle.ipc.specs.WrittenFiles.{written_block, blocks_from, written_footer, file_bytes, shown_file}
 
 -- ---- a reader gives the batches of its file
@@ -40,7 +45,7 @@ first_is (Ok batch) (Ok rest) batches h = record { batch = batch; rest = rest; i
 first_is (Ok batch) (Err fault) batches h = cc
 first_is (Err fault) others batches h = cc
 
-pub each_is : (schema : SchemaTree) (bytes : List ℕ) (blocks : List Block) (batches : List Arrays) (i : ℕ) → batches_at schema bytes blocks ≡ Ok batches → i < length blocks → block_batch_in schema bytes (get_or blocks i no_block) ≡ Ok (get_or batches i no_arrays)
+pub each_is : (schema : State) (bytes : List ℕ) (blocks : List Block) (batches : List Arrays) (i : ℕ) → batches_at schema bytes blocks ≡ Ok batches → i < length blocks → block_batch_in schema bytes (get_or blocks i no_block) ≡ Ok (get_or batches i no_arrays)
 unfolding batches_at
 each_is schema bytes [] batches i h lt = absurd (omega arith)
 each_is schema bytes (b ∷ blocks) batches zero h lt =
@@ -93,36 +98,40 @@ written_inside s bs ok = blocks_fit (8 + length (schema_message s)) (8 + length 
 same_number : (n m : ℕ) → n ≡ m → (n == m) ≡ true
 same_number n m e = (Decides-eqb n m).1 e
 
-block_again : (s : SchemaTree) (b : Arrays) (front behind whole : List ℕ) → IsReadAgain b → are_columns (types_of s) b.rows b.columns ≡ true → whole ≡ front ++ (batch_bytes b ++ behind) → block_batch_in s whole (written_block (length front) b) ≡ Ok (shown_arrays b)
+block_again : (s : State) (b : Arrays) (front behind whole : List ℕ) → IsReadAgain b → ReadsAll s b → whole ≡ front ++ (batch_bytes b ++ behind) → block_batch_in s whole (written_block (length front) b) ≡ Ok (shown_arrays b)
 unfolding block_in record_batch_in
-block_again s b front behind whole ok are e =
+block_again s b front behind whole ok reads e =
     let n : ℕ = length (batch_head b) + length (columns_body b.columns) in
     let bytes : take n (drop (length front) whole) ≡ batch_bytes b =
     ap (λ (x : List ℕ). take n (drop (length front) x)) e ∙ ap (take n) (drop_at front (batch_bytes b ++ behind) (length front) refl) ∙ take_at (batch_bytes b) behind n (batch_long b) in
     let read : message_at (batch_bytes b) ≡ Ok (Some ok.parts, []) = subst (λ (x : List ℕ). message_at x ≡ Ok (Some ok.parts, [])) (append-nil (batch_bytes b)) (ok.message.again []) in
     let metadata = same_number (8 + length ok.parts.metadata) (length (batch_head b)) ok.message.metadata in
     let body = same_number (length ok.parts.body) (length (columns_body b.columns)) ok.message.body in
-    rw (bytes, read, metadata, body, ok.message.kind, ok.message.version, ok.message.columns (types_of s) are) refl
+    rw (bytes, read, metadata, body, ok.message.kind, ok.message.version, ok.message.columns s reads) refl
 
-batches_again : (s : SchemaTree) (bs : List Arrays) (front behind whole : List ℕ) → AllByRecursion IsReadAgain bs → AllByRecursion (λ b. are_columns (types_of s) b.rows b.columns ≡ true) bs → whole ≡ front ++ (flat_map batch_bytes bs ++ behind)
+batches_again : (s : State) (bs : List Arrays) (front behind whole : List ℕ) → AllByRecursion IsReadAgain bs → AllByRecursion (ReadsAll s) bs → whole ≡ front ++ (flat_map batch_bytes bs ++ behind)
     → batches_at s whole (blocks_from (length front) bs) ≡ Ok (map shown_arrays bs)
 unfolding batches_at blocks_from
-batches_again s [] front behind whole ok are e = refl
-batches_again s (b ∷ bs) front behind whole ok are e =
+batches_again s [] front behind whole ok reads e = refl
+batches_again s (b ∷ bs) front behind whole ok reads e =
     let rest : List ℕ = flat_map batch_bytes bs ++ behind in
     let split : flat_map batch_bytes (b ∷ bs) ++ behind ≡ batch_bytes b ++ rest = ap (λ (x : List ℕ). x ++ behind) (flat_map-cons batch_bytes b bs) ∙ append_assoc (batch_bytes b) (flat_map batch_bytes bs) behind in
     let here : whole ≡ front ++ (batch_bytes b ++ rest) = e ∙ ap (λ (x : List ℕ). front ++ x) split in
     let next : whole ≡ (front ++ batch_bytes b) ++ rest = here ∙ sym (append_assoc front (batch_bytes b) rest) in
     let place : length front + length (batch_bytes b) ≡ length (front ++ batch_bytes b) = sym (length-append front (batch_bytes b)) in
-    rw (block_again s b front rest whole ok.0 are.0 here, place, batches_again s bs (front ++ batch_bytes b) behind whole ok.1 are.1 next) refl
+    rw (block_again s b front rest whole ok.0 reads.0 here, place, batches_again s bs (front ++ batch_bytes b) behind whole ok.1 reads.1 next) refl
 
 -- ---- files
 
-pub file_again : (s : SchemaTree) (bs : List Arrays) → file_footer_in (file_bytes s bs) ≡ Ok (written_footer s bs) → AllByRecursion IsReadAgain bs → AllByRecursion (λ b. are_columns (types_of s) b.rows b.columns ≡ true) bs → file_in (file_bytes s bs) ≡ Ok (shown_file s bs)
-unfolding file_in file_reader_in dictionaries_at
+-- what is read of a footer that is written, of a schema without dictionaries
+abbrev pub read_footer : SchemaTree → List Arrays → PickedFooterTree
+read_footer s bs = record { picked = all_picked s unseen; dictionaries = []; batches = (written_footer s bs).batches }
+
+pub file_again : (s : SchemaTree) (bs : List Arrays) → file_picked_in all (file_bytes s bs) ≡ Ok (read_footer s bs) → AllByRecursion IsReadAgain bs → AllByRecursion (ReadsAll (plain_start s)) bs → file_in (file_bytes s bs) ≡ Ok (shown_file s bs)
+unfolding picked_file_in file_reader_in dictionaries_at
 file_again s bs footer ok are =
     let end : List ℕ = file_end (written_footer s bs) in
     let regrouped : file_bytes s bs ≡ (file_head ++ schema_message s) ++ (flat_map batch_bytes bs ++ (end_mark ++ end)) = unfold file_bytes stream_bytes in simp append_assoc in
     let place : 8 + length (schema_message s) ≡ length (file_head ++ schema_message s) = sym (length-append file_head (schema_message s)) in
-    let read : batches_at s (file_bytes s bs) (blocks_from (length (file_head ++ schema_message s)) bs) ≡ Ok (map shown_arrays bs) = batches_again s bs (file_head ++ schema_message s) (end_mark ++ end) (file_bytes s bs) ok are regrouped in
+    let read : batches_at (plain_start s) (file_bytes s bs) (blocks_from (length (file_head ++ schema_message s)) bs) ≡ Ok (map shown_arrays bs) = batches_again (plain_start s) bs (file_head ++ schema_message s) (end_mark ++ end) (file_bytes s bs) ok are regrouped in
     rw (footer, place, read) refl

@@ -1,16 +1,16 @@
 -- What follows from the definitions of `Streams`.
-use Rattle.std.specs.Prelude.{◌≡◌, ℕ, zero, suc, ◌<◌, ◌≤◌, Bool, true, false, ◌==◌, List, [], ◌∷◌, length, take, drop, Option, Some, None, Result, Ok, Err, IfOk, IfSome, nat_le, if◌then◌else◌, refl, map, ◌||◌}
-use Rattle.std.proofs.Common.{ap, ◌∙◌, arith, length-drop}
+use Rattle.std.specs.Prelude.{◌≡◌, ℕ, zero, suc, ◌<◌, ◌≤◌, Bool, true, false, ◌==◌, List, [], ◌∷◌, length, take, drop, Option, Some, None, Result, Ok, Err, IfOk, IfSome, nat_le, if◌then◌else◌, refl}
+use Rattle.std.proofs.Common.{ap, arith, length-drop}
 use Rattle.std.specs.Int.{w32, from_le_bytes, cast_signed}
-use Rattle.nest_memory.specs.TypeTree.{TypeTree, FieldTree, field_type}
 use Rattle.ipc_model.specs.Reading.{◌>>=◌, check}
 use Rattle.ipc_model.specs.declared.fault.Fault.{Fault}
 use Rattle.ipc_model.specs.declared.fault.Fault.TheVariants.{Truncated, Continuation, MetadataLength}
 use Rattle.ipc_words.specs.Words.{natural}
 use Rattle.ipc_message.specs.Messages.{Parts, root_at, front, behind_mark, parts_at, sized_at, message_at}
-use Rattle.ipc_schema.specs.Schemas.{schema_parts, schema_at, stream_schema_at}
-use Rattle.ipc_schema.specs.Unions.{field_has_union, have_union, in_version}
-use Rattle.ipc.specs.Streams.{Arrays, types_have_union, batch_in, next_in, with_others, batches_within, batches_in, first_and_others}
+use Rattle.ipc_schema.specs.Schemas.{schema_parts}
+use Rattle.ipc_schema.specs.Picks.{Picks}
+use Rattle.ipc_schema.specs.PickedSchemas.{in_any_version, picked_schema_at, stream_picked_at}
+use Rattle.ipc.specs.Streams.{Arrays, State, Next, message_in, or_next, next_by, next_within, next_in, first_in, with_others, batches_within, batches_in, first_and_others}
 
 -- ---- what stands behind a part has fewer bytes
 
@@ -81,42 +81,85 @@ message_goes (b ∷ bytes) =
     (if_ok_bind (λ rest. length rest ≤ length bytes) (Goes (suc (length bytes))) (behind_mark (b ∷ bytes)) sized_at (mark_leaves b bytes)
     (λ rest le. if_ok_some (length bytes) (sized_at rest) (sized_leaves (length bytes) rest le)))
 
-batch_goes : (n : ℕ) (types : List TypeTree) (m : Option Parts) (behind : List ℕ) → Goes n (m, behind) → IfOk (batch_in types m >>= λ batch. Ok (batch, behind)) (Goes n)
-batch_goes n types None behind h = (h.0, tt)
-batch_goes n types (Some m) behind h = if_ok_then (Goes n) (batch_in types (Some m)) _ (λ batch. (h.0, if_some (length behind < n) batch h.1))
+-- ---- a batch is that of the first message, or of what comes next
 
-pub next_goes : (types : List TypeTree) (bytes : List ℕ) → IfOk (next_in types bytes) (Goes (length bytes))
-unfolding next_in
-next_goes types bytes = if_ok_bind (Goes (length bytes)) (Goes (length bytes)) (message_at bytes) _ (message_goes bytes) (λ next h. batch_goes (length bytes) types next.0 next.1 h)
+-- a batch and what stands behind it, whatever is known by then
+abbrev pub Moves : ℕ → (Option Arrays × State) × List ℕ → Type 0
+Moves n x = Goes n (x.0.0, x.1)
+
+message_same : (f g : State → List ℕ → Next) (n : ℕ) (s : State) (read : Result (Option Parts × List ℕ) Fault) → IfOk read (Goes n) → ((t : State) (behind : List ℕ) → length behind < n → f t behind ≡ g t behind)
+    → (read >>= λ next. next_by f s next.0 next.1) ≡ (read >>= λ next. next_by g s next.0 next.1)
+message_same f g n s (Err fault) h same = refl
+message_same f g n s (Ok (None, behind)) h same = refl
+message_same f g n s (Ok (Some m, behind)) h same = one (message_in s m)
+  where
+    one : (read : Result (Option Arrays × State) Fault) → (read >>= λ x. or_next f x.0 x.1 behind) ≡ (read >>= λ x. or_next g x.0 x.1 behind)
+    one (Ok (None, t)) = same t behind h.1
+    one (Ok (Some batch, t)) = refl
+    one (Err e) = refl
+
+within_same : (n m : ℕ) (s : State) (bytes : List ℕ) → length bytes < n → length bytes < m → next_within n s bytes ≡ next_within m s bytes
+unfolding next_within
+within_same zero m s bytes lt lt' = absurd (omega arith)
+within_same (suc n) zero s bytes lt lt' = absurd (omega arith)
+within_same (suc n) (suc m) s bytes lt lt' =
+    message_same (next_within n) (next_within m) (length bytes) s (message_at bytes) (message_goes bytes) (λ t behind lt''. within_same n m t behind (omega arith) (omega arith))
+
+pub by_message : (s : State) (bytes : List ℕ) → next_in s bytes ≡ first_in s bytes
+unfolding next_within
+by_message s bytes =
+    message_same (next_within (length bytes)) next_in (length bytes) s (message_at bytes) (message_goes bytes) (λ t behind lt. within_same (length bytes) (suc (length behind)) t behind lt (omega arith))
+
+-- ---- behind a batch stand fewer bytes, and behind the end no more
+
+moves_more : (k n : ℕ) (read : Next) → k ≤ n → IfOk read (Moves k) → IfOk read (Moves n)
+moves_more k n (Err f) le h = tt
+moves_more k n (Ok ((None, t), behind)) le h = (omega (arith, h.0), tt)
+moves_more k n (Ok ((Some a, t), behind)) le h = (omega (arith, h.0), omega (arith, h.1))
+
+next_moves_by : (n : ℕ) (f : State → List ℕ → Next) (batch : Option Arrays) (t : State) (behind : List ℕ) → length behind < n → IfOk (f t behind) (Moves (length behind)) → IfOk (or_next f batch t behind) (Moves n)
+next_moves_by n f None t behind lt h = moves_more (length behind) n (f t behind) (omega arith) h
+next_moves_by n f (Some a) t behind lt h = (omega arith, lt)
+
+message_moves_by : (n : ℕ) (f : State → List ℕ → Next) (s : State) (m : Option Parts) (behind : List ℕ) → Goes n (m, behind) → ((t : State) → IfOk (f t behind) (Moves (length behind))) → IfOk (next_by f s m behind) (Moves n)
+message_moves_by n f s None behind h others = (h.0, tt)
+message_moves_by n f s (Some m) behind h others = if_ok_then (Moves n) (message_in s m) _ (λ x. next_moves_by n f x.0 x.1 behind h.1 (others x.1))
+
+within_moves : (n : ℕ) (s : State) (bytes : List ℕ) → IfOk (next_within n s bytes) (Moves (length bytes))
+unfolding next_within
+within_moves zero s bytes = (omega arith, tt)
+within_moves (suc n) s bytes =
+    if_ok_bind (Goes (length bytes)) (Moves (length bytes)) (message_at bytes) _ (message_goes bytes) (λ next h. message_moves_by (length bytes) (next_within n) s next.0 next.1 h (λ t. within_moves n t next.1))
+
+pub next_moves : (s : State) (bytes : List ℕ) → IfOk (next_in s bytes) (Moves (length bytes))
+next_moves s bytes = within_moves (suc (length bytes)) s bytes
 
 -- ---- a stream is its next batch, and the others behind it
 
-same_others : (f g : List ℕ → Result (List Arrays × List ℕ) Fault) (n : ℕ) (read : Result (Option Arrays × List ℕ) Fault) → IfOk read (Goes n) → ((behind : List ℕ) → length behind < n → f behind ≡ g behind)
-    → (read >>= λ next. with_others f next.0 next.1) ≡ (read >>= λ next. with_others g next.0 next.1)
+abbrev pub Batches : Type 0
+Batches = Result (List Arrays × List ℕ) Fault
+
+same_others : (f g : State → List ℕ → Batches) (n : ℕ) (read : Next) → IfOk read (Moves n) → ((t : State) (behind : List ℕ) → length behind < n → f t behind ≡ g t behind)
+    → (read >>= λ next. with_others f next.0.0 next.0.1 next.1) ≡ (read >>= λ next. with_others g next.0.0 next.0.1 next.1)
 same_others f g n (Err fault) h same = refl
-same_others f g n (Ok (None, behind)) h same = refl
-same_others f g n (Ok (Some batch, behind)) h same = ap (λ (others : Result (List Arrays × List ℕ) Fault). others >>= λ x. Ok (batch ∷ x.0, x.1)) (same behind h.1)
+same_others f g n (Ok ((None, t), behind)) h same = refl
+same_others f g n (Ok ((Some batch, t), behind)) h same = ap (λ (others : Batches). others >>= λ x. Ok (batch ∷ x.0, x.1)) (same t behind h.1)
 
-within_same : (n m : ℕ) (types : List TypeTree) (bytes : List ℕ) → length bytes ≤ n → length bytes ≤ m → batches_within n types bytes ≡ batches_within m types bytes
-unfolding batches_within next_in message_at
-within_same zero zero types bytes le le' = refl
-within_same zero (suc m) types [] le le' = refl
-within_same zero (suc m) types (b ∷ bytes) le le' = absurd (omega arith)
-within_same (suc n) zero types [] le le' = refl
-within_same (suc n) zero types (b ∷ bytes) le le' = absurd (omega arith)
-within_same (suc n) (suc m) types bytes le le' =
-    same_others (batches_within n types) (batches_within m types) (length bytes) (next_in types bytes) (next_goes types bytes) (λ behind lt. within_same n m types behind (omega arith) (omega arith))
-
-pub one_by_one : (types : List TypeTree) (bytes : List ℕ) → batches_in types bytes ≡ first_and_others types bytes
+batches_same : (n m : ℕ) (s : State) (bytes : List ℕ) → length bytes < n → length bytes < m → batches_within n s bytes ≡ batches_within m s bytes
 unfolding batches_within
-one_by_one types bytes =
-    let more : batches_in types bytes ≡ batches_within (suc (length bytes)) types bytes = within_same (length bytes) (suc (length bytes)) types bytes (omega arith) (omega arith) in
-    more ∙ same_others (batches_within (length bytes) types) (batches_in types) (length bytes) (next_in types bytes) (next_goes types bytes)
-    (λ behind lt. within_same (length bytes) (length behind) types behind (omega arith) (omega arith))
+batches_same zero m s bytes lt lt' = absurd (omega arith)
+batches_same (suc n) zero s bytes lt lt' = absurd (omega arith)
+batches_same (suc n) (suc m) s bytes lt lt' =
+    same_others (batches_within n) (batches_within m) (length bytes) (next_in s bytes) (next_moves s bytes) (λ t behind lt''. batches_same n m t behind (omega arith) (omega arith))
 
-pub nothing_left : (types : List TypeTree) → next_in types [] ≡ Ok (None, [])
-unfolding next_in message_at
-nothing_left types = refl
+pub one_by_one : (s : State) (bytes : List ℕ) → batches_in s bytes ≡ first_and_others s bytes
+unfolding batches_within
+one_by_one s bytes =
+    same_others (batches_within (length bytes)) batches_in (length bytes) (next_in s bytes) (next_moves s bytes) (λ t behind lt. batches_same (length bytes) (suc (length behind)) t behind lt (omega arith))
+
+pub nothing_left : (s : State) → next_in s [] ≡ Ok ((None, s), [])
+unfolding next_within message_at
+nothing_left s = refl
 
 -- ---- what stands behind a schema, and behind the batches
 
@@ -124,32 +167,23 @@ leaves_of_goes : {A : Type 0} (n : ℕ) (read : Result (Option A × List ℕ) Fa
 leaves_of_goes n (Ok x) h = h.0
 leaves_of_goes n (Err f) h = tt
 
-pub schema_leaves : (bytes : List ℕ) → IfOk (stream_schema_at bytes) (Leaves (length bytes))
-unfolding stream_schema_at
-schema_leaves bytes =
+pub schema_leaves : (picks : Picks) (bytes : List ℕ) → IfOk (stream_picked_at picks bytes) (Leaves (length bytes))
+unfolding stream_picked_at
+schema_leaves picks bytes =
     if_ok_bind (Leaves (length bytes)) (Leaves (length bytes)) (message_at bytes) _ (leaves_of_goes (length bytes) (message_at bytes) (message_goes bytes))
     (λ first h. if_ok_then (Leaves (length bytes)) (schema_parts first.0) _
-    (λ parts. if_ok_then (Leaves (length bytes)) (schema_at parts.metadata parts.root.header parts.root.left) _
-    (λ schema. if_ok_then (Leaves (length bytes)) (in_version parts.root.version (have_union schema.0.fields)) _ (λ allowed. h))))
+    (λ parts. if_ok_then (Leaves (length bytes)) (picked_schema_at picks parts.metadata parts.root.header parts.root.left) _
+    (λ picked. if_ok_then (Leaves (length bytes)) (in_any_version parts.root.version picked.0.schema.fields picked.0.steps) _ (λ allowed. h))))
 
-others_leave : (f : List ℕ → Result (List Arrays × List ℕ) Fault) (n : ℕ) (next : Option Arrays) (behind : List ℕ) → length behind ≤ n → ((bytes : List ℕ) → IfOk (f bytes) (Leaves (length bytes))) → IfOk (with_others f next behind) (Leaves n)
-others_leave f n None behind le h = le
-others_leave f n (Some batch) behind le h = if_ok_bind (Leaves (length behind)) (Leaves n) (f behind) _ (h behind) (λ x le'. omega arith)
+others_leave : (f : State → List ℕ → Batches) (n : ℕ) (next : Option Arrays) (t : State) (behind : List ℕ) → length behind ≤ n → ((u : State) (bytes : List ℕ) → IfOk (f u bytes) (Leaves (length bytes))) → IfOk (with_others f next t behind) (Leaves n)
+others_leave f n None t behind le h = le
+others_leave f n (Some batch) t behind le h = if_ok_bind (Leaves (length behind)) (Leaves n) (f t behind) _ (h t behind) (λ x le'. omega arith)
 
-within_leaves : (most : ℕ) (types : List TypeTree) (bytes : List ℕ) → IfOk (batches_within most types bytes) (Leaves (length bytes))
+within_leaves : (most : ℕ) (s : State) (bytes : List ℕ) → IfOk (batches_within most s bytes) (Leaves (length bytes))
 unfolding batches_within
-within_leaves zero types bytes = omega arith
-within_leaves (suc most) types bytes =
-    if_ok_bind (Goes (length bytes)) (Leaves (length bytes)) (next_in types bytes) _ (next_goes types bytes)
-    (λ next h. others_leave (batches_within most types) (length bytes) next.0 next.1 h.0 (within_leaves most types))
+within_leaves zero s bytes = omega arith
+within_leaves (suc most) s bytes =
+    if_ok_bind (Moves (length bytes)) (Leaves (length bytes)) (next_in s bytes) _ (next_moves s bytes) (λ next h. others_leave (batches_within most) (length bytes) next.0.0 next.0.1 next.1 h.0 (within_leaves most))
 
-pub batches_leave : (types : List TypeTree) (bytes : List ℕ) → IfOk (batches_in types bytes) (Leaves (length bytes))
-batches_leave types bytes = within_leaves (length bytes) types bytes
-
--- ---- unions
-
--- fields have a union where columns of their types have one
-pub unions_are : (fields : List FieldTree) → have_union fields ≡ types_have_union (map field_type fields)
-unfolding field_has_union
-unions_are [] = refl
-unions_are (f ∷ fields) = rw (unions_are fields) refl
+pub batches_leave : (s : State) (bytes : List ℕ) → IfOk (batches_in s bytes) (Leaves (length bytes))
+batches_leave s bytes = within_leaves (suc (length bytes)) s bytes

@@ -1,25 +1,60 @@
--- The stream that bytes spell: "IPC Streaming Format" of the Arrow columnar format, in the order of reading.
-use Rattle.std.specs.Prelude.{ℕ, zero, suc, ◌-◌, pos, List, [], ◌∷◌, map, length, Option, Some, None, Result, Ok, Err, Bool, ◌||◌}
+-- The stream that bytes spell: "IPC Streaming Format" of the Arrow columnar format, in the order of reading. What stands in a batch of columns that are
+-- not read is passed over.
+use Rattle.std.specs.Prelude.{ℕ, zero, suc, ◌-◌, ℤ, pos, List, [], ◌∷◌, map, length, Option, Some, None, is_some, Result, Ok, Err, Bool, true, false, nat_lt, if◌then◌else◌}
 use Rattle.std.specs.List.{list_any}
-use Rattle.std.specs.Int.{w64}
+use Rattle.std.specs.Int.{w8, w64}
+use Rattle.std.specs.Map.{lookup}
+use Rattle.std.specs.BTreeMap.{insert_entry, is_at}
+use Rattle.std.specs.Ordering.{int_cmp}
 use Rattle.nest_memory.specs.TypeTree.{TypeTree, field_type}
 use Rattle.nest_model.specs.Layout.{Layout}
 use Rattle.nest_array.specs.Seen.{layout_of}
-use Rattle.ipc_model.specs.Reading.{◌>>=◌}
+use Rattle.nest_array.specs.declared.any.AnyArray.{AnyArray}
+use Rattle.ipc_model.specs.Reading.{◌>>=◌, check}
 use Rattle.ipc_model.specs.declared.fault.Fault.{Fault}
-use Rattle.ipc_model.specs.declared.fault.Fault.TheVariants.{HeaderType, UnknownDictionary}
-use Rattle.ipc_words.specs.Words.{signed_at, field, visit_table}
+use Rattle.ipc_model.specs.declared.fault.Fault.TheVariants.{HeaderType, UnknownDictionary, NoData, MissingDictionary, Replaced, Delta}
+use Rattle.ipc_model.specs.declared.spans.Step.{Step}
+use Rattle.ipc_model.specs.declared.spans.Step.TheVariants.{Read, Skip}
+use Rattle.ipc_words.specs.Words.{number_at, signed_at, field, offset_field, visit_table}
+use Rattle.ipc_words.specs.declared.tables.Table.{Table}
 use Rattle.ipc_message.specs.Messages.{Parts, message_at}
 use Rattle.ipc_message.specs.declared.message.Kind.{Kind}
 use Rattle.ipc_message.specs.declared.message.Kind.TheVariants.{Schema, DictionaryBatch, RecordBatch}
-use Rattle.ipc_schema.specs.Schemas.{SchemaTree, schema_of, stream_schema_at}
-use Rattle.ipc_schema.specs.Types.{children_of}
-use Rattle.ipc_schema.specs.Extensions.{table_type}
-use Rattle.ipc_schema.specs.Unions.{is_union, field_has_union, in_version}
-use Rattle.ipc_batch.specs.Batches.{batch_at}
-use Rattle.ipc_layout.specs.Columns.{columns_in}
+use Rattle.ipc_schema.specs.Dictionaries.{Values}
+use Rattle.ipc_schema.specs.Outer.{outer_ids}
+use Rattle.ipc_schema.specs.Picks.{Picks, all}
+use Rattle.ipc_schema.specs.PickedSchemas.{PickedTree, in_any_version, stream_picked_at, picked_of}
+use Rattle.ipc_schema.specs.Schemas.{SchemaTree, schema_of}
+use Rattle.ipc_batch.specs.Batches.{BatchTree, batch_at}
+use Rattle.ipc_batch.specs.MoreBuffers.{more_buffers_at}
+use Rattle.ipc_layout.specs.Columns.{Rest, column_in, none_left}
+use Rattle.ipc_layout.specs.Picked.{picked_in}
+use Rattle.ipc_layout.specs.declared.parts.Wanted.TheVariants.{Rows}
 use Rattle.ipc.specs.declared.batch.Batch.{Batch}
+use Rattle.ipc.specs.declared.state.State as declared
 use Rattle.ipc.specs.declared.stream.Stream.{Stream}
+
+-- ---- what is known
+
+-- the values of each id that came so far
+abbrev pub Known : Type 0
+Known = List (ℤ × Layout)
+
+-- what is known where a message begins: which columns are read, and the dictionaries that came
+pub record State : Type 0 where
+  pub picked : PickedTree
+  pub known : Known
+
+abbrev pub known_at : Known → ℤ → Option Layout
+known_at known id = lookup (is_at (int_cmp id)) known
+
+-- the values that arrays of keys name which have these ids
+abbrev pub values_at : Known → List ℤ → List (Option Layout)
+values_at known ids = map (known_at known) ids
+
+-- the nodes and buffers of a batch, and the values of the arrays of keys in it
+abbrev pub rest_at : Known → List ℤ → BatchTree → Rest
+rest_at known ids batch = record { nodes = batch.nodes; regions = batch.regions; dictionaries = values_at known ids }
 
 -- ---- batches
 
@@ -28,60 +63,152 @@ pub record Arrays : Type 0 where
   pub rows : ℕ
   pub columns : List Layout
 
--- the arrays of a record batch, one for each type, in its body
-unfoldable pub record_batch_in : List TypeTree → Parts → Result Arrays Fault
-record_batch_in types m = do
+-- the types of a schema's columns
+abbrev pub types_of : SchemaTree → List TypeTree
+types_of s = map field_type s.fields
+
+abbrev pub has_views : Step → Bool
+has_views Read = false
+has_views (Skip s) = nat_lt 0 s.views
+
+abbrev pub has_dictionary : Step → Bool
+has_dictionary Read = false
+has_dictionary (Skip s) = s.has_dictionary
+
+-- how many buffers more arrays of views have, which is read where some are passed over
+abbrev pub more_in : List Step → Parts → Result (List ℤ) Fault
+more_in steps m = if list_any has_views steps then more_buffers_at m.metadata m.root.header m.root.left else Ok []
+
+-- the arrays of a record batch that are read, over the dictionaries that are known by now
+unfoldable pub record_batch_in : State → Parts → Result Arrays Fault
+record_batch_in s m = do
   batch ← batch_at m.metadata m.root.header m.root.left m.root.body_length
-  columns ← columns_in types batch.rows m.body (record { nodes = batch.nodes; regions = batch.regions })
+  more ← more_in s.picked.steps m
+  columns ← picked_in s.picked.steps (types_of s.picked.schema) batch.rows m.body (record { rest = rest_at s.known (outer_ids s.picked.seen.named s.picked.seen.ids) batch; more = more })
   Ok (record { rows = batch.rows; columns = columns })
 
--- the values of a dictionary: `DictionaryBatch` of `Message.fbs`. No field that is read has a dictionary, so none has its id
-unfoldable pub dictionary_in : Parts → Result Arrays Fault
-dictionary_in m = do
+-- ---- dictionaries: `DictionaryBatch` of `Message.fbs`
+
+-- what an id names: values, or nothing that is read, where a field that is passed over may have it
+abbrev pub named_by : Option Values → Bool → Result (Option Values) Fault
+named_by (Some values) passed = Ok (Some values)
+named_by None true = Ok None
+named_by None false = Err UnknownDictionary
+
+abbrev pub named_in : PickedTree → ℤ → Result (Option Values) Fault
+named_in p id = named_by (lookup (is_at (int_cmp id)) p.seen.named) (list_any has_dictionary p.steps)
+
+-- where a table stands
+abbrev pub data_place : Option ℕ → Result ℕ Fault
+data_place None = Err NoData
+data_place (Some place) = Ok place
+
+-- whether a dictionary may come: a delta behind one that is there; in a file no second one
+abbrev pub may_come : Bool → Bool → Bool → Result (Unit {0}) Fault
+may_come once true there = check there MissingDictionary
+may_come true false true = Err Replaced
+may_come once false there = Ok tt
+
+-- the one column of a dictionary's batch
+abbrev pub only_column : TypeTree → ℕ → List ℕ → Rest → Result Layout Fault
+only_column t rows body rest = column_in t (Rows rows) body rest >>= λ column. none_left column.1 >>= λ all. Ok column.0
+
+-- the dictionary of an id from now on. Deltas are not joined yet
+abbrev pub with_values : Bool → State → ℤ → Layout → Result State Fault
+with_values true s id values = Err Delta
+with_values false s id values = Ok (record { picked = s.picked; known = insert_entry int_cmp s.known id values })
+
+-- the values of a batch at a place, over the dictionaries inside of them that are known
+abbrev pub column_in_batch : State → Parts → ℕ → ℕ → Values → Result Layout Fault
+column_in_batch s m place left v = batch_at m.metadata place left m.root.body_length >>= λ batch. only_column v.values batch.rows m.body (rest_at s.known (outer_ids s.picked.seen.named v.inside) batch)
+
+-- where the batch of an id's values stands in a table, and whether they stand behind those that it has
+unfoldable pub data_in : Bool → Bool → List ℕ → Table → Result (ℕ × Bool) Fault
+data_in once there metadata table = do
+  to ← offset_field metadata table 1
+  place ← data_place to
+  delta ← field (number_at w8 metadata) 0 metadata table 2
+  allowed ← may_come once (nat_lt 0 delta) there
+  Ok (place, nat_lt 0 delta)
+
+-- the values, and whether they stand behind those that the id has
+abbrev pub new_values_in : Bool → State → Parts → Table → ℕ → ℤ → Values → Result (Bool × Layout) Fault
+new_values_in once s m table left id v = data_in once (is_some (known_at s.known id)) m.metadata table >>= λ at. column_in_batch s m at.0 left v >>= λ values. Ok (at.1, values)
+
+-- of no field that is read nothing is looked at
+abbrev pub found_values : Bool → State → Parts → Table → ℕ → ℤ → Option Values → Result (Option (Bool × Layout)) Fault
+found_values once s m table left id None = Ok None
+found_values once s m table left id (Some v) = new_values_in once s m table left id v >>= λ new. Ok (Some new)
+
+abbrev pub found_in : Bool → State → Parts → Table → ℕ → ℤ → Result (Option (Bool × Layout)) Fault
+found_in once s m table left id = named_in s.picked id >>= λ named. found_values once s m table left id named
+
+abbrev pub with_found : State → ℤ → Option (Bool × Layout) → Result State Fault
+with_found s id None = Ok s
+with_found s id (Some new) = with_values new.0 s id new.1
+
+-- what is known behind a dictionary's batch; each id may come once, or it is replaced when it comes again
+unfoldable pub dictionary_in : Bool → State → Parts → Result State Fault
+dictionary_in once s m = do
   table ← visit_table m.metadata m.root.header m.root.left
   id ← field (signed_at w64 m.metadata) (pos 0) m.metadata table.0 0
-  Err UnknownDictionary
-
--- what stands behind the schema, by the kind of its message: no second schema
-abbrev pub of_kind : Kind → List TypeTree → Parts → Result Arrays Fault
-of_kind Schema types m = Err HeaderType
-of_kind DictionaryBatch types m = dictionary_in m
-of_kind RecordBatch types m = record_batch_in types m
+  found ← found_in once s m table.0 table.1 id
+  with_found s id found
 
 -- ---- streams
 
--- whether there is a union anywhere in columns of these types
-abbrev pub types_have_union : List TypeTree → Bool
-types_have_union types = list_any (λ t. is_union (table_type t) || list_any (field_has_union 63) (children_of (table_type t))) types
+-- what stands behind the schema, by the kind of its message: no second schema
+abbrev pub of_kind : Kind → State → Parts → Result (Option Arrays × State) Fault
+of_kind Schema s m = Err HeaderType
+of_kind DictionaryBatch s m = dictionary_in false s m >>= λ known. Ok (None, known)
+of_kind RecordBatch s m = record_batch_in s m >>= λ batch. Ok (Some batch, s)
 
-abbrev pub batch_in : List TypeTree → Option Parts → Result (Option Arrays) Fault
-batch_in types None = Ok None
-batch_in types (Some m) = in_version m.root.version (types_have_union types) >>= λ allowed. of_kind m.root.kind types m >>= λ batch. Ok (Some batch)
+unfoldable pub message_in : State → Parts → Result (Option Arrays × State) Fault
+message_in s m = in_any_version m.root.version s.picked.schema.fields s.picked.steps >>= λ allowed. of_kind m.root.kind s m
 
--- the next batch of columns of these types, and what stands behind its message; none where the stream ends
-unfoldable pub next_in : List TypeTree → List ℕ → Result (Option Arrays × List ℕ) Fault
-next_in types bytes = do
-  next ← message_at bytes
-  batch ← batch_in types next.0
-  Ok (batch, next.1)
+-- a batch, or the end; what is known behind it; and the bytes behind it
+abbrev pub Next : Type 0
+Next = Result ((Option Arrays × State) × List ℕ) Fault
+
+-- the batch of a message, or what comes next behind a dictionary
+abbrev pub or_next : (State → List ℕ → Next) → Option Arrays → State → List ℕ → Next
+or_next others None s behind = others s behind
+or_next others (Some batch) s behind = Ok ((Some batch, s), behind)
+
+abbrev pub next_by : (State → List ℕ → Next) → State → Option Parts → List ℕ → Next
+next_by others s None behind = Ok ((None, s), behind)
+next_by others s (Some m) behind = message_in s m >>= λ x. or_next others x.0 x.1 behind
+
+-- within so many messages
+unfoldable pub next_within : ℕ → State → List ℕ → Next
+next_within zero s bytes = Ok ((None, s), bytes)
+next_within (suc most) s bytes = message_at bytes >>= λ next. next_by (next_within most) s next.0 next.1
+
+-- the next batch; none where the stream ends. Each message has a byte at least
+abbrev pub next_in : State → List ℕ → Next
+next_in s bytes = next_within (suc (length bytes)) s bytes
+
+-- the same by its first message
+abbrev pub first_in : State → List ℕ → Next
+first_in s bytes = message_at bytes >>= λ next. next_by next_in s next.0 next.1
 
 -- a batch, and the others behind it
-abbrev pub with_others : (List ℕ → Result (List Arrays × List ℕ) Fault) → Option Arrays → List ℕ → Result (List Arrays × List ℕ) Fault
-with_others others None behind = Ok ([], behind)
-with_others others (Some batch) behind = others behind >>= λ x. Ok (batch ∷ x.0, x.1)
+abbrev pub with_others : (State → List ℕ → Result (List Arrays × List ℕ) Fault) → Option Arrays → State → List ℕ → Result (List Arrays × List ℕ) Fault
+with_others others None s behind = Ok ([], behind)
+with_others others (Some batch) s behind = others s behind >>= λ x. Ok (batch ∷ x.0, x.1)
 
 -- at most so many batches
-unfoldable pub batches_within : ℕ → List TypeTree → List ℕ → Result (List Arrays × List ℕ) Fault
-batches_within zero types bytes = Ok ([], bytes)
-batches_within (suc most) types bytes = next_in types bytes >>= λ next. with_others (batches_within most types) next.0 next.1
+unfoldable pub batches_within : ℕ → State → List ℕ → Result (List Arrays × List ℕ) Fault
+batches_within zero s bytes = Ok ([], bytes)
+batches_within (suc most) s bytes = next_in s bytes >>= λ next. with_others (batches_within most) next.0.0 next.0.1 next.1
 
--- the batches up to the end of the stream, and what stands behind it. Each has a byte at least, so that there are no more batches than bytes
-abbrev pub batches_in : List TypeTree → List ℕ → Result (List Arrays × List ℕ) Fault
-batches_in types bytes = batches_within (length bytes) types bytes
+-- the batches up to the end of the stream, and what stands behind it
+abbrev pub batches_in : State → List ℕ → Result (List Arrays × List ℕ) Fault
+batches_in s bytes = batches_within (suc (length bytes)) s bytes
 
 -- the same by its first batch
-abbrev pub first_and_others : List TypeTree → List ℕ → Result (List Arrays × List ℕ) Fault
-first_and_others types bytes = next_in types bytes >>= λ next. with_others (batches_in types) next.0 next.1
+abbrev pub first_and_others : State → List ℕ → Result (List Arrays × List ℕ) Fault
+first_and_others s bytes = next_in s bytes >>= λ next. with_others batches_in next.0.0 next.0.1 next.1
 
 -- a stream without where it lies in memory
 pub record StreamTree : Type 0 where
@@ -89,21 +216,31 @@ pub record StreamTree : Type 0 where
   pub batches : List Arrays
   pub read : ℕ
 
--- the types of a schema's columns
-abbrev pub types_of : SchemaTree → List TypeTree
-types_of s = map field_type s.fields
+-- behind a schema nothing is known
+abbrev pub start : PickedTree → State
+start p = record { picked = p; known = [] }
 
--- a schema, then batches, and how many bytes they take, with the end mark
-unfoldable pub stream_in : List ℕ → Result StreamTree Fault
-stream_in bytes = do
-  schema ← stream_schema_at bytes
-  batches ← batches_in (types_of schema.0) schema.1
-  Ok (record { schema = schema.0; batches = batches.0; read = length bytes - length batches.1 })
+-- a schema, then batches, of the columns that are read; and how many bytes the stream takes, with the end mark
+unfoldable pub picked_stream_in : Picks → List ℕ → Result StreamTree Fault
+picked_stream_in picks bytes = do
+  picked ← stream_picked_at picks bytes
+  batches ← batches_in (start picked.0) picked.1
+  Ok (record { schema = picked.0.schema; batches = batches.0; read = length bytes - length batches.1 })
+
+-- of all columns
+abbrev pub stream_in : List ℕ → Result StreamTree Fault
+stream_in bytes = picked_stream_in all bytes
 
 -- ---- streams of the code
 
 abbrev pub arrays_of : Batch → Arrays
 arrays_of b = record { rows = b.rows; columns = map layout_of b.columns.items }
+
+abbrev pub known_of : List (ℤ × AnyArray) → Known
+known_of entries = map (λ e. (e.0, layout_of e.1)) entries
+
+abbrev pub state_of : declared.State → State
+state_of s = record { picked = picked_of s.picked; known = known_of s.known.entries }
 
 abbrev pub stream_of : Stream → StreamTree
 stream_of s = record { schema = schema_of s.schema; batches = map arrays_of s.batches.items; read = s.read }

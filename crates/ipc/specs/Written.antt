@@ -7,19 +7,22 @@ use Rattle.nest_model.specs.Layout.{Layout, layout_type}
 use Rattle.nest_model.specs.Meaning.{len}
 use Rattle.nest_model.specs.SameArray.{IsSameArray}
 use Rattle.ipc_model.specs.declared.fault.NoForm.{NoForm}
-use Rattle.ipc_model.specs.declared.fault.NoForm.TheVariants.{Memory, Size, Columns}
+use Rattle.ipc_model.specs.declared.fault.NoForm.TheVariants.{Memory, Size, Columns, «Type» as NotWritten}
 use Rattle.ipc_message.specs.Messages.{Parts, message_at}
 use Rattle.ipc_message.specs.MessageBytes.{metadata_size, end_mark}
 use Rattle.ipc_message.specs.declared.message.Kind.TheVariants.{RecordBatch}
 use Rattle.ipc_message.specs.declared.message.Version.TheVariants.{V5}
 use Rattle.ipc_schema.specs.Schemas.{SchemaTree}
 use Rattle.ipc_schema.specs.Forms.{fields_form}
+use Rattle.ipc_schema.specs.Outer.{outer_ids}
+use Rattle.ipc_schema.specs.PickedLaws.{all_steps}
 use Rattle.ipc_schema.specs.SchemaBytes.{schema_message}
 use Rattle.ipc_batch.specs.Batches.{BatchTree}
 use Rattle.ipc_batch.specs.BatchBytes.{batch_message}
+use Rattle.ipc_layout.specs.Keyless.{are_keyless}
 use Rattle.ipc_layout.specs.Placed.{regions_from}
-use Rattle.ipc_layout.specs.Written.{column_node, written, buffers_of, columns_body, no_form, shown}
-use Rattle.ipc.specs.Streams.{Arrays, StreamTree, record_batch_in, types_of}
+use Rattle.ipc_layout.specs.Written.{column_node, written, buffers_of, dictionaries_of, columns_body, no_form, shown}
+use Rattle.ipc.specs.Streams.{Arrays, State, StreamTree, record_batch_in, types_of, values_at}
 
 -- ---- bytes
 
@@ -72,13 +75,13 @@ are_columns [] rows (a ∷ columns) = false
 are_columns (t ∷ types) rows [] = false
 are_columns (t ∷ types) rows (a ∷ columns) = is_column t rows a && are_columns types rows columns
 
--- the first reason why arrays are not written as a batch: their kinds or the size of the body, the rows, the size of the message
+-- the first reason why arrays are not written as a batch: the size of the body, the rows, the size of the message
 unfoldable pub arrays_refusal : Arrays → Option NoForm
 arrays_refusal b = else_for (no_form b.columns) (else_for (size_if (nat_le (2 ^ 63) b.rows)) (metadata_refusal (batch_head b)))
 
--- of a batch of columns of these types
+-- of a batch of columns of these types; dictionaries are not written yet
 abbrev pub batch_refusal : List TypeTree → Arrays → Option NoForm
-batch_refusal types b = if are_columns types b.rows b.columns then arrays_refusal b else Some Columns
+batch_refusal types b = if are_columns types b.rows b.columns then (if are_keyless b.columns then arrays_refusal b else Some NotWritten) else Some Columns
 
 -- the first reason of any batch
 abbrev pub each_refusal : (Arrays → Option NoForm) → List Arrays → Option NoForm
@@ -111,6 +114,12 @@ shown_stream s bs size = record { schema = s; batches = map shown_arrays bs; rea
 abbrev pub IsSameBatch : Arrays → Type 0
 IsSameBatch b = AllByRecursion (λ a. IsSameArray a (shown a)) b.columns
 
+-- all columns are read where a batch of such columns comes, and the dictionaries of the batch are known as they are shown
+pub record ReadsAll (s : State) (b : Arrays) : Type 0 where
+  pub steps : s.picked.steps ≡ all_steps s.picked.schema.fields
+  pub columns : are_columns (types_of s.picked.schema) b.rows b.columns ≡ true
+  pub dictionaries : values_at s.known (outer_ids s.picked.seen.named s.picked.seen.ids) ≡ dictionaries_of (written b.columns)
+
 -- the message of a batch that is written, as it is read, whatever stands behind its body
 pub record IsMessage (b : Arrays) (m : Parts) : Type 0 where
   pub again : (rest : List ℕ) → message_at (batch_bytes b ++ rest) ≡ Ok (Some m, rest)
@@ -118,7 +127,7 @@ pub record IsMessage (b : Arrays) (m : Parts) : Type 0 where
   pub version : m.root.version ≡ V5
   pub metadata : 8 + length m.metadata ≡ length (batch_head b)
   pub body : length m.body ≡ length (columns_body b.columns)
-  pub columns : (types : List TypeTree) → are_columns types b.rows b.columns ≡ true → record_batch_in types m ≡ Ok (shown_arrays b)
+  pub columns : (s : State) → ReadsAll s b → record_batch_in s m ≡ Ok (shown_arrays b)
 
 -- a batch that is written is read back
 pub record IsReadAgain (b : Arrays) : Type 0 where

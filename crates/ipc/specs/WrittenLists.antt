@@ -1,12 +1,12 @@
 -- Lists of batches that are written, one batch after another: their bytes, their blocks, and why one is not written.
-use Rattle.std.proofs.Common.{◌≡◌, ℕ, ◌+◌, ◌^◌, ◌<◌, ◌≤◌, inl, inr, Bool, true, false, leb, List, [], ◌∷◌, ◌++◌, length, get_or, take, drop, map, Option, Some, None, Ok, refl, sym, ap, ◌∙◌, append_assoc, arith}
+use Rattle.std.proofs.Common.{◌≡◌, ℕ, ◌+◌, ◌^◌, ◌<◌, ◌≤◌, inl, inr, Bool, true, false, leb, List, [], ◌∷◌, ◌++◌, length, get_or, take, drop, map, Option, Some, None, Result, Ok, Err, refl, sym, ap, ◌∙◌, append_assoc, arith}
 use Rattle.std.specs.Prelude.{if◌then◌else◌}
 use Rattle.std.specs.List.{AllByRecursion, flat_map}
 use Rattle.std.proofs.lemmas.Bool.{le-leb, lt-leb}
 use Rattle.std.proofs.lemmas.List.{append-nil, map-append, map_more, drop_more, take-append-drop, take_all, length-append}
 use Rattle.std.proofs.lemmas.List.Concat.{flat_map-cons, flat_map-append}
 use Rattle.ipc_model.specs.declared.fault.NoForm.{NoForm}
-use Rattle.ipc_model.specs.declared.fault.NoForm.TheVariants.{Size, Columns}
+use Rattle.ipc_model.specs.declared.fault.NoForm.TheVariants.{Size, Columns, «Type» as NotWritten}
 use Rattle.nest_memory.specs.TypeTree.{TypeTree}
 use Rattle.ipc_message.specs.MessageBytes.{metadata_size}
 use Rattle.ipc_schema.specs.Schemas.{SchemaTree}
@@ -14,9 +14,11 @@ use Rattle.ipc_schema.specs.Forms as forms
 use Rattle.ipc_schema.specs.Forms.{fields_form}
 use Rattle.ipc_schema.specs.SchemaBytes.{schema_message}
 use Rattle.ipc_footer.specs.declared.footer.Block.{Block}
-use Rattle.ipc.specs.Streams.{Arrays}
+use Rattle.ipc_layout.specs.Keyless.{are_keyless, none_named}
+use Rattle.ipc.specs.Streams.{Arrays, types_of}
 use Rattle.ipc.specs.WrittenFiles.{written_block, blocks_from, block_refusal, blocks_refusal}
-use Rattle.ipc.specs.Written.{batch_head, batch_bytes, are_columns, else_for, size_if, schema_refusal, arrays_refusal, batch_refusal, each_refusal, batches_refusal, IsRefused, IsReadAgain, IsSameBatch}
+use Rattle.ipc.specs.Written.{batch_head, batch_bytes, are_columns, else_for, size_if, schema_refusal, metadata_refusal, reason_in, arrays_refusal, batch_refusal, each_refusal, batches_refusal, IsRefused, ReadsAll, IsReadAgain, IsSameBatch}
+use Rattle.ipc.specs.WrittenLaws.{plain_start, reads_plain}
 
 module _ {A B : Type 0} (f : A → B) where
   pub taken : (xs : List A) (i : ℕ) (x : A) → i < length xs → x ≡ get_or xs i x → map f (take (i + 1) xs) ≡ map f (take i xs) ++ f x ∷ []
@@ -74,19 +76,42 @@ bytes_push old out new bs more b e so_far is =
     rw (is, so_far, all) (append_assoc old (flat_map batch_bytes bs) (batch_bytes b))
 
 -- batches that are not refused have the columns of the schema
-pub columns_accepted : (types : List TypeTree) (bs : List Arrays) → batches_refusal types bs ≡ None → AllByRecursion (λ b. are_columns types b.rows b.columns ≡ true) bs
-columns_accepted types [] none = tt
-columns_accepted types (b ∷ bs) none = (one (are_columns types b.rows b.columns) (arrays_refusal b) (batches_refusal types bs) none, columns_accepted types bs (other (batch_refusal types b) (batches_refusal types bs) none))
-  where
-    one : (are : Bool) (r s : Option NoForm) → else_for (if are then r else Some Columns) s ≡ None → are ≡ true
-    one true r s h = refl
-    one false r s h = cc
+-- what holds of each batch where none is refused
+record IsAccepted (types : List TypeTree) (b : Arrays) : Type 0 where
+  columns : are_columns types b.rows b.columns ≡ true
+  keyless : are_keyless b.columns ≡ true
 
-    other : (r s : Option NoForm) → else_for r s ≡ None → s ≡ None
-    other None s h = h
-    other (Some why) s h = cc
+accepted_by : (types : List TypeTree) (b : Arrays) (are keyless : Bool) (r s : Option NoForm) → are_columns types b.rows b.columns ≡ are → are_keyless b.columns ≡ keyless
+    → else_for (if are then (if keyless then r else Some NotWritten) else Some Columns) s ≡ None → IsAccepted types b
+accepted_by types b true true r s are keyless h = record { columns = are; keyless = keyless }
+accepted_by types b true false r s are keyless h = cc
+accepted_by types b false keyless r s are e h = cc
+
+others_accepted : (r s : Option NoForm) → else_for r s ≡ None → s ≡ None
+others_accepted None s h = h
+others_accepted (Some why) s h = cc
+
+each_accepted : (types : List TypeTree) (bs : List Arrays) → batches_refusal types bs ≡ None → AllByRecursion (IsAccepted types) bs
+each_accepted types [] none = tt
+each_accepted types (b ∷ bs) none =
+    (accepted_by types b (are_columns types b.rows b.columns) (are_keyless b.columns) (arrays_refusal b) (batches_refusal types bs) refl refl none, each_accepted types bs (others_accepted (batch_refusal types b) (batches_refusal types bs) none))
+
+-- then all are read where nothing is known of dictionaries
+pub all_read : (s : SchemaTree) (bs : List Arrays) → batches_refusal (types_of s) bs ≡ None → AllByRecursion (ReadsAll (plain_start s)) bs
+all_read s bs none = each bs (each_accepted (types_of s) bs none)
+  where
+    each : (bs : List Arrays) → AllByRecursion (IsAccepted (types_of s)) bs → AllByRecursion (ReadsAll (plain_start s)) bs
+    each [] ok = tt
+    each (b ∷ bs) ok = (reads_plain s b ok.0.columns (none_named b.columns ok.0.keyless), each bs ok.1)
 
 -- ---- a stream
+
+pub fields_formed : (s : SchemaTree) → schema_refusal s ≡ None → fields_form s.fields ≡ Ok tt
+fields_formed s none = by (fields_form s.fields) (metadata_refusal (schema_message s)) none
+  where
+    by : (form : Result (Unit {0}) NoForm) (rest : Option NoForm) → else_for (reason_in form) rest ≡ None → form ≡ Ok tt
+    by (Ok tt) rest h = refl
+    by (Err why) rest h = cc
 
 pub schema_refused : (s : SchemaTree) (why : NoForm) → forms.IsUnwritten s.fields (metadata_size (schema_message s)) why → IsRefused (schema_refusal s) why
 schema_refused s why (inl memory) = inl memory

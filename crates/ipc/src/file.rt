@@ -1,20 +1,24 @@
 //! Reads files.
-ghost use Rattle.std.specs.Prelude.{◌≡◌, ◌<◌, ◌^◌, ◌==◌, true, length, map, IfOk, Ok};
+ghost use Rattle.std.specs.Prelude.{◌≡◌, ◌<◌, ◌^◌, ◌==◌, true, length, map, IfOk};
 ghost use Rattle.std.specs.List.{list_all};
 ghost use Rattle.ipc_model.specs.Reading.{Gives, Spells};
 ghost use Rattle.ipc_message.specs.Messages.{parts_of, message_of};
 ghost use Rattle.ipc_message.specs.MessageBytes.{tag_of};
+ghost use Rattle.ipc_schema.specs.Picks.{all, picks_of};
+ghost use Rattle.ipc_schema.specs.PickedSchemas.{picked_of};
 ghost use Rattle.ipc_schema.specs.Schemas.{schema_of};
 ghost use Rattle.ipc_footer.specs.Footers.{block_before};
-ghost use Rattle.ipc.specs.Streams.{arrays_of};
-ghost use Rattle.ipc.specs.Files.{of_block as of_block_lem, block_in, dictionaries_at, file_reader_in, batch_of_file, batches_of_file, file_in, file_of};
+ghost use Rattle.ipc.specs.Streams.{arrays_of, state_of};
+ghost use Rattle.ipc.specs.Files.{of_block as of_block_lem, block_in, dictionaries_at, file_reader_in, batch_of_file, batches_of_file, picked_file_in, file_in, file_of};
 
 use crate::batch::Batch;
-use crate::reading::{dictionary, record_batch};
-use ipc_footer::{Block, Footer, block_bytes, read_footer};
+use crate::dictionary::read_dictionary;
+use crate::reading::record_batch;
+use crate::state::State;
+use ipc_footer::{Block, block_bytes, read_footer};
 use ipc_message::{Kind, Message, next_message};
 use ipc_model::Fault;
-use ipc_schema::{Schema, in_version};
+use ipc_schema::{Columns, PickedSchema, Schema, in_any_version};
 use std::alloc::Global;
 use std::marker::Model;
 
@@ -27,8 +31,8 @@ pub struct File {
     pub batches: Vec<Batch>,
 }
 
-/// A message that has the lengths of its block.
-pub fn of_block(block: Block, next: Option<Message<'_>>) -> Result<Message<'_>, Fault>
+// A message that has the lengths of its block.
+fn of_block(block: Block, next: Option<Message<'_>>) -> Result<Message<'_>, Fault>
     ensures parts { Spells parts_of result (of_block_lem block (message_of next.entry)) }
     ensures same { IfOk result (λ m. Some m ≡ next.entry) }
 {
@@ -46,8 +50,8 @@ pub fn of_block(block: Block, next: Option<Message<'_>>) -> Result<Message<'_>, 
     }
 }
 
-/// Whether a kind is another.
-pub fn is_kind(kind: Kind, want: Kind) -> bool
+// Whether a kind is another.
+fn is_kind(kind: Kind, want: Kind) -> bool
     ensures { result ≡ (tag_of kind == tag_of want) }
 {
     match kind {
@@ -61,12 +65,12 @@ pub fn is_kind(kind: Kind, want: Kind) -> bool
 #[tactic(auto, unfolding(crate::specs::Files::block_in))]
 fn block_message<'a>(
     kind: Kind,
-    schema: &Schema,
+    picked: &PickedSchema,
     bytes: &'a [u8],
     block: Block,
 ) -> Result<Message<'a>, Fault>
     requires { block_before (length bytes.now) block ≡ true }
-    ensures parts { Spells parts_of result (block_in kind (schema_of schema.now) bytes.now block) }
+    ensures parts { Spells parts_of result (block_in kind (picked_of picked.now) bytes.now block) }
     ensures small { IfOk result (λ m. length m.metadata.now < 2 ^ 31) }
 {
     let (next, _) = next_message(block_bytes(bytes, block))?;
@@ -74,21 +78,23 @@ fn block_message<'a>(
     if !is_kind(message.root.kind, kind) {
         return Err(Fault::HeaderType);
     }
-    in_version(message.root.version, &schema.fields)?;
+    in_any_version(message.root.version, &picked.schema.fields, &picked.steps)?;
     Ok(message)
 }
 
-// The dictionaries of blocks: that no field has any.
-fn read_dictionaries(schema: &Schema, bytes: &[u8], blocks: &[Block]) -> Result<(), Fault>
+// The dictionaries of blocks, which are known from then on.
+fn read_dictionaries(
+    alloc: Global,
+    state: &mut State,
+    bytes: &[u8],
+    blocks: &[Block],
+) -> Result<(), Fault>
     requires { list_all (block_before (length bytes.now)) blocks.now ≡ true }
-    ensures { Gives (λ done. done) result (dictionaries_at (schema_of schema.now) bytes.now blocks.now) }
+    ensures { Gives (λ done. state_of state.new) result (dictionaries_at (state_of state.old) bytes.now blocks.now) }
 {
     for block in blocks {
-        let message = block_message(Kind::DictionaryBatch, schema, bytes, *block)?;
-        match dictionary(message) {
-            Err(fault) => return Err(fault),
-            Ok(_) => {}
-        }
+        let message = block_message(Kind::DictionaryBatch, &state.picked, bytes, *block)?;
+        read_dictionary(alloc, true, state, message)?;
     }
     Ok(())
 }
@@ -96,7 +102,7 @@ fn read_dictionaries(schema: &Schema, bytes: &[u8], blocks: &[Block]) -> Result<
 /// A file whose batches are read one by one, in any order. Its answers are those of `read_file`.
 #[derive(Drop)]
 pub struct FileReader<'a> {
-    schema: Schema,
+    state: State,
     bytes: &'a [u8],
     blocks: Vec<Block>,
 }
@@ -110,44 +116,49 @@ impl<'a> Model for FileReader<'a> {
 
     ghost use Rattle.std.specs.Prelude.{◌≡◌, length, true};
     ghost use Rattle.std.specs.List.{list_all};
-    ghost use Rattle.ipc_schema.specs.Schemas.{schema_of};
     ghost use Rattle.ipc_footer.specs.Footers.{block_before};
+    ghost use Rattle.ipc.specs.Streams.{state_of};
 
-    ghost view = { λ r. record { schema = schema_of r.schema; bytes = r.bytes.now; blocks = r.blocks.items } };
+    ghost view = { λ r. record { state = state_of r.state; bytes = r.bytes.now; blocks = r.blocks.items } };
 
     ghost invariant = { λ r. list_all (block_before (length r.bytes.now)) r.blocks.items ≡ true };
 }
 
 impl<'a> FileReader<'a> {
-    // The reader of a footer whose dictionaries were read.
-    fn of_footer(bytes: &'a [u8], footer: Footer) -> FileReader<'a>
-        requires { list_all (block_before (length bytes.now)) footer.batches.items ≡ true }
-        ensures { result ≡ record { schema = schema_of footer.schema; bytes = bytes.now; blocks = footer.batches.items } }
+    /// The reader of a file: its footer and its dictionaries are read here, its batches when they are asked for.
+    pub fn new(alloc: Global, bytes: &'a [u8]) -> Result<FileReader<'a>, Fault>
+        ensures { Gives (λ r. r) result (file_reader_in all bytes.now) }
     {
-        FileReader {
-            schema: footer.schema,
-            bytes,
-            blocks: footer.batches,
-        }
+        FileReader::with_columns(alloc, bytes, Columns::All)
     }
 
-    /// The reader of a file: its footer and its dictionaries are read here, its batches when they are asked for.
+    /// The reader of some columns; the others are passed over, also where their types are not read.
     #[tactic(auto, unfolding(crate::specs::Files::file_reader_in))]
-    pub fn new(alloc: Global, bytes: &'a [u8]) -> Result<FileReader<'a>, Fault>
-        ensures { Gives (λ r. r) result (file_reader_in bytes.now) }
+    pub fn with_columns(
+        alloc: Global,
+        bytes: &'a [u8],
+        columns: Columns<'_>,
+    ) -> Result<FileReader<'a>, Fault>
+        ensures { Gives (λ r. r) result (file_reader_in (picks_of columns.entry) bytes.now) }
     {
-        let footer = read_footer(alloc, bytes)?;
-        match read_dictionaries(&footer.schema, bytes, &footer.dictionaries) {
+        let footer = read_footer(alloc, columns, bytes)?;
+        let mut state = State::new(alloc, footer.picked);
+        let blocks = footer.batches;
+        match read_dictionaries(alloc, &mut state, bytes, &footer.dictionaries) {
             Err(fault) => Err(fault),
-            Ok(_) => Ok(FileReader::of_footer(bytes, footer)),
+            Ok(()) => Ok(FileReader {
+                state,
+                bytes,
+                blocks,
+            }),
         }
     }
 
     /// The columns of all batches.
     pub fn schema(&self) -> &Schema
-        ensures { schema_of result.now ≡ self.now.schema }
+        ensures { schema_of result.now ≡ self.now.state.picked.schema }
     {
-        &self.schema
+        &self.state.picked.schema
     }
 
     /// How many batches there are.
@@ -162,8 +173,9 @@ impl<'a> FileReader<'a> {
         requires { i < length self.now.blocks }
         ensures { Gives arrays_of result (batch_of_file self.now i) }
     {
-        let message = block_message(Kind::RecordBatch, &self.schema, self.bytes, self.blocks[i])?;
-        record_batch(alloc, &self.schema.fields, message)
+        let picked = &self.state.picked;
+        let message = block_message(Kind::RecordBatch, picked, self.bytes, self.blocks[i])?;
+        record_batch(alloc, &self.state, message)
     }
 
     // All batches, in the order of the footer.
@@ -181,15 +193,23 @@ impl<'a> FileReader<'a> {
 
 /// The file that bytes are: the schema of its footer, and all batches that the footer names, in its order; or the first fault in
 /// the order of reading.
-#[tactic(auto, unfolding(crate::specs::Files::file_in))]
 pub fn read_file(alloc: Global, bytes: &[u8]) -> Result<File, Fault>
     ensures { Gives file_of result (file_in bytes.now) }
 {
-    let reader = FileReader::new(alloc, bytes)?;
+    read_file_columns(alloc, bytes, Columns::All)
+}
+
+/// The file that bytes are, of the columns that are read. What other columns have is passed over, also where their types are not
+/// read; or the first fault in the order of reading.
+#[tactic(auto, unfolding(crate::specs::Files::picked_file_in))]
+pub fn read_file_columns(alloc: Global, bytes: &[u8], columns: Columns<'_>) -> Result<File, Fault>
+    ensures { Gives file_of result (picked_file_in (picks_of columns.entry) bytes.now) }
+{
+    let reader = FileReader::with_columns(alloc, bytes, columns)?;
     match reader.batches(alloc) {
         Err(fault) => Err(fault),
         Ok(batches) => Ok(File {
-            schema: reader.schema,
+            schema: reader.state.picked.schema,
             batches,
         }),
     }

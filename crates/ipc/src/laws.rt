@@ -1,10 +1,11 @@
 //! Laws and examples of streams and files, as functions with empty bodies.
 ghost use Rattle.std.specs.Prelude.{◌≡◌, ◌<◌, List, ℕ, [], length, get_or, None, Ok};
-ghost use Rattle.nest_memory.specs.TypeTree.{TypeTree};
-ghost use Rattle.ipc.specs.Streams.{next_in, batches_in, first_and_others, stream_in};
+ghost use Rattle.ipc_schema.specs.Picks.{Picks};
+ghost use Rattle.ipc.specs.Streams.{State, next_in, batches_in, first_and_others, stream_in};
 ghost use Rattle.ipc.specs.Readers.{ReaderTree, batches_of, next_and_others, batches_of_stream, read_one_by_one};
 ghost use Rattle.ipc.specs.Streams.{Arrays};
 ghost use Rattle.ipc.specs.Examples.{worked_stream, worked_tree};
+ghost use Rattle.ipc.specs.DictionaryExamples.{AreDictionaries};
 ghost use Rattle.ipc.specs.Files.{FileReaderTree, batch_of_file, batches_of_file, file_in};
 ghost use Rattle.ipc.specs.FileLaws.{no_arrays};
 ghost use Rattle.ipc.specs.FileExamples as files;
@@ -12,12 +13,12 @@ ghost use Rattle.ipc_footer.specs.Examples.{worked_file};
 
 /// The batches of a stream are its next batch, and the batches of what stands behind that.
 pub fn batches_come_one_by_one()
-    ensures { (types : List TypeTree) (bytes : List ℕ) → batches_in types bytes ≡ first_and_others types bytes }
+    ensures { (s : State) (bytes : List ℕ) → batches_in s bytes ≡ first_and_others s bytes }
 {}
 
 /// Where nothing is left, no batch comes.
 pub fn nothing_comes_of_no_bytes()
-    ensures { (types : List TypeTree) → next_in types [] ≡ Ok (None, []) }
+    ensures { (s : State) → next_in s [] ≡ Ok ((None, s), []) }
 {}
 
 /// All batches of a reader are its next one, and those of the reader behind it.
@@ -27,7 +28,7 @@ pub fn a_reader_goes_on_behind_its_next_batch()
 
 /// The batches of a stream are those of the reader that begins with its bytes: all of them, or the same fault.
 pub fn a_reader_has_the_batches_of_its_stream()
-    ensures { (bytes : List ℕ) → batches_of_stream bytes ≡ read_one_by_one bytes }
+    ensures { (picks : Picks) (bytes : List ℕ) → batches_of_stream picks bytes ≡ read_one_by_one picks bytes }
 {}
 
 /// The stream of another writer, byte by byte, spells one field and a batch of 7 and null.
@@ -43,4 +44,11 @@ pub fn a_reader_has_the_batches_of_its_file()
 /// The file of another writer, byte by byte, spells no column and a batch of three rows.
 pub fn a_file_is_read()
     ensures { file_in worked_file ≡ Ok files.worked_tree }
+{}
+
+/// The messages of another writer, byte by byte: a dictionary is known, names the values of a batch, and is replaced; of a column
+/// that is passed over it is passed over. Refused are a second one in a file, one that lacks, an id of no field, and what is to be
+/// joined to nothing.
+pub fn dictionaries_are_read()
+    ensures { AreDictionaries }
 {}

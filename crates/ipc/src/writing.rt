@@ -11,7 +11,7 @@ ghost use Rattle.ipc.specs.Written.{batch_bytes, stream_bytes, is_column as is_c
 
 use crate::batch::Batch;
 use ipc_batch::{BatchMetadata, write_batch};
-use ipc_layout::{place_columns, put_columns};
+use ipc_layout::{are_keyless, place_columns, put_columns};
 use ipc_model::NoForm;
 use ipc_schema::{Schema, write_schema};
 use nest_array::any::AnyArray;
@@ -83,6 +83,9 @@ pub fn put_batch(
 {
     if !are_columns(fields, batch.rows, &batch.columns) {
         return Err(NoForm::Columns);
+    }
+    if !are_keyless(&batch.columns) {
+        return Err(NoForm::Type);
     }
     let body_length = put_arrays(alloc, out, batch.rows, &batch.columns)?;
     Ok(body_length)

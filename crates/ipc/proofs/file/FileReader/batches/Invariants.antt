@@ -7,5 +7,5 @@ use Rattle.ipc.proofs.file.FileReader.batches.Given as goal
 abbrev pub invariant-loop-i : goal.invariant-loop-i
 invariant-loop-i l = record {
   end : l.i-end ≡ length l.self.blocks;
-  left : with_first (map arrays_of l.batches.items) (batches_at l.self.schema l.self.bytes (drop l.i l.self.blocks)) ≡ batches_of_file l.self;
+  left : with_first (map arrays_of l.batches.items) (batches_at l.self.state l.self.bytes (drop l.i l.self.blocks)) ≡ batches_of_file l.self;
 }

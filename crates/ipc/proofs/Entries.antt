@@ -1,0 +1,32 @@
+-- Entries of the code and as they are spelled: what is found among them, and one more.
+use Rattle.std.proofs.Common.{◌≡◌, Bool, true, false, cond, List, [], ◌∷◌, map, Option, Some, refl, ap, ◌∙◌}
+use Rattle.std.specs.Prelude.{ℤ}
+use Rattle.std.specs.Option.{option_map}
+use Rattle.std.specs.Map.{lookup}
+use Rattle.std.specs.BTreeMap.{insert_entry}
+use Rattle.std.specs.Ordering.{int_cmp, match_ordering}
+use Rattle.std.specs.declared.cmp.Ordering.{Ordering}
+use Rattle.std.specs.declared.cmp.Ordering.TheVariants.{Less, Equal, Greater}
+
+module _ {V W : Type 0} (view : V → W) where
+  abbrev pub viewed : List (ℤ × V) → List (ℤ × W)
+  viewed es = map (λ e. (e.0, view e.1)) es
+
+  found_both : (b : Bool) (v : V) (m : Option W) (n : Option V) → m ≡ option_map view n → cond b (Some (view v)) m ≡ option_map view (cond b (Some v) n)
+  found_both true v m n same = refl
+  found_both false v m n same = same
+
+  pub viewed_found : (test : ℤ → Bool) (es : List (ℤ × V)) → lookup test (viewed es) ≡ option_map view (lookup test es)
+  viewed_found test [] = refl
+  viewed_found test (e ∷ es) = found_both (test e.0) e.1 (lookup test (viewed es)) (lookup test es) (viewed_found test es)
+
+  match_both : (o : Ordering) (a b c : List (ℤ × V)) → viewed (match_ordering o a b c) ≡ match_ordering o (viewed a) (viewed b) (viewed c)
+  match_both Less a b c = refl
+  match_both Equal a b c = refl
+  match_both Greater a b c = refl
+
+  pub viewed_more : (es : List (ℤ × V)) (id : ℤ) (new : V) → viewed (insert_entry int_cmp es id new) ≡ insert_entry int_cmp (viewed es) id (view new)
+  viewed_more [] id new = refl
+  viewed_more (e ∷ es) id new =
+      match_both (int_cmp id e.0) ((id, new) ∷ e ∷ es) ((e.0, new) ∷ es) (e ∷ insert_entry int_cmp es id new)
+      ∙ ap (λ (rest : List (ℤ × W)). match_ordering (int_cmp id e.0) ((id, view new) ∷ viewed (e ∷ es)) ((e.0, view new) ∷ viewed es) ((e.0, view e.1) ∷ rest)) (viewed_more es id new)
