@@ -1,92 +1,109 @@
 -- What is read of a message that came is read of all that the device had.
-use Rattle.std.proofs.Common.{◌≡◌, ℕ, List, [], ◌++◌, Option, Some, None, Result, Ok, Err, refl, subst, append-nil}
-use Rattle.std.specs.Option.{option_map}
+use Rattle.std.proofs.Common.{◌≡◌, ℕ, List, [], ◌++◌, Option, Some, None, Result, Ok, Err, refl, ap, ◌∙◌, subst, append-nil}
 use Rattle.ipc_model.specs.declared.fault.Fault as faults
 use Rattle.ipc_model.specs.Reading.{◌>>=◌, Fails}
 use Rattle.ipc_message.specs.Messages.{Parts, message_at}
+use Rattle.ipc_schema.specs.declared.picked.PickedSchema.{PickedSchema}
 use Rattle.ipc_schema.specs.declared.schema.Schema.{Schema}
-use Rattle.ipc_schema.specs.Schemas.{SchemaTree, schema_of, schema_parts, schema_at, stream_schema_at}
-use Rattle.ipc_schema.specs.Unions.{have_union, in_version}
-use Rattle.nest_memory.specs.TypeTree.{TypeTree}
-use Rattle.ipc.specs.declared.batch.Batch.{Batch}
-use Rattle.ipc.specs.Streams.{Arrays, arrays_of, batch_in, next_in, types_of}
+use Rattle.ipc_schema.specs.Dictionaries.{Seen, unseen}
+use Rattle.ipc_schema.specs.PickedLaws.{all_picked, stream_same}
+use Rattle.ipc_schema.specs.PickedSchemas.{PickedTree, in_any_version, picked_of, picked_schema_at, stream_picked_at}
+use Rattle.ipc_schema.specs.Picks.{Picks, all}
+use Rattle.ipc_schema.specs.Schemas.{SchemaTree, schema_of, schema_parts, stream_keyed_schema_at}
+use Rattle.ipc_schema.specs.SchemaBytes.{schema_message}
+use Rattle.ipc.specs.Streams.{Arrays, State, Next, message_in, next_in, next_by, or_next}
+use Rattle.ipc.specs.StreamLaws.{by_message}
+use Rattle.ipc_device.specs.declared.device_reader.Found.{Found}
+use Rattle.ipc_device.specs.declared.device_reader.Found.TheVariants as found
 use Rattle.ipc_device.specs.declared.fault.ReadError.TheVariants.{Fault}
 use Rattle.ipc_device.specs.Fetched.{IsFetched, with_behind}
-use Rattle.ipc_device.specs.Readers.{FirstIn, IsSchemaOf, NextIn}
+use Rattle.ipc_device.specs.Readers.{FirstIn, IsSchemaOf, MessageIn, found_of, found_by, found_in}
 
--- ---- readers
+-- ---- messages
+
+abbrev or_found : Option (Option Arrays) → State → List ℕ → Next
+or_found None t behind = Ok ((None, t), behind)
+or_found (Some next) t behind = or_next next_in next t behind
+
+abbrev as_found : Option Arrays × State → Result (Option (Option Arrays) × State) faults.Fault
+as_found x = Ok (Some x.0, x.1)
+
+next_found : (s : State) (m : Option Parts) (behind : List ℕ) → next_by next_in s m behind ≡ (found_by s m >>= λ x. or_found x.0 x.1 behind)
+next_found s None behind = refl
+next_found s (Some m) behind = one (message_in s m)
+  where
+    one : (read : Result (Option Arrays × State) faults.Fault) → (read >>= λ x. or_next next_in x.0 x.1 behind) ≡ ((read >>= as_found) >>= λ x. or_found x.0 x.1 behind)
+    one (Ok x) = refl
+    one (Err fault) = refl
+
+message_behind : (s : State) (read : Result (Option Parts × List ℕ) faults.Fault) (y : List ℕ) → (with_behind read y >>= λ next. next_by next_in s next.0 next.1) ≡ ((read >>= λ next. found_by s next.0) >>= λ x. or_found x.0 x.1 y)
+message_behind s (Ok x) y = next_found s x.0 y
+message_behind s (Err fault) y = refl
+
+-- the next batch of all that the device had is told by the message that came
+next_fetched : (s : State) (xs came ys : List ℕ) → message_at xs ≡ with_behind (message_at came) ys → next_in s xs ≡ (found_in s came >>= λ x. or_found x.0 x.1 ys)
+next_fetched s xs came ys h = by_message s xs ∙ rw h (message_behind s (message_at came) ys)
+
+pub found_is : (s t : State) (old new : Option (List ℕ)) (came : List ℕ) (next : Found) → IsFetched old new came → found_in s came ≡ Ok (found_of next, t) → MessageIn s old t new (Ok next)
+found_is s t None new came found.End fetched read = tt
+found_is s t None new came found.Dictionary fetched read = tt
+found_is s t None new came (found.Next batch) fetched read = tt
+found_is s t (Some xs) None came next fetched read = absurd fetched
+found_is s t (Some xs) (Some ys) came found.End fetched read = rw (next_fetched s xs came ys fetched, read) refl
+found_is s t (Some xs) (Some ys) came found.Dictionary fetched read = rw (next_fetched s xs came ys fetched, read) refl
+found_is s t (Some xs) (Some ys) came (found.Next batch) fetched read = rw (next_fetched s xs came ys fetched, read) refl
+
+pub found_fails : (s t : State) (old new : Option (List ℕ)) (came : List ℕ) (fault : faults.Fault) → IsFetched old new came → Fails fault (found_in s came) → MessageIn s old t new (Err (Fault fault))
+found_fails s t None new came fault fetched read = tt
+found_fails s t (Some xs) None came fault fetched read = absurd fetched
+found_fails s t (Some xs) (Some ys) came fault fetched read = λ known. rw (next_fetched s xs came ys fetched, read known) refl
+
+-- ---- schemas
 
 abbrev First : Type 0
-First = Result (SchemaTree × List ℕ) faults.Fault
-
-abbrev Next : Type 0
-Next = Result (Option Arrays × List ℕ) faults.Fault
-
--- with this behind it
-abbrev next_with : Next → List ℕ → Next
-next_with read y = read >>= λ next. Ok (next.0, y)
-
-abbrev batch_with : Result (Option Arrays) faults.Fault → List ℕ → Next
-batch_with read y = read >>= λ batch. Ok (batch, y)
-
-abbrev batch_of_message : List TypeTree → Result (Option Parts × List ℕ) faults.Fault → Next
-batch_of_message types read = read >>= λ next. batch_with (batch_in types next.0) next.1
-
-batch_behind : (read : Result (Option Arrays) faults.Fault) (x y : List ℕ) → batch_with read y ≡ next_with (batch_with read x) y
-batch_behind (Ok batch) x y = refl
-batch_behind (Err fault) x y = refl
-
-message_behind : (types : List TypeTree) (read : Result (Option Parts × List ℕ) faults.Fault) (y : List ℕ) → batch_of_message types (with_behind read y) ≡ next_with (batch_of_message types read) y
-message_behind types (Ok x) y = batch_behind (batch_in types x.0) x.1 y
-message_behind types (Err fault) y = refl
-
--- a batch of a message that came is the batch of all that the device had
-next_fetched : (types : List TypeTree) (xs came ys : List ℕ) → message_at xs ≡ with_behind (message_at came) ys → next_in types xs ≡ next_with (next_in types came) ys
-unfolding next_in
-next_fetched types xs came ys h = rw h (message_behind types (message_at came) ys)
+First = Result (PickedTree × List ℕ) faults.Fault
 
 bind_behind : {A : Type 0} (read : Result A faults.Fault) (f g : A → First) (y : List ℕ) → ((a : A) → f a ≡ (g a >>= λ s. Ok (s.0, y))) → (read >>= f) ≡ ((read >>= g) >>= λ s. Ok (s.0, y))
 bind_behind (Ok a) f g y h = h a
 bind_behind (Err fault) f g y h = refl
 
 -- the schema of a message, and this behind it
-abbrev schema_of_message : Option Parts → List ℕ → First
-schema_of_message m y = schema_parts m >>= λ parts. schema_at parts.metadata parts.root.header parts.root.left >>= λ schema. in_version parts.root.version (have_union schema.0.fields) >>= λ allowed. Ok (schema.0, y)
+abbrev schema_of_message : Picks → Option Parts → List ℕ → First
+schema_of_message picks m y =
+    schema_parts m >>= λ parts. picked_schema_at picks parts.metadata parts.root.header parts.root.left >>= λ picked. in_any_version parts.root.version picked.0.schema.fields picked.0.steps >>= λ allowed. Ok (picked.0, y)
 
-schema_behind : (m : Option Parts) (x y : List ℕ) → schema_of_message m y ≡ (schema_of_message m x >>= λ s. Ok (s.0, y))
-schema_behind m x y =
-    bind_behind (schema_parts m) _ _ y (λ parts. bind_behind (schema_at parts.metadata parts.root.header parts.root.left) _ _ y (λ schema. bind_behind (in_version parts.root.version (have_union schema.0.fields)) _ _ y (λ allowed. refl)))
+schema_behind : (picks : Picks) (m : Option Parts) (x y : List ℕ) → schema_of_message picks m y ≡ (schema_of_message picks m x >>= λ s. Ok (s.0, y))
+schema_behind picks m x y =
+    bind_behind (schema_parts m) _ _ y
+    (λ parts. bind_behind (picked_schema_at picks parts.metadata parts.root.header parts.root.left) _ _ y (λ picked. bind_behind (in_any_version parts.root.version picked.0.schema.fields picked.0.steps) _ _ y (λ allowed. refl)))
 
-first_behind : (read : Result (Option Parts × List ℕ) faults.Fault) (y : List ℕ) → (with_behind read y >>= λ first. schema_of_message first.0 first.1) ≡ ((read >>= λ first. schema_of_message first.0 first.1) >>= λ s. Ok (s.0, y))
-first_behind (Ok x) y = schema_behind x.0 x.1 y
-first_behind (Err fault) y = refl
+first_behind : (picks : Picks) (read : Result (Option Parts × List ℕ) faults.Fault) (y : List ℕ)
+    → (with_behind read y >>= λ first. schema_of_message picks first.0 first.1) ≡ ((read >>= λ first. schema_of_message picks first.0 first.1) >>= λ s. Ok (s.0, y))
+first_behind picks (Ok x) y = schema_behind picks x.0 x.1 y
+first_behind picks (Err fault) y = refl
 
-first_fetched : (xs came ys : List ℕ) → message_at xs ≡ with_behind (message_at came) ys → stream_schema_at xs ≡ (stream_schema_at came >>= λ s. Ok (s.0, ys))
-unfolding stream_schema_at
-first_fetched xs came ys h = rw h (first_behind (message_at came) ys)
+first_fetched : (picks : Picks) (xs came ys : List ℕ) → message_at xs ≡ with_behind (message_at came) ys → stream_picked_at picks xs ≡ (stream_picked_at picks came >>= λ s. Ok (s.0, ys))
+unfolding stream_picked_at
+first_fetched picks xs came ys h = rw h (first_behind picks (message_at came) ys)
 
-pub first_is : (old new : Option (List ℕ)) (came behind : List ℕ) (schema : Schema) → IsFetched old new came → stream_schema_at came ≡ Ok (schema_of schema, behind) → FirstIn old new (Ok schema)
-first_is None new came behind schema fetched read = tt
-first_is (Some xs) None came behind schema fetched read = absurd fetched
-first_is (Some xs) (Some ys) came behind schema fetched read = rw (first_fetched xs came ys fetched, read) refl
+pub first_is : (picks : Picks) (old new : Option (List ℕ)) (came behind : List ℕ) (picked : PickedSchema) → IsFetched old new came → stream_picked_at picks came ≡ Ok (picked_of picked, behind) → FirstIn picks old new (Ok picked)
+first_is picks None new came behind picked fetched read = tt
+first_is picks (Some xs) None came behind picked fetched read = absurd fetched
+first_is picks (Some xs) (Some ys) came behind picked fetched read = rw (first_fetched picks xs came ys fetched, read) refl
 
-pub first_fails : (old new : Option (List ℕ)) (came : List ℕ) (fault : faults.Fault) → IsFetched old new came → Fails fault (stream_schema_at came) → FirstIn old new (Err (Fault fault))
-first_fails None new came fault fetched read = tt
-first_fails (Some xs) None came fault fetched read = absurd fetched
-first_fails (Some xs) (Some ys) came fault fetched read = λ known. rw (first_fetched xs came ys fetched, read known) refl
+pub first_fails : (picks : Picks) (old new : Option (List ℕ)) (came : List ℕ) (fault : faults.Fault) → IsFetched old new came → Fails fault (stream_picked_at picks came) → FirstIn picks old new (Err (Fault fault))
+first_fails picks None new came fault fetched read = tt
+first_fails picks (Some xs) None came fault fetched read = absurd fetched
+first_fails picks (Some xs) (Some ys) came fault fetched read = λ known. rw (first_fetched picks xs came ys fetched, read known) refl
 
-pub next_is : (s : SchemaTree) (old new : Option (List ℕ)) (came behind : List ℕ) (next : Option Batch) → IsFetched old new came → next_in (types_of s) came ≡ Ok (option_map arrays_of next, behind) → NextIn s old new (Ok next)
-next_is s None new came behind next fetched read = tt
-next_is s (Some xs) None came behind next fetched read = absurd fetched
-next_is s (Some xs) (Some ys) came behind next fetched read = rw (next_fetched (types_of s) xs came ys fetched, read) refl
+-- ---- a schema that was written
 
-pub next_fails : (s : SchemaTree) (old new : Option (List ℕ)) (came : List ℕ) (fault : faults.Fault) → IsFetched old new came → Fails fault (next_in (types_of s) came) → NextIn s old new (Err (Fault fault))
-next_fails s None new came fault fetched read = tt
-next_fails s (Some xs) None came fault fetched read = absurd fetched
-next_fails s (Some xs) (Some ys) came fault fetched read = λ known. rw (next_fetched (types_of s) xs came ys fetched, read known) refl
-
--- the schema that is read of a message is the one that was written
-pub copied : (schema : Schema) (s : SchemaTree) (bytes : List ℕ) → stream_schema_at (bytes ++ []) ≡ Ok (s, []) → IsSchemaOf schema (stream_schema_at bytes) → schema_of schema ≡ s
+-- the schema that is read of its message is the one that was written
+pub copied : (schema : Schema) (s : SchemaTree) (bytes : List ℕ) → stream_keyed_schema_at (bytes ++ []) ≡ Ok ((s, unseen), []) → IsSchemaOf schema (stream_keyed_schema_at bytes) → schema_of schema ≡ s
 copied schema s bytes again is =
-    let read : stream_schema_at bytes ≡ Ok (s, []) = subst (λ (x : List ℕ). stream_schema_at x ≡ Ok (s, [])) (append-nil bytes) again in
+    let read : stream_keyed_schema_at bytes ≡ Ok ((s, unseen), []) = subst (λ (x : List ℕ). stream_keyed_schema_at x ≡ Ok ((s, unseen), [])) (append-nil bytes) again in
     rw read at is
+
+-- and where all columns are read it has no dictionaries
+pub picked_again : (s : SchemaTree) → ((after : List ℕ) → stream_keyed_schema_at (schema_message s ++ after) ≡ Ok ((s, unseen), after)) → (rest : List ℕ) → stream_picked_at all (schema_message s ++ rest) ≡ Ok (all_picked s unseen, rest)
+picked_again s keyed rest = stream_same (schema_message s ++ rest) ∙ ap (λ (r : Result ((SchemaTree × Seen) × List ℕ) faults.Fault). r >>= λ x. Ok (all_picked x.0.0 x.0.1, x.1)) (keyed rest)

@@ -4,6 +4,7 @@ use Rattle.std.proofs.Common.{ap, ◌∙◌, subst}
 use Rattle.ipc_model.specs.Reading.{◌>>=◌}
 use Rattle.ipc_model.specs.declared.fault.Fault as faults
 use Rattle.ipc_model.specs.declared.fault.Fault.TheVariants.{Memory}
+use Rattle.ipc_schema.specs.Picks.{Picks}
 use Rattle.ipc.specs.declared.batch.Batch.{Batch}
 use Rattle.ipc.specs.Streams.{Arrays, arrays_of}
 use Rattle.ipc.specs.Readers.{ReaderTree, reader_in, next_of, before, batches_of, batches_of_stream}
@@ -12,9 +13,9 @@ use Rattle.ipc_device.specs.declared.fault.ReadError.{ReadError}
 use Rattle.ipc_device.specs.declared.fault.ReadError.TheVariants.{Fault}
 use Rattle.ipc_device.specs.Readers.{DeviceTree, SpellsReader, SpellsNext, FailsNext, as_reader, Opens, Goes}
 
-opened : (bytes : List ℕ) (r : Option ReaderTree) → SpellsReader (Some bytes) r → (t : ReaderTree) × (r ≡ Some t) × (reader_in bytes ≡ Ok t)
-opened bytes None h = absurd h
-opened bytes (Some t) h = (t, refl, h)
+opened : (picks : Picks) (bytes : List ℕ) (r : Option ReaderTree) → SpellsReader picks (Some bytes) r → (t : ReaderTree) × (r ≡ Some t) × (reader_in picks bytes ≡ Ok t)
+opened picks bytes None h = absurd h
+opened picks bytes (Some t) h = (t, refl, h)
 
 next_is : (t : ReaderTree) (r : Option ReaderTree) (next : Option Arrays) → SpellsNext (Some t) r next → (u : ReaderTree) × (r ≡ Some u) × (next_of t ≡ Ok (next, u))
 next_is t None next h = absurd h
@@ -51,17 +52,17 @@ module _ {R : Type 0} (remaining : R → Option (List ℕ)) where
   reads_fail [] fault old new t known e reads = failed t fault ((subst (λ (x : Option ReaderTree). FailsNext fault x) e reads.0) known)
   reads_fail (b ∷ bs) fault old new t known e reads = one_more b bs (Err (Fault fault)) old new t (Err fault) e reads (λ next u is rest. reads_fail bs fault next new u known is rest)
 
-  stream_is : (bytes : List ℕ) (read : Result (List Arrays) faults.Fault) (device : R) (first : DeviceTree R) → remaining device ≡ Some bytes → Opens remaining device (Ok first) → ((t : ReaderTree) → as_reader remaining first ≡ Some t → batches_of t ≡ read) → batches_of_stream bytes ≡ read
-  stream_is bytes read device first known opens all =
-      let one = opened bytes (as_reader remaining first) (subst (λ (x : Option (List ℕ)). SpellsReader x (as_reader remaining first)) known opens) in
-      reader_goes_through bytes
+  stream_is : (picks : Picks) (bytes : List ℕ) (read : Result (List Arrays) faults.Fault) (device : R) (first : DeviceTree R) → remaining device ≡ Some bytes → Opens remaining picks device (Ok first) → ((t : ReaderTree) → as_reader remaining first ≡ Some t → batches_of t ≡ read) → batches_of_stream picks bytes ≡ read
+  stream_is picks bytes read device first known opens all =
+      let one = opened picks bytes (as_reader remaining first) (subst (λ (x : Option (List ℕ)). SpellsReader picks x (as_reader remaining first)) known opens) in
+      reader_goes_through picks bytes
       ∙ ap (λ (x : Result ReaderTree faults.Fault). x >>= batches_of) one.2
       ∙ all one.0 one.1
 
   -- of known bytes all batches come, in their order
-  pub all_come : (bytes : List ℕ) (bs : List Arrays) (device : R) (first last : DeviceTree R) → remaining device ≡ Some bytes → Opens remaining device (Ok first) → Reads bs (Ok None) first last → batches_of_stream bytes ≡ Ok bs
-  all_come bytes bs device first last known opens reads = stream_is bytes (Ok bs) device first known opens (λ t is. reads_are bs first last t is reads)
+  pub all_come : (picks : Picks) (bytes : List ℕ) (bs : List Arrays) (device : R) (first last : DeviceTree R) → remaining device ≡ Some bytes → Opens remaining picks device (Ok first) → Reads bs (Ok None) first last → batches_of_stream picks bytes ≡ Ok bs
+  all_come picks bytes bs device first last known opens reads = stream_is picks bytes (Ok bs) device first known opens (λ t is. reads_are bs first last t is reads)
 
   -- or their fault
-  pub fault_comes : (bytes : List ℕ) (bs : List Arrays) (fault : faults.Fault) (device : R) (first last : DeviceTree R) → (fault ≡ Memory → ⊥) → remaining device ≡ Some bytes → Opens remaining device (Ok first) → Reads bs (Err (Fault fault)) first last → batches_of_stream bytes ≡ Err fault
-  fault_comes bytes bs fault device first last real known opens reads = stream_is bytes (Err fault) device first known opens (λ t is. reads_fail bs fault first last t real is reads)
+  pub fault_comes : (picks : Picks) (bytes : List ℕ) (bs : List Arrays) (fault : faults.Fault) (device : R) (first last : DeviceTree R) → (fault ≡ Memory → ⊥) → remaining device ≡ Some bytes → Opens remaining picks device (Ok first) → Reads bs (Err (Fault fault)) first last → batches_of_stream picks bytes ≡ Err fault
+  fault_comes picks bytes bs fault device first last real known opens reads = stream_is picks bytes (Err fault) device first known opens (λ t is. reads_fail bs fault first last t real is reads)

@@ -2,49 +2,56 @@
 use Rattle.std.specs.Prelude.{◌≡◌, ℕ, Bool, true, List, [], Option, None, Some, Result, Ok, Err, if◌then◌else◌, refl}
 use Rattle.std.specs.Option.{option_map}
 use Rattle.std.specs.Coded.{Coded, code_by, coded×, coded_bool}
-use Rattle.ipc_model.specs.Reading.{Fails}
+use Rattle.ipc_model.specs.Reading.{◌>>=◌, Fails}
 use Rattle.ipc_model.specs.declared.fault.Fault as faults
+use Rattle.ipc_message.specs.Messages.{Parts, message_at}
+use Rattle.ipc_schema.specs.declared.picked.PickedSchema.{PickedSchema}
 use Rattle.ipc_schema.specs.declared.schema.Schema.{Schema}
-use Rattle.ipc_schema.specs.Schemas.{SchemaTree, schema_of, stream_schema_at}
+use Rattle.ipc_schema.specs.Dictionaries.{Seen}
+use Rattle.ipc_schema.specs.PickedSchemas.{picked_of, stream_picked_at}
+use Rattle.ipc_schema.specs.Picks.{Picks}
+use Rattle.ipc_schema.specs.Schemas.{SchemaTree, schema_of}
 use Rattle.ipc.specs.declared.batch.Batch.{Batch}
-use Rattle.ipc.specs.Streams.{Arrays, arrays_of, next_in, types_of}
-use Rattle.ipc.specs.Readers.{ReaderTree, coded_schema, reader_in, next_of}
+use Rattle.ipc.specs.Streams.{Arrays, State, arrays_of, message_in, next_in}
+use Rattle.ipc.specs.Readers.{ReaderTree, coded_state, reader_in, next_of}
+use Rattle.ipc_device.specs.declared.device_reader.Found.{Found}
+use Rattle.ipc_device.specs.declared.device_reader.Found.TheVariants.{End, Dictionary, Next}
 use Rattle.ipc_device.specs.declared.fault.ReadError.{ReadError}
 use Rattle.ipc_device.specs.declared.fault.ReadError.TheVariants.{Fault, Io}
 
--- a reader: its device, its schema, and whether the stream is over, by its end, a fault or a failure of the device
+-- a reader: its device, what is known, and whether the stream is over, by its end, a fault or a failure of the device
 pub record DeviceTree (R : Type 0) : Type 0 where
   pub device : R
-  pub schema : SchemaTree
+  pub state : State
   pub over : Bool
 
 abbrev pub coded_device_reader : {R : Type 0} → Coded R → Coded (DeviceTree R)
 coded_device_reader {R = R} device =
-    code_by (R × (SchemaTree × Bool)) (coded× device (coded× coded_schema coded_bool)) (λ r. (r.device, (r.schema, r.over))) (λ p. record { device = p.0; schema = p.1.0; over = p.1.1 }) (λ _. refl)
+    code_by (R × (State × Bool)) (coded× device (coded× coded_state coded_bool)) (λ r. (r.device, (r.state, r.over))) (λ p. record { device = p.0; state = p.1.0; over = p.1.1 }) (λ _. refl)
 
--- a reader whose stream is over
-abbrev pub closed : {R : Type 0} → DeviceTree R → R → DeviceTree R
-closed r device = record { device = device; schema = r.schema; over = true }
+-- a reader whose stream is over, and whose columns are as they were
+abbrev pub IsClosed : {R : Type 0} → DeviceTree R → DeviceTree R → Type 0
+IsClosed old new = (new.over ≡ true) × (new.state.picked ≡ old.state.picked)
 
 -- a schema that was read of a message is this
-abbrev pub IsSchemaOf : Schema → Result (SchemaTree × List ℕ) faults.Fault → Type 0
-IsSchemaOf schema (Ok x) = schema_of schema ≡ x.0
+abbrev pub IsSchemaOf : Schema → Result ((SchemaTree × Seen) × List ℕ) faults.Fault → Type 0
+IsSchemaOf schema (Ok x) = schema_of schema ≡ x.0.0
 IsSchemaOf schema (Err fault) = ⊥
 
 -- the reader of bytes, of these bytes
-abbrev pub with_left : SchemaTree → Option (List ℕ) → Option ReaderTree
-with_left s left = option_map (λ bytes. record { schema = s; left = bytes }) left
+abbrev pub with_left : State → Option (List ℕ) → Option ReaderTree
+with_left s left = option_map (λ bytes. record { state = s; left = bytes }) left
 
 -- the bytes spell this reader
-abbrev pub SpellsReader : Option (List ℕ) → Option ReaderTree → Type 0
-SpellsReader None r = Unit {0}
-SpellsReader (Some bytes) None = ⊥
-SpellsReader (Some bytes) (Some r) = reader_in bytes ≡ Ok r
+abbrev pub SpellsReader : Picks → Option (List ℕ) → Option ReaderTree → Type 0
+SpellsReader picks None r = Unit {0}
+SpellsReader picks (Some bytes) None = ⊥
+SpellsReader picks (Some bytes) (Some r) = reader_in picks bytes ≡ Ok r
 
 -- or they have this fault
-abbrev pub FailsReader : faults.Fault → Option (List ℕ) → Type 0
-FailsReader fault None = Unit {0}
-FailsReader fault (Some bytes) = Fails fault (reader_in bytes)
+abbrev pub FailsReader : Picks → faults.Fault → Option (List ℕ) → Type 0
+FailsReader picks fault None = Unit {0}
+FailsReader picks fault (Some bytes) = Fails fault (reader_in picks bytes)
 
 -- the next batch of a reader of bytes, and the reader behind it
 abbrev pub SpellsNext : Option ReaderTree → Option ReaderTree → Option Arrays → Type 0
@@ -59,35 +66,62 @@ FailsNext fault (Some old) = Fails fault (next_of old)
 
 -- ---- of known bytes
 
--- the schema that a device begins with, and what it has left
-abbrev pub FirstIn : Option (List ℕ) → Option (List ℕ) → Result Schema ReadError → Type 0
-FirstIn None new result = Unit {0}
-FirstIn (Some xs) None (Ok schema) = ⊥
-FirstIn (Some xs) (Some ys) (Ok schema) = stream_schema_at xs ≡ Ok (schema_of schema, ys)
-FirstIn (Some xs) new (Err (Fault fault)) = Fails fault (stream_schema_at xs)
-FirstIn (Some xs) new (Err (Io e)) = Unit {0}
+-- the columns that are read of the schema that a device begins with, and what it has left
+abbrev pub FirstIn : Picks → Option (List ℕ) → Option (List ℕ) → Result PickedSchema ReadError → Type 0
+FirstIn picks None new result = Unit {0}
+FirstIn picks (Some xs) None (Ok picked) = ⊥
+FirstIn picks (Some xs) (Some ys) (Ok picked) = stream_picked_at picks xs ≡ Ok (picked_of picked, ys)
+FirstIn picks (Some xs) new (Err (Fault fault)) = Fails fault (stream_picked_at picks xs)
+FirstIn picks (Some xs) new (Err (Io e)) = Unit {0}
 
--- the next batch of a device, and what it has left
-abbrev pub NextIn : SchemaTree → Option (List ℕ) → Option (List ℕ) → Result (Option Batch) ReadError → Type 0
-NextIn s None new result = Unit {0}
-NextIn s (Some xs) None (Ok next) = ⊥
-NextIn s (Some xs) (Some ys) (Ok next) = next_in (types_of s) xs ≡ Ok (option_map arrays_of next, ys)
-NextIn s (Some xs) new (Err (Fault fault)) = Fails fault (next_in (types_of s) xs)
-NextIn s (Some xs) new (Err (Io e)) = Unit {0}
+-- the next batch of a device, what is known behind it, and what the device has left
+abbrev pub NextIn : State → Option (List ℕ) → State → Option (List ℕ) → Result (Option Batch) ReadError → Type 0
+NextIn s None t new result = Unit {0}
+NextIn s (Some xs) t None (Ok next) = ⊥
+NextIn s (Some xs) t (Some ys) (Ok next) = next_in s xs ≡ Ok ((option_map arrays_of next, t), ys)
+NextIn s (Some xs) t new (Err (Fault fault)) = Fails fault (next_in s xs)
+NextIn s (Some xs) t new (Err (Io e)) = Unit {0}
+
+-- the next batch of a device is the one that comes of what it has left, by what is known then
+abbrev pub GoesOn : State → Option (List ℕ) → State → Option (List ℕ) → Type 0
+GoesOn s None t new = Unit {0}
+GoesOn s (Some xs) t None = ⊥
+GoesOn s (Some xs) t (Some ys) = next_in s xs ≡ next_in t ys
+
+-- what was found as what a message brings: nothing where it ends the stream, else a batch where it is no dictionary
+abbrev pub found_of : Found → Option (Option Arrays)
+found_of End = None
+found_of Dictionary = Some None
+found_of (Next batch) = Some (Some (arrays_of batch))
+
+abbrev pub found_by : State → Option Parts → Result (Option (Option Arrays) × State) faults.Fault
+found_by s None = Ok (None, s)
+found_by s (Some m) = message_in s m >>= λ x. Ok (Some x.0, x.1)
+
+-- what the message brings that bytes begin with, and what is known behind it
+abbrev pub found_in : State → List ℕ → Result (Option (Option Arrays) × State) faults.Fault
+found_in s bytes = message_at bytes >>= λ next. found_by s next.0
+
+-- what one message of a device says of its next batch: there is none, it stands behind a dictionary, or it is this
+abbrev pub MessageIn : State → Option (List ℕ) → State → Option (List ℕ) → Result Found ReadError → Type 0
+MessageIn s old t new (Ok End) = NextIn s old t new (Ok None)
+MessageIn s old t new (Ok Dictionary) = GoesOn s old t new
+MessageIn s old t new (Ok (Next batch)) = NextIn s old t new (Ok (Some batch))
+MessageIn s old t new (Err e) = NextIn s old t new (Err e)
 
 module _ {R : Type 0} (remaining : R → Option (List ℕ)) where
   -- a reader of a device as one of the bytes that the device has left, where they are known; of none where the stream is over
   abbrev pub as_reader : DeviceTree R → Option ReaderTree
-  as_reader r = with_left r.schema (if r.over then Some [] else remaining r.device)
+  as_reader r = with_left r.state (if r.over then Some [] else remaining r.device)
 
   -- what the first call answers: the reader that the device's bytes spell, or their fault; a failure of the device stands in the place of any
-  abbrev pub Opens : R → Result (DeviceTree R) ReadError → Type 0
-  Opens device (Ok r) = SpellsReader (remaining device) (as_reader r)
-  Opens device (Err (Fault fault)) = FailsReader fault (remaining device)
-  Opens device (Err (Io e)) = Unit {0}
+  abbrev pub Opens : Picks → R → Result (DeviceTree R) ReadError → Type 0
+  Opens picks device (Ok r) = SpellsReader picks (remaining device) (as_reader r)
+  Opens picks device (Err (Fault fault)) = FailsReader picks fault (remaining device)
+  Opens picks device (Err (Io e)) = Unit {0}
 
   -- what each further call answers: the next batch of the reader of those bytes, or its fault; behind a fault or a failure of the device the stream is over
   abbrev pub Goes : DeviceTree R → DeviceTree R → Result (Option Batch) ReadError → Type 0
-  Goes old new (Ok next) = SpellsNext (as_reader old) (as_reader new) (option_map arrays_of next) × (new.schema ≡ old.schema)
-  Goes old new (Err (Fault fault)) = FailsNext fault (as_reader old) × (new ≡ closed old new.device)
-  Goes old new (Err (Io e)) = new ≡ closed old new.device
+  Goes old new (Ok next) = SpellsNext (as_reader old) (as_reader new) (option_map arrays_of next) × (new.state.picked ≡ old.state.picked)
+  Goes old new (Err (Fault fault)) = FailsNext fault (as_reader old) × IsClosed old new
+  Goes old new (Err (Io e)) = IsClosed old new

@@ -6,12 +6,16 @@ use Rattle.std.proofs.Common.{sym, ap, ◌∙◌, append_assoc, append-nil, subs
 use Rattle.std.proofs.KnownBytes.{Appends-trans}
 use Rattle.ipc_model.specs.declared.fault.NoForm as reasons
 use Rattle.ipc_message.specs.MessageBytes.{end_mark}
-use Rattle.ipc_schema.specs.Schemas.{SchemaTree, stream_schema_at}
+use Rattle.ipc_schema.specs.Dictionaries.{unseen}
+use Rattle.ipc_schema.specs.PickedLaws.{all_picked}
+use Rattle.ipc_schema.specs.PickedSchemas.{stream_picked_at}
+use Rattle.ipc_schema.specs.Picks.{all}
+use Rattle.ipc_schema.specs.Schemas.{SchemaTree}
 use Rattle.ipc_schema.specs.SchemaBytes.{schema_message}
 use Rattle.ipc.specs.Streams.{Arrays, types_of, stream_in}
 use Rattle.ipc.specs.Written.{batch_bytes, stream_bytes, batch_refusal, batches_refusal, schema_refusal, shown_stream, IsReadAgain, IsSameBatch}
 use Rattle.ipc.specs.WrittenLaws.{stream_again}
-use Rattle.ipc.specs.WrittenLists.{batches_push, all_push, all_same, bytes_push, columns_accepted}
+use Rattle.ipc.specs.WrittenLists.{batches_push, all_push, all_same, all_read, bytes_push}
 use Rattle.ipc_device.specs.declared.fault.WriteError as errors
 use Rattle.ipc_device.specs.declared.fault.WriteError.TheVariants.{NoForm, Io, Failed}
 use Rattle.ipc_device.specs.Writers.{WriterTree, Begins, Puts, Ends}
@@ -20,9 +24,9 @@ use Rattle.ipc_device.specs.Writers.{WriterTree, Begins, Puts, Ends}
 abbrev begun_bytes : SchemaTree → List Arrays → List ℕ
 begun_bytes s bs = schema_message s ++ flat_map batch_bytes bs
 
--- a schema's message is read back
+-- a schema's message is read back, without dictionaries
 abbrev pub IsSchemaAgain : SchemaTree → Type 0
-IsSchemaAgain s = (rest : List ℕ) → stream_schema_at (schema_message s ++ rest) ≡ Ok (s, rest)
+IsSchemaAgain s = (rest : List ℕ) → stream_picked_at all (schema_message s ++ rest) ≡ Ok (all_picked s unseen, rest)
 
 begun_push : (s : SchemaTree) (bs : List Arrays) (b : Arrays) → begun_bytes s (bs ++ b ∷ []) ≡ begun_bytes s bs ++ batch_bytes b
 begun_push s bs b = sym (bytes_push (schema_message s) (begun_bytes s bs) (begun_bytes s bs ++ batch_bytes b) bs (bs ++ b ∷ []) b refl refl refl)
@@ -90,7 +94,7 @@ module _ {W : Type 0} (contents : W → Option (List ℕ)) where
 
   -- and that is read back: the schema, and the same batches
   pub stream_read : (s : SchemaTree) (bs : List Arrays) (start end : W) → IsFinished s bs start end → (rest : List ℕ) → stream_in (stream_bytes s bs ++ rest) ≡ Ok (shown_stream s bs (length (stream_bytes s bs)))
-  stream_read s bs start end run rest = let put = has s bs start end run in stream_again s bs rest run.again put.again (columns_accepted (types_of s) bs put.form)
+  stream_read s bs start end run rest = let put = has s bs start end run in stream_again s bs rest run.again put.again (all_read s bs put.form)
 
   pub stream_same : (s : SchemaTree) (bs : List Arrays) (start end : W) → IsFinished s bs start end → AllByRecursion IsSameBatch bs
   stream_same s bs start end run = all_same bs (has s bs start end run).again

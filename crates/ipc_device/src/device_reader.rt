@@ -1,22 +1,28 @@
 //! Reads streams from devices, batch by batch.
 ghost use Rattle.std.specs.Prelude.{◌≡◌, true, None, Ok, IfOk};
+ghost use Rattle.ipc_model.specs.Reading.{Gives};
+ghost use Rattle.ipc_schema.specs.Picks.{all, picks_of};
 ghost use Rattle.ipc_schema.specs.Schemas.{schema_of};
-ghost use Rattle.ipc_device.specs.Readers.{FirstIn, Goes, NextIn, Opens};
+ghost use Rattle.ipc.specs.Streams.{state_of};
+ghost use Rattle.ipc_device.specs.Readers.{FirstIn, Goes, MessageIn, NextIn, Opens, found_of, found_in as found_in_lem};
 
 use crate::fault::ReadError;
 use crate::fetching::fetch;
-use ipc::{Batch, next_batch};
-use ipc_schema::{Schema, read_schema};
+use ipc::{Batch, State, read_message};
+use ipc_message::next_message;
+use ipc_model::Fault;
+use ipc_schema::{Columns, PickedSchema, Schema, read_picked_schema};
 use std::alloc::Global;
-use std::io::Read;
+use std::io;
+use std::io::{ErrorKind, Read};
 use std::marker::Model;
 
-/// A stream that is read from a device, batch by batch, with the memory of one batch. Its answers are those of a `StreamReader`
-/// over the bytes that the device gives. What stands behind the end mark is not read.
+/// A stream that is read from a device, batch by batch, with the memory of one message and of the dictionaries that are known. Its
+/// answers are those of a `StreamReader` over the bytes that the device gives. What stands behind the end mark is not read.
 #[derive(Drop)]
 pub struct DeviceReader<R> {
     device: R,
-    schema: Schema,
+    state: State,
     over: bool,
 }
 
@@ -27,43 +33,88 @@ impl<R> Model for DeviceReader<R> {
 
     ghost coded = { coded_device_reader R.code };
 
-    ghost use Rattle.ipc_schema.specs.Schemas.{schema_of};
+    ghost use Rattle.ipc.specs.Streams.{state_of};
 
-    ghost view = { λ r. record { device = r.device; schema = schema_of r.schema; over = r.over } };
+    ghost view = { λ r. record { device = r.device; state = state_of r.state; over = r.over } };
 }
 
-// The schema that a device begins with.
-fn read_first<R: Read>(alloc: Global, device: &mut R) -> Result<Schema, ReadError>
-    ensures { FirstIn (R.remaining device.old) (R.remaining device.new) result }
+// What a message says of the next batch.
+#[derive(Drop)]
+enum Found {
+    End,
+    Dictionary,
+    Next(Batch),
+}
+
+// The columns that are read of the schema that a device begins with.
+fn read_first<R: Read>(
+    alloc: Global,
+    columns: Columns<'_>,
+    device: &mut R,
+) -> Result<PickedSchema, ReadError>
+    ensures { FirstIn (picks_of columns.entry) (R.remaining device.old) (R.remaining device.new) result }
 {
     let came = fetch(alloc, device)?;
-    match read_schema(alloc, &came) {
+    match read_picked_schema(alloc, columns, &came) {
         Err(fault) => Err(ReadError::Fault(fault)),
-        Ok((schema, _)) => Ok(schema),
+        Ok((picked, _)) => Ok(picked),
     }
 }
 
-// The next batch of a device.
+// What the message that bytes begin with says.
+fn found_in(alloc: Global, state: &mut State, bytes: &[u8]) -> Result<Found, Fault>
+    ensures read { Gives (λ f. (found_of f, state_of state.new)) result (found_in_lem (state_of state.old) bytes.now) }
+    ensures picked { state.new.picked ≡ state.old.picked }
+{
+    let (next, _) = next_message(bytes)?;
+    match next {
+        None => Ok(Found::End),
+        Some(message) => match read_message(alloc, state, message) {
+            Err(fault) => Err(fault),
+            Ok(None) => Ok(Found::Dictionary),
+            Ok(Some(batch)) => Ok(Found::Next(batch)),
+        },
+    }
+}
+
+// The same of the next message of a device.
+fn read_found<R: Read>(alloc: Global, device: &mut R, state: &mut State) -> Result<Found, ReadError>
+    ensures read { MessageIn (state_of state.old) (R.remaining device.old) (state_of state.new) (R.remaining device.new) result }
+    ensures picked { state.new.picked ≡ state.old.picked }
+{
+    let came = fetch(alloc, device)?;
+    match found_in(alloc, state, &came) {
+        Err(fault) => Err(ReadError::Fault(fault)),
+        Ok(found) => Ok(found),
+    }
+}
+
+// The next batch of a device; dictionaries before it are known from then on.
 fn read_next<R: Read>(
     alloc: Global,
     device: &mut R,
-    schema: &Schema,
+    state: &mut State,
 ) -> Result<Option<Batch>, ReadError>
-    ensures { NextIn (schema_of schema.now) (R.remaining device.old) (R.remaining device.new) result }
+    ensures next { NextIn (state_of state.old) (R.remaining device.old) (state_of state.new) (R.remaining device.new) result }
+    ensures picked { state.new.picked ≡ state.old.picked }
 {
-    let came = fetch(alloc, device)?;
-    match next_batch(alloc, &schema.fields, &came) {
-        Err(fault) => Err(ReadError::Fault(fault)),
-        Ok((next, _)) => Ok(next),
+    'messages: for _turn in 0..u64::MAX {
+        match read_found(alloc, device, state) {
+            Err(e) => return Err(e),
+            Ok(Found::End) => return Ok(None),
+            Ok(Found::Dictionary) => {}
+            Ok(Found::Next(batch)) => return Ok(Some(batch)),
+        }
     }
+    Err(ReadError::Io(io::Error::from(ErrorKind::TimedOut)))
 }
 
 impl<R> DeviceReader<R> {
     /// The columns of all batches.
     pub fn schema(&self) -> &Schema
-        ensures { schema_of result.now ≡ self.now.schema }
+        ensures { schema_of result.now ≡ self.now.state.picked.schema }
     {
-        &self.schema
+        &self.state.picked.schema
     }
 
     /// What is read from.
@@ -87,15 +138,32 @@ impl<R: Read + Drop> DeviceReader<R> {
     /// # Errors
     /// `Fault` with the first fault of the bytes, or `Memory`. `Io` where the device fails.
     pub fn new(alloc: Global, device: R) -> Result<DeviceReader<R>, ReadError>
-        ensures { Opens R.remaining device result }
+        ensures { Opens R.remaining all device result }
+    {
+        DeviceReader::with_columns(alloc, device, Columns::All)
+    }
+
+    /// The reader of some columns; the others are passed over, also where their types are not read.
+    ///
+    /// # Errors
+    /// Those of `new`.
+    pub fn with_columns(
+        alloc: Global,
+        device: R,
+        columns: Columns<'_>,
+    ) -> Result<DeviceReader<R>, ReadError>
+        ensures { Opens R.remaining (picks_of columns.entry) device result }
     {
         let mut device = device;
-        match read_first(alloc, &mut device) {
-            Ok(schema) => Ok(DeviceReader {
-                device,
-                schema,
-                over: false,
-            }),
+        match read_first(alloc, columns, &mut device) {
+            Ok(picked) => {
+                let state = State::new(alloc, picked);
+                Ok(DeviceReader {
+                    device,
+                    state,
+                    over: false,
+                })
+            }
             Err(e) => Err(e),
         }
     }
@@ -112,7 +180,7 @@ impl<R: Read + Drop> DeviceReader<R> {
         if self.over {
             return Ok(None);
         }
-        match read_next(alloc, &mut self.device, &self.schema) {
+        match read_next(alloc, &mut self.device, &mut self.state) {
             Ok(next) => {
                 self.over = next.is_none();
                 Ok(next)

@@ -5,6 +5,7 @@ ghost use Rattle.std.specs.Io.KnownBytes.{Appends};
 ghost use Rattle.ipc_model.specs.declared.fault.Fault as faults;
 ghost use Rattle.ipc_model.specs.declared.fault.Fault.TheVariants.{Memory};
 ghost use Rattle.ipc_model.specs.declared.fault.NoForm as reasons;
+ghost use Rattle.ipc_schema.specs.Picks.{Picks};
 ghost use Rattle.ipc_schema.specs.Schemas.{SchemaTree};
 ghost use Rattle.ipc.specs.Streams.{Arrays, stream_in};
 ghost use Rattle.ipc.specs.Written.{stream_bytes, shown_stream, IsSameBatch};
@@ -37,10 +38,10 @@ pub fn behind_a_failure_nothing_is_put<W: Write>()
 
 /// The batches that come of a device until its end are those of the stream that it has.
 pub fn a_device_gives_the_batches_of_its_stream<R: Read>()
-    ensures { (bytes : List ℕ) (bs : List Arrays) (device : R) (first last : DeviceTree R) → R.remaining device ≡ Some bytes → Opens R.remaining device (Ok first) → Reads R.remaining bs (Ok None) first last → batches_of_stream bytes ≡ Ok bs }
+    ensures { (picks : Picks) (bytes : List ℕ) (bs : List Arrays) (device : R) (first last : DeviceTree R) → R.remaining device ≡ Some bytes → Opens R.remaining picks device (Ok first) → Reads R.remaining bs (Ok None) first last → batches_of_stream picks bytes ≡ Ok bs }
 {}
 
 /// A fault that comes of a device, behind any batches, is that of the stream that it has.
 pub fn a_device_gives_the_fault_of_its_stream<R: Read>()
-    ensures { (bytes : List ℕ) (bs : List Arrays) (fault : faults.Fault) (device : R) (first last : DeviceTree R) → (fault ≡ Memory → ⊥) → R.remaining device ≡ Some bytes → Opens R.remaining device (Ok first) → Reads R.remaining bs (Err (Fault fault)) first last → batches_of_stream bytes ≡ Err fault }
+    ensures { (picks : Picks) (bytes : List ℕ) (bs : List Arrays) (fault : faults.Fault) (device : R) (first last : DeviceTree R) → (fault ≡ Memory → ⊥) → R.remaining device ≡ Some bytes → Opens R.remaining picks device (Ok first) → Reads R.remaining bs (Err (Fault fault)) first last → batches_of_stream picks bytes ≡ Err fault }
 {}

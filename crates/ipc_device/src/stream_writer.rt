@@ -2,7 +2,11 @@
 ghost use Rattle.std.specs.Prelude.{◌≡◌, ◌++◌, List, ℕ, None, Ok, IfErr, IfOk, OnOk};
 ghost use Rattle.ipc_model.specs.declared.fault.NoForm.TheVariants.{Memory};
 ghost use Rattle.ipc_message.specs.MessageBytes.{end_mark};
-ghost use Rattle.ipc_schema.specs.Schemas.{schema_of, stream_schema_at};
+ghost use Rattle.ipc_schema.specs.Dictionaries.{unseen};
+ghost use Rattle.ipc_schema.specs.PickedLaws.{all_picked};
+ghost use Rattle.ipc_schema.specs.PickedSchemas.{stream_picked_at};
+ghost use Rattle.ipc_schema.specs.Picks.{all};
+ghost use Rattle.ipc_schema.specs.Schemas.{schema_of, stream_keyed_schema_at};
 ghost use Rattle.ipc_schema.specs.SchemaBytes.{schema_message};
 ghost use Rattle.ipc.specs.Streams.{arrays_of, types_of};
 ghost use Rattle.ipc.specs.Written.{batch_bytes, batch_refusal, schema_refusal, IsRefused, IsReadAgain};
@@ -40,11 +44,11 @@ impl<W> Model for StreamWriter<W> {
 
 // An equal schema of its own: what the message of a schema is read as.
 pub(crate) fn schema_in(alloc: Global, message: &[u8]) -> Result<Schema, NoForm>
-    ensures same { IfOk result (λ schema. IsSchemaOf schema (stream_schema_at message.now)) }
+    ensures same { IfOk result (λ schema. IsSchemaOf schema (stream_keyed_schema_at message.now)) }
     ensures err { IfErr result (λ why. why ≡ Memory) }
 {
     match read_schema(alloc, message) {
-        Ok((schema, _)) => Ok(schema),
+        Ok((keyed, _)) => Ok(keyed.schema),
         Err(_) => Err(NoForm::Memory),
     }
 }
@@ -53,7 +57,7 @@ pub(crate) fn schema_in(alloc: Global, message: &[u8]) -> Result<Schema, NoForm>
 pub(crate) fn message_of(alloc: Global, schema: &Schema) -> Result<(Vec<u8>, Schema), NoForm>
     ensures bytes { IfOk result (λ x. x.0.items ≡ schema_message (schema_of schema.now)) }
     ensures same { IfOk result (λ x. schema_of x.1 ≡ schema_of schema.now) }
-    ensures again { OnOk result ((rest : List ℕ) → stream_schema_at (schema_message (schema_of schema.now) ++ rest) ≡ Ok (schema_of schema.now, rest)) }
+    ensures again { OnOk result ((rest : List ℕ) → stream_picked_at all (schema_message (schema_of schema.now) ++ rest) ≡ Ok (all_picked (schema_of schema.now) unseen, rest)) }
     ensures form { OnOk result (schema_refusal (schema_of schema.now) ≡ None) }
     ensures err { IfErr result (IsRefused (schema_refusal (schema_of schema.now))) }
 {
@@ -92,7 +96,7 @@ impl<W: Write + Drop> StreamWriter<W> {
     /// `NoForm` with the first reason why the schema is not written: nothing was. `Io` where the device fails.
     pub fn new(alloc: Global, device: W, schema: &Schema) -> Result<StreamWriter<W>, WriteError>
         ensures begun { Begins W.contents (schema_refusal (schema_of schema.now)) (schema_message (schema_of schema.now)) (schema_of schema.now) device result }
-        ensures again { OnOk result ((rest : List ℕ) → stream_schema_at (schema_message (schema_of schema.now) ++ rest) ≡ Ok (schema_of schema.now, rest)) }
+        ensures again { OnOk result ((rest : List ℕ) → stream_picked_at all (schema_message (schema_of schema.now) ++ rest) ≡ Ok (all_picked (schema_of schema.now) unseen, rest)) }
     {
         match message_of(alloc, schema) {
             Ok((message, schema)) => StreamWriter::begin(device, schema, &message),

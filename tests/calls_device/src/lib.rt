@@ -6,10 +6,13 @@
 //! | A batch that has no form leaves the writer as it was; a device that fails at any byte gets nothing more, and has a beginning | `writers` |
 //! | A stream from a device, in pieces of any size and interrupted, has the batches of `StreamReader`; what stands behind the end mark is left | `readers` |
 //! | Each beginning of a stream, and each byte changed, has the answers of `StreamReader`; a device that fails at any byte is told, and nothing comes behind | `readers` |
+//! | The same of streams with dictionaries: a batch comes over those before it, and none of a dictionary alone | `readers` |
 #![tactic(auto)]
 
 #[cfg(test)]
 mod devices;
+#[cfg(test)]
+mod keyed;
 #[cfg(test)]
 mod readers;
 #[cfg(test)]

@@ -1,5 +1,6 @@
 //! Streams that are read from devices.
 use crate::devices::Source;
+use crate::keyed::{DICTIONARIES_INSIDE, REPLACED, bytes_of};
 use crate::worked::{batches, schema};
 use ipc::{Batch, StreamReader, write_stream};
 use ipc_device::{DeviceReader, ReadError};
@@ -131,33 +132,88 @@ fn what_stands_behind_the_end_is_left(rt: HostRuntime) {
     assert!(rt; source.at == end);
 }
 
+// Whether a reader tells that its device failed, once, behind any batches, and gives nothing more.
+fn tells_of_failure(alloc: Global, source: Source) -> bool {
+    let mut reader = match DeviceReader::new(alloc, source) {
+        Ok(reader) => reader,
+        Err(ReadError::Io(e)) => return e.kind() == ErrorKind::ConnectionReset,
+        Err(ReadError::Fault(_)) => return false,
+    };
+    let mut failed = false;
+    for _ in 0..4 {
+        match reader.next_batch(alloc) {
+            Ok(None) if failed => {}
+            Ok(Some(_)) if !failed => {}
+            Err(ReadError::Io(_)) if !failed => failed = true,
+            _ => return false,
+        }
+    }
+    failed
+}
+
 #[test]
 fn a_device_that_fails_at_each_byte(rt: HostRuntime) {
     let alloc = rt.alloc();
     let schema = schema(alloc, DataType::Int64).expect(&rt, "a schema");
     let batches = batches(alloc, 2).expect(&rt, "batches");
-    let bytes = write_stream(alloc, &schema, &batches).expect(&rt, "a stream");
-    for fails_at in 0..bytes.len() {
-        let copied = copy(alloc, &bytes).expect(&rt, "bytes");
-        let source = Source::new(copied, 6, fails_at);
-        match DeviceReader::new(alloc, source) {
-            Err(ReadError::Io(e)) => assert!(rt; e.kind() == ErrorKind::ConnectionReset),
-            Err(ReadError::Fault(_)) => assert!(rt; false),
-            Ok(mut reader) => {
-                let mut failed = false;
-                for _ in 0..4 {
-                    match reader.next_batch(alloc) {
-                        Ok(None) => assert!(rt; failed),
-                        Ok(Some(_)) => assert!(rt; !failed),
-                        Err(ReadError::Io(_)) => {
-                            assert!(rt; !failed);
-                            failed = true;
-                        }
-                        Err(ReadError::Fault(_)) => assert!(rt; false),
-                    }
-                }
-                assert!(rt; failed);
-            }
+    let plain = write_stream(alloc, &schema, &batches).expect(&rt, "a stream");
+    let keyed = bytes_of(alloc, REPLACED).expect(&rt, "bytes");
+    for bytes in [&plain, &keyed] {
+        for fails_at in 0..bytes.len() {
+            let copied = copy(alloc, bytes).expect(&rt, "bytes");
+            let source = Source::new(copied, 6, fails_at);
+            assert!(rt; tells_of_failure(alloc, source), "{fails_at}");
         }
     }
+}
+
+// How many rows a device's batches have, each behind the one before, up to the end.
+fn rows_of(alloc: Global, source: Source) -> Option<Vec<usize>> {
+    let mut reader = DeviceReader::new(alloc, source).ok()?;
+    let mut rows = Vec::new(alloc);
+    for _ in 0..9 {
+        match reader.next_batch(alloc) {
+            Ok(None) => return Some(rows),
+            Ok(Some(batch)) => rows.push(batch.rows).ok()?,
+            Err(_) => return None,
+        }
+    }
+    None
+}
+
+#[test]
+fn dictionaries_in_pieces(rt: HostRuntime) {
+    let alloc = rt.alloc();
+    for digits in [REPLACED, DICTIONARIES_INSIDE] {
+        let bytes = bytes_of(alloc, digits).expect(&rt, "bytes");
+        for most in [1usize, 3, 8, 1000000] {
+            assert!(rt; alike(alloc, &bytes, most));
+        }
+        for end in 0..bytes.len() {
+            assert!(rt; alike(alloc, &bytes[..end], 11), "{end}");
+        }
+    }
+}
+
+#[test]
+fn dictionaries_with_each_byte_changed(rt: HostRuntime) {
+    let alloc = rt.alloc();
+    let mut bytes = bytes_of(alloc, REPLACED).expect(&rt, "bytes");
+    for i in 0..bytes.len() {
+        let was = bytes[i];
+        bytes[i] = was ^ 0x91;
+        assert!(rt; alike(alloc, &bytes, 100), "{i}");
+        bytes[i] = was;
+    }
+}
+
+#[test]
+fn no_batch_of_a_dictionary(rt: HostRuntime) {
+    let alloc = rt.alloc();
+    let replaced = bytes_of(alloc, REPLACED).expect(&rt, "bytes");
+    let rows = rows_of(alloc, Source::new(replaced, 1, usize::MAX)).expect(&rt, "rows");
+    assert!(rt; rows.as_slice() == [2usize, 2].as_slice());
+    let inside = bytes_of(alloc, DICTIONARIES_INSIDE).expect(&rt, "bytes");
+    let rows = rows_of(alloc, Source::new(inside, 1, usize::MAX)).expect(&rt, "rows");
+    assert!(rt; rows.as_slice() == [4usize].as_slice());
 }
