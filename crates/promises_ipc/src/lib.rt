@@ -1,25 +1,28 @@
 //! Arrow IPC. For every sequence of bytes the readers answer just the stream, or the file, that the bytes spell, or the first fault
 //! in the order of reading, want of memory aside; what is written of a schema and batches, in either form, spells them, so that
-//! reading gives them back; and nothing is written just where there is a reason, of which the first is told. So far of columns
-//! that are flat arrays.
+//! reading gives them back; and nothing is written just where there is a reason, of which the first is told. Of columns of every
+//! kind, of all of them or of some; dictionaries are read, those that are replaced too, and neither joined nor written so far.
 #![tactic(auto)]
 
-ghost use Rattle.std.specs.Prelude.{◌≡◌, ◌<◌, ◌⊎◌, ◌++◌, List, ℕ, None, Ok, map, length, IfErr, IfOk, OnOk};
+ghost use Rattle.std.specs.Prelude.{◌≡◌, ◌<◌, ◌⊎◌, ◌++◌, List, ℕ, [], None, Ok, map, length, IfErr, IfOk, OnOk};
 ghost use Rattle.std.specs.List.{AllByRecursion};
 ghost use Rattle.std.specs.Option.{option_map};
 ghost use Rattle.ipc_model.specs.Reading.{Gives};
+ghost use Rattle.ipc_schema.specs.Picks.{all, picks_of};
 ghost use Rattle.ipc_schema.specs.Schemas.{schema_of};
-ghost use Rattle.ipc.specs.Streams.{arrays_of, stream_in, stream_of};
-ghost use Rattle.ipc.specs.Readers.{next_of, reader_in, spent};
-ghost use Rattle.ipc.specs.Files.{batch_of_file, file_in, file_of, file_reader_in};
+ghost use Rattle.ipc.specs.Streams.{arrays_of, picked_stream_in, stream_in, stream_of};
+ghost use Rattle.ipc.specs.Readers.{next_of, reader_in};
+ghost use Rattle.ipc.specs.Files.{batch_of_file, file_in, file_of, file_reader_in, picked_file_in};
 ghost use Rattle.ipc.specs.WrittenFiles.{file_bytes, file_refusal, shown_file};
 ghost use Rattle.ipc.specs.Written.{IsRefused, IsSameBatch, shown_arrays, shown_stream, stream_bytes, stream_refusal};
+ghost use Rattle.promises_ipc.specs.Words.{two_of};
 
 use ipc::{
-    Batch, File, FileReader, Stream, StreamReader, read_file, read_stream, write_file, write_stream,
+    Batch, File, FileReader, Stream, StreamReader, read_file, read_file_columns, read_stream,
+    read_stream_columns, write_file, write_stream,
 };
 use ipc_model::{Fault, NoForm};
-use ipc_schema::Schema;
+use ipc_schema::{Columns, Schema};
 use std::alloc::Global;
 
 /// The stream that bytes spell, or their first fault.
@@ -29,19 +32,76 @@ pub fn stream_of_bytes(alloc: Global, bytes: &[u8]) -> Result<Stream, Fault>
     read_stream(alloc, bytes)
 }
 
+/// The stream that bytes spell, of the columns that are chosen, or their first fault; what the others have is passed over.
+pub fn stream_of_columns(alloc: Global, bytes: &[u8], columns: Columns<'_>) -> Result<Stream, Fault>
+    ensures { Gives stream_of result (picked_stream_in (picks_of columns.entry) bytes.now) }
+{
+    read_stream_columns(alloc, bytes, columns)
+}
+
 /// A reader of the stream begins with its schema.
 pub fn reader_of_bytes(alloc: Global, bytes: &[u8]) -> Result<StreamReader<'_>, Fault>
-    ensures { Gives (λ r. r) result (reader_in bytes.now) }
+    ensures { Gives (λ r. r) result (reader_in all bytes.now) }
 {
     StreamReader::new(alloc, bytes)
 }
 
-/// It gives the next batch, or its first fault; nothing comes after a fault.
+/// A reader of the columns that are chosen.
+pub fn reader_of_columns<'a>(
+    alloc: Global,
+    bytes: &'a [u8],
+    columns: Columns<'_>,
+) -> Result<StreamReader<'a>, Fault>
+    ensures { Gives (λ r. r) result (reader_in (picks_of columns.entry) bytes.now) }
+{
+    StreamReader::with_columns(alloc, bytes, columns)
+}
+
+/// It gives the next batch, or its first fault; it is of the same columns from then on, and after a fault nothing is left.
 pub fn next_of_reader(alloc: Global, reader: &mut StreamReader<'_>) -> Result<Option<Batch>, Fault>
     ensures next { Gives (λ b. (option_map arrays_of b, reader.new)) result (next_of reader.old) }
-    ensures over { IfErr result (λ _. reader.new ≡ spent reader.old) }
+    ensures over { IfErr result (λ _. reader.new.left ≡ []) }
+    ensures columns { reader.new.state.picked ≡ reader.old.state.picked }
 {
     reader.next_batch(alloc)
+}
+
+/// A batch stays as it is read, whatever comes behind it: also where a dictionary is replaced before the next one.
+pub fn two_of_reader(
+    alloc: Global,
+    reader: &mut StreamReader<'_>,
+) -> Result<(Option<Batch>, Option<Batch>), Fault>
+    ensures { Gives (λ b. ((option_map arrays_of b.0, option_map arrays_of b.1), reader.new)) result (two_of reader.old) }
+{
+    match reader.next_batch(alloc) {
+        Err(fault) => Err(fault),
+        Ok(first) => match reader.next_batch(alloc) {
+            Err(fault) => Err(fault),
+            Ok(second) => Ok((first, second)),
+        },
+    }
+}
+
+// Where nothing is left no batch comes, and nothing is left then either.
+fn next_of_nothing(alloc: Global, reader: &mut StreamReader<'_>) -> Result<Option<Batch>, Fault>
+    requires { reader.old.left ≡ [] }
+    ensures none { IfOk result (λ next. next ≡ None) }
+    ensures left { reader.new.left ≡ [] }
+{
+    reader.next_batch(alloc)
+}
+
+/// What comes of a reader behind a fault, if there is one: nothing.
+pub fn behind_a_fault(alloc: Global, reader: &mut StreamReader<'_>) -> Option<Batch>
+    ensures none { result ≡ None }
+{
+    match reader.next_batch(alloc) {
+        Ok(_) => None,
+        Err(_) => match next_of_nothing(alloc, reader) {
+            Ok(next) => next,
+            Err(_) => None,
+        },
+    }
 }
 
 /// What is written spells the schema and the batches, whatever stands behind it; nothing is written just where there is a reason.
@@ -76,11 +136,29 @@ pub fn file_of_bytes(alloc: Global, bytes: &[u8]) -> Result<File, Fault>
     read_file(alloc, bytes)
 }
 
+/// The file that bytes spell, of the columns that are chosen, or their first fault.
+pub fn file_of_columns(alloc: Global, bytes: &[u8], columns: Columns<'_>) -> Result<File, Fault>
+    ensures { Gives file_of result (picked_file_in (picks_of columns.entry) bytes.now) }
+{
+    read_file_columns(alloc, bytes, columns)
+}
+
 /// A reader of a file begins with its footer and its dictionaries.
 pub fn file_reader_of_bytes(alloc: Global, bytes: &[u8]) -> Result<FileReader<'_>, Fault>
-    ensures { Gives (λ r. r) result (file_reader_in bytes.now) }
+    ensures { Gives (λ r. r) result (file_reader_in all bytes.now) }
 {
     FileReader::new(alloc, bytes)
+}
+
+/// A reader of the columns of a file that are chosen.
+pub fn file_reader_of_columns<'a>(
+    alloc: Global,
+    bytes: &'a [u8],
+    columns: Columns<'_>,
+) -> Result<FileReader<'a>, Fault>
+    ensures { Gives (λ r. r) result (file_reader_in (picks_of columns.entry) bytes.now) }
+{
+    FileReader::with_columns(alloc, bytes, columns)
 }
 
 /// It gives the batch at each place in the order of the footer, or its first fault, whenever it is asked for.

@@ -1,8 +1,9 @@
 //! Columns that are written, byte by byte, and read back.
-use ipc_layout::{Left, Placed, Stored, place_columns, put_columns, read_columns};
+use ipc_layout::{Left, Placed, Stored, are_keyless, place_columns, put_columns, read_columns};
 use ipc_model::NoForm;
 use nest_array::any::AnyArray;
-use nest_array::nulls::new_empty_array;
+use nest_array::dictionary::keys::AnyKeys;
+use nest_array::dictionary::DictionaryArray;
 use nest_flat::any_primitive::AnyPrimitive;
 use nest_flat::primitive::PrimitiveArray;
 use nest_memory::bitmap::immutable::Bitmap;
@@ -48,9 +49,16 @@ fn again(
     for column in columns {
         types.push(column.data_type().clone(alloc)?)?;
     }
+    let mut values = Vec::new(alloc);
+    for column in columns {
+        if let AnyArray::Dictionary(array) = column {
+            values.push(Some(array.values()))?;
+        }
+    }
     let left = Left {
         nodes: &placed.nodes,
         regions: &placed.regions,
+        dictionaries: &values,
     };
     Ok(read_columns(alloc, &types, rows, &body, left).ok())
 }
@@ -179,16 +187,28 @@ fn no_rows_and_no_columns(rt: HostRuntime) {
     assert!(rt; placed.nodes.len() == 0);
 }
 
+// The keys 1 and 0 of two numbers, and a null between them.
+fn keyed(alloc: Global) -> Result<DictionaryArray, Error> {
+    let keys = array(alloc, DataType::Int8, &[1i8, 1, 0], &[true, false, true])?;
+    let values = array(alloc, DataType::Int32, &[7i32, 8], &[true, true])?;
+    let values = AnyArray::Primitive(AnyPrimitive::Int32(values));
+    let inner = Box::new(alloc, DataType::Int32)?;
+    let data_type = DataType::Dictionary(IntegerType::Int8, inner, false);
+    DictionaryArray::try_new(alloc, data_type, AnyKeys::Int8(keys), values)
+}
+
 #[test]
-fn other_kinds_are_not_written(rt: HostRuntime) {
+fn keys_are_written_and_no_values(rt: HostRuntime) {
     let alloc = rt.alloc();
-    let key = IntegerType::Int8;
-    let values = Box::new(alloc, DataType::Utf8).expect(&rt, "memory");
-    let keyed = new_empty_array(alloc, DataType::Dictionary(key, values, false)).expect(&rt, "an array");
-    let columns = [keyed];
-    assert!(rt; place_columns(alloc, &columns).err() == Some(NoForm::Type));
-    let mut out = Vec::new(alloc);
-    assert!(rt; put_columns(&mut out, &columns) == Err(NoForm::Type));
+    let columns = [AnyArray::Dictionary(keyed(alloc).expect(&rt, "an array"))];
+    let (placed, body) = bytes_of(alloc, &columns).expect(&rt, "bytes");
+    assert!(rt; body.as_slice() == [5u8, 0, 0, 0, 0, 0, 0, 0, 1, 0, 0, 0, 0, 0, 0, 0].as_slice());
+    assert!(rt; placed.nodes.len() == 1 && placed.regions.len() == 2);
+    let read = again(alloc, 3, &columns)
+        .expect(&rt, "memory")
+        .expect(&rt, "columns");
+    assert!(rt; read[0] == columns[0]);
+    assert!(rt; !are_keyless(&columns) && are_keyless(&[]));
 }
 
 #[test]

@@ -41,6 +41,7 @@ fn read(
     let left = Left {
         nodes: &nodes,
         regions: &regions,
+        dictionaries: &[],
     };
     match read_column(alloc, &data_type, Wanted::Rows(2), &BODY, left) {
         Ok((array, _left)) => Ok(array),
@@ -102,11 +103,13 @@ fn nothing_left(rt: HostRuntime) {
     let none = Left {
         nodes: &[],
         regions: &[],
+        dictionaries: &[],
     };
     assert!(rt; fault_of(rt.alloc(), none) == Some(Fault::NodeCount));
     let one = Left {
         nodes: &nodes,
         regions: &[],
+        dictionaries: &[],
     };
     assert!(rt; fault_of(rt.alloc(), one) == Some(Fault::BufferCount));
 }
@@ -114,7 +117,12 @@ fn nothing_left(rt: HostRuntime) {
 /// The body as two columns of numbers of 32 and of 64 bits, by these nodes and buffers.
 fn both(alloc: Global, nodes: &[Node], regions: &[Region]) -> Result<Vec<AnyArray>, Fault> {
     let types = [DataType::Int32, DataType::UInt64];
-    read_columns(alloc, &types, 2, &BODY, Left { nodes, regions })
+    let left = Left {
+        nodes,
+        regions,
+        dictionaries: &[],
+    };
+    read_columns(alloc, &types, 2, &BODY, left)
 }
 
 // The first fault, if there is one.

@@ -5,9 +5,9 @@ use crate::samples_nested::READ_NESTED;
 use crate::samples_picked::{ODD_FILE, PICKED, Picked, STREAMS};
 use crate::samples_read::{bytes_of, bytes_of_digits};
 use crate::texts::{answer, put_parts};
-use ipc::{FileColumns, StreamColumns, read_file_columns, read_stream, read_stream_columns};
+use ipc::{FileReader, StreamReader, read_file_columns, read_stream, read_stream_columns};
 use ipc_model::Fault;
-use ipc_schema::Columns;
+use ipc_schema::{Columns, Picker};
 use std::alloc::Global;
 
 /// What a stream is by columns, or its fault.
@@ -89,7 +89,7 @@ fn no_column_has_its_rows(rt: HostRuntime) {
 /// The batches that a reader of some columns gives, up to its end; nothing comes behind.
 fn read_one_by_one(alloc: Global, picked: &Picked) -> Result<String, Fault> {
     let bytes = bytes_of_digits(alloc, picked.digits)?;
-    let mut reader = StreamColumns::new(alloc, &bytes, Columns::Named(picked.names))?;
+    let mut reader = StreamReader::with_columns(alloc, &bytes, Columns::Named(picked.names))?;
     let mut text = String::new(alloc);
     let mut batches = Vec::new(alloc);
     for _ in 0..bytes.len() {
@@ -119,7 +119,7 @@ fn file_picked(alloc: Global, bytes: &[u8], columns: Columns<'_>) -> Result<Stri
         Err(fault) => write!(text, "fault {fault:?}\n")?,
         Ok(file) => {
             put_parts(&mut text, &file.schema, &file.batches)?;
-            let reader = FileColumns::new(alloc, bytes, columns)?;
+            let reader = FileReader::with_columns(alloc, bytes, columns)?;
             if reader.len() != file.batches.len()
                 || reader.schema().fields.len() != file.schema.fields.len()
             {
@@ -185,5 +185,13 @@ fn each_byte_changed(rt: HostRuntime) {
             assert!(rt; at.is_ok(), "{i}");
             bytes[i] = byte;
         }
+    }
+}
+
+#[test]
+fn a_picker_knows_positions(rt: HostRuntime) {
+    let picker = Picker::new(rt.alloc(), Columns::At(&[1, 3])).expect(&rt, "no picker");
+    for i in 0..5 {
+        assert!(rt; picker.is_picked_at(&[], i, 0, 0) == Ok(i == 1 || i == 3), "{i}");
     }
 }

@@ -8,7 +8,7 @@ use ipc::{FileReader, read_file, read_stream, write_file};
 use ipc_footer::{Block, block_bytes, read_footer, write_footer};
 use ipc_message::{Kind, Version, next_message, version_of};
 use ipc_model::Fault;
-use ipc_schema::{in_version, read_schema, schema_at, schema_table};
+use ipc_schema::{Columns, in_version, read_schema, schema_at, schema_table};
 use std::alloc::Global;
 
 #[test]
@@ -31,6 +31,11 @@ fn each_that_is_refused(rt: HostRuntime) {
 
 /// Where the batches of a stream lie in the file of it, in their order.
 pub fn blocks_of(alloc: Global, stream: &[u8]) -> Result<Vec<Block>, Fault> {
+    blocks_of_kind(alloc, stream, Kind::RecordBatch)
+}
+
+/// The same of the messages of a kind.
+pub fn blocks_of_kind(alloc: Global, stream: &[u8], kind: Kind) -> Result<Vec<Block>, Fault> {
     let mut blocks = Vec::new(alloc);
     let mut rest = stream;
     for _ in 0..stream.len() {
@@ -40,7 +45,7 @@ pub fn blocks_of(alloc: Global, stream: &[u8]) -> Result<Vec<Block>, Fault> {
         match next {
             None => return Ok(blocks),
             Some(message) => {
-                if message.root.kind != Kind::Schema {
+                if message.root.kind == kind {
                     blocks.push(Block {
                         offset: offset as i64,
                         metadata_length: 8 + message.metadata.len() as i32,
@@ -63,8 +68,8 @@ pub fn file_with(
     let mut out = Vec::new(alloc);
     out.extend_from_slice(b"ARROW1\0\0")?;
     out.extend_from_slice(stream)?;
-    let (schema, _) = read_schema(alloc, stream)?;
-    match write_footer(alloc, &mut out, &schema, dictionaries, batches) {
+    let (keyed, _) = read_schema(alloc, stream)?;
+    match write_footer(alloc, &mut out, &keyed.schema, dictionaries, batches) {
         Ok(()) => Ok(out),
         Err(_) => Err(Fault::Memory),
     }
@@ -185,8 +190,9 @@ fn what_no_block_names_is_not_read(rt: HostRuntime) {
 fn the_footer_of_a_file(rt: HostRuntime) {
     let alloc = rt.alloc();
     let bytes = bytes_of(alloc, &READ_FILES[1]).expect(&rt, "no bytes");
-    let footer = read_footer(alloc, &bytes).expect(&rt, "no footer");
-    assert!(rt; footer.schema.fields.is_empty() && footer.dictionaries.is_empty());
+    let footer = read_footer(alloc, Columns::All, &bytes).expect(&rt, "no footer");
+    assert!(rt; footer.picked.schema.fields.is_empty() && footer.dictionaries.is_empty());
+    assert!(rt; footer.picked.steps.is_empty() && footer.picked.dictionaries.ids.is_empty());
     assert!(rt; footer.batches.len() == 1);
     assert!(rt;
         footer.batches[0]
@@ -201,9 +207,10 @@ fn the_footer_of_a_file(rt: HostRuntime) {
 #[test]
 fn the_table_of_a_schema(rt: HostRuntime) {
     let alloc = rt.alloc();
-    let (schema, _) = read_schema(alloc, &WORKED).expect(&rt, "a schema");
-    let part = schema_table(alloc, &schema).expect(&rt, "a table");
-    let (again, left) = schema_at(alloc, &part, 16, 64 * part.len()).expect(&rt, "a schema");
+    let (keyed, _) = read_schema(alloc, &WORKED).expect(&rt, "a schema");
+    let part = schema_table(alloc, &keyed.schema).expect(&rt, "a table");
+    let (keyed, left) = schema_at(alloc, &part, 16, 64 * part.len()).expect(&rt, "a schema");
+    let again = &keyed.schema;
     assert!(rt; left < 64 * part.len());
     assert!(rt; again.fields.len() == 1 && again.fields[0].name.as_str() == "a");
     assert!(rt; version_of(3) == Ok(Version::V4));

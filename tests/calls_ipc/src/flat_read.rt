@@ -104,6 +104,7 @@ fn read_by(
     let left = Left {
         nodes: &batch.nodes,
         regions: &batch.regions,
+        dictionaries: &[],
     };
     read_columns(alloc, types, batch.rows, body, left)
 }
@@ -146,6 +147,7 @@ fn again(
     let left = Left {
         nodes: &placed.nodes,
         regions: &placed.regions,
+        dictionaries: &[],
     };
     Ok(read_columns(alloc, types, rows, &body, left))
 }

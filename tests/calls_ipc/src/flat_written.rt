@@ -201,6 +201,7 @@ fn read(
     let left = Left {
         nodes: &nodes,
         regions: &regions,
+        dictionaries: &[],
     };
     match read_column(alloc, data_type, Wanted::Rows(rows), body, left) {
         Ok((array, _left)) => Ok(array),

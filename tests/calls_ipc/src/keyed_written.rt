@@ -6,7 +6,7 @@ use drawn::numbers::Draw;
 use drawn::start::START;
 use ipc_model::NoForm;
 use ipc_schema::{
-    KeyedSchema, Schema, keyed_schema_table, read_keyed_schema, schema_table, write_keyed_schema,
+    KeyedSchema, Schema, keyed_schema_table, read_schema, schema_table, write_keyed_schema,
     write_schema,
 };
 use nest_memory::datatypes::{DataType, Field, IntegerType};
@@ -16,20 +16,21 @@ use std::collections::BTreeMap;
 /// Whether the ids are 0, 1, 2 and so on, as many as dictionaries.
 fn are_in_order(keyed: &KeyedSchema) -> bool {
     let mut next = 0;
-    for id in &keyed.ids {
+    for id in &keyed.dictionaries.ids {
         if *id != next {
             return false;
         }
         next += 1;
     }
-    keyed.ids.len() == count_dictionaries(&keyed.schema.fields)
+    next as usize == count_dictionaries(&keyed.schema.fields)
+        && keyed.dictionaries.named.len() == next as usize
 }
 
 /// Whether a schema is read back with its ids, and what stands behind it is left, or is refused by the reason that the model has.
 fn is_answered(alloc: Global, schema: &Schema) -> bool {
     match write_keyed_schema(alloc, schema) {
         Err(why) => wanted_of(&schema.fields, 64) == Some(why),
-        Ok(bytes) => match read_keyed_schema(alloc, &bytes) {
+        Ok(bytes) => match read_schema(alloc, &bytes) {
             Err(_) => false,
             Ok((read, rest)) => {
                 rest.is_empty()
@@ -59,7 +60,7 @@ fn of_another_program(rt: HostRuntime) {
     let alloc = rt.alloc();
     for sample in &KEYED {
         let bytes = bytes_of(alloc, sample).expect(&rt, "no bytes");
-        let (keyed, _) = read_keyed_schema(alloc, &bytes).expect(&rt, "no schema");
+        let (keyed, _) = read_schema(alloc, &bytes).expect(&rt, "no schema");
         assert!(rt; is_answered(alloc, &keyed.schema), "{}", sample.name);
         assert!(rt;
             write_keyed_schema(alloc, &keyed.schema).is_ok(),
@@ -67,7 +68,7 @@ fn of_another_program(rt: HostRuntime) {
             sample.name
         );
         let plain = write_schema(alloc, &keyed.schema).err();
-        let want = (!keyed.ids.is_empty()).then_some(NoForm::Type);
+        let want = (!keyed.dictionaries.ids.is_empty()).then_some(NoForm::Type);
         assert!(rt; plain == want, "{}", sample.name);
     }
 }

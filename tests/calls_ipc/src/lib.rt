@@ -12,12 +12,13 @@
 //! | Each schema without a form is refused by its reason | `written::refused_schemas` |
 //! | Each word of flatbuffers once | `words` |
 //! | A column is read from a body, of each kind of whole numbers; each of its faults once | `columns` |
-//! | Columns that are written, byte by byte, of windows too, and read back; kinds that are not written | `bodies` |
+//! | Columns that are written, byte by byte, of windows too, and read back; of dictionaries the keys | `bodies` |
 //! | Flat arrays of every kind, of another program: read, or refused; each window written and read back; each beginning of their bodies, and each byte changed | `flat_read` |
 //! | Arrays with children of every kind, of another program: read, or refused; each beginning of their streams, and each byte of the short ones changed | `nested_read` |
 //! | Flat arrays of each kind byte by byte, and each of their faults | `flat_written` |
-//! | Arrays of every nesting, drawn and cut, are written and read back; with a dictionary at any depth they are refused; columns stand one behind the other | `nested_written` |
+//! | Arrays of every nesting, drawn and cut, are written and read back, over the values of their dictionaries; columns stand one behind the other | `nested_written` |
 //! | Streams that are written, and read back: windows, nothing, streams of others, rows without columns; each reason not to | `streams_written` |
+//! | Streams and files with dictionaries, of another program: read by every reader alike, or refused; dictionaries that are replaced, shared, nested, missing, passed over, under nulls; each byte of the short ones changed | `dictionaries_read` |
 //! | Each fault once | `faults` |
 //! | Files of another program, streams of others as files, blocks in another order, batches in any order, and files that are written | `files` |
 //! | Each fault of files once; each beginning of a file, and each of its bytes changed, is answered, by `read_file` and by a reader alike | `file_faults` |
@@ -31,6 +32,8 @@ mod bodies;
 mod columns;
 #[cfg(test)]
 mod columns_read;
+#[cfg(test)]
+mod dictionaries_read;
 #[cfg(test)]
 mod faults;
 #[cfg(test)]
@@ -57,6 +60,8 @@ mod nested_read;
 mod nested_written;
 #[cfg(test)]
 mod samples;
+#[cfg(test)]
+mod samples_dictionaries;
 #[cfg(test)]
 mod samples_flat;
 #[cfg(test)]

@@ -198,7 +198,7 @@ pub const PICKED: [Picked; 9] = [
         digits: ODD,
         names: &["k", "a"],
         positions: &[3, 4],
-        answer: "fault UnsupportedType\n",
+        answer: "metadata 0\nfield .k 1 0 S 1 .d 1 0 G i1 0 U\nfield .a 1 0 i4\nbatch 2\nrow {s7a,} 3\nrow {s7a,} 4\n",
     },
 ];
 

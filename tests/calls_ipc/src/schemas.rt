@@ -80,7 +80,7 @@ fn reason_of(alloc: Global, schema: &Schema) -> Result<Option<NoForm>, Fault> {
         Err(why) => Ok(Some(why)),
         Ok(bytes) => {
             let (read, rest) = read_schema(alloc, &bytes)?;
-            if read.fields == schema.fields && rest.is_empty() {
+            if read.schema.fields == schema.fields && rest.is_empty() {
                 Ok(None)
             } else {
                 Err(Fault::Block)
@@ -464,7 +464,29 @@ fn count_of(data_type: &DataType) -> usize {
     }
 }
 
-/// The same where none may have a dictionary.
+/// How many of them are inside of the values of no other.
+pub fn count_outer(fields: &[Field]) -> usize {
+    let mut count = 0;
+    for field in fields {
+        count += outer_of(&field.data_type);
+    }
+    count
+}
+
+fn outer_of(data_type: &DataType) -> usize {
+    match data_type {
+        DataType::Dictionary(_, _, _) => 1,
+        DataType::Extension(_, inner, _) => outer_of(inner),
+        DataType::List(field) | DataType::LargeList(field) | DataType::Map(field, _) => {
+            outer_of(&field.data_type)
+        }
+        DataType::FixedSizeList(field, _) => outer_of(&field.data_type),
+        DataType::Struct(fields) | DataType::Union(fields, _, _) => count_outer(fields),
+        _ => 0,
+    }
+}
+
+/// The first reason where none may have a dictionary.
 fn plain_wanted(fields: &[Field]) -> Option<NoForm> {
     let some = (count_dictionaries(fields) != 0).then_some(NoForm::Type);
     wanted_of(fields, 64).or(some)
@@ -509,8 +531,8 @@ fn is_answered(alloc: Global, schema: &Schema) -> bool {
             Ok((read, rest)) => {
                 rest.is_empty()
                     && plain_wanted(&schema.fields).is_none()
-                    && read.fields == schema.fields
-                    && read.metadata == schema.metadata
+                    && read.schema.fields == schema.fields
+                    && read.schema.metadata == schema.metadata
             }
         },
     }
@@ -545,8 +567,8 @@ fn count_read(alloc: Global, bytes: &mut [u8]) -> Option<usize> {
         let old = bytes[place];
         for new in [255, old.wrapping_add(1)] {
             bytes[place] = new;
-            if let Ok((schema, _)) = read_schema(alloc, bytes) {
-                if !is_answered(alloc, &schema) {
+            if let Ok((keyed, _)) = read_schema(alloc, bytes) {
+                if !is_answered(alloc, &keyed.schema) {
                     return None;
                 }
                 count += 1;

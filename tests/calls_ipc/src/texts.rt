@@ -67,7 +67,8 @@ fn put_there(text: &mut String, column: &AnyArray, i: usize) -> Result<(), Fault
             write!(text, " @{field}:")?;
             put_inner(text, &array.fields()[field], place)
         }
-        AnyArray::Null(_) | AnyArray::Dictionary(_) => {
+        AnyArray::Dictionary(array) => put_slot(text, array.values(), array.key_value(i)),
+        AnyArray::Null(_) => {
             text.push_str(" another")?;
             Ok(())
         }

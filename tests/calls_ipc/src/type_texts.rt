@@ -188,7 +188,7 @@ pub fn schema_answer(alloc: Global, bytes: &[u8]) -> Result<String, Fault> {
     let mut text = String::new(alloc);
     match read_schema(alloc, bytes) {
         Err(fault) => write!(text, "fault {fault:?}\n")?,
-        Ok((schema, _)) => put_schema(&mut text, &schema)?,
+        Ok((keyed, _)) => put_schema(&mut text, &keyed.schema)?,
     }
     Ok(text)
 }

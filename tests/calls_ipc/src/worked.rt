@@ -17,7 +17,9 @@ pub fn count_batches(alloc: Global, bytes: &[u8]) -> Result<usize, Fault> {
 #[test]
 fn byte_by_byte(rt: HostRuntime) {
     let alloc = rt.alloc();
-    let (schema, rest) = read_schema(alloc, &WORKED).expect(&rt, "no schema");
+    let (keyed, rest) = read_schema(alloc, &WORKED).expect(&rt, "no schema");
+    let schema = &keyed.schema;
+    assert!(rt; keyed.dictionaries.ids.is_empty() && keyed.dictionaries.named.len() == 0);
     assert!(rt; rest.len() == 296 - 128);
     assert!(rt; schema.metadata.len() == 0);
     assert!(rt; schema.fields.len() == 1);
@@ -71,7 +73,8 @@ fn byte_by_byte(rt: HostRuntime) {
 #[test]
 fn all_kinds(rt: HostRuntime) {
     let alloc = rt.alloc();
-    let (schema, _rest) = read_schema(alloc, &INTEGERS).expect(&rt, "no schema");
+    let (keyed, _rest) = read_schema(alloc, &INTEGERS).expect(&rt, "no schema");
+    let schema = &keyed.schema;
     assert!(rt; schema.fields.len() == 8);
     assert!(rt; schema.fields[0].data_type == DataType::Int8);
     assert!(rt; schema.fields[3].data_type == DataType::Int64);

@@ -55,8 +55,8 @@ fn a_schema(rt: HostRuntime) {
     assert!(rt; bytes.extend_from_slice(&[1, 2, 3]).is_ok());
     let (read, rest) = read_schema(alloc, &bytes).expect(&rt, "not read");
     assert!(rt; rest.len() == 3);
-    assert!(rt; read.fields == schema.fields);
-    assert!(rt; read.metadata == schema.metadata);
+    assert!(rt; read.schema.fields == schema.fields);
+    assert!(rt; read.schema.metadata == schema.metadata);
 }
 
 #[test]

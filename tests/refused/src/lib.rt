@@ -10,6 +10,7 @@ mod any_kind;
 mod arrays;
 mod builders;
 mod iterators;
+mod keyed;
 mod nested;
 mod parsed;
 mod parts;

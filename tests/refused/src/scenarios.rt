@@ -1,7 +1,7 @@
 //! What is tried.
 
 use crate::trial::Trial;
-use crate::{arrays, builders, nested, parsed, program, schemas, streams, typed};
+use crate::{arrays, builders, keyed, nested, parsed, program, schemas, streams, typed};
 use drawn_builders::wrong::Wrong;
 use std::alloc::Global;
 
@@ -27,6 +27,7 @@ pub enum Scenario {
     Schemas,
     Streams,
     NestedStreams,
+    KeyedStreams,
 }
 
 impl Scenario {
@@ -52,6 +53,7 @@ impl Scenario {
             Scenario::Schemas => schemas::both_ways(trial, alloc),
             Scenario::Streams => streams::both_ways(trial, alloc),
             Scenario::NestedStreams => nested::both_ways(trial, alloc),
+            Scenario::KeyedStreams => keyed::read(trial, alloc),
         }
     }
 }

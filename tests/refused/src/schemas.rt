@@ -3,7 +3,7 @@
 use crate::trial::Trial;
 use drawn_builders::wrong::{Wrong, expect};
 use ipc_model::{Fault, NoForm};
-use ipc_schema::{Schema, read_keyed_schema, read_schema, write_keyed_schema, write_schema};
+use ipc_schema::{Schema, read_schema, write_keyed_schema, write_schema};
 use nest_memory::datatypes::{DataType, Field};
 use nest_memory::error::Error;
 use std::alloc::{AllocError, Global};
@@ -48,8 +48,8 @@ fn unwritten(why: NoForm) -> Error {
 
 /// How many ids are read.
 fn keyed(alloc: Global) -> Result<usize, Error> {
-    let (keyed, _) = read_keyed_schema(alloc, &SCHEMA).map_err(unread)?;
-    Ok(keyed.ids.len())
+    let (keyed, _) = read_schema(alloc, &SCHEMA).map_err(unread)?;
+    Ok(keyed.dictionaries.ids.len())
 }
 
 fn extended(alloc: Global) -> Result<Schema, Error> {
@@ -69,15 +69,15 @@ fn both(alloc: Global) -> Result<usize, Error> {
     let schema = extended(alloc)?;
     let bytes = write_schema(alloc, &schema).map_err(unwritten)?;
     let (read, _) = read_schema(alloc, &bytes).map_err(unread)?;
-    Ok(read.fields.len())
+    Ok(read.schema.fields.len())
 }
 
 /// How many ids are read of what was written of what was read.
 fn keyed_again(alloc: Global) -> Result<usize, Error> {
-    let (keyed, _) = read_keyed_schema(alloc, &SCHEMA).map_err(unread)?;
+    let (keyed, _) = read_schema(alloc, &SCHEMA).map_err(unread)?;
     let bytes = write_keyed_schema(alloc, &keyed.schema).map_err(unwritten)?;
-    let (again, _) = read_keyed_schema(alloc, &bytes).map_err(unread)?;
-    Ok(again.ids.len())
+    let (again, _) = read_schema(alloc, &bytes).map_err(unread)?;
+    Ok(again.dictionaries.ids.len())
 }
 
 pub fn both_ways(trial: &mut Trial, alloc: Global) -> Result<(), Wrong> {

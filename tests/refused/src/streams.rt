@@ -94,6 +94,7 @@ fn columns(alloc: Global) -> Result<usize, Error> {
     let left = Left {
         nodes: &placed.nodes,
         regions: &placed.regions,
+        dictionaries: &[],
     };
     let read = read_columns(alloc, &types, 3, &body, left).map_err(refused)?;
     Ok(read.len())

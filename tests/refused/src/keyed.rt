@@ -1,0 +1,74 @@
+//! A stream in which a dictionary is replaced: read whole, batch by batch, and by no column.
+
+use crate::streams::refused;
+use crate::trial::Trial;
+use drawn_builders::wrong::{Wrong, expect};
+use ipc::{StreamReader, read_stream, read_stream_columns};
+use ipc_schema::Columns;
+use nest_memory::error::Error;
+use std::alloc::Global;
+
+/// One field, by a dictionary of texts, and two batches of two rows, each behind its values.
+const STREAM: [u8; 864] = [
+    255, 255, 255, 255, 144, 0, 0, 0, 16, 0, 0, 0, 10, 0, 11, 0, 8, 0, 10, 0, 4, 0, 0, 0, 12, 0, 0,
+    0, 16, 0, 0, 0, 4, 0, 1, 0, 8, 0, 8, 0, 0, 0, 4, 0, 8, 0, 0, 0, 4, 0, 0, 0, 1, 0, 0, 0, 20, 0,
+    0, 0, 16, 0, 21, 0, 4, 0, 0, 0, 20, 0, 8, 0, 12, 0, 16, 0, 16, 0, 0, 0, 20, 0, 0, 0, 28, 0, 0,
+    0, 28, 0, 0, 0, 52, 0, 0, 0, 5, 0, 0, 0, 1, 0, 0, 0, 97, 0, 4, 0, 4, 0, 0, 0, 6, 0, 0, 0, 80,
+    0, 0, 0, 12, 0, 0, 0, 8, 0, 9, 0, 4, 0, 8, 0, 8, 0, 0, 0, 32, 0, 0, 0, 1, 0, 0, 0, 0, 0, 0, 0,
+    0, 0, 0, 0, 255, 255, 255, 255, 168, 0, 0, 0, 20, 0, 0, 0, 12, 0, 19, 0, 16, 0, 18, 0, 12, 0,
+    4, 0, 0, 0, 0, 0, 16, 0, 0, 0, 24, 0, 0, 0, 0, 0, 0, 0, 16, 0, 0, 0, 4, 0, 2, 0, 8, 0, 8, 0, 0,
+    0, 4, 0, 8, 0, 0, 0, 16, 0, 0, 0, 10, 0, 20, 0, 4, 0, 12, 0, 16, 0, 0, 0, 12, 0, 0, 0, 2, 0, 0,
+    0, 0, 0, 0, 0, 12, 0, 0, 0, 32, 0, 0, 0, 0, 0, 0, 0, 1, 0, 0, 0, 2, 0, 0, 0, 0, 0, 0, 0, 0, 0,
+    0, 0, 0, 0, 0, 0, 0, 0, 0, 0, 3, 0, 0, 0, 0, 0, 0, 0, 0, 0, 0, 0, 0, 0, 0, 0, 0, 0, 0, 0, 0, 0,
+    0, 0, 0, 0, 0, 0, 12, 0, 0, 0, 0, 0, 0, 0, 16, 0, 0, 0, 0, 0, 0, 0, 2, 0, 0, 0, 0, 0, 0, 0, 0,
+    0, 0, 0, 1, 0, 0, 0, 2, 0, 0, 0, 0, 0, 0, 0, 97, 98, 0, 0, 0, 0, 0, 0, 255, 255, 255, 255, 136,
+    0, 0, 0, 20, 0, 0, 0, 12, 0, 19, 0, 16, 0, 18, 0, 12, 0, 4, 0, 0, 0, 0, 0, 16, 0, 0, 0, 8, 0,
+    0, 0, 0, 0, 0, 0, 20, 0, 0, 0, 4, 0, 3, 0, 10, 0, 20, 0, 4, 0, 12, 0, 16, 0, 0, 0, 12, 0, 0, 0,
+    2, 0, 0, 0, 0, 0, 0, 0, 12, 0, 0, 0, 32, 0, 0, 0, 0, 0, 0, 0, 1, 0, 0, 0, 2, 0, 0, 0, 0, 0, 0,
+    0, 0, 0, 0, 0, 0, 0, 0, 0, 0, 0, 0, 0, 2, 0, 0, 0, 0, 0, 0, 0, 0, 0, 0, 0, 0, 0, 0, 0, 0, 0, 0,
+    0, 0, 0, 0, 0, 0, 0, 0, 0, 8, 0, 0, 0, 0, 0, 0, 0, 0, 0, 0, 0, 1, 0, 0, 0, 255, 255, 255, 255,
+    168, 0, 0, 0, 20, 0, 0, 0, 12, 0, 19, 0, 16, 0, 18, 0, 12, 0, 4, 0, 0, 0, 0, 0, 16, 0, 0, 0,
+    24, 0, 0, 0, 0, 0, 0, 0, 16, 0, 0, 0, 4, 0, 2, 0, 8, 0, 8, 0, 0, 0, 4, 0, 8, 0, 0, 0, 16, 0, 0,
+    0, 10, 0, 20, 0, 4, 0, 12, 0, 16, 0, 0, 0, 12, 0, 0, 0, 2, 0, 0, 0, 0, 0, 0, 0, 12, 0, 0, 0,
+    32, 0, 0, 0, 0, 0, 0, 0, 1, 0, 0, 0, 2, 0, 0, 0, 0, 0, 0, 0, 0, 0, 0, 0, 0, 0, 0, 0, 0, 0, 0,
+    0, 3, 0, 0, 0, 0, 0, 0, 0, 0, 0, 0, 0, 0, 0, 0, 0, 0, 0, 0, 0, 0, 0, 0, 0, 0, 0, 0, 0, 12, 0,
+    0, 0, 0, 0, 0, 0, 16, 0, 0, 0, 0, 0, 0, 0, 2, 0, 0, 0, 0, 0, 0, 0, 0, 0, 0, 0, 1, 0, 0, 0, 2,
+    0, 0, 0, 0, 0, 0, 0, 99, 100, 0, 0, 0, 0, 0, 0, 255, 255, 255, 255, 136, 0, 0, 0, 20, 0, 0, 0,
+    12, 0, 19, 0, 16, 0, 18, 0, 12, 0, 4, 0, 0, 0, 0, 0, 16, 0, 0, 0, 8, 0, 0, 0, 0, 0, 0, 0, 20,
+    0, 0, 0, 4, 0, 3, 0, 10, 0, 20, 0, 4, 0, 12, 0, 16, 0, 0, 0, 12, 0, 0, 0, 2, 0, 0, 0, 0, 0, 0,
+    0, 12, 0, 0, 0, 32, 0, 0, 0, 0, 0, 0, 0, 1, 0, 0, 0, 2, 0, 0, 0, 0, 0, 0, 0, 0, 0, 0, 0, 0, 0,
+    0, 0, 0, 0, 0, 0, 2, 0, 0, 0, 0, 0, 0, 0, 0, 0, 0, 0, 0, 0, 0, 0, 0, 0, 0, 0, 0, 0, 0, 0, 0, 0,
+    0, 0, 8, 0, 0, 0, 0, 0, 0, 0, 0, 0, 0, 0, 1, 0, 0, 0, 255, 255, 255, 255, 0, 0, 0, 0,
+];
+
+fn whole(alloc: Global) -> Result<usize, Error> {
+    let stream = read_stream(alloc, &STREAM).map_err(refused)?;
+    Ok(stream.batches.len())
+}
+
+/// The rows of all batches of a reader.
+fn one_by_one(alloc: Global) -> Result<usize, Error> {
+    let mut reader = StreamReader::new(alloc, &STREAM).map_err(refused)?;
+    let mut rows = 0;
+    for _ in 0..3 {
+        match reader.next_batch(alloc).map_err(refused)? {
+            None => {}
+            Some(batch) => rows += batch.rows,
+        }
+    }
+    Ok(rows)
+}
+
+fn passed(alloc: Global) -> Result<usize, Error> {
+    let stream = read_stream_columns(alloc, &STREAM, Columns::At(&[])).map_err(refused)?;
+    Ok(stream.batches.len())
+}
+
+pub fn read(trial: &mut Trial, alloc: Global) -> Result<(), Wrong> {
+    let batches = trial.again(|| whole(alloc))?;
+    expect(batches == 2, "another number of batches")?;
+    let rows = trial.again(|| one_by_one(alloc))?;
+    expect(rows == 4, "another number of rows")?;
+    let batches = trial.again(|| passed(alloc))?;
+    expect(batches == 2, "another number of batches without columns")
+}
