@@ -20,6 +20,10 @@ unpack bare <<<'H4sIAAAAAAACA/v///9/AwYGBgEg5mLgZuAAkixANg9UjIWBESjGAWZBSAgAavsf
 unpack truths <<<'H4sIAAAAAAAC/2VQwQ3CMAy8hqiKSB4G+mAM3szQJWArNkBMwG48wtk1SkktXe5i+5I4tdb6BCDEHhmJa6QunosYmEumlhUIxJmYrefInOBg1WIe8bpiGAnyjV3q5dZCHdH43zc5tE99d+KKFnxufXtPwcnuL3ZSuxdej9hxmom8nK8zZa+rvrgOq3xwzthGXOlfX+r20nmkq3/8Ax6eeI1tLuUvfqcw3pABAAA='
 head -c 500 "$room/file" >"$room/cut"
 printf 'a,b\n1,2\n' >"$room/csv"
+# Of the stream: without its batch of 0 rows; without its last batch; with another number in its last row.
+{ head -c 424 "$room/stream"; tail -c +633 "$room/stream"; } >"$room/parts"
+{ head -c 632 "$room/stream"; tail -c 8 "$room/stream"; } >"$room/shorter"
+{ head -c 840 "$room/stream"; printf '\4'; tail -c +842 "$room/stream"; } >"$room/unlike"
 
 # STATUS OUTPUT FAULT WORD..
 expect() {
@@ -68,12 +72,66 @@ expect 1 '' "nest: $room/cut: the file does not begin and end with ARROW1" schem
 expect 1 '' "nest: $room/bare: a batch has no columns of the schema" rows "$room/bare"
 expect 0 '' '' schema "$room/bare"
 expect 1 '' "nest: $room/none: input cannot be read" rows "$room/none"
+# Equal rows in other batches and forms; another schema, another row, rows that one lacks; tables without a column.
+"$program" convert "$room/stream" "$room/other.arrows"
+for other in "$room/stream" "$room/file" "$room/other.arrows" -; do
+    expect 0 '' '' equal "$room/stream" "$other"
+    expect 0 '' '' equal "$other" "$room/file"
+done
+expect 1 'schema\n' '' equal "$room/file" "$room/truths"
+expect 1 'schema\n' '' equal "$room/bare" "$room/truths"
+expect 0 '' '' equal "$room/bare" "$room/bare"
+expect 0 '' '' equal "$room/file" "$room/parts"
+expect 1 'row 2\n' '' equal "$room/file" "$room/shorter"
+expect 1 'row 2\n' '' equal "$room/shorter" "$room/parts"
+expect 1 'row 2\n' '' equal "$room/parts" "$room/unlike"
+expect 1 '' "nest: $room/packed: the body is compressed" equal "$room/packed" "$room/csv"
+expect 1 '' "nest: $room/csv: a message does not begin with FF FF FF FF" equal "$room/file" "$room/csv"
+expect 1 '' "nest: $room/none: input cannot be read" equal "$room/file" "$room/none"
+# Some columns, in the order of the schema, of streams and files, before and behind the other words; a name that no column has.
+for file in "$room/stream" "$room/file" -; do
+    expect 0 'b: string\n' '' schema "$file" --columns b
+    expect 0 'a: int32\nb: string\n' '' --columns b,a,c schema "$file"
+    expect 0 '{"b":"a"}\n{"b":"b"}\n{"b":null}\n' '' rows --columns b "$file"
+    expect 0 '{"a":3}\n' '' take "$file" --columns a 2
+    expect 0 '' '' schema "$file" --columns c
+    expect 1 '' "nest: $file: a batch has no columns of the schema" rows "$file" --columns c
+    expect 1 '' "nest: $file: there is no column of that name" where "$file" a --columns b
+    expect 0 '' '' convert "$file" "$room/b" --columns b
+    expect 0 '{"b":"a"}\n{"b":"b"}\n{"b":null}\n' '' rows "$room/b"
+done
+expect 0 '' '' equal "$room/parts" "$room/unlike" --columns b
+expect 1 'row 2\n' '' equal "$room/parts" "$room/unlike" --columns a
+expect 0 '' '' equal "$room/parts" "$room/bare" --columns c
+expect 1 'row 3\n' '' equal "$room/bare" "$room/truths" --columns c
+# Several as one, as a file, as a stream and on standard output; other schemas; an output that is an input.
+expect 0 '' '' concat "$room/file" "$room/parts" -o "$room/both"
+expect 0 "$all$all" '' rows "$room/both"
+expect 0 '' '' concat -o "$room/both.arrows" "$room/both" -
+expect 0 "$all$all$all" '' rows "$room/both.arrows"
+expect 0 '' '' concat "$room/shorter" -o "$room/one"
+expect 0 '' '' equal "$room/one" "$room/shorter"
+expect 0 '' '' concat "$room/parts" "$room/unlike" --columns b -o "$room/b"
+expect 0 'b: string\n' '' schema "$room/b"
+expect 0 '' '' concat "$room/one" "$room/one" -o "$room/one"
+expect 1 '' "nest: $room/truths: its schema is not that of $room/file" concat "$room/file" "$room/parts" "$room/truths" -o "$room/none"
+expect 1 '' "nest: $room/packed: the body is compressed" concat "$room/file" "$room/packed" -o "$room/none"
+expect 1 '' "nest: $room/absent: input cannot be read" concat "$room/file" "$room/absent" -o "$room/none"
+[ ! -e "$room/none" ] || { echo 'nest concat: an output of a fault'; failed=1; }
 unknown='nest: unknown words; try --help'
+expect 2 '' "$unknown" concat "$room/file"
+expect 2 '' "$unknown" concat -o "$room/none"
+expect 2 '' "$unknown" rows "$room/file" -o "$room/none"
+expect 2 '' "$unknown" rows "$room/file" --columns
+expect 2 '' "$unknown" rows "$room/file" --columns a --columns b
+expect 2 '' "$unknown" --columns a rows
 expect 2 '' "$unknown"
 expect 2 '' "$unknown" rows
 expect 2 '' "$unknown" show "$room/file"
 expect 2 '' "$unknown" convert "$room/file"
 expect 2 '' "$unknown" convert "$room/file" - -
+expect 2 '' "$unknown" equal "$room/file"
+expect 2 '' "$unknown" equal "$room/file" "$room/file" "$room/file"
 expect 2 '' "$unknown" schema "$room/file" 0
 expect 2 '' "$unknown" rows "$room/file" 1
 expect 2 '' "$unknown" rows "$room/file" 1 x

@@ -1,11 +1,14 @@
 //! `nest COMMAND FILE ..` looks into Arrow files and streams.
 #![tactic(auto)]
 
+use ipc_schema::Columns;
 use nest_look::answering::answer;
+use nest_look::comparing::{Difference, Uncompared, compare, difference_line};
 use nest_look::converting;
 use nest_look::fault::Fault;
+use nest_look::joining::{self, Unjoined};
 use nest_look::running::{read_input, write_bytes};
-use nest_words::{Request, form_of, parse_request};
+use nest_words::{Request, form_of, parse_names, parse_options, parse_request};
 use std::io::ErrorKind;
 use std::process::ExitCode;
 use std::rt::{Env, Files};
@@ -17,7 +20,11 @@ nest rows FILE [START COUNT]      rows as JSON, a line each; from a place on, so
 nest cut FILE START COUNT         rows from a place on, so many at most
 nest take FILE PLACE ..           the row at each place, in that order
 nest where FILE COLUMN            rows at which a column of booleans is true; null is not true
-nest convert FILE OUT             FILE as a stream where OUT ends in .arrows, else as a file
+nest equal FILE FILE              nothing where schema and rows are equal, else what differs first: `schema`, or `row` and its place
+nest concat FILE .. -o OUT        all FILES, whose schemas are equal, one after another as one
+nest convert FILE OUT             FILE as OUT
+OUT is a stream where its name ends in .arrows, else a file.
+--columns NAME,NAME               of each FILE these columns alone; a name that no column has picks none
 FILE is an Arrow file or stream; - is standard input, and as OUT standard output. Places count from 0.
 ";
 
@@ -53,30 +60,138 @@ fn input(rt: &(impl AllocGlobal + Files + Input), file: &String) -> Result<Vec<u
 /// Answers a request about a file, or about standard input.
 fn look(
     rt: &(impl AllocGlobal + Files + Input + Print),
+    columns: Columns<'_>,
     file: &String,
     request: &Request,
 ) -> Result<(), Fault> {
     let bytes = input(rt, file)?;
-    let text = answer(rt.alloc(), request, &bytes)?;
+    let text = answer(rt.alloc(), columns, request, &bytes)?;
     drop(bytes);
     write_bytes(&mut io::writer(rt), text.as_bytes())
+}
+
+/// Writes a file, or standard output.
+fn write_out(
+    rt: &(impl AllocGlobal + Files + Print),
+    out: &String,
+    made: &[u8],
+) -> Result<(), Fault> {
+    if is(out, "-") {
+        return write_bytes(&mut io::writer(rt), made);
+    }
+    match fs::create(rt, out.as_str()) {
+        Ok(mut created) => write_bytes(&mut created, made),
+        Err(_) => Err(Fault::Output),
+    }
 }
 
 /// Writes a file, or standard input, in another form. The output is touched once all bytes are there: it may be the input.
 fn convert(
     rt: &(impl AllocGlobal + Files + Input + Print),
+    columns: Columns<'_>,
     file: &String,
     out: &String,
 ) -> Result<(), Fault> {
     let bytes = input(rt, file)?;
-    let made = converting::convert(rt.alloc(), form_of(out), &bytes)?;
+    let made = converting::convert(rt.alloc(), columns, form_of(out), &bytes)?;
     drop(bytes);
-    if is(out, "-") {
-        return write_bytes(&mut io::writer(rt), &made);
+    write_out(rt, out, &made)
+}
+
+/// Says where two files differ first; the status is that of a difference.
+fn differ(rt: &HostRuntime, file: &String, difference: Difference) -> ExitCode {
+    let Ok(line) = difference_line(rt.alloc(), difference) else {
+        return status(rt, file, Err(Fault::Memory));
+    };
+    let written = write_bytes(&mut io::writer(rt), line.as_bytes());
+    match written {
+        Ok(()) => ExitCode::FAILURE,
+        Err(fault) => status(rt, file, Err(fault)),
     }
-    match fs::create(rt, out.as_str()) {
-        Ok(mut created) => write_bytes(&mut created, &made),
-        Err(_) => Err(Fault::Output),
+}
+
+/// Compares two files that were read.
+fn compare_bytes(
+    rt: &HostRuntime,
+    columns: Columns<'_>,
+    files: (&String, &String),
+    left: &[u8],
+    right: &[u8],
+) -> ExitCode {
+    match compare(rt.alloc(), columns, left, right) {
+        Ok(None) => ExitCode::SUCCESS,
+        Ok(Some(difference)) => differ(rt, files.0, difference),
+        Err(Uncompared::First(fault)) => status(rt, files.0, Err(fault)),
+        Err(Uncompared::Second(fault)) => status(rt, files.1, Err(fault)),
+        Err(Uncompared::TooManyRows) => {
+            let file = files.0;
+            let _ = eprintln!(rt; "nest: {file}: more rows are equal than are counted");
+            ExitCode::FAILURE
+        }
+    }
+}
+
+/// Compares two files, one of which may be standard input.
+fn equal(rt: &HostRuntime, columns: Columns<'_>, file: &String, other: &String) -> ExitCode {
+    match input(rt, file) {
+        Err(fault) => status(rt, file, Err(fault)),
+        Ok(left) => match input(rt, other) {
+            Err(fault) => status(rt, other, Err(fault)),
+            Ok(right) => compare_bytes(rt, columns, (file, other), &left, &right),
+        },
+    }
+}
+
+/// The bytes of files, or whose could not be read.
+fn inputs<'a>(
+    rt: &(impl AllocGlobal + Files + Input),
+    files: &'a [String],
+) -> Result<Vec<Vec<u8>>, (&'a String, Fault)> {
+    let mut inputs = Vec::new(rt.alloc());
+    for file in files {
+        match input(rt, file) {
+            Err(fault) => return Err((file, fault)),
+            Ok(bytes) => {
+                if inputs.push(bytes).is_err() {
+                    return Err((file, Fault::Memory));
+                }
+            }
+        }
+    }
+    Ok(inputs)
+}
+
+/// Says why files are not written as one, and the status of it. What can be blamed on no file is said of the output.
+fn unjoined(rt: &HostRuntime, files: &[String], out: &String, why: Unjoined) -> ExitCode {
+    match why {
+        Unjoined::Input(k, fault) => {
+            let file = files.get(k).unwrap_or(out);
+            status(rt, file, Err(Fault::Format(fault)))
+        }
+        Unjoined::Schema(k) => {
+            let file = files.get(k).unwrap_or(out);
+            let first = files.first().unwrap_or(out);
+            let _ = eprintln!(rt; "nest: {file}: its schema is not that of {first}");
+            ExitCode::FAILURE
+        }
+        Unjoined::Form(why) => status(rt, out, Err(Fault::Form(why))),
+        Unjoined::Memory => status(rt, out, Err(Fault::Memory)),
+    }
+}
+
+/// Writes files as one. The output is touched once all bytes are there: it may be one of them.
+fn concat(rt: &HostRuntime, columns: Columns<'_>, files: &[String], out: &String) -> ExitCode {
+    match inputs(rt, files) {
+        Err((file, fault)) => status(rt, file, Err(fault)),
+        Ok(inputs) => {
+            if inputs.is_empty() {
+                return unknown(rt);
+            }
+            match joining::concat(rt.alloc(), columns, form_of(out), &inputs) {
+                Err(why) => unjoined(rt, files, out, why),
+                Ok(made) => status(rt, out, write_out(rt, out, &made)),
+            }
+        }
     }
 }
 
@@ -97,20 +212,64 @@ fn status(rt: &HostRuntime, file: &String, done: Result<(), Fault>) -> ExitCode 
     }
 }
 
-fn nest(rt: &HostRuntime, words: &[String]) -> ExitCode {
-    let [command, file, rest @ ..] = words else {
-        return unknown(rt);
-    };
+/// Does what a command asks of a file, of the columns that are read.
+fn run(
+    rt: &HostRuntime,
+    columns: Columns<'_>,
+    command: &String,
+    file: &String,
+    rest: &[String],
+) -> ExitCode {
     if is(command, "convert") {
         return match rest {
-            [out] => status(rt, file, convert(rt, file, out)),
+            [out] => status(rt, file, convert(rt, columns, file, out)),
+            _ => unknown(rt),
+        };
+    }
+    if is(command, "equal") {
+        return match rest {
+            [other] => equal(rt, columns, file, other),
             _ => unknown(rt),
         };
     }
     match parse_request(rt.alloc(), command, rest) {
         Err(_) => status(rt, file, Err(Fault::Memory)),
         Ok(None) => unknown(rt),
-        Ok(Some(request)) => status(rt, file, look(rt, file, &request)),
+        Ok(Some(request)) => status(rt, file, look(rt, columns, file, &request)),
+    }
+}
+
+/// Does what words ask, with an output or without one.
+fn run_words(
+    rt: &HostRuntime,
+    columns: Columns<'_>,
+    out: Option<&String>,
+    words: &[String],
+) -> ExitCode {
+    match (words, out) {
+        ([command, files @ ..], Some(out)) if is(command, "concat") => {
+            concat(rt, columns, files, out)
+        }
+        ([command, file, rest @ ..], None) => run(rt, columns, command, file, rest),
+        _ => unknown(rt),
+    }
+}
+
+/// Reads the names of columns, and does what the other words ask.
+fn nest(rt: &HostRuntime, words: Vec<String>) -> ExitCode {
+    let Some(options) = parse_options(words) else {
+        return unknown(rt);
+    };
+    let out = options.out.as_ref();
+    let Some(text) = &options.columns else {
+        return run_words(rt, Columns::All, out, &options.words);
+    };
+    match parse_names(rt.alloc(), text.as_str()) {
+        Err(_) => {
+            let _ = eprintln!(rt; "nest: {}", Fault::Memory);
+            ExitCode::FAILURE
+        }
+        Ok(names) => run_words(rt, Columns::Named(&names), out, &options.words),
     }
 }
 
@@ -125,7 +284,7 @@ fn main(rt: HostRuntime) -> ExitCode {
                 let _ = print!(rt; "{USAGE}");
                 return ExitCode::SUCCESS;
             }
-            nest(&rt, &words)
+            nest(&rt, words)
         }
     }
 }

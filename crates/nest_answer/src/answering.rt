@@ -11,8 +11,8 @@ ghost use Rattle.nest_answer.specs.Answer.{answer as answer_lem};
 ghost use Rattle.nest_answer.specs.Refusals.{IsUnchosen, Refuses};
 ghost use Rattle.nest_answer.specs.Tables.{table_of};
 
+use crate::making::records;
 use crate::named::column_refusal;
-use crate::records::records;
 use crate::refusal::Refusal;
 use crate::table::Table;
 use nest_array::AnyArray;

@@ -6,11 +6,12 @@
 
 mod answering;
 pub mod laws;
+mod making;
 mod named;
-mod records;
 mod refusal;
 mod table;
 
 pub use answering::answer;
+pub use making::records;
 pub use refusal::Refusal;
 pub use table::Table;

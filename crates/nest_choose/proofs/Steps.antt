@@ -2,7 +2,7 @@
 use Rattle.std.proofs.Common.{◌≡◌, ◌⊎◌, Bool, ◌||◌, inl, inr, ℕ, ◌+◌, ◌-◌, ◌^◌, ◌<◌, ◌≤◌, List, [], ◌∷◌, ◌++◌, length, take, drop, get_or, refl, sym, ap, subst, ◌∙◌, arith, length-append, length-drop, nat_lt, true, false, Some}
 use Rattle.std.proofs.Math.Seq.{take-add}
 use Rattle.std.proofs.lemmas.Bool.{ltb-false, ltb-true}
-use Rattle.std.proofs.lemmas.List.{drop-drop, drop_all, take-append-drop}
+use Rattle.std.proofs.lemmas.List.{drop-drop, drop_all, length-take, take-append-drop, take-take}
 use Rattle.nest_memory.specs.Cut.{cut}
 use Rattle.nest_model.specs.Meaning.{len}
 use Rattle.nest_model.specs.Runs.{cut-cut, length-cut}
@@ -11,7 +11,7 @@ use Rattle.nest_array.specs.WindowParts.{WindowParts, window_parts}
 use Rattle.nest_array.specs.declared.any.AnyArray.{AnyArray}
 use Rattle.nest_choose.specs.Rows.{rows_in, rows_of}
 use Rattle.nest_choose.specs.RowLaws.{cut-front, drop-both, rows-length, window-rows}
-use Rattle.nest_choose.specs.Difference.{IsDifference}
+use Rattle.nest_choose.specs.Difference.{AreEqualFor, IsDifference}
 use Rattle.nest_choose.specs.Walk.{all_rows, first_len}
 
 module _ {A : Type 0} where
@@ -32,6 +32,15 @@ module _ {A : Type 0} where
 
   length-item : (xs : List A) (k : ℕ) → k < length xs → length (cut xs k 1) ≡ 1
   length-item xs k h = length-cut xs k 1 (omega (arith, h))
+
+  -- equal beginnings begin equally
+  pub equal-for : (m n : ℕ) (xs ys : List A) → m ≤ n → m ≤ length xs → take n xs ≡ take n ys → AreEqualFor m xs ys
+  equal-for m n xs ys h long e =
+      let same : take m xs ≡ take m ys = sym (take-take m n xs h) ∙ ap (take m) e ∙ take-take m n ys h in
+      let a = length-take m xs in
+      let b = length-take m ys in
+      let c = ap length same in
+      (long, omega (arith, a, b, c, long), same)
 
   -- one list has ended
   pub ended : (k o p : ℕ) (xs ys left right : List A) → take k xs ≡ take k ys → drop k xs ≡ drop o left → drop k ys ≡ drop p right → o < length left → length right ≡ 0
@@ -107,22 +116,28 @@ pub record Walked (xs ys left right : List AnyArray) (o p k : ℕ) : Type 0 wher
   pub right_within : p ≤ first_len right
   pub small : k < 2 ^ 64
 
--- the first so many of the first arrays are compared
+-- the first so many of the first arrays are equal
+pub equal-so-far : (xs ys left right : List AnyArray) (o p k n : ℕ) (v w : WindowParts) (x y : AnyArray) → 0 < length left → 0 < length right
+    → x ≡ get_or left 0 x → y ≡ get_or right 0 y → o + n ≤ len (layout_of x) → p + n ≤ len (layout_of y) → v ≡ window_parts (layout_of x) o n → w ≡ window_parts (layout_of y) p n
+    → rows_in v ≡ rows_in w → Walked xs ys left right o p k → take (k + n) (all_rows xs) ≡ take (k + n) (all_rows ys)
+equal-so-far xs ys left right o p k n v w x y hl hr ex ey fx fy iv iw same at =
+    let front = ap (take n) at.left_rows ∙ sym (ap rows_in iv ∙ first-rows left x o n hl ex fx) in
+    let other = ap rows_in iw ∙ first-rows right y p n hr ey fy ∙ ap (take n) (sym at.right_rows) in
+    more-equal k n (all_rows xs) (all_rows ys) at.before (front ∙ same ∙ other)
+
+-- they are compared
 pub step : (xs ys left right next_left next_right : List AnyArray) (o p k n next_o next_p : ℕ) (v w : WindowParts) (x y : AnyArray) → 0 < length left → 0 < length right
     → x ≡ get_or left 0 x → y ≡ get_or right 0 y → o + n ≤ len (layout_of x) → p + n ≤ len (layout_of y) → v ≡ window_parts (layout_of x) o n → w ≡ window_parts (layout_of y) p n
     → rows_in v ≡ rows_in w → drop next_o (all_rows next_left) ≡ drop (o + n) (all_rows left) → drop next_p (all_rows next_right) ≡ drop (p + n) (all_rows right)
     → next_o ≤ first_len next_left → next_p ≤ first_len next_right → k + n < 2 ^ 64 → Walked xs ys left right o p k → Walked xs ys next_left next_right next_o next_p (k + n)
-step xs ys left right next_left next_right o p k n next_o next_p v w x y hl hr ex ey fx fy iv iw same dl dr wl wr small at =
-    let front = ap (take n) at.left_rows ∙ sym (ap rows_in iv ∙ first-rows left x o n hl ex fx) in
-    let other = ap rows_in iw ∙ first-rows right y p n hr ey fy ∙ ap (take n) (sym at.right_rows) in
-    record {
-      before = more-equal k n (all_rows xs) (all_rows ys) at.before (front ∙ same ∙ other);
-      left_rows = left-behind k n o next_o (all_rows xs) (all_rows left) (all_rows next_left) at.left_rows dl;
-      right_rows = left-behind k n p next_p (all_rows ys) (all_rows right) (all_rows next_right) at.right_rows dr;
-      left_within = wl;
-      right_within = wr;
-      small = small;
-    }
+step xs ys left right next_left next_right o p k n next_o next_p v w x y hl hr ex ey fx fy iv iw same dl dr wl wr small at = record {
+  before = equal-so-far xs ys left right o p k n v w x y hl hr ex ey fx fy iv iw same at;
+  left_rows = left-behind k n o next_o (all_rows xs) (all_rows left) (all_rows next_left) at.left_rows dl;
+  right_rows = left-behind k n p next_p (all_rows ys) (all_rows right) (all_rows next_right) at.right_rows dr;
+  left_within = wl;
+  right_within = wr;
+  small = small;
+}
 
 -- they differ
 pub differ : (xs ys left right : List AnyArray) (o p k n at : ℕ) (v w : WindowParts) (x y : AnyArray) → 0 < length left → 0 < length right
@@ -134,13 +149,19 @@ differ xs ys left right o p k n at v w x y hl hr ex ey fx fy iv iw h d walked =
     difference-behind k n at (all_rows xs) (all_rows ys) h walked.before (subst (λ z. IsDifference z (cut (all_rows ys) k n) (Some at)) front (subst (λ z. IsDifference (rows_in v) z (Some at)) other d))
 
 -- as many rows as are past 64 bits
-pub too-many : (xs ys left right : List AnyArray) (o p k n : ℕ) (x : AnyArray) → 0 < length left → x ≡ get_or left 0 x → o + n ≤ len (layout_of x) → 2 ^ 64 ≤ k + n → Walked xs ys left right o p k → 2 ^ 64 ≤ length (all_rows xs)
-too-many xs ys left right o p k n x hl ex fx past at =
+many-rows : (xs ys left right : List AnyArray) (o p k n : ℕ) (x : AnyArray) → 0 < length left → x ≡ get_or left 0 x → o + n ≤ len (layout_of x) → 2 ^ 64 ≤ k + n → Walked xs ys left right o p k → 2 ^ 64 ≤ length (all_rows xs)
+many-rows xs ys left right o p k n x hl ex fx past at =
     let small = at.small in
     let first = first-long left x hl ex in
     let within = rows-within left o n (omega (arith, first, fx)) in
     let long = long-enough k n o (all_rows xs) (all_rows left) at.left_rows within (omega (arith, small, past)) in
     omega (arith, long, past)
+
+-- they are equal
+pub too-many : (xs ys left right : List AnyArray) (o p k n at : ℕ) (x : AnyArray) → 0 < length left → x ≡ get_or left 0 x → o + n ≤ len (layout_of x) → at ≤ n → 2 ^ 64 ≤ k + at
+    → take (k + at) (all_rows xs) ≡ take (k + at) (all_rows ys) → Walked xs ys left right o p k → AreEqualFor (2 ^ 64) (all_rows xs) (all_rows ys)
+too-many xs ys left right o p k n at x hl ex fx within past same walked =
+    equal-for (2 ^ 64) (k + at) (all_rows xs) (all_rows ys) past (many-rows xs ys left right o p k n x hl ex fx (omega (arith, within, past)) walked) same
 
 pub walked-none : (xs ys : List AnyArray) → Walked xs ys xs ys 0 0 0
 walked-none xs ys = record {

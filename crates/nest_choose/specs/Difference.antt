@@ -8,7 +8,11 @@ abbrev pub IsDifference : {A : Type 0} → List A → List A → Option ℕ → 
 IsDifference xs ys None = xs ≡ ys
 IsDifference xs ys (Some k) = (take k xs ≡ take k ys) × (cut xs k 1 ≡ cut ys k 1 → ⊥)
 
+-- both have so many items, and the same ones
+abbrev pub AreEqualFor : {A : Type 0} → ℕ → List A → List A → Type 0
+AreEqualFor n xs ys = (n ≤ length xs) × (n ≤ length ys) × (take n xs ≡ take n ys)
+
 -- that is answered; or they are equal in so many items that a number of 64 bits does not count them
 abbrev pub TellsDifference : {A : Type 0} → List A → List A → Result (Option ℕ) TooManyRows → Type 0
 TellsDifference xs ys (Ok place) = IsDifference xs ys place
-TellsDifference xs ys (Err e) = 2 ^ 64 ≤ length xs
+TellsDifference xs ys (Err e) = AreEqualFor (2 ^ 64) xs ys

@@ -2,7 +2,7 @@
 ghost use Rattle.std.specs.Prelude.{◌≡◌, ℕ, List, [], ◌∷◌, Option, Some, None, codes};
 ghost use Rattle.nest_words.specs.Asked.{all, at, from, true_in};
 ghost use Rattle.nest_choose.specs.Choice.{choice};
-ghost use Rattle.nest_choose.specs.Difference.{IsDifference};
+ghost use Rattle.nest_choose.specs.Difference.{AreEqualFor, IsDifference};
 ghost use Rattle.nest_choose.specs.Examples.{first, null_record, second, third, three};
 ghost use Rattle.nest_choose.specs.Rows.{Row};
 ghost use Rattle.nest_choose.specs.Lists.{other_numbers, three_numbers, two_numbers};
@@ -34,6 +34,13 @@ pub fn lists_differ()
     ensures longer { IsDifference two_numbers three_numbers (Some 2) }
     ensures later { IsDifference three_numbers other_numbers (Some 2) → ⊥ }
     ensures earlier { IsDifference three_numbers two_numbers (Some 1) → ⊥ }
+{}
+
+/// Of three numbers and two of them: for two, not for three.
+pub fn lists_begin_equally()
+    ensures two { AreEqualFor 2 three_numbers two_numbers }
+    ensures three { AreEqualFor 3 three_numbers two_numbers → ⊥ }
+    ensures other { AreEqualFor 2 three_numbers other_numbers → ⊥ }
 {}
 
 /// There is one answer of rows.

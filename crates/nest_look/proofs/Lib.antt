@@ -1,2 +1,6 @@
+mod Alike
+mod Batches
 mod Gathered
+mod Joins
+mod OneDifference
 mod Written

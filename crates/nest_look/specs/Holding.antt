@@ -4,8 +4,9 @@ use Rattle.std.specs.List.{starts_with}
 use Rattle.ipc_model.specs.Reading.{◌>>=◌}
 use Rattle.ipc_model.specs.declared.fault.Fault.{Fault}
 use Rattle.ipc_schema.specs.Schemas.{SchemaTree, schema_of}
-use Rattle.ipc.specs.Streams.{Arrays, StreamTree, arrays_of, stream_in}
-use Rattle.ipc.specs.Files.{FileTree, file_in}
+use Rattle.ipc_schema.specs.Picks.{Picks}
+use Rattle.ipc.specs.Streams.{Arrays, StreamTree, arrays_of, picked_stream_in}
+use Rattle.ipc.specs.Files.{FileTree, picked_file_in}
 use Rattle.nest_answer.specs.Tables.{TableTree}
 use Rattle.nest_look.specs.declared.holding.Held.{Held}
 
@@ -25,8 +26,8 @@ abbrev pub held_of_stream : StreamTree → HeldTree
 held_of_stream s = record { schema = s.schema; batches = s.batches }
 
 -- that of a file, or that of the stream which the bytes begin with
-abbrev pub held_in : List ℕ → Result HeldTree Fault
-held_in bytes = if is_file bytes then (file_in bytes >>= λ f. Ok (held_of_file f)) else (stream_in bytes >>= λ s. Ok (held_of_stream s))
+abbrev pub held_in : Picks → List ℕ → Result HeldTree Fault
+held_in picks bytes = if is_file bytes then (picked_file_in picks bytes >>= λ f. Ok (held_of_file f)) else (picked_stream_in picks bytes >>= λ s. Ok (held_of_stream s))
 
 -- its columns, in batches
 abbrev pub table_in : HeldTree → TableTree

@@ -2,4 +2,7 @@
 pub mod Holding
 pub mod Outcome
 pub mod Converted
+pub mod Compared
+pub mod Joined
 pub mod Words
+pub mod Examples

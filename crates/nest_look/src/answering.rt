@@ -1,10 +1,11 @@
 //! Bytes in, lines out.
 ghost use Rattle.std.specs.Prelude.{◌≡◌, IfErr, IfOk, Ok, Some, map, string_bytes};
-ghost use Rattle.nest_look.specs.Words.{Refuses, answer_to, arrays_of, columns_of, held_in, held_of, seen, table_in, table_of};
+ghost use Rattle.nest_look.specs.Words.{Refuses, answer_to, arrays_of, columns_of, held_in, held_of, picks_of, seen, table_in, table_of};
 
 use crate::fault::Fault;
 use crate::holding::{Held, read_held};
 use ipc::Batch;
+use ipc_schema::Columns;
 use nest_answer::{Refusal, Table};
 use nest_array::AnyArray;
 use nest_words::Request;
@@ -21,7 +22,8 @@ fn columns(alloc: Global, batches: Vec<Batch>) -> Result<Vec<Vec<AnyArray>>, All
     Ok(all)
 }
 
-fn table(alloc: Global, held: Held) -> Result<Table, AllocError>
+/// The columns of all batches.
+pub(crate) fn table(alloc: Global, held: Held) -> Result<Table, AllocError>
     ensures { IfOk result (λ t. table_of t ≡ table_in (held_of held)) }
 {
     let Held { schema, batches } = held;
@@ -59,11 +61,16 @@ fn answer_held(alloc: Global, request: &Request, held: Held) -> Result<String, F
 /// no column of that name, and `NotBoolean` where the first one is not of booleans. Then, of rows, `Columns` where the columns of a batch are not
 /// those of the schema, side by side, or there is none; and `Place` where there is no row at a place. `Memory`, also within `Format`,
 /// may come in the place of any.
-pub fn answer(alloc: Global, request: &Request, bytes: &[u8]) -> Result<String, Fault>
-    ensures text { IfOk result (λ text. answer_to (seen request.now) (held_in bytes.now) ≡ Some (string_bytes text)) }
-    ensures fault { IfErr result (λ e. Refuses e (seen request.now) (held_in bytes.now)) }
+pub fn answer(
+    alloc: Global,
+    columns: Columns<'_>,
+    request: &Request,
+    bytes: &[u8],
+) -> Result<String, Fault>
+    ensures text { IfOk result (λ text. answer_to (seen request.now) (held_in (picks_of columns.entry) bytes.now) ≡ Some (string_bytes text)) }
+    ensures fault { IfErr result (λ e. Refuses e (seen request.now) (held_in (picks_of columns.entry) bytes.now)) }
 {
-    match read_held(alloc, bytes) {
+    match read_held(alloc, columns, bytes) {
         Err(fault) => Err(Fault::Format(fault)),
         Ok(held) => answer_held(alloc, request, held),
     }

@@ -2,16 +2,18 @@
 ghost use Rattle.std.specs.Prelude.{IfErr, IfOk};
 ghost use Rattle.ipc.specs.Written.{IsRefused};
 ghost use Rattle.nest_look.specs.Converted.{ConvertFault, Converts, IsFormOf, refusal};
-ghost use Rattle.nest_look.specs.Words.{held_in, held_of};
+ghost use Rattle.nest_look.specs.Words.{held_in, held_of, picks_of};
 
 use crate::fault::Fault;
 use crate::holding::{Held, read_held};
 use ipc::{write_file, write_stream};
 use ipc_model::NoForm;
+use ipc_schema::Columns;
 use nest_words::Form;
 use std::alloc::Global;
 
-fn write_held(alloc: Global, form: Form, held: &Held) -> Result<Vec<u8>, NoForm>
+/// In this form: bytes that are read back to the same columns and batches.
+pub(crate) fn write_held(alloc: Global, form: Form, held: &Held) -> Result<Vec<u8>, NoForm>
     ensures bytes { IfOk result (λ out. IsFormOf form (held_of held.now) out.items) }
     ensures err { IfErr result (IsRefused (refusal form (held_of held.now))) }
 {
@@ -26,11 +28,16 @@ fn write_held(alloc: Global, form: Form, held: &Held) -> Result<Vec<u8>, NoForm>
 /// # Errors
 /// `Format` with the first fault of the bytes in the order of reading, `Form` with the first reason not to write what they hold.
 /// `Memory` within either may come in the place of any.
-pub fn convert(alloc: Global, form: Form, bytes: &[u8]) -> Result<Vec<u8>, Fault>
-    ensures bytes { IfOk result (λ out. Converts form (held_in bytes.now) out.items) }
-    ensures fault { IfErr result (λ e. ConvertFault e form (held_in bytes.now)) }
+pub fn convert(
+    alloc: Global,
+    columns: Columns<'_>,
+    form: Form,
+    bytes: &[u8],
+) -> Result<Vec<u8>, Fault>
+    ensures bytes { IfOk result (λ out. Converts form (held_in (picks_of columns.entry) bytes.now) out.items) }
+    ensures fault { IfErr result (λ e. ConvertFault e form (held_in (picks_of columns.entry) bytes.now)) }
 {
-    match read_held(alloc, bytes) {
+    match read_held(alloc, columns, bytes) {
         Err(fault) => Err(Fault::Format(fault)),
         Ok(held) => {
             let written = write_held(alloc, form, &held);

@@ -1,11 +1,11 @@
 //! What files and streams hold.
 ghost use Rattle.std.specs.Prelude.{◌≡◌, true, false};
 ghost use Rattle.ipc_model.specs.Reading.{Gives};
-ghost use Rattle.nest_look.specs.Words.{held_in, held_of, is_file as is_file_lem};
+ghost use Rattle.nest_look.specs.Words.{held_in, held_of, is_file as is_file_lem, picks_of};
 
-use ipc::{Batch, read_file, read_stream};
+use ipc::{Batch, read_file_columns, read_stream_columns};
 use ipc_model::Fault;
-use ipc_schema::Schema;
+use ipc_schema::{Columns, Schema};
 use std::alloc::Global;
 
 /// The schema of a file or a stream, and its batches.
@@ -24,11 +24,11 @@ fn is_file(bytes: &[u8]) -> bool
     bytes.starts_with(magic)
 }
 
-fn held_of_file(alloc: Global, bytes: &[u8]) -> Result<Held, Fault>
+fn held_of_file(alloc: Global, columns: Columns<'_>, bytes: &[u8]) -> Result<Held, Fault>
     requires { is_file_lem bytes.now ≡ true }
-    ensures { Gives held_of result (held_in bytes.now) }
+    ensures { Gives held_of result (held_in (picks_of columns.entry) bytes.now) }
 {
-    match read_file(alloc, bytes) {
+    match read_file_columns(alloc, bytes, columns) {
         Err(fault) => Err(fault),
         Ok(file) => Ok(Held {
             schema: file.schema,
@@ -37,11 +37,11 @@ fn held_of_file(alloc: Global, bytes: &[u8]) -> Result<Held, Fault>
     }
 }
 
-fn held_of_stream(alloc: Global, bytes: &[u8]) -> Result<Held, Fault>
+fn held_of_stream(alloc: Global, columns: Columns<'_>, bytes: &[u8]) -> Result<Held, Fault>
     requires { is_file_lem bytes.now ≡ false }
-    ensures { Gives held_of result (held_in bytes.now) }
+    ensures { Gives held_of result (held_in (picks_of columns.entry) bytes.now) }
 {
-    match read_stream(alloc, bytes) {
+    match read_stream_columns(alloc, bytes, columns) {
         Err(fault) => Err(fault),
         Ok(stream) => Ok(Held {
             schema: stream.schema,
@@ -51,13 +51,14 @@ fn held_of_stream(alloc: Global, bytes: &[u8]) -> Result<Held, Fault>
 }
 
 /// What the bytes hold: a file where they begin with `ARROW1`, else the stream that they begin with; or the first fault in the
-/// order of reading. They are read whole.
-pub fn read_held(alloc: Global, bytes: &[u8]) -> Result<Held, Fault>
-    ensures { Gives held_of result (held_in bytes.now) }
+/// order of reading. They are read whole, or of some columns alone: what other columns have is passed over, also where it is not
+/// read, and a name that no column has picks none.
+pub fn read_held(alloc: Global, columns: Columns<'_>, bytes: &[u8]) -> Result<Held, Fault>
+    ensures { Gives held_of result (held_in (picks_of columns.entry) bytes.now) }
 {
     if is_file(bytes) {
-        held_of_file(alloc, bytes)
+        held_of_file(alloc, columns, bytes)
     } else {
-        held_of_stream(alloc, bytes)
+        held_of_stream(alloc, columns, bytes)
     }
 }

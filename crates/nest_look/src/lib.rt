@@ -5,7 +5,10 @@
 #![tactic(auto)]
 
 pub mod answering;
+pub mod comparing;
 pub mod converting;
 pub mod fault;
 pub mod holding;
+pub mod joining;
+pub mod laws;
 pub mod running;

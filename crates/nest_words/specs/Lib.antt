@@ -2,5 +2,7 @@
 pub mod Numbers
 pub mod Asked
 pub mod Forms
+pub mod Options
 pub mod Seen
+pub mod SeenOptions
 pub mod Examples

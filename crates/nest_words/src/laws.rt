@@ -1,6 +1,7 @@
 //! Words, and what they ask: each function's contract is an example, and its body is empty.
 ghost use Rattle.std.specs.Prelude.{◌≡◌, [], ◌∷◌, Some, None, codes};
 ghost use Rattle.nest_words.specs.Asked.{all, at, chosen_of, columns, from, query_of, rows, true_in};
+ghost use Rattle.nest_words.specs.Options.{names_of, options_of};
 
 /// `schema`, `rows`, `rows 10 3`, `cut 10 3`, `take 7 0 7`, `where ok`.
 pub fn words_ask()
@@ -22,4 +23,26 @@ pub fn words_ask_nothing()
     ensures columns { query_of (codes "where") (codes "ok" ∷ codes "ok" ∷ []) ≡ None }
     ensures other { query_of (codes "show") [] ≡ None }
     ensures no_choice { chosen_of (codes "rows") (codes "10" ∷ codes "3" ∷ []) ≡ None }
+{}
+
+/// `rows f`; `--columns a,b rows f`, `rows f --columns a,b`; `cut f 1 -o g 2`.
+pub fn words_have_options()
+    ensures none { options_of (codes "rows" ∷ codes "f" ∷ []) ≡ Some (record { columns = None; out = None; words = codes "rows" ∷ codes "f" ∷ [] }) }
+    ensures before { options_of (codes "--columns" ∷ codes "a,b" ∷ codes "rows" ∷ codes "f" ∷ []) ≡ Some (record { columns = Some (codes "a,b"); out = None; words = codes "rows" ∷ codes "f" ∷ [] }) }
+    ensures behind { options_of (codes "rows" ∷ codes "f" ∷ codes "--columns" ∷ codes "a,b" ∷ []) ≡ Some (record { columns = Some (codes "a,b"); out = None; words = codes "rows" ∷ codes "f" ∷ [] }) }
+    ensures among { options_of (codes "cut" ∷ codes "f" ∷ codes "1" ∷ codes "-o" ∷ codes "g" ∷ codes "2" ∷ []) ≡ Some (record { columns = None; out = Some (codes "g"); words = codes "cut" ∷ codes "f" ∷ codes "1" ∷ codes "2" ∷ [] }) }
+{}
+
+/// `rows f --columns`; `-o g -o h`.
+pub fn words_lack_options()
+    ensures last { options_of (codes "rows" ∷ codes "f" ∷ codes "--columns" ∷ []) ≡ None }
+    ensures twice { options_of (codes "-o" ∷ codes "g" ∷ codes "-o" ∷ codes "h" ∷ []) ≡ None }
+{}
+
+/// `a,b`; `a`; nothing, which is one name; `a,`.
+pub fn texts_name_columns()
+    ensures two { names_of (codes "a,b") ≡ codes "a" ∷ codes "b" ∷ [] }
+    ensures one { names_of (codes "a") ≡ codes "a" ∷ [] }
+    ensures empty { names_of [] ≡ [] ∷ [] }
+    ensures last { names_of (codes "a,") ≡ codes "a" ∷ [] ∷ [] }
 {}

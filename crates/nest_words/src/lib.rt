@@ -4,7 +4,9 @@
 mod form;
 pub mod laws;
 mod numbers;
+mod options;
 mod request;
 
 pub use form::{Form, form_of};
+pub use options::{Options, parse_names, parse_options};
 pub use request::{Choice, Request, parse_choice, parse_request};

@@ -1,5 +1,5 @@
 //! What is answered of columns in batches.
-use nest_answer::{Refusal, Table, answer};
+use nest_answer::{Refusal, Table, answer, records};
 use nest_array::AnyArray;
 use nest_choose::choose;
 use nest_flat::any_primitive::NativeArray;
@@ -8,7 +8,9 @@ use nest_flat::utf8::mutable::MutableUtf8Array;
 use nest_lines::{column_lines, row_lines};
 use nest_memory::datatypes::{DataType, Field};
 use nest_memory::error::Error;
-use nest_words::{Choice, Form, Request, form_of, parse_choice, parse_request};
+use nest_words::{
+    Choice, Form, Options, Request, form_of, parse_choice, parse_names, parse_options, parse_request,
+};
 use std::alloc::{AllocError, Global};
 use std::test::*;
 
@@ -276,4 +278,49 @@ fn names_tell_forms(rt: HostRuntime) {
             .expect(&rt, "memory");
         assert!(rt; form_of(&name) == want, "{name}");
     }
+}
+
+/// The options among words.
+fn options(alloc: Global, words: &[&str]) -> Result<Option<Options>, AllocError> {
+    let mut all = Vec::new(alloc);
+    for word in words {
+        all.push(String::from_str(alloc, word)?)?;
+    }
+    Ok(parse_options(all))
+}
+
+#[test]
+fn words_have_options(rt: HostRuntime) {
+    for words in [
+        ["--columns", "a,b", "rows", "f"].as_slice(),
+        ["rows", "--columns", "a,b", "f"].as_slice(),
+        ["rows", "f", "--columns", "a,b"].as_slice(),
+    ] {
+        let found = options(rt.alloc(), words).ok().expect(&rt, "memory");
+        let found = found.expect(&rt, "no options");
+        assert!(rt; found.words.len() == 2 && found.out.is_none());
+        let columns = found.columns.as_ref().expect(&rt, "no columns");
+        let names = parse_names(rt.alloc(), columns.as_str())
+            .ok()
+            .expect(&rt, "memory");
+        assert!(rt; names.len() == 2);
+    }
+    for words in [
+        ["rows", "f", "--columns"].as_slice(),
+        ["-o", "a", "rows", "f", "-o", "b"].as_slice(),
+    ] {
+        let found = options(rt.alloc(), words).ok().expect(&rt, "memory");
+        assert!(rt; found.is_none(), "{}", words[0]);
+    }
+}
+
+#[test]
+fn records_are_made(rt: HostRuntime) {
+    let table = table(rt.alloc()).expect(&rt, "no table");
+    let arrays = records(rt.alloc(), table).ok().expect(&rt, "no records");
+    assert!(rt; arrays.len() == 3);
+    assert!(rt; arrays[0].len() == 2 && arrays[1].len() == 0 && arrays[2].len() == 1);
+    let none = one(rt.alloc(), Vec::new(rt.alloc())).expect(&rt, "no table");
+    let refusal = records(rt.alloc(), none).err();
+    assert!(rt; refusal == Some(Refusal::Columns));
 }

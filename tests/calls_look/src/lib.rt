@@ -5,12 +5,17 @@
 //! |---|---|
 //! | Columns and rows of two batches, whole, cut, and at places in either | `answers::columns_are_shown`, `answers::rows_are_shown` |
 //! | Each refusal once: no column, columns of other types and of other lengths, a place without a row | `answers::refuses_columns`, `answers::refuses_places` |
+//! | Batches as records | `answers::records_are_made` |
 //! | A column of a name that is none, or is not of booleans | `answers::refuses_names` |
 //! | Windows over two arrays | `answers::rows_are_chosen` |
 //! | Words that choose rows, words that ask nothing; the form that a name tells | `answers::words_choose_rows`, `answers::words_ask_nothing`, `answers::names_tell_forms` |
 //! | The columns and the rows of streams and files of another program, whole, cut, and at places; each fault of them, and its line | `looks` |
 //! | Rows at which a column is true, of nulls, trues and falses | `looks::true_rows_are_shown` |
 //! | Streams and files, each as either form | `looks::forms_are_converted` |
+//! | Where two of them differ first, and the line that says it; which of both has a fault | `looks::samples_differ`, `looks::differences_are_lines` |
+//! | Several of them as one; which of them has a fault or another schema | `looks::samples_are_joined` |
+//! | Some columns of them, by name | `looks::some_columns_are_shown` |
+//! | Words with options, and names with commas | `answers::words_have_options` |
 #![tactic(auto)]
 
 #[cfg(test)]

@@ -1,9 +1,12 @@
 //! What is answered of streams and files of another program.
 use crate::samples::{BARE, EMPTY, FILE, PACKED, STREAM, TRUTHS};
+use ipc_schema::Columns;
 use nest_look::answering::answer;
+use nest_look::comparing::{Difference, Uncompared, compare, difference_line};
 use nest_look::converting::convert;
 use nest_look::fault::Fault;
 use nest_look::holding::read_held;
+use nest_look::joining::{Unjoined, concat};
 use nest_look::running::{read_input, write_bytes};
 use nest_words::{Choice, Form, Request, parse_request};
 use std::alloc::{AllocError, Global};
@@ -42,7 +45,7 @@ fn said(alloc: Global, words: &[&str], digits: &str) -> Result<String, Fault> {
     let bytes = bytes_of(alloc, digits)?;
     match request(alloc, words)? {
         None => Ok(String::from_str(alloc, "nothing is asked")?),
-        Some(asked) => answer(alloc, &asked, &bytes),
+        Some(asked) => answer(alloc, Columns::All, &asked, &bytes),
     }
 }
 
@@ -131,9 +134,14 @@ fn refuses_places(rt: HostRuntime) {
 #[test]
 fn requests_are_made_by_hand(rt: HostRuntime) -> Result<(), Fail> {
     let bytes = bytes_of(rt.alloc(), STREAM)?;
-    let text = answer(rt.alloc(), &Request::Rows(Choice::Cut(2, 9)), &bytes)?;
+    let text = answer(
+        rt.alloc(),
+        Columns::All,
+        &Request::Rows(Choice::Cut(2, 9)),
+        &bytes,
+    )?;
     assert!(rt; text.as_str() == "{\"a\":3,\"b\":null}\n", "{text}");
-    let held = read_held(rt.alloc(), &bytes)?;
+    let held = read_held(rt.alloc(), Columns::All, &bytes)?;
     assert!(rt; held.schema.fields.len() == 2 && held.batches.len() == 3);
     let mut reader = bytes.as_slice();
     let input = read_input(rt.alloc(), &mut reader)?;
@@ -208,16 +216,135 @@ fn forms_are_converted(rt: HostRuntime) -> Result<(), Fail> {
         let bytes = bytes_of(rt.alloc(), digits)?;
         let want = said(rt.alloc(), &["schema"], digits)?;
         for form in [Form::File, Form::Stream] {
-            let other = convert(rt.alloc(), form, &bytes)?;
+            let other = convert(rt.alloc(), Columns::All, form, &bytes)?;
             assert!(rt; other.starts_with(b"ARROW1") == (form == Form::File));
-            let text = answer(rt.alloc(), &Request::Columns, &other)?;
+            let text = answer(rt.alloc(), Columns::All, &Request::Columns, &other)?;
             assert!(rt; text.as_str() == want.as_str(), "{text}");
-            let again = convert(rt.alloc(), form, &other)?;
+            let again = convert(rt.alloc(), Columns::All, form, &other)?;
             assert!(rt; again.as_slice() == other.as_slice());
         }
     }
     let packed = bytes_of(rt.alloc(), PACKED)?;
-    let fault = convert(rt.alloc(), Form::File, &packed).err();
+    let fault = convert(rt.alloc(), Columns::All, Form::File, &packed).err();
     assert!(rt; fault == Some(Fault::Format(ipc_model::Fault::Compressed)));
+    Ok(())
+}
+
+/// What two samples differ in first.
+fn differ(
+    alloc: Global,
+    columns: Columns<'_>,
+    left: &str,
+    right: &str,
+) -> Result<Option<Difference>, Uncompared> {
+    match (bytes_of(alloc, left), bytes_of(alloc, right)) {
+        (Ok(left), Ok(right)) => compare(alloc, columns, &left, &right),
+        _ => Err(Uncompared::First(Fault::Memory)),
+    }
+}
+
+#[test]
+fn samples_differ(rt: HostRuntime) -> Result<(), Fail> {
+    for digits in [STREAM, FILE, TRUTHS, BARE, EMPTY] {
+        let same = differ(rt.alloc(), Columns::All, digits, digits);
+        assert!(rt; same == Ok(None));
+    }
+    let same = differ(rt.alloc(), Columns::All, STREAM, FILE);
+    assert!(rt; same == Ok(None));
+    let schema = differ(rt.alloc(), Columns::All, TRUTHS, BARE);
+    assert!(rt; schema == Ok(Some(Difference::Schema)));
+    let rows = differ(rt.alloc(), Columns::Named(&["a"]), EMPTY, FILE);
+    assert!(rt; rows == Ok(Some(Difference::Row(0))));
+    let rows = differ(rt.alloc(), Columns::Named(&["a"]), FILE, EMPTY);
+    assert!(rt; rows == Ok(Some(Difference::Row(0))));
+    let packed = Fault::Format(ipc_model::Fault::Compressed);
+    let fault = differ(rt.alloc(), Columns::All, PACKED, STREAM);
+    assert!(rt; fault == Err(Uncompared::First(packed)));
+    let fault = differ(rt.alloc(), Columns::All, STREAM, PACKED);
+    assert!(rt; fault == Err(Uncompared::Second(packed)));
+    Ok(())
+}
+
+#[test]
+fn differences_are_lines(rt: HostRuntime) -> Result<(), Fail> {
+    for (difference, want) in [
+        (Difference::Schema, "schema\n"),
+        (Difference::Row(0), "row 0\n"),
+        (
+            Difference::Row(18446744073709551615),
+            "row 18446744073709551615\n",
+        ),
+    ] {
+        let line = difference_line(rt.alloc(), difference)?;
+        assert!(rt; line.as_str() == want, "{line}");
+    }
+    Ok(())
+}
+
+#[test]
+fn some_columns_are_shown(rt: HostRuntime) -> Result<(), Fail> {
+    for (names, schema, first) in [
+        (["b"].as_slice(), "b: string\n", "{\"b\":\"a\"}\n"),
+        (
+            ["b", "a", "c"].as_slice(),
+            "a: int32\nb: string\n",
+            "{\"a\":1,\"b\":\"a\"}\n",
+        ),
+    ] {
+        for digits in [STREAM, FILE] {
+            let bytes = bytes_of(rt.alloc(), digits)?;
+            let columns = Columns::Named(names);
+            let text = answer(rt.alloc(), columns, &Request::Columns, &bytes)?;
+            assert!(rt; text.as_str() == schema, "{text}");
+            let rows = Request::Rows(Choice::Cut(0, 1));
+            let text = answer(rt.alloc(), columns, &rows, &bytes)?;
+            assert!(rt; text.as_str() == first, "{text}");
+        }
+    }
+    let bytes = bytes_of(rt.alloc(), STREAM)?;
+    let none = Columns::Named(&["c"]);
+    let text = answer(rt.alloc(), none, &Request::Columns, &bytes)?;
+    assert!(rt; text.is_empty(), "{text}");
+    let fault = answer(rt.alloc(), none, &Request::Rows(Choice::All), &bytes).err();
+    assert!(rt; fault == Some(Fault::Columns));
+    Ok(())
+}
+
+/// Samples as one file.
+fn together(alloc: Global, samples: &[&str]) -> Result<Vec<u8>, Unjoined> {
+    let mut inputs = Vec::new(alloc);
+    for digits in samples {
+        let Ok(bytes) = bytes_of(alloc, digits) else {
+            return Err(Unjoined::Memory);
+        };
+        if inputs.push(bytes).is_err() {
+            return Err(Unjoined::Memory);
+        }
+    }
+    if inputs.is_empty() {
+        return Err(Unjoined::Memory);
+    }
+    concat(alloc, Columns::All, Form::File, &inputs)
+}
+
+#[test]
+fn samples_are_joined(rt: HostRuntime) -> Result<(), Fail> {
+    let one = said(rt.alloc(), &["rows"], STREAM)?;
+    let both = together(rt.alloc(), &[STREAM, FILE])?;
+    let text = answer(
+        rt.alloc(),
+        Columns::All,
+        &Request::Rows(Choice::All),
+        &both,
+    )?;
+    let rest = text.as_bytes();
+    assert!(rt; rest.starts_with(one.as_bytes()), "{text}");
+    assert!(rt; &rest[one.len()..] == one.as_bytes(), "{text}");
+    let alone = together(rt.alloc(), &[BARE])?;
+    assert!(rt; alone.starts_with(b"ARROW1"));
+    let schema = together(rt.alloc(), &[STREAM, FILE, TRUTHS]).err();
+    assert!(rt; schema == Some(Unjoined::Schema(2)));
+    let packed = together(rt.alloc(), &[STREAM, PACKED]).err();
+    assert!(rt; packed == Some(Unjoined::Input(1, ipc_model::Fault::Compressed)));
     Ok(())
 }

@@ -3,7 +3,7 @@ use Rattle.nest_model.specs.Meaning.{len}
 use Rattle.nest_array.specs.Seen.{layout_of}
 use Rattle.nest_choose.specs.Difference.{IsDifference}
 use Rattle.nest_choose.specs.Walk.{all_rows}
-use Rattle.nest_choose.proofs.Steps.{Walked, differ, end-none, end-some, first-long, step, too-many}
+use Rattle.nest_choose.proofs.Steps.{Walked, differ, end-none, end-some, equal-so-far, first-long, step, too-many}
 use Rattle.nest_choose.proofs.differing.first_difference.Goals.{then-walk-test+else-not-is_empty, else-walk-test}
 use Rattle.nest_choose.proofs.differing.first_difference.Goals as goal
 
@@ -33,26 +33,39 @@ returns-in-None c =
     let y = c.index-right-0.result in
     let n = c.min-n.result in
     let hl : 0 < length c.walk.left.now = search rules in
+    let hr : 0 < length c.walk.right.now = search rules in
     let fl = first-long c.walk.left.now x hl c.index-left-0.is in
+    let fr = first-long c.walk.right.now y hr c.index-right-0.is in
     let lw = c.walk.invariant.left_within in
-    let fx : c.walk.o + n ≤ len (layout_of x) = omega (arith, c.min-n.ensures, c.len.ensures, c.len-in-walk.ensures, fl, lw) in
+    let rw_ = c.walk.invariant.right_within in
+    let fx : c.walk.o + n ≤ len (layout_of x) = omega (arith, c.min-n.ensures, c.len.ensures, c.len-in-walk.ensures, fl, fr, lw, rw_) in
+    let fy : c.walk.p + n ≤ len (layout_of y) = omega (arith, c.min-n.ensures, c.len.ensures, c.len-in-walk.ensures, fl, fr, lw, rw_) in
     let count = ap (λ v. v.count) c.new-v.ensures.parts in
     let within : c.in-Some.k < n = omega (arith, c.in-Some.ensures.within, count) in
     let a = c.in-None.ensures in
-    let past : 2 ^ 64 ≤ c.walk.rows + n = grind arith in
-    too-many c.args.xs.now c.args.ys.now c.walk.left.now c.walk.right.now c.walk.o c.walk.p c.walk.rows n x hl c.index-left-0.is fx past c.walk.invariant
+    let past : 2 ^ 64 ≤ c.walk.rows + c.in-Some.k = grind arith in
+    let other =
+    differ c.args.xs.now c.args.ys.now c.walk.left.now c.walk.right.now c.walk.o c.walk.p c.walk.rows n c.in-Some.k c.new-v.result c.new-w.result x y hl hr c.index-left-0.is c.index-right-0.is fx fy c.new-v.ensures.parts c.new-w.ensures.parts within c.in-Some.ensures.first c.walk.invariant in
+    too-many c.args.xs.now c.args.ys.now c.walk.left.now c.walk.right.now c.walk.o c.walk.p c.walk.rows n c.in-Some.k x hl c.index-left-0.is fx (omega (arith, within)) past other.0 c.walk.invariant
 
 pub returns-in_default-checked_add : goal.returns-in_default-checked_add
 returns-in_default-checked_add c =
     let x = c.index-left-0.result in
+    let y = c.index-right-0.result in
     let n = c.min-n.result in
     let hl : 0 < length c.walk.left.now = search rules in
+    let hr : 0 < length c.walk.right.now = search rules in
     let fl = first-long c.walk.left.now x hl c.index-left-0.is in
+    let fr = first-long c.walk.right.now y hr c.index-right-0.is in
     let lw = c.walk.invariant.left_within in
-    let fx : c.walk.o + n ≤ len (layout_of x) = omega (arith, c.min-n.ensures, c.len.ensures, c.len-in-walk.ensures, fl, lw) in
+    let rw_ = c.walk.invariant.right_within in
+    let fx : c.walk.o + n ≤ len (layout_of x) = omega (arith, c.min-n.ensures, c.len.ensures, c.len-in-walk.ensures, fl, fr, lw, rw_) in
+    let fy : c.walk.p + n ≤ len (layout_of y) = omega (arith, c.min-n.ensures, c.len.ensures, c.len-in-walk.ensures, fl, fr, lw, rw_) in
     let a = c.in_default-checked_add.ensures in
     let past : 2 ^ 64 ≤ c.walk.rows + n = grind arith in
-    too-many c.args.xs.now c.args.ys.now c.walk.left.now c.walk.right.now c.walk.o c.walk.p c.walk.rows n x hl c.index-left-0.is fx past c.walk.invariant
+    let same =
+    equal-so-far c.args.xs.now c.args.ys.now c.walk.left.now c.walk.right.now c.walk.o c.walk.p c.walk.rows n c.new-v.result c.new-w.result x y hl hr c.index-left-0.is c.index-right-0.is fx fy c.new-v.ensures.parts c.new-w.ensures.parts c.in_default.ensures.first c.walk.invariant in
+    too-many c.args.xs.now c.args.ys.now c.walk.left.now c.walk.right.now c.walk.o c.walk.p c.walk.rows n n x hl c.index-left-0.is fx (omega arith) past same c.walk.invariant
 
 pub walk-preserved : goal.walk-preserved
 walk-preserved c =

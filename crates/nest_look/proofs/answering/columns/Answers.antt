@@ -1,4 +1,4 @@
-use Rattle.std.proofs.Common.{◌≡◌, ◌∷◌, [], ◌++◌, List, sym, ap, refl, ◌∙◌, append_assoc, append-nil, arith, map, length}
+use Rattle.std.proofs.Common.{◌≡◌, ◌∷◌, [], sym, ap, refl, ◌∙◌, append_assoc, append-nil, arith, map, length}
 use Rattle.std.specs.Vec.Iter.{into_iter_items}
 use Rattle.ipc.specs.Streams.{Arrays, arrays_of}
 use Rattle.nest_answer.specs.Tables.{columns_of}

@@ -4,7 +4,7 @@ use Rattle.std.proofs.lemmas.Result.{err_from_is_err_and}
 use Rattle.nest_memory.specs.TypeOf.{type_of}
 use Rattle.nest_answer.specs.Tables.{columns_of}
 use Rattle.nest_answer.proofs.Made.{made-fault, made-more}
-use Rattle.nest_answer.proofs.records.record_arrays.Goals as goal
+use Rattle.nest_answer.proofs.making.record_arrays.Goals as goal
 
 pub loop-batch-preserved : goal.loop-batch-preserved
 loop-batch-preserved c =

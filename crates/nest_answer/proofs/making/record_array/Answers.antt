@@ -1,7 +1,7 @@
 use Rattle.std.proofs.Common.{◌∙◌}
 use Rattle.nest_memory.specs.TypeOf.{type_of}
 use Rattle.nest_answer.proofs.Made.{record-parts, refused}
-use Rattle.nest_answer.proofs.records.record_array.Goals as goal
+use Rattle.nest_answer.proofs.making.record_array.Goals as goal
 
 pub returns-in-Ok-try_new-clause-made : goal.returns-in-Ok-try_new-clause-made
 returns-in-Ok-try_new-clause-made c = c.in-Ok-try_new.ensures.1 ∙ record-parts (type_of c.in-Ok.data_type) (type_of c.args.data_type.now) c.args.columns.items c.in-Ok.ensures.ok

@@ -3,7 +3,7 @@ use Rattle.std.specs.Vec.Iter.{into_iter_items, into_iter_len}
 use Rattle.nest_memory.specs.TypeOf.{type_of}
 use Rattle.nest_array.specs.Seen.{layout_of}
 use Rattle.nest_answer.specs.Tables.{columns_of, records}
-use Rattle.nest_answer.proofs.records.record_arrays.Given as goal
+use Rattle.nest_answer.proofs.making.record_arrays.Given as goal
 
 abbrev pub invariant-loop-batch : goal.invariant-loop-batch
 invariant-loop-batch l =
