@@ -4,6 +4,7 @@ use crate::keyed::{DICTIONARIES_INSIDE, REPLACED, bytes_of};
 use crate::worked::{batches, schema};
 use ipc::{Batch, StreamReader, write_stream};
 use ipc_device::{DeviceReader, ReadError};
+use ipc_schema::Columns;
 use nest_memory::datatypes::DataType;
 use std::alloc::Global;
 use std::io::ErrorKind;
@@ -216,4 +217,29 @@ fn no_batch_of_a_dictionary(rt: HostRuntime) {
     let inside = bytes_of(alloc, DICTIONARIES_INSIDE).expect(&rt, "bytes");
     let rows = rows_of(alloc, Source::new(inside, 1, usize::MAX)).expect(&rt, "rows");
     assert!(rt; rows.as_slice() == [4usize].as_slice());
+}
+
+// How many columns each of a device's batches has, of those that are read.
+fn widths_of(alloc: Global, source: Source, columns: Columns<'_>) -> Option<Vec<usize>> {
+    let mut reader = DeviceReader::with_columns(alloc, source, columns).ok()?;
+    let mut widths = Vec::new(alloc);
+    for _ in 0..9 {
+        match reader.next_batch(alloc) {
+            Ok(None) => return Some(widths),
+            Ok(Some(batch)) => widths.push(batch.columns.len()).ok()?,
+            Err(_) => return None,
+        }
+    }
+    None
+}
+
+#[test]
+fn some_columns(rt: HostRuntime) {
+    let alloc = rt.alloc();
+    for (places, width) in [(&[0usize, 5][..], 1usize), (&[5usize][..], 0)] {
+        let replaced = bytes_of(alloc, REPLACED).expect(&rt, "bytes");
+        let source = Source::new(replaced, 1, usize::MAX);
+        let widths = widths_of(alloc, source, Columns::At(places)).expect(&rt, "widths");
+        assert!(rt; widths.as_slice() == [width, width].as_slice());
+    }
 }
