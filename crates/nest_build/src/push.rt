@@ -41,7 +41,7 @@ pub trait TryExtend<A>: MutableArray {
     /// `ItemType`, `ItemSize`, `Overflow`. `Memory`.
     fn try_extend<I: IntoIterator<Item = A>>(&mut self, items: I) -> Result<(), Error>
         requires whole { IsWhole (Self.model self.old) }
-        requires can { CanRead I.into_iter_gives I.IntoIter.can_next I.IntoIter.remaining I.IntoIter.next_gives can_extend items }
+        requires can { CanRead (record { becomes = I.into_iter_gives; can = I.IntoIter.can_next; left = I.IntoIter.remaining; steps = I.IntoIter.next_gives }) can_extend items }
         ensures ok { OnOk result (TookAll
             (record { becomes = I.into_iter_gives; steps = I.IntoIter.next_gives; reads = reads_each }) items
             (Self.model self.old) (Self.model self.new)) }
@@ -72,7 +72,7 @@ pub fn extend_by_push<A, B: TryPush<A>, I: IntoIterator<Item = A>>(
     items: I,
 ) -> Result<(), Error>
     requires whole { IsWhole (B.model builder.old) }
-    requires can { CanRead I.into_iter_gives I.IntoIter.can_next I.IntoIter.remaining I.IntoIter.next_gives B.can_push items }
+    requires can { CanRead (record { becomes = I.into_iter_gives; can = I.IntoIter.can_next; left = I.IntoIter.remaining; steps = I.IntoIter.next_gives }) B.can_push items }
     ensures ok { OnOk result (TookAll
         (record { becomes = I.into_iter_gives; steps = I.IntoIter.next_gives; reads = B.reads }) items
         (B.model builder.old) (B.model builder.new)) }

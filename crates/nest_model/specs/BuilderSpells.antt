@@ -10,13 +10,20 @@ abbrev pub value_item : {T : Type 0} → (T → PlainValue) → Option T → Ite
 value_item value None = items.null
 value_item value (Some x) = items.plain (value x)
 
--- whatever u becomes may be called, ends, and gives only items with P
-abbrev pub CanRead : {U T A : Type 0} → (U → T → Type 0) → (T → Type 0) → (T → Count) → (T → Option A → T → Type 0) → (A → Type 0) → U → Type 0
-CanRead {U} {T} becomes can left steps P u = (it : T) → becomes u it → can it × IsFinite (left it) × HoldsAlong steps it (All P)
+-- What is asked of an iterator before it is read: what it becomes, that its steps may be called, how many are left, and what each of them gives.
+pub record Source (U T A : Type 0) : Type 1 where
+  pub becomes : U → T → Type 0
+  pub can : T → Type 0
+  pub left : T → Count
+  pub steps : T → Option A → T → Type 0
 
-abbrev pub CanReadList : {U T A : Type 0} → (U → T → Type 0) → (T → Type 0) → (T → Count) → (T → Option A → T → Type 0) → (A → Type 0) → Option U → Type 0
-CanReadList becomes can left steps P None = Unit {0}
-CanReadList becomes can left steps P (Some u) = CanRead becomes can left steps P u
+-- whatever u becomes may be called, ends, and gives only items with P
+abbrev pub CanRead : {U T A : Type 0} → Source U T A → (A → Type 0) → U → Type 0
+CanRead {U} {T} from P u = (it : T) → from.becomes u it → from.can it × IsFinite (from.left it) × HoldsAlong from.steps it (All P)
+
+abbrev pub CanReadList : {U T A : Type 0} → Source U T A → (A → Type 0) → Option U → Type 0
+CanReadList from P None = Unit {0}
+CanReadList from P (Some u) = CanRead from P u
 
 -- the whole list of what u may give, and a beginning of one
 abbrev pub Gives : {U T A : Type 0} → (U → T → Type 0) → (T → Option A → T → Type 0) → U → List A → Type 0

@@ -117,7 +117,7 @@ pub fn push_items<A, B: TryExtend<A>, I: IntoIterator<Item = A>>(
     items: I,
 ) -> Result<(), Error>
     requires whole { IsWhole (B.model builder.old) }
-    requires can { CanRead I.into_iter_gives I.IntoIter.can_next I.IntoIter.remaining I.IntoIter.next_gives B.can_extend items }
+    requires can { CanRead (record { becomes = I.into_iter_gives; can = I.IntoIter.can_next; left = I.IntoIter.remaining; steps = I.IntoIter.next_gives }) B.can_extend items }
     ensures taken { OnOk result (TookAll
         (record { becomes = I.into_iter_gives; steps = I.IntoIter.next_gives; reads = B.reads_each }) items
         (B.model builder.old) (B.model builder.new)) }

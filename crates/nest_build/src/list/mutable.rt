@@ -421,7 +421,7 @@ impl<O: ListWidth, M: MutableArray> MutableArray for MutableListArray<O, M> {
 
 impl<O: ListWidth, M: TryExtend<Option<T>>, I: IntoIterator<Item = Option<T>>, T> TryPush<Option<I>>
     for MutableListArray<O, M> {
-    ghost can_push = { CanReadList I.into_iter_gives I.IntoIter.can_next I.IntoIter.remaining I.IntoIter.next_gives M.can_extend };
+    ghost can_push = { CanReadList (record { becomes = I.into_iter_gives; can = I.IntoIter.can_next; left = I.IntoIter.remaining; steps = I.IntoIter.next_gives }) M.can_extend };
 
     ghost reads = { ReadsList (record { becomes = I.into_iter_gives; steps = I.IntoIter.next_gives; reads = M.reads_each }) };
 
@@ -449,7 +449,7 @@ impl<O: ListWidth, M: TryExtend<Option<T>>, I: IntoIterator<Item = Option<T>>, T
 impl<O: ListWidth, M: TryExtend<Option<T>>, I: IntoIterator<Item = Option<T>>, T> TryExtend<
     Option<I>,
 > for MutableListArray<O, M> {
-    ghost can_extend = { CanReadList I.into_iter_gives I.IntoIter.can_next I.IntoIter.remaining I.IntoIter.next_gives M.can_extend };
+    ghost can_extend = { CanReadList (record { becomes = I.into_iter_gives; can = I.IntoIter.can_next; left = I.IntoIter.remaining; steps = I.IntoIter.next_gives }) M.can_extend };
 
     ghost reads_each = { ReadsList (record { becomes = I.into_iter_gives; steps = I.IntoIter.next_gives; reads = M.reads_each }) };
 
