@@ -1,5 +1,5 @@
 -- A record batch that is written is read back.
-use Rattle.std.proofs.Common.{◌≡◌, ℕ, ◌+◌, ◌-◌, ◌*◌, ◌^◌, ◌<◌, ◌≤◌, List, [], ◌∷◌, ◌++◌, length, Some, None, Result, Ok, refl, sym, append_assoc, subst, arith}
+use Rattle.std.proofs.Common.{◌≡◌, ℕ, ◌+◌, ◌-◌, ◌*◌, ◌^◌, ◌<◌, ◌≤◌, List, [], ◌∷◌, ◌++◌, length, Some, None, Result, Ok, refl, inl, inr, sym, append_assoc, subst, arith}
 use Rattle.std.specs.Prelude.{pos}
 use Rattle.std.specs.Int.{w64}
 use Rattle.std.specs.Int.RustNames.{FitsSigned}
@@ -8,6 +8,7 @@ use Rattle.std.proofs.lemmas.Int.{ints}
 use Rattle.std.proofs.lemmas.List.{length-append}
 use Rattle.std.proofs.lemmas.List.Concat.{flat_map-cons}
 use Rattle.ipc_model.specs.declared.fault.Fault.{Fault}
+use Rattle.ipc_model.specs.declared.fault.NoForm.{NoForm}
 use Rattle.ipc_model.specs.declared.batch.Node.{Node}
 use Rattle.ipc_model.specs.declared.batch.Region.{Region}
 use Rattle.ipc_words.specs.Words.{signed_at, offset_at, field_place, visit_table, vector_at}
@@ -21,7 +22,7 @@ use Rattle.ipc_message.specs.MessageLaws.{padded, padded_long, padding_long, fra
 use Rattle.ipc_message.specs.declared.message.Kind.TheVariants.{RecordBatch}
 use Rattle.ipc_message.specs.declared.message.Version.TheVariants.{V5}
 use Rattle.ipc_batch.specs.Batches.{BatchTree, node_at, region_at, all_within, batch_at}
-use Rattle.ipc_batch.specs.BatchBytes.{node_bytes, region_bytes, batch_head, batch_bytes, batch_message}
+use Rattle.ipc_batch.specs.BatchBytes.{node_bytes, region_bytes, batch_head, batch_bytes, batch_message, IsUnwritten}
 
 pub record NodeFits (n : Node) : Type 0 where
   pub length : FitsSigned w64 n.length
@@ -98,14 +99,21 @@ batch_long b =
     let regions : List ℕ = vector_bytes region_bytes b.regions in
     omega (arith, node_vector_long b.nodes, region_vector_long b.regions, length-append nodes ((0 ∷ 0 ∷ 0 ∷ 0 ∷ []) ++ regions))
 
-pub message_long : (b : BatchTree) (body : ℕ) → 104 + 16 * length b.nodes + 16 * length b.regions ≤ length (batch_message b body)
+-- the message of a batch holds its metadata
+pub message_holds : (b : BatchTree) (body : ℕ) → length (batch_bytes b) ≤ metadata_size (batch_message b body)
 unfolding batch_message
-message_long b body =
+message_holds b body =
     let metadata : List ℕ = root_bytes RecordBatch body 16 (batch_bytes b) in
     let framed : length (message_bytes RecordBatch body 16 (batch_bytes b)) ≡ length (framed_bytes metadata) = unfold message_bytes in refl in
-    omega (arith, framed, framed_long metadata, root_long RecordBatch body 16 (batch_bytes b), batch_long b)
+    omega (arith, framed, framed_long metadata, root_long RecordBatch body 16 (batch_bytes b))
 
-batch_again : (b : BatchTree) (whole : List ℕ) (p q left body : ℕ) (after : List ℕ) → BatchFits b → all_within body b.regions ≡ Ok tt → From whole p (batch_bytes b ++ after) → q ≡ p + 16 → length whole < 2 ^ 32 → 16 + 16 * length b.nodes + 16 * length b.regions ≤ left
+-- what holds metadata that is too long is too long
+pub unwritten_more : (b : BatchTree) (why : NoForm) (part whole : ℕ) → part ≤ whole → IsUnwritten b part why → IsUnwritten b whole why
+unwritten_more b why part whole le (inl memory) = inl memory
+unwritten_more b why part whole le (inr (size, inl rows)) = inr (size, inl rows)
+unwritten_more b why part whole le (inr (size, inr long)) = inr (size, inr (omega arith))
+
+pub batch_again : (b : BatchTree) (whole : List ℕ) (p q left body : ℕ) (after : List ℕ) → BatchFits b → all_within body b.regions ≡ Ok tt → From whole p (batch_bytes b ++ after) → q ≡ p + 16 → length whole < 2 ^ 32 → 16 + 16 * length b.nodes + 16 * length b.regions ≤ left
     → batch_at whole q left body ≡ Ok b
 unfolding batch_at batch_bytes batch_head u32_bytes i64_bytes
 batch_again b whole p q left body after fits inside h at small le =

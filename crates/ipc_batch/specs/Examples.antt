@@ -1,11 +1,17 @@
--- The record batch of another writer, byte by byte: two rows of 32 bits, the second null, with a body of 16 bytes.
-use Rattle.std.specs.Prelude.{◌≡◌, ℕ, pos, List, [], ◌∷◌, ◌++◌, Some, Ok, refl}
-use Rattle.ipc_words.specs.Words.{offset_at, back_from, table_at, field_place, spend, visit_table, visit_vector, structs_at, items_at, vector_at}
+-- Messages byte by byte: the record batch of another writer, two rows of 32 bits, the second null, with a body of 16 bytes; and what is written of a dictionary.
+use Rattle.std.specs.Prelude.{◌≡◌, ℕ, pos, List, [], ◌∷◌, ◌++◌, Some, None, Ok, refl}
+use Rattle.std.specs.Int.{w64}
+use Rattle.ipc_words.specs.Words.{signed_at, field, offset_field, offset_at, back_from, table_at, field_place, spend, visit_table, visit_vector, structs_at, items_at, vector_at}
+use Rattle.ipc_words.specs.Bytes.{i64_bytes, u32_bytes, vector_bytes}
+use Rattle.ipc_words.specs.declared.tables.Table.{Table}
+use Rattle.ipc_message.specs.MessageBytes.{root_bytes, framed_bytes, message_bytes}
 use Rattle.ipc_message.specs.Messages.{Parts, root_at, front, behind_mark, parts_at, sized_at, message_at}
-use Rattle.ipc_message.specs.declared.message.Kind.TheVariants.{RecordBatch}
+use Rattle.ipc_message.specs.declared.message.Kind.TheVariants.{DictionaryBatch, RecordBatch}
 use Rattle.ipc_message.specs.declared.message.Version.TheVariants.{V5}
 use Rattle.ipc_message.specs.declared.message.Root.{Root}
 use Rattle.ipc_batch.specs.Batches.{BatchTree, each_within, all_within, batch_at}
+use Rattle.ipc_batch.specs.BatchBytes.{node_bytes, region_bytes, batch_head, batch_bytes}
+use Rattle.ipc_batch.specs.DictionaryBytes.{dictionary_head, dictionary_bytes, dictionary_message}
 
 abbrev pub worked_message : List ℕ
 worked_message =
@@ -39,3 +45,62 @@ worked_parts = refl
 pub worked_batch : batch_at worked_metadata 52 8696 16 ≡ Ok worked_tree
 unfolding offset_at back_from table_at field_place spend visit_table visit_vector structs_at items_at vector_at each_within all_within batch_at
 worked_batch = refl
+
+-- ---- a dictionary of two values of 32 bits, with a body of 8 bytes, named by 515, whose bytes are 3 and 2
+
+abbrev pub values_message : List ℕ
+values_message =
+    255 ∷ 255 ∷ 255 ∷ 255 ∷ 168 ∷ 0 ∷ 0 ∷ 0 ∷ 24 ∷ 0 ∷ 0 ∷ 0 ∷ 0 ∷ 0 ∷ 0 ∷ 0 ∷ 12 ∷ 0 ∷ 24 ∷ 0 ∷ 16 ∷ 0 ∷ 18 ∷ 0 ∷ 4 ∷ 0 ∷ 8 ∷ 0 ∷ 0 ∷ 0 ∷ 0 ∷ 0 ∷ 16 ∷ 0 ∷ 0 ∷ 0 ∷ 28 ∷ 0 ∷ 0 ∷ 0 ∷ 8 ∷ 0 ∷ 0 ∷ 0 ∷ 0 ∷ 0 ∷ 0 ∷ 0 ∷ 4 ∷ 0 ∷ 2 ∷ 0 ∷ 0 ∷ 0 ∷ 0 ∷ 0 ∷ 8 ∷ 0 ∷ 16 ∷ 0 ∷ 8 ∷ 0 ∷ 4 ∷ 0 ∷ 8 ∷ 0 ∷ 0 ∷ 0 ∷ 28 ∷ 0 ∷ 0 ∷ 0 ∷ 3 ∷ 2 ∷ 0 ∷ 0 ∷ 0 ∷ 0 ∷ 0 ∷ 0 ∷ 10 ∷ 0 ∷ 20 ∷ 0 ∷ 8 ∷ 0 ∷ 4 ∷ 0 ∷ 16 ∷ 0 ∷ 0 ∷ 0 ∷ 0 ∷ 0 ∷ 0 ∷ 0 ∷ 16 ∷ 0 ∷ 0 ∷ 0 ∷ 16 ∷ 0 ∷ 0 ∷ 0 ∷ 2 ∷ 0 ∷ 0 ∷ 0 ∷ 0 ∷ 0 ∷ 0 ∷ 0 ∷ 28 ∷ 0 ∷ 0 ∷ 0 ∷ 1 ∷ 0 ∷ 0 ∷ 0 ∷ 2 ∷ 0 ∷ 0 ∷ 0 ∷ 0 ∷ 0 ∷ 0 ∷ 0 ∷ 0 ∷ 0 ∷ 0 ∷ 0 ∷ 0 ∷ 0 ∷ 0 ∷ 0 ∷ 0 ∷ 0 ∷ 0 ∷ 0 ∷ 2 ∷ 0 ∷ 0 ∷ 0 ∷ 0 ∷ 0 ∷ 0 ∷ 0 ∷ 0 ∷ 0 ∷ 0 ∷ 0 ∷ 0 ∷ 0 ∷ 0 ∷ 0 ∷ 0 ∷ 0 ∷ 0 ∷ 0 ∷ 0 ∷ 0 ∷ 0 ∷ 0 ∷ 0 ∷ 0 ∷ 0 ∷ 0 ∷ 8 ∷ 0 ∷ 0 ∷ 0 ∷ 0 ∷ 0 ∷ 0 ∷ 0 ∷ []
+
+abbrev pub values_body : List ℕ
+values_body = 5 ∷ 0 ∷ 0 ∷ 0 ∷ 9 ∷ 0 ∷ 0 ∷ 0 ∷ []
+
+abbrev pub values_tree : BatchTree
+values_tree = record {
+  rows = 2;
+  nodes = record { length = pos 2; null_count = pos 0 } ∷ [];
+  regions = record { offset = pos 0; length = pos 0 } ∷ record { offset = pos 0; length = pos 8 } ∷ [];
+}
+
+-- its metadata
+abbrev pub values_metadata : List ℕ
+values_metadata =
+    24 ∷ 0 ∷ 0 ∷ 0 ∷ 0 ∷ 0 ∷ 0 ∷ 0 ∷ 12 ∷ 0 ∷ 24 ∷ 0 ∷ 16 ∷ 0 ∷ 18 ∷ 0 ∷ 4 ∷ 0 ∷ 8 ∷ 0 ∷ 0 ∷ 0 ∷ 0 ∷ 0 ∷ 16 ∷ 0 ∷ 0 ∷ 0 ∷ 28 ∷ 0 ∷ 0 ∷ 0 ∷ 8 ∷ 0 ∷ 0 ∷ 0 ∷ 0 ∷ 0 ∷ 0 ∷ 0 ∷ 4 ∷ 0 ∷ 2 ∷ 0 ∷ 0 ∷ 0 ∷ 0 ∷ 0 ∷ 8 ∷ 0 ∷ 16 ∷ 0 ∷ 8 ∷ 0 ∷ 4 ∷ 0 ∷ 8 ∷ 0 ∷ 0 ∷ 0 ∷ 28 ∷ 0 ∷ 0 ∷ 0 ∷ 3 ∷ 2 ∷ 0 ∷ 0 ∷ 0 ∷ 0 ∷ 0 ∷ 0 ∷ 10 ∷ 0 ∷ 20 ∷ 0 ∷ 8 ∷ 0 ∷ 4 ∷ 0 ∷ 16 ∷ 0 ∷ 0 ∷ 0 ∷ 0 ∷ 0 ∷ 0 ∷ 0 ∷ 16 ∷ 0 ∷ 0 ∷ 0 ∷ 16 ∷ 0 ∷ 0 ∷ 0 ∷ 2 ∷ 0 ∷ 0 ∷ 0 ∷ 0 ∷ 0 ∷ 0 ∷ 0 ∷ 28 ∷ 0 ∷ 0 ∷ 0 ∷ 1 ∷ 0 ∷ 0 ∷ 0 ∷ 2 ∷ 0 ∷ 0 ∷ 0 ∷ 0 ∷ 0 ∷ 0 ∷ 0 ∷ 0 ∷ 0 ∷ 0 ∷ 0 ∷ 0 ∷ 0 ∷ 0 ∷ 0 ∷ 0 ∷ 0 ∷ 0 ∷ 0 ∷ 2 ∷ 0 ∷ 0 ∷ 0 ∷ 0 ∷ 0 ∷ 0 ∷ 0 ∷ 0 ∷ 0 ∷ 0 ∷ 0 ∷ 0 ∷ 0 ∷ 0 ∷ 0 ∷ 0 ∷ 0 ∷ 0 ∷ 0 ∷ 0 ∷ 0 ∷ 0 ∷ 0 ∷ 0 ∷ 0 ∷ 0 ∷ 0 ∷ 8 ∷ 0 ∷ 0 ∷ 0 ∷ 0 ∷ 0 ∷ 0 ∷ 0 ∷ []
+
+abbrev pub values_root : Root
+values_root = record { version = V5; kind = DictionaryBatch; header = 56; left = 10744; body_length = 8 }
+
+abbrev pub values_of : Parts
+values_of = record { root = values_root; metadata = values_metadata; body = values_body }
+
+-- of its vtable of 8 bytes none are left for `isDelta`
+abbrev pub values_table : Table
+values_table = record { at = 56; vtable = 48; size = 8 }
+
+pub values_written : dictionary_message (pos 515) values_tree 8 ≡ values_message
+unfolding i64_bytes u32_bytes vector_bytes root_bytes framed_bytes message_bytes node_bytes region_bytes batch_head batch_bytes dictionary_head dictionary_bytes dictionary_message
+values_written = refl
+
+pub values_parts : message_at (values_message ++ values_body) ≡ Ok (Some values_of, [])
+unfolding offset_at back_from table_at field_place spend visit_table root_at front behind_mark parts_at sized_at message_at
+values_parts = refl
+
+pub values_visited : visit_table values_metadata 56 10744 ≡ Ok (values_table, 10736)
+unfolding back_from table_at spend visit_table
+values_visited = refl
+
+pub values_id : field (signed_at w64 values_metadata) (pos 0) values_metadata values_table 0 ≡ Ok (pos 515)
+unfolding field_place
+values_id = refl
+
+pub values_place : offset_field values_metadata values_table 1 ≡ Ok (Some 88)
+unfolding offset_at field_place
+values_place = refl
+
+pub values_no_delta : field_place values_metadata values_table 2 ≡ Ok None
+unfolding field_place
+values_no_delta = refl
+
+pub values_batch : batch_at values_metadata 88 10736 8 ≡ Ok values_tree
+unfolding offset_at back_from table_at field_place spend visit_table visit_vector structs_at items_at vector_at each_within all_within batch_at
+values_batch = refl

@@ -3,4 +3,6 @@ pub mod Batches
 pub mod MoreBuffers
 pub mod BatchBytes
 pub mod BatchLaws
+pub mod DictionaryBytes
+pub mod DictionaryLaws
 pub mod Examples

@@ -67,8 +67,23 @@ fn put_head(out: &mut Vec<u8>, rows: usize, count: usize) -> Result<(), AllocErr
     Ok(())
 }
 
+/// That the rows, nodes and regions of a batch are few enough for the counts that are written of them.
+pub(crate) fn are_few(batch: &BatchMetadata) -> Result<(), NoForm>
+    ensures rows { OnOk result (batch.now.rows < 2 ^ 63) }
+    ensures nodes { OnOk result (length batch.now.nodes.items < 2 ^ 27) }
+    ensures regions { OnOk result (length batch.now.regions.items < 2 ^ 27) }
+    ensures size { IfErr result (IsUnwritten (batch_of batch.now) (length (batch_bytes (batch_of batch.now)))) }
+{
+    let few = 1 << 27;
+    if batch.rows >= 1 << 63 || batch.nodes.len() >= few || batch.regions.len() >= few {
+        return Err(NoForm::Size);
+    }
+    Ok(())
+}
+
+/// Appends the metadata of a batch, with its table 16 bytes into it.
 #[tactic(auto, unfolding(crate::specs::BatchBytes::batch_bytes, ipc_words::specs::Bytes::vector_bytes))]
-fn put_batch(out: &mut Vec<u8>, batch: &BatchMetadata) -> Result<(), AllocError>
+pub(crate) fn put_batch(out: &mut Vec<u8>, batch: &BatchMetadata) -> Result<(), AllocError>
     requires rows { batch.now.rows < 2 ^ 63 }
     requires nodes { length batch.now.nodes.items < 2 ^ 27 }
     requires regions { length batch.now.regions.items < 2 ^ 27 }
@@ -100,10 +115,7 @@ pub fn write_batch(
     ensures again { OnOk result (IsReadWith (batch_of batch.now) body_length) }
     ensures size { IfErr result (IsUnwritten (batch_of batch.now) (metadata_size (batch_message (batch_of batch.now) body_length))) }
 {
-    let few = 1 << 27;
-    if batch.rows >= 1 << 63 || batch.nodes.len() >= few || batch.regions.len() >= few {
-        return Err(NoForm::Size);
-    }
+    are_few(batch)?;
     let mut part = Vec::new(alloc);
     put_batch(&mut part, batch)?;
     put_message(alloc, out, Kind::RecordBatch, body_length, 16, &part)
