@@ -1,0 +1,45 @@
+//! Laws of dictionaries that are written, as functions with empty bodies.
+ghost use Rattle.std.specs.Prelude.{◌≡◌, List, ℕ, ◌∷◌, [], map, Ok, suc};
+ghost use Rattle.std.specs.List.{AllByRecursion};
+ghost use Rattle.nest_memory.specs.TypeTree.{FieldTree, field_type};
+ghost use Rattle.nest_model.specs.Array.{IsArray};
+ghost use Rattle.nest_model.specs.Layout.{Layout, layout_type};
+ghost use Rattle.ipc_schema.specs.Forms.{keyed_form};
+ghost use Rattle.ipc_layout.specs.Rekeyed.{AreReadOver};
+ghost use Rattle.ipc_needed.specs.Entries.{Entries, own_entries};
+ghost use Rattle.ipc_needed.specs.ApartLaws.{AreApart};
+ghost use Rattle.ipc_needed.specs.Needed.{needed, with_entries};
+ghost use Rattle.ipc_needed.specs.Known.{AreKnown, AreAllKnown, Follows, IsKnown};
+ghost use Rattle.ipc_needed.specs.Named.{AreNamed};
+ghost use Rattle.ipc_needed.specs.Again.{AreColumnsAgain, AreValuesAgain};
+
+/// Columns whose dictionaries are known are read back over them, with the same data types and the same slots.
+pub fn columns_are_read_over_what_is_known()
+    ensures { (known : Entries) (columns : List Layout) → AreReadOver columns → AreKnown known columns → AreColumnsAgain known columns }
+{}
+
+/// Values are read back over what is known inside of them, with the same slots.
+pub fn values_are_read_over_what_is_known()
+    ensures { (known : Entries) (id : ℕ) (c : Layout) → AreReadOver (c ∷ []) → AllByRecursion (IsKnown known) (own_entries (suc id) c) → AreValuesAgain known id c }
+{}
+
+/// Where a reader knows what was written last, it knows behind all that columns need what their keys name; of each dictionary what is
+/// inside of its values comes before it.
+pub fn what_columns_need_is_known()
+    ensures { (known sent : Entries) (columns : List Layout) → Follows known sent → AllByRecursion (λ e. AreReadOver (e.1 ∷ [])) (needed sent columns) → AreAllKnown known sent columns }
+{}
+
+/// The ids of the columns of a schema that is written name their values in it.
+pub fn ids_name_what_the_schema_says()
+    ensures { (fields : List FieldTree) (columns : List Layout) → keyed_form fields ≡ Ok tt → map field_type fields ≡ map layout_type columns → AllByRecursion IsArray columns → AreNamed fields columns }
+{}
+
+/// Before one batch each id is written once at most.
+pub fn each_id_is_needed_once()
+    ensures { (sent : Entries) (columns : List Layout) → AreApart (needed sent columns) }
+{}
+
+/// Behind what columns need they need nothing.
+pub fn nothing_is_needed_again()
+    ensures { (sent : Entries) (columns : List Layout) → needed (with_entries sent (needed sent columns)) columns ≡ [] }
+{}
