@@ -1,6 +1,6 @@
 -- Entries of the code and as they are spelled: what is found among them, and one more.
-use Rattle.std.proofs.Common.{◌≡◌, Bool, true, false, cond, List, [], ◌∷◌, map, Option, Some, refl, ap, ◌∙◌}
-use Rattle.std.specs.Prelude.{ℤ}
+use Rattle.std.proofs.Common.{◌≡◌, Bool, true, false, cond, List, [], ◌∷◌, map, Option, Some, None, refl, sym, ap, ◌∙◌}
+use Rattle.std.specs.Prelude.{ℤ, is_some}
 use Rattle.std.specs.Option.{option_map}
 use Rattle.std.specs.Map.{lookup}
 use Rattle.std.specs.BTreeMap.{insert_entry}
@@ -19,6 +19,13 @@ module _ {V W : Type 0} (view : V → W) where
   pub viewed_found : (test : ℤ → Bool) (es : List (ℤ × V)) → lookup test (viewed es) ≡ option_map view (lookup test es)
   viewed_found test [] = refl
   viewed_found test (e ∷ es) = found_both (test e.0) e.1 (lookup test (viewed es)) (lookup test es) (viewed_found test es)
+
+  found_some : (found : Option V) → is_some found ≡ is_some (option_map view found)
+  found_some None = refl
+  found_some (Some v) = refl
+
+  pub viewed_some : (test : ℤ → Bool) (es : List (ℤ × V)) → is_some (lookup test es) ≡ is_some (lookup test (viewed es))
+  viewed_some test es = found_some (lookup test es) ∙ ap (λ (found : Option W). is_some found) (sym (viewed_found test es))
 
   match_both : (o : Ordering) (a b c : List (ℤ × V)) → viewed (match_ordering o a b c) ≡ match_ordering o (viewed a) (viewed b) (viewed c)
   match_both Less a b c = refl

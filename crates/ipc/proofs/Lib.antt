@@ -1,4 +1,5 @@
 pub mod Entries
 pub mod Loops
 pub mod Writes
+pub mod Places
 pub mod FileLoops

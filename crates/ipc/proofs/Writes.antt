@@ -1,17 +1,20 @@
--- Why a batch is not written, as loops go through columns.
-use Rattle.std.proofs.Common.{◌≡◌, ℕ, ◌^◌, inl, inr, Bool, true, false, leb, List, [], ◌∷◌, length, Option, Some, None, refl, sym, ◌∙◌, arith}
-use Rattle.std.specs.Prelude.{◌&&◌}
-use Rattle.std.proofs.lemmas.Bool.{le-leb}
+-- Why a batch is not written, as the code goes through columns and messages.
+use Rattle.std.proofs.Common.{◌≡◌, ℕ, ◌^◌, ◌<◌, ◌≤◌, inl, inr, Bool, true, false, leb, List, [], ◌∷◌, ◌++◌, length, Option, Some, None, Ok, refl, sym, subst, ◌∙◌, append_assoc, arith}
+use Rattle.std.specs.Prelude.{◌⊎◌, ◌&&◌}
+use Rattle.std.proofs.lemmas.Bool.{le-leb, lt-leb}
 use Rattle.ipc_model.specs.declared.fault.NoForm.{NoForm}
-use Rattle.ipc_model.specs.declared.fault.NoForm.TheVariants.{Size}
+use Rattle.ipc_model.specs.declared.fault.NoForm.TheVariants.{Memory, Size, Dictionaries}
 use Rattle.nest_memory.specs.TypeTree.{TypeTree}
 use Rattle.nest_model.specs.Layout.{Layout}
 use Rattle.ipc_message.specs.MessageBytes.{metadata_size}
+use Rattle.ipc_batch.specs.Batches.{BatchTree, all_within}
 use Rattle.ipc_batch.specs.BatchBytes as batches
-use Rattle.ipc_layout.specs.Written.{no_form, IsUnwritten}
+use Rattle.ipc_layout.specs.Written.{columns_body, no_form, IsUnwritten}
+use Rattle.ipc_needed.specs.Entries.{Entries}
 use Rattle.ipc.specs.Streams.{Arrays}
-use Rattle.ipc_layout.specs.Keyless.{are_keyless}
-use Rattle.ipc.specs.Written.{batch_tree, batch_head, is_column, are_columns, else_for, size_if, arrays_refusal, batch_refusal, IsRefused}
+use Rattle.ipc.specs.Written.{batch_tree, needed_by, is_column, are_columns, else_for, size_if, message_refusal, arrays_refusal, dictionary_refusal, each_refusal, batch_refusal, IsRefused}
+use Rattle.ipc.specs.WrittenFiles.{would_replace, dictionary_block_refusal, arrays_block_refusal, replaced_refusal, block_refusal}
+use Rattle.ipc.specs.WrittenLists.{IsMetadata, first_refused, later_refused, both_accepted}
 
 -- ---- columns
 
@@ -37,30 +40,90 @@ module _ (types more : List TypeTree) (columns others : List Layout) (t : TypeTr
       let one : are_columns types rows columns ≡ are_columns more rows others = rw (e, f, is) refl in
       sym one ∙ h
 
--- ---- a batch
+-- ---- a message
 
-pub arrays_refused : (b : Arrays) (why : NoForm) → IsUnwritten b.columns why → IsRefused (arrays_refusal b) why
-unfolding arrays_refusal
-arrays_refused b why (inl memory) = inl memory
-arrays_refused b why (inr reason) = inr (rw reason refl)
+pub columns_refused : (columns : List Layout) (rows : ℕ) (head : List ℕ) (why : NoForm) → IsUnwritten columns why → IsRefused (message_refusal columns rows head) why
+columns_refused columns rows head why refused = first_refused (no_form columns) _ why refused
 
 size_first : (a b : Bool) (rest : Option NoForm) → b ≡ true → else_for (size_if a) (size_if b) ≡ Some Size
 size_first true b rest h = refl
 size_first false b rest h = rw h refl
 
-pub message_refused : (b : Arrays) (why : NoForm) → no_form b.columns ≡ None → batches.IsUnwritten (batch_tree b) (metadata_size (batch_head b)) why → IsRefused (arrays_refusal b) why
-unfolding arrays_refusal
-message_refused b why form (inl memory) = inl memory
-message_refused b why form (inr (size, inl rows)) =
-    let past : leb (2 ^ 63) b.rows ≡ true = le-leb _ _ rows in
+message_refused : (columns : List Layout) (rows : ℕ) (head : List ℕ) (why : NoForm) → no_form columns ≡ None → (why ≡ Memory) ⊎ ((why ≡ Size) × ((2 ^ 63 ≤ rows) ⊎ (2 ^ 31 ≤ metadata_size head))) → IsRefused (message_refusal columns rows head) why
+message_refused columns rows head why form (inl memory) = inl memory
+message_refused columns rows head why form (inr (size, inl many)) =
+    let past : leb (2 ^ 63) rows ≡ true = le-leb _ _ many in
     inr (rw (form, past, size) refl)
-message_refused b why form (inr (size, inr long)) =
-    let past : leb (2 ^ 31) (metadata_size (batch_head b)) ≡ true = le-leb _ _ long in
-    inr (rw (form, size) (size_first (leb (2 ^ 63) b.rows) (leb (2 ^ 31) (metadata_size (batch_head b))) None past))
+message_refused columns rows head why form (inr (size, inr long)) =
+    let past : leb (2 ^ 31) (metadata_size head) ≡ true = le-leb _ _ long in
+    inr (rw (form, size) (size_first (leb (2 ^ 63) rows) (leb (2 ^ 31) (metadata_size head)) None past))
 
-pub batch_refused : (types : List TypeTree) (b : Arrays) (why : NoForm) → are_columns types b.rows b.columns ≡ true → are_keyless b.columns ≡ true → IsRefused (arrays_refusal b) why → IsRefused (batch_refusal types b) why
-batch_refused types b why are keyless (inl memory) = inl memory
-batch_refused types b why are keyless (inr reason) = inr (rw (are, keyless) reason)
+message_accepted : (columns : List Layout) (rows : ℕ) (head : List ℕ) → no_form columns ≡ None → rows < 2 ^ 63 → metadata_size head < 2 ^ 31 → message_refusal columns rows head ≡ None
+message_accepted columns rows head form few small =
+    let a : leb (2 ^ 63) rows ≡ false = lt-leb _ _ few in
+    let c : leb (2 ^ 31) (metadata_size head) ≡ false = lt-leb _ _ small in
+    rw (form, a, c) refl
 
-pub batch_accepted : (types : List TypeTree) (b : Arrays) → are_columns types b.rows b.columns ≡ true → are_keyless b.columns ≡ true → arrays_refusal b ≡ None → batch_refusal types b ≡ None
-batch_accepted types b are keyless none = rw (are, keyless) none
+-- a message of the metadata and the length of the body that columns have
+module _ (message : BatchTree → ℕ → List ℕ) (b : Arrays) (metadata : BatchTree) (size : ℕ) (is : IsMetadata b metadata size) where
+  abbrev head : List ℕ
+  head = message (batch_tree b) (length (columns_body b.columns))
+
+  same : message metadata size ≡ head
+  same = rw (is.tree, is.long) refl
+
+  pub head_refused : (why : NoForm) → no_form b.columns ≡ None → batches.IsUnwritten metadata (metadata_size (message metadata size)) why → IsRefused (message_refusal b.columns b.rows head) why
+  head_refused why form refused =
+      let here : batches.IsUnwritten (batch_tree b) (metadata_size head) why = subst (λ (t : BatchTree). batches.IsUnwritten t (metadata_size head) why) is.tree (subst (λ (bytes : List ℕ). batches.IsUnwritten metadata (metadata_size bytes) why) same refused) in
+      message_refused b.columns b.rows head why form here
+
+  pub head_accepted : no_form b.columns ≡ None → metadata.rows < 2 ^ 63 → metadata_size (message metadata size) < 2 ^ 31 → message_refusal b.columns b.rows head ≡ None
+  head_accepted form few small = message_accepted b.columns b.rows head form (subst (λ (t : BatchTree). t.rows < 2 ^ 63) is.tree few) (subst (λ (bytes : List ℕ). metadata_size bytes < 2 ^ 31) same small)
+
+  pub head_written : (old middle new : List ℕ) → middle ≡ old ++ message metadata size → new ≡ middle ++ columns_body b.columns → new ≡ old ++ (head ++ columns_body b.columns)
+  head_written old middle new begun ended =
+      let first : middle ≡ old ++ head = subst (λ (bytes : List ℕ). middle ≡ old ++ bytes) same begun in
+      rw (ended, first) (append_assoc old head (columns_body b.columns))
+
+  pub head_again : (IsBack : BatchTree → List ℕ → List ℕ → Type 0) → ((body : List ℕ) → length body ≡ size → all_within size metadata.regions ≡ Ok tt → metadata_size (message metadata size) < 2 ^ 31 → IsBack metadata (message metadata size) body)
+      → metadata_size (message metadata size) < 2 ^ 31 → IsBack (batch_tree b) head (columns_body b.columns)
+  head_again IsBack back small =
+      let within : all_within size metadata.regions ≡ Ok tt = rw (is.tree, is.long) is.within in
+      let here : IsBack metadata (message metadata size) (columns_body b.columns) = back (columns_body b.columns) (sym is.long) within small in
+      subst (λ (t : BatchTree). IsBack t head (columns_body b.columns)) is.tree (subst (λ (bytes : List ℕ). IsBack metadata bytes (columns_body b.columns)) same here)
+
+-- ---- a batch of the columns of a schema
+
+module _ (types : List TypeTree) (sent : Entries) (b : Arrays) (are : are_columns types b.rows b.columns ≡ true) where
+  pub dictionary_stops : (why : NoForm) → IsRefused (each_refusal dictionary_refusal (needed_by sent b)) why → IsRefused (batch_refusal types sent b) why
+  dictionary_stops why refused = rw are (first_refused (each_refusal dictionary_refusal (needed_by sent b)) (arrays_refusal b) why refused)
+
+  pub arrays_stop : (why : NoForm) → each_refusal dictionary_refusal (needed_by sent b) ≡ None → IsRefused (arrays_refusal b) why → IsRefused (batch_refusal types sent b) why
+  arrays_stop why none refused = rw are (later_refused (each_refusal dictionary_refusal (needed_by sent b)) (arrays_refusal b) why none refused)
+
+  pub batch_accepted : each_refusal dictionary_refusal (needed_by sent b) ≡ None → arrays_refusal b ≡ None → batch_refusal types sent b ≡ None
+  batch_accepted each last = rw are (both_accepted (each_refusal dictionary_refusal (needed_by sent b)) (arrays_refusal b) each last)
+
+  -- in a file
+
+  pub replaced_stops : would_replace sent (needed_by sent b) ≡ true → block_refusal types sent b ≡ Some Dictionaries
+  replaced_stops replaced = rw (are, replaced) refl
+
+  module _ (kept : would_replace sent (needed_by sent b) ≡ false) where
+    none_replaced : replaced_refusal sent (needed_by sent b) ≡ None
+    none_replaced = rw kept refl
+
+    pub dictionary_block_stops : (why : NoForm) → IsRefused (each_refusal dictionary_block_refusal (needed_by sent b)) why → IsRefused (block_refusal types sent b) why
+    dictionary_block_stops why refused =
+        let each : Option NoForm = each_refusal dictionary_block_refusal (needed_by sent b) in
+        rw are (later_refused (replaced_refusal sent (needed_by sent b)) (else_for each (arrays_block_refusal b)) why none_replaced (first_refused each (arrays_block_refusal b) why refused))
+
+    pub arrays_block_stops : (why : NoForm) → each_refusal dictionary_block_refusal (needed_by sent b) ≡ None → IsRefused (arrays_block_refusal b) why → IsRefused (block_refusal types sent b) why
+    arrays_block_stops why none refused =
+        let each : Option NoForm = each_refusal dictionary_block_refusal (needed_by sent b) in
+        rw are (later_refused (replaced_refusal sent (needed_by sent b)) (else_for each (arrays_block_refusal b)) why none_replaced (later_refused each (arrays_block_refusal b) why none refused))
+
+    pub block_accepted : each_refusal dictionary_block_refusal (needed_by sent b) ≡ None → arrays_block_refusal b ≡ None → block_refusal types sent b ≡ None
+    block_accepted none last =
+        let each : Option NoForm = each_refusal dictionary_block_refusal (needed_by sent b) in
+        rw are (both_accepted (replaced_refusal sent (needed_by sent b)) (else_for each (arrays_block_refusal b)) none_replaced (both_accepted each (arrays_block_refusal b) none last))

@@ -114,7 +114,7 @@ abbrev coded_picked : Coded PickedTree
 coded_picked =
     code_by (SchemaTree × (List Step × Seen)) (coded× coded_schema (coded× (coded_list coded_step) coded_seen)) (λ s. (s.schema, (s.steps, s.seen))) (λ p. record { schema = p.0; steps = p.1.0; seen = p.1.1 }) (λ _. refl)
 
-abbrev coded_known : Coded Known
+abbrev pub coded_known : Coded Known
 coded_known = coded_list (coded× coded_ℤ coded_layout)
 
 abbrev pub coded_state : Coded State

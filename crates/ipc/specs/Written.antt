@@ -1,28 +1,34 @@
 -- What a stream is written as ("IPC Streaming Format" of the Arrow columnar format), and why one is not written.
-use Rattle.std.specs.Prelude.{◌≡◌, ◌⊎◌, ◌^◌, ◌+◌, ℕ, Bool, true, false, ◌&&◌, ◌==◌, nat_le, if◌then◌else◌, List, [], ◌∷◌, ◌++◌, map, length, Option, Some, None, Result, Ok, Err}
-use Rattle.std.specs.List.{AllByRecursion, flat_map}
+use Rattle.std.specs.Prelude.{◌≡◌, ◌⊎◌, ◌^◌, ◌+◌, ℕ, suc, Bool, true, false, ◌&&◌, ◌==◌, nat_le, if◌then◌else◌, List, [], ◌∷◌, ◌++◌, map, length, Option, Some, None, Result, Ok, Err, ℤ}
+use Rattle.std.specs.BTreeMap.{insert_entry}
+use Rattle.std.specs.List.{AllByRecursion, AllZip, flat_map}
+use Rattle.std.specs.Ordering.{int_cmp}
 use Rattle.nest_memory.specs.TypeTree.{TypeTree}
 use Rattle.nest_memory.specs.TypeEq.{same_type}
+use Rattle.nest_model.specs.Array.{IsArray}
 use Rattle.nest_model.specs.Layout.{Layout, layout_type}
-use Rattle.nest_model.specs.Meaning.{len}
-use Rattle.nest_model.specs.SameArray.{IsSameArray}
+use Rattle.nest_model.specs.Meaning.{len, slots_of}
 use Rattle.ipc_model.specs.declared.fault.NoForm.{NoForm}
-use Rattle.ipc_model.specs.declared.fault.NoForm.TheVariants.{Memory, Size, Columns, «Type» as NotWritten}
+use Rattle.ipc_model.specs.declared.fault.NoForm.TheVariants.{Memory, Size, Columns}
 use Rattle.ipc_message.specs.Messages.{Parts, message_at}
 use Rattle.ipc_message.specs.MessageBytes.{metadata_size, end_mark}
-use Rattle.ipc_message.specs.declared.message.Kind.TheVariants.{RecordBatch}
+use Rattle.ipc_message.specs.declared.message.Kind.TheVariants.{DictionaryBatch, RecordBatch}
 use Rattle.ipc_message.specs.declared.message.Version.TheVariants.{V5}
 use Rattle.ipc_schema.specs.Schemas.{SchemaTree}
-use Rattle.ipc_schema.specs.Forms.{fields_form}
-use Rattle.ipc_schema.specs.Outer.{outer_ids}
+use Rattle.ipc_schema.specs.Forms.{keyed_form}
 use Rattle.ipc_schema.specs.PickedLaws.{all_steps}
 use Rattle.ipc_schema.specs.SchemaBytes.{schema_message}
 use Rattle.ipc_batch.specs.Batches.{BatchTree}
 use Rattle.ipc_batch.specs.BatchBytes.{batch_message}
-use Rattle.ipc_layout.specs.Keyless.{are_keyless}
+use Rattle.ipc_batch.specs.DictionaryBytes.{dictionary_message}
 use Rattle.ipc_layout.specs.Placed.{regions_from}
-use Rattle.ipc_layout.specs.Written.{column_node, written, buffers_of, dictionaries_of, columns_body, no_form, shown}
-use Rattle.ipc.specs.Streams.{Arrays, State, StreamTree, record_batch_in, types_of, values_at}
+use Rattle.ipc_layout.specs.Rekeyed.{AreReadOver}
+use Rattle.ipc_layout.specs.Written.{column_node, written, buffers_of, columns_body, no_form}
+use Rattle.ipc_needed.specs.Entries.{Entries, own_entries}
+use Rattle.ipc_needed.specs.Needed.{entry_at, with_entries, needed}
+use Rattle.ipc_needed.specs.Known.{IsKnown, AreKnown, number_of, read_columns, read_values, known_with}
+use Rattle.ipc_needed.specs.Named.{IsNamed, AreNamed, seen_of_fields}
+use Rattle.ipc.specs.Streams.{Arrays, State, StreamTree, record_batch_in, dictionary_in, types_of}
 
 -- ---- bytes
 
@@ -38,9 +44,38 @@ batch_head b = batch_message (batch_tree b) (length (columns_body b.columns))
 unfoldable pub batch_bytes : Arrays → List ℕ
 batch_bytes b = batch_head b ++ columns_body b.columns
 
+-- the values of a dictionary are a batch of one column
+abbrev pub one_column : Layout → Arrays
+one_column c = record { rows = len c; columns = c ∷ [] }
+
+-- the message of an id's values, without its body
+abbrev pub dictionary_head : ℤ × Layout → List ℕ
+dictionary_head e = dictionary_message e.0 (batch_tree (one_column e.1)) (length (columns_body (e.1 ∷ [])))
+
+-- with its body
+unfoldable pub dictionary_bytes : ℤ × Layout → List ℕ
+dictionary_bytes e = dictionary_head e ++ columns_body (e.1 ∷ [])
+
+-- the dictionaries that a batch needs, where these were written last
+abbrev pub needed_by : Entries → Arrays → Entries
+needed_by sent b = needed sent b.columns
+
+-- what was written last behind a batch
+abbrev pub sent_behind : Entries → Arrays → Entries
+sent_behind sent b = with_entries sent (needed_by sent b)
+
+-- a batch behind the dictionaries that it needs
+unfoldable pub part_bytes : Entries → Arrays → List ℕ
+part_bytes sent b = flat_map dictionary_bytes (needed_by sent b) ++ batch_bytes b
+
+-- batches, one after another
+unfoldable pub batches_bytes : Entries → List Arrays → List ℕ
+batches_bytes sent [] = []
+batches_bytes sent (b ∷ bs) = part_bytes sent b ++ batches_bytes (sent_behind sent b) bs
+
 -- the message of the schema, the batches, the end mark
 unfoldable pub stream_bytes : SchemaTree → List Arrays → List ℕ
-stream_bytes s bs = schema_message s ++ (flat_map batch_bytes bs ++ end_mark)
+stream_bytes s bs = schema_message s ++ (batches_bytes [] bs ++ end_mark)
 
 -- ---- why a stream is not written
 
@@ -62,7 +97,7 @@ metadata_refusal message = size_if (nat_le (2 ^ 31) (metadata_size message))
 
 -- the first reason why a schema is not written: a field, else the size of its message
 abbrev pub schema_refusal : SchemaTree → Option NoForm
-schema_refusal s = else_for (reason_in (fields_form s.fields)) (metadata_refusal (schema_message s))
+schema_refusal s = else_for (reason_in (keyed_form s.fields)) (metadata_refusal (schema_message s))
 
 -- a column has this data type, and so many slots
 abbrev pub is_column : TypeTree → ℕ → Layout → Bool
@@ -75,26 +110,38 @@ are_columns [] rows (a ∷ columns) = false
 are_columns (t ∷ types) rows [] = false
 are_columns (t ∷ types) rows (a ∷ columns) = is_column t rows a && are_columns types rows columns
 
--- the first reason why arrays are not written as a batch: the size of the body, the rows, the size of the message
+-- the first reason why so many rows of columns are not written with this message: the size of the body, the rows, the size of the message
+abbrev pub message_refusal : List Layout → ℕ → List ℕ → Option NoForm
+message_refusal columns rows head = else_for (no_form columns) (else_for (size_if (nat_le (2 ^ 63) rows)) (metadata_refusal head))
+
+-- of arrays that are written as a batch
 unfoldable pub arrays_refusal : Arrays → Option NoForm
-arrays_refusal b = else_for (no_form b.columns) (else_for (size_if (nat_le (2 ^ 63) b.rows)) (metadata_refusal (batch_head b)))
+arrays_refusal b = message_refusal b.columns b.rows (batch_head b)
 
--- of a batch of columns of these types; dictionaries are not written yet
-abbrev pub batch_refusal : List TypeTree → Arrays → Option NoForm
-batch_refusal types b = if are_columns types b.rows b.columns then (if are_keyless b.columns then arrays_refusal b else Some NotWritten) else Some Columns
+-- of the values of an id
+unfoldable pub dictionary_refusal : ℤ × Layout → Option NoForm
+dictionary_refusal e = message_refusal (e.1 ∷ []) (len e.1) (dictionary_head e)
 
--- the first reason of any batch
-abbrev pub each_refusal : (Arrays → Option NoForm) → List Arrays → Option NoForm
+-- the first reason of any of them
+abbrev pub each_refusal : {A : Type 0} → (A → Option NoForm) → List A → Option NoForm
 each_refusal refusal [] = None
-each_refusal refusal (b ∷ bs) = else_for (refusal b) (each_refusal refusal bs)
+each_refusal refusal (x ∷ xs) = else_for (refusal x) (each_refusal refusal xs)
 
--- batch by batch
-abbrev pub batches_refusal : List TypeTree → List Arrays → Option NoForm
-batches_refusal types bs = each_refusal (batch_refusal types) bs
+-- of a batch of columns of these types: a dictionary that it needs, then the batch
+abbrev pub batch_refusal : List TypeTree → Entries → Arrays → Option NoForm
+batch_refusal types sent b = if are_columns types b.rows b.columns then else_for (each_refusal dictionary_refusal (needed_by sent b)) (arrays_refusal b) else Some Columns
+
+-- the first reason batch by batch, each behind what the batches before it need
+abbrev pub refusal_from : (Entries → Arrays → Option NoForm) → Entries → List Arrays → Option NoForm
+refusal_from refusal sent [] = None
+refusal_from refusal sent (b ∷ bs) = else_for (refusal sent b) (refusal_from refusal (sent_behind sent b) bs)
+
+abbrev pub batches_refusal : List TypeTree → Entries → List Arrays → Option NoForm
+batches_refusal types sent bs = refusal_from (batch_refusal types) sent bs
 
 -- the first reason why a stream is not written: the schema, then batch by batch
 abbrev pub stream_refusal : SchemaTree → List Arrays → Option NoForm
-stream_refusal s bs = else_for (schema_refusal s) (batches_refusal (types_of s) bs)
+stream_refusal s bs = else_for (schema_refusal s) (batches_refusal (types_of s) [] bs)
 
 -- for that reason, or for want of memory
 abbrev pub IsRefused : Option NoForm → NoForm → Type 0
@@ -102,35 +149,90 @@ IsRefused reason why = (why ≡ Memory) ⊎ (reason ≡ Some why)
 
 -- ---- what is read back
 
--- a batch without the validities of columns in which nothing is null
-abbrev pub shown_arrays : Arrays → Arrays
-shown_arrays b = record { rows = b.rows; columns = map shown b.columns }
+-- a batch as it is read where these dictionaries are known: without the validities of columns in which nothing is null
+abbrev pub read_arrays : Entries → Arrays → Arrays
+read_arrays known b = record { rows = b.rows; columns = read_columns known b.columns }
+
+-- what a reader knows behind the dictionaries of a batch
+abbrev pub known_behind : Entries → Entries → Arrays → Entries
+known_behind known sent b = known_with known (needed_by sent b)
+
+-- batches as they are read, one after another
+abbrev pub read_batches : Entries → Entries → List Arrays → List Arrays
+read_batches known sent [] = []
+read_batches known sent (b ∷ bs) = read_arrays (known_behind known sent b) b ∷ read_batches (known_behind known sent b) (sent_behind sent b) bs
+
+-- those of a stream
+abbrev pub shown_batches : List Arrays → List Arrays
+shown_batches bs = read_batches [] [] bs
 
 -- a stream of so many bytes
 abbrev pub shown_stream : SchemaTree → List Arrays → ℕ → StreamTree
-shown_stream s bs size = record { schema = s; batches = map shown_arrays bs; read = size }
+shown_stream s bs size = record { schema = s; batches = shown_batches bs; read = size }
 
--- its columns are the same arrays: equal data types and equal slots
-abbrev pub IsSameBatch : Arrays → Type 0
-IsSameBatch b = AllByRecursion (λ a. IsSameArray a (shown a)) b.columns
+-- the same rows of the same arrays: equal data types and equal slots
+pub record IsSameBatch (b c : Arrays) : Type 0 where
+  pub rows : c.rows ≡ b.rows
+  pub types : map layout_type c.columns ≡ map layout_type b.columns
+  pub slots : map slots_of c.columns ≡ map slots_of b.columns
 
--- all columns are read where a batch of such columns comes, and the dictionaries of the batch are known as they are shown
-pub record ReadsAll (s : State) (b : Arrays) : Type 0 where
-  pub steps : s.picked.steps ≡ all_steps s.picked.schema.fields
-  pub columns : are_columns (types_of s.picked.schema) b.rows b.columns ≡ true
-  pub dictionaries : values_at s.known (outer_ids s.picked.seen.named s.picked.seen.ids) ≡ dictionaries_of (written b.columns)
+abbrev pub AreSameBatches : List Arrays → List Arrays → Type 0
+AreSameBatches bs cs = AllZip IsSameBatch bs cs
 
--- the message of a batch that is written, as it is read, whatever stands behind its body
-pub record IsMessage (b : Arrays) (m : Parts) : Type 0 where
-  pub again : (rest : List ℕ) → message_at (batch_bytes b ++ rest) ≡ Ok (Some m, rest)
-  pub kind : m.root.kind ≡ RecordBatch
+-- ---- how each message is read
+
+-- the message that bytes are, whatever stands behind them
+pub record IsMessage (bytes head body : List ℕ) (m : Parts) : Type 0 where
+  pub again : (rest : List ℕ) → message_at (bytes ++ rest) ≡ Ok (Some m, rest)
   pub version : m.root.version ≡ V5
-  pub metadata : 8 + length m.metadata ≡ length (batch_head b)
-  pub body : length m.body ≡ length (columns_body b.columns)
-  pub columns : (s : State) → ReadsAll s b → record_batch_in s m ≡ Ok (shown_arrays b)
+  pub head_long : 8 + length m.metadata ≡ length head
+  pub body_long : length m.body ≡ length body
+
+-- a state behind a schema that is written, of all columns
+pub record IsWhole (s : State) : Type 0 where
+  pub steps : s.picked.steps ≡ all_steps s.picked.schema.fields
+  pub seen : s.picked.seen ≡ seen_of_fields s.picked.schema.fields
+
+-- where such columns can come: what their keys name is known
+pub record ReadsBatch (s : State) (b : Arrays) : Type 0 where
+  pub whole : IsWhole s
+  pub columns : are_columns (types_of s.picked.schema) b.rows b.columns ≡ true
+  pub named : AreNamed s.picked.schema.fields b.columns
+  pub known : AreKnown s.known b.columns
 
 -- a batch that is written is read back
 pub record IsReadAgain (b : Arrays) : Type 0 where
   pub parts : Parts
-  pub message : IsMessage b parts
-  pub same : IsSameBatch b
+  pub message : IsMessage (batch_bytes b) (batch_head b) (columns_body b.columns) parts
+  pub kind : parts.root.kind ≡ RecordBatch
+  pub columns : (s : State) → ReadsBatch s b → record_batch_in s parts ≡ Ok (read_arrays s.known b)
+  pub over : AreReadOver b.columns
+
+-- what is known behind a dictionary
+abbrev pub known_more : State → ℤ × Layout → State
+known_more s e = record { picked = s.picked; known = insert_entry int_cmp s.known e.0 (read_values s.known (number_of e.0) e.1) }
+
+-- where the values of an id can come: what is inside of them is known, and in a file the id is new
+pub record ReadsValues (once : Bool) (s : State) (e : ℤ × Layout) : Type 0 where
+  pub named : IsNamed s.picked.seen.named e
+  pub inside : AllByRecursion (IsKnown s.known) (own_entries (suc (number_of e.0)) e.1)
+  pub new : once ≡ true → entry_at s.known e.0 ≡ None
+
+-- a dictionary that is written is read back
+pub record IsDictionaryAgain (e : ℤ × Layout) : Type 0 where
+  pub parts : Parts
+  pub message : IsMessage (dictionary_bytes e) (dictionary_head e) (columns_body (e.1 ∷ [])) parts
+  pub kind : parts.root.kind ≡ DictionaryBatch
+  pub values : (once : Bool) (s : State) → ReadsValues once s e → dictionary_in once s parts ≡ Ok (known_more s e)
+  pub over : AreReadOver (e.1 ∷ [])
+
+-- a batch with what it needs
+pub record IsPartAgain (sent : Entries) (b : Arrays) : Type 0 where
+  pub dictionaries : AllByRecursion IsDictionaryAgain (needed_by sent b)
+  pub batch : IsReadAgain b
+  pub fits : AllByRecursion IsArray b.columns
+
+-- batches, one after another
+abbrev pub AreAgain : Entries → List Arrays → Type 0
+AreAgain sent [] = Unit {0}
+AreAgain sent (b ∷ bs) = IsPartAgain sent b × AreAgain (sent_behind sent b) bs

@@ -1,24 +1,26 @@
--- Lists of batches that are written, one batch after another: their bytes, their blocks, and why one is not written.
-use Rattle.std.proofs.Common.{◌≡◌, ℕ, ◌+◌, ◌^◌, ◌<◌, ◌≤◌, inl, inr, Bool, true, false, leb, List, [], ◌∷◌, ◌++◌, length, get_or, take, drop, map, Option, Some, None, Result, Ok, Err, refl, sym, ap, ◌∙◌, append_assoc, arith}
-use Rattle.std.specs.Prelude.{if◌then◌else◌}
+-- Lists of dictionaries and of batches that are written, one after another: what was written last, their bytes, their blocks, and why one is not written.
+use Rattle.std.proofs.Common.{◌≡◌, ℕ, ◌+◌, ◌^◌, ◌<◌, ◌≤◌, inl, inr, Bool, true, false, leb, List, [], ◌∷◌, ◌++◌, length, get_or, take, drop, map, Option, Some, None, Result, Ok, Err, refl, sym, ap, ◌∙◌, subst, append_assoc, arith}
+use Rattle.std.specs.Prelude.{ℤ, if◌then◌else◌}
 use Rattle.std.specs.List.{AllByRecursion, flat_map}
 use Rattle.std.proofs.lemmas.Bool.{le-leb, lt-leb}
 use Rattle.std.proofs.lemmas.List.{append-nil, map-append, map_more, drop_more, take-append-drop, take_all, length-append}
 use Rattle.std.proofs.lemmas.List.Concat.{flat_map-cons, flat_map-append}
 use Rattle.ipc_model.specs.declared.fault.NoForm.{NoForm}
-use Rattle.ipc_model.specs.declared.fault.NoForm.TheVariants.{Size, Columns, «Type» as NotWritten}
+use Rattle.ipc_model.specs.declared.fault.NoForm.TheVariants.{Size, Columns}
 use Rattle.nest_memory.specs.TypeTree.{TypeTree}
+use Rattle.nest_model.specs.Layout.{Layout}
 use Rattle.ipc_message.specs.MessageBytes.{metadata_size}
+use Rattle.ipc_batch.specs.Batches.{BatchTree, all_within}
 use Rattle.ipc_schema.specs.Schemas.{SchemaTree}
 use Rattle.ipc_schema.specs.Forms as forms
-use Rattle.ipc_schema.specs.Forms.{fields_form}
+use Rattle.ipc_schema.specs.Forms.{keyed_form}
 use Rattle.ipc_schema.specs.SchemaBytes.{schema_message}
 use Rattle.ipc_footer.specs.declared.footer.Block.{Block}
-use Rattle.ipc_layout.specs.Keyless.{are_keyless, none_named}
-use Rattle.ipc.specs.Streams.{Arrays, types_of}
-use Rattle.ipc.specs.WrittenFiles.{written_block, blocks_from, block_refusal, blocks_refusal}
-use Rattle.ipc.specs.Written.{batch_head, batch_bytes, are_columns, else_for, size_if, schema_refusal, metadata_refusal, reason_in, arrays_refusal, batch_refusal, each_refusal, batches_refusal, IsRefused, ReadsAll, IsReadAgain, IsSameBatch}
-use Rattle.ipc.specs.WrittenLaws.{plain_start, reads_plain}
+use Rattle.ipc_layout.specs.Written.{columns_body}
+use Rattle.ipc_needed.specs.Entries.{Entries}
+use Rattle.ipc.specs.Streams.{Arrays}
+use Rattle.ipc.specs.Written.{batch_tree, batch_head, batch_bytes, dictionary_head, dictionary_bytes, needed_by, sent_behind, part_bytes, batches_bytes, are_columns, else_for, schema_refusal, metadata_refusal, reason_in, arrays_refusal, dictionary_refusal, batch_refusal, each_refusal, refusal_from, batches_refusal, IsRefused, IsPartAgain, AreAgain}
+use Rattle.ipc.specs.WrittenFiles.{block_at, written_block, dictionary_blocks, Blocks, no_blocks, batch_place, blocks_from, long_refusal, dictionary_block_refusal, arrays_block_refusal, replaced_refusal, block_refusal, blocks_refusal}
 
 module _ {A B : Type 0} (f : A → B) where
   pub taken : (xs : List A) (i : ℕ) (x : A) → i < length xs → x ≡ get_or xs i x → map f (take (i + 1) xs) ≡ map f (take i xs) ++ f x ∷ []
@@ -35,95 +37,14 @@ module _ {A B : Type 0} (f : A → B) where
       let rest : drop i xs ≡ x ∷ drop (i + 1) xs = drop_more xs i x lt ∙ ap (λ (y : A). y ∷ drop (i + 1) xs) (sym is) in
       ap (map f) (sym (take-append-drop i xs)) ∙ map-append f (take i xs) (drop i xs) ∙ ap (λ (ys : List A). map f (take i xs) ++ map f ys) rest
 
--- ---- batches
+-- what the metadata of a batch says, and how long its body is
+pub record IsMetadata (b : Arrays) (metadata : BatchTree) (size : ℕ) : Type 0 where
+  pub tree : metadata ≡ batch_tree b
+  pub long : size ≡ length (columns_body b.columns)
+  pub small : size < 2 ^ 63
+  pub within : all_within (length (columns_body b.columns)) (batch_tree b).regions ≡ Ok tt
 
-module _ (refusal : Arrays → Option NoForm) where
-  pub batches_push : (bs : List Arrays) (b : Arrays) → each_refusal refusal bs ≡ None → refusal b ≡ None → each_refusal refusal (bs ++ b ∷ []) ≡ None
-  batches_push [] b none h = rw h refl
-  batches_push (c ∷ bs) b none h = both (refusal c) (each_refusal refusal bs) (each_refusal refusal (bs ++ b ∷ [])) none (λ k. batches_push bs b k h)
-    where
-      both : (r s t : Option NoForm) → else_for r s ≡ None → (s ≡ None → t ≡ None) → else_for r t ≡ None
-      both None s t k f = f k
-      both (Some why) s t k f = k
-
-  pub batches_fail : (bs back : List Arrays) (b : Arrays) (why : NoForm) → each_refusal refusal bs ≡ None → refusal b ≡ Some why → each_refusal refusal (bs ++ b ∷ back) ≡ Some why
-  batches_fail [] back b why none h = rw h refl
-  batches_fail (c ∷ bs) back b why none h = both (refusal c) (each_refusal refusal bs) (each_refusal refusal (bs ++ b ∷ back)) none (λ k. batches_fail bs back b why k h)
-    where
-      both : (r s t : Option NoForm) → else_for r s ≡ None → (s ≡ None → t ≡ Some why) → else_for r t ≡ Some why
-      both None s t k f = f k
-      both (Some other) s t k f = cc
-
-  pub batches_refused : (bs front back : List Arrays) (b : Arrays) (why : NoForm) → bs ≡ front ++ b ∷ back → each_refusal refusal front ≡ None → IsRefused (refusal b) why → IsRefused (each_refusal refusal bs) why
-  batches_refused bs front back b why e none (inl memory) = inl memory
-  batches_refused bs front back b why e none (inr reason) = inr (rw e (batches_fail front back b why none reason))
-
-pub all_push : {A : Type 0} (P : A → Type 0) (xs : List A) (x : A) → AllByRecursion P xs → P x → AllByRecursion P (xs ++ x ∷ [])
-all_push P [] x all p = (p, tt)
-all_push P (y ∷ xs) x all p = (all.0, all_push P xs x all.1 p)
-
-pub all_same : (bs : List Arrays) → AllByRecursion IsReadAgain bs → AllByRecursion IsSameBatch bs
-all_same [] ok = tt
-all_same (b ∷ bs) ok = (ok.0.same, all_same bs ok.1)
-
-pub no_bytes : flat_map batch_bytes [] ≡ []
-no_bytes = refl
-
-pub bytes_push : (old out new : List ℕ) (bs more : List Arrays) (b : Arrays) → more ≡ bs ++ b ∷ [] → out ≡ old ++ flat_map batch_bytes bs → new ≡ out ++ batch_bytes b → new ≡ old ++ flat_map batch_bytes more
-bytes_push old out new bs more b e so_far is =
-    let one : flat_map batch_bytes (b ∷ []) ≡ batch_bytes b = flat_map-cons batch_bytes b [] ∙ ap (λ (x : List ℕ). batch_bytes b ++ x) no_bytes ∙ append-nil (batch_bytes b) in
-    let all : flat_map batch_bytes more ≡ flat_map batch_bytes bs ++ batch_bytes b = ap (flat_map batch_bytes) e ∙ flat_map-append batch_bytes bs (b ∷ []) ∙ ap (λ (x : List ℕ). flat_map batch_bytes bs ++ x) one in
-    rw (is, so_far, all) (append_assoc old (flat_map batch_bytes bs) (batch_bytes b))
-
--- batches that are not refused have the columns of the schema
--- what holds of each batch where none is refused
-record IsAccepted (types : List TypeTree) (b : Arrays) : Type 0 where
-  columns : are_columns types b.rows b.columns ≡ true
-  keyless : are_keyless b.columns ≡ true
-
-accepted_by : (types : List TypeTree) (b : Arrays) (are keyless : Bool) (r s : Option NoForm) → are_columns types b.rows b.columns ≡ are → are_keyless b.columns ≡ keyless
-    → else_for (if are then (if keyless then r else Some NotWritten) else Some Columns) s ≡ None → IsAccepted types b
-accepted_by types b true true r s are keyless h = record { columns = are; keyless = keyless }
-accepted_by types b true false r s are keyless h = cc
-accepted_by types b false keyless r s are e h = cc
-
-others_accepted : (r s : Option NoForm) → else_for r s ≡ None → s ≡ None
-others_accepted None s h = h
-others_accepted (Some why) s h = cc
-
-each_accepted : (types : List TypeTree) (bs : List Arrays) → batches_refusal types bs ≡ None → AllByRecursion (IsAccepted types) bs
-each_accepted types [] none = tt
-each_accepted types (b ∷ bs) none =
-    (accepted_by types b (are_columns types b.rows b.columns) (are_keyless b.columns) (arrays_refusal b) (batches_refusal types bs) refl refl none, each_accepted types bs (others_accepted (batch_refusal types b) (batches_refusal types bs) none))
-
--- then all are read where nothing is known of dictionaries
-pub all_read : (s : SchemaTree) (bs : List Arrays) → batches_refusal (types_of s) bs ≡ None → AllByRecursion (ReadsAll (plain_start s)) bs
-all_read s bs none = each bs (each_accepted (types_of s) bs none)
-  where
-    each : (bs : List Arrays) → AllByRecursion (IsAccepted (types_of s)) bs → AllByRecursion (ReadsAll (plain_start s)) bs
-    each [] ok = tt
-    each (b ∷ bs) ok = (reads_plain s b ok.0.columns (none_named b.columns ok.0.keyless), each bs ok.1)
-
--- ---- a stream
-
-pub fields_formed : (s : SchemaTree) → schema_refusal s ≡ None → fields_form s.fields ≡ Ok tt
-fields_formed s none = by (fields_form s.fields) (metadata_refusal (schema_message s)) none
-  where
-    by : (form : Result (Unit {0}) NoForm) (rest : Option NoForm) → else_for (reason_in form) rest ≡ None → form ≡ Ok tt
-    by (Ok tt) rest h = refl
-    by (Err why) rest h = cc
-
-pub schema_refused : (s : SchemaTree) (why : NoForm) → forms.IsUnwritten s.fields (metadata_size (schema_message s)) why → IsRefused (schema_refusal s) why
-schema_refused s why (inl memory) = inl memory
-schema_refused s why (inr (inl reason)) = inr (rw reason refl)
-schema_refused s why (inr (inr (form, size, long))) =
-    let past : leb (2 ^ 31) (metadata_size (schema_message s)) ≡ true = le-leb _ _ long in
-    inr (rw (form, past, size) refl)
-
-pub schema_accepted : (s : SchemaTree) → fields_form s.fields ≡ Ok tt → metadata_size (schema_message s) < 2 ^ 31 → schema_refusal s ≡ None
-schema_accepted s form small =
-    let past : leb (2 ^ 31) (metadata_size (schema_message s)) ≡ false = lt-leb _ _ small in
-    rw (form, past) refl
+-- ---- reasons
 
 pub first_refused : (r s : Option NoForm) (why : NoForm) → IsRefused r why → IsRefused (else_for r s) why
 first_refused r s why (inl memory) = inl memory
@@ -133,50 +54,227 @@ pub later_refused : (r s : Option NoForm) (why : NoForm) → r ≡ None → IsRe
 later_refused r s why none (inl memory) = inl memory
 later_refused r s why none (inr reason) = inr (rw none reason)
 
--- ---- a file
+pub both_accepted : (r s : Option NoForm) → r ≡ None → s ≡ None → else_for r s ≡ None
+both_accepted r s e f = rw e f
 
--- the message is longer than a footer has a number for
-pub block_past : (types : List TypeTree) (b : Arrays) → batch_refusal types b ≡ None → 2 ^ 31 ≤ length (batch_head b) → block_refusal types b ≡ Some Size
-block_past types b none long =
-    let past : leb (2 ^ 31) (length (batch_head b)) ≡ true = le-leb _ _ long in
-    rw (none, past) refl
+pub first_accepts : (r s : Option NoForm) → else_for r s ≡ None → r ≡ None
+first_accepts None s h = refl
+first_accepts (Some why) s h = h
 
-pub block_accepted : (types : List TypeTree) (b : Arrays) → batch_refusal types b ≡ None → length (batch_head b) < 2 ^ 31 → block_refusal types b ≡ None
-block_accepted types b none short =
-    let fits : leb (2 ^ 31) (length (batch_head b)) ≡ false = lt-leb _ _ short in
-    rw (none, fits) refl
+pub others_accept : (r s : Option NoForm) → else_for r s ≡ None → s ≡ None
+others_accept None s h = h
+others_accept (Some why) s h = cc
 
--- what has no form in a stream has none in a file
-pub else_refused : (first next : Option NoForm) (why : NoForm) → IsRefused first why → IsRefused (else_for first next) why
-else_refused first next why (inl memory) = inl memory
-else_refused first next why (inr reason) = inr (rw reason refl)
+-- of a list one of which has none behind those that have
+module _ {A : Type 0} (refusal : A → Option NoForm) where
+  pub each_push : (xs : List A) (x : A) → each_refusal refusal xs ≡ None → refusal x ≡ None → each_refusal refusal (xs ++ x ∷ []) ≡ None
+  each_push [] x none h = rw h refl
+  each_push (y ∷ xs) x none h =
+      both_accepted (refusal y) (each_refusal refusal (xs ++ x ∷ [])) (first_accepts (refusal y) (each_refusal refusal xs) none) (each_push xs x (others_accept (refusal y) (each_refusal refusal xs) none) h)
 
-pub next_refused : (first next : Option NoForm) (why : NoForm) → first ≡ None → IsRefused next why → IsRefused (else_for first next) why
-next_refused first next why none refused = rw none refused
+  each_fails : (front back : List A) (x : A) (why : NoForm) → each_refusal refusal front ≡ None → IsRefused (refusal x) why → IsRefused (each_refusal refusal (front ++ x ∷ back)) why
+  each_fails [] back x why none refused = first_refused (refusal x) (each_refusal refusal back) why refused
+  each_fails (y ∷ front) back x why none refused =
+      later_refused (refusal y) (each_refusal refusal (front ++ x ∷ back)) why (first_accepts (refusal y) (each_refusal refusal front) none) (each_fails front back x why (others_accept (refusal y) (each_refusal refusal front) none) refused)
 
--- batches that are written into a file are written into a stream
-pub stream_accepts : (types : List TypeTree) (bs : List Arrays) → blocks_refusal types bs ≡ None → batches_refusal types bs ≡ None
-stream_accepts types [] none = refl
-stream_accepts types (b ∷ bs) none = both (batch_refusal types b) (size_if (leb (2 ^ 31) (length (batch_head b)))) (blocks_refusal types bs) (batches_refusal types bs) none (λ k. stream_accepts types bs k)
-  where
-    both : (r past s t : Option NoForm) → else_for (else_for r past) s ≡ None → (s ≡ None → t ≡ None) → else_for r t ≡ None
-    both None None s t k f = f k
-    both None (Some why) s t k f = cc
-    both (Some why) past s t k f = cc
+  pub each_refused : (xs front back : List A) (x : A) (why : NoForm) → xs ≡ front ++ x ∷ back → each_refusal refusal front ≡ None → IsRefused (refusal x) why → IsRefused (each_refusal refusal xs) why
+  each_refused xs front back x why e none refused = subst (λ (ys : List A). IsRefused (each_refusal refusal ys) why) (sym e) (each_fails front back x why none refused)
 
--- ---- batches that are written
+pub all_push : {A : Type 0} (P : A → Type 0) (xs : List A) (x : A) → AllByRecursion P xs → P x → AllByRecursion P (xs ++ x ∷ [])
+all_push P [] x all p = (p, tt)
+all_push P (y ∷ xs) x all p = (all.0, all_push P xs x all.1 p)
 
-pub blocks_push : (place : ℕ) (bs : List Arrays) (b : Arrays) → blocks_from place (bs ++ b ∷ []) ≡ blocks_from place bs ++ written_block (place + length (flat_map batch_bytes bs)) b ∷ []
-unfolding blocks_from
-blocks_push place [] b =
+flat_push : {A : Type 0} (bytes : A → List ℕ) (xs : List A) (x : A) → flat_map bytes (xs ++ x ∷ []) ≡ flat_map bytes xs ++ bytes x
+flat_push bytes xs x =
+    let one : flat_map bytes (x ∷ []) ≡ bytes x = flat_map-cons bytes x [] ∙ append-nil (bytes x) in
+    flat_map-append bytes xs (x ∷ []) ∙ ap (λ (ys : List ℕ). flat_map bytes xs ++ ys) one
+
+-- bytes behind bytes
+joined : (old out new some more all : List ℕ) → out ≡ old ++ some → new ≡ out ++ more → all ≡ some ++ more → new ≡ old ++ all
+joined old out new some more all so_far is whole = rw (is, so_far, whole) (append_assoc old some more)
+
+-- ---- dictionaries, one after another
+
+pub dictionaries_push : (old out new : List ℕ) (es more : Entries) (e : ℤ × Layout) → more ≡ es ++ e ∷ [] → out ≡ old ++ flat_map dictionary_bytes es → new ≡ out ++ dictionary_bytes e → new ≡ old ++ flat_map dictionary_bytes more
+dictionaries_push old out new es more e pushed so_far is =
+    joined old out new (flat_map dictionary_bytes es) (dictionary_bytes e) (flat_map dictionary_bytes more) so_far is (ap (flat_map dictionary_bytes) pushed ∙ flat_push dictionary_bytes es e)
+
+abbrev dictionary_block : ℕ → ℤ × Layout → Block
+dictionary_block place e = block_at place (dictionary_head e) (columns_body (e.1 ∷ []))
+
+dictionary_blocks_push : (place : ℕ) (es : Entries) (e : ℤ × Layout) → dictionary_blocks place (es ++ e ∷ []) ≡ dictionary_blocks place es ++ dictionary_block (place + length (flat_map dictionary_bytes es)) e ∷ []
+unfolding dictionary_blocks
+dictionary_blocks_push place [] e =
     let start : place + 0 ≡ place = omega arith in
     rw start refl
-blocks_push place (c ∷ bs) b =
-    let next : ℕ = place + length (batch_bytes c) in
-    let all : length (flat_map batch_bytes (c ∷ bs)) ≡ length (batch_bytes c) + length (flat_map batch_bytes bs) = ap length (flat_map-cons batch_bytes c bs) ∙ length-append (batch_bytes c) (flat_map batch_bytes bs) in
-    let same : next + length (flat_map batch_bytes bs) ≡ place + length (flat_map batch_bytes (c ∷ bs)) = omega (arith, all) in
-    rw (blocks_push next bs b, same) refl
+dictionary_blocks_push place (d ∷ es) e =
+    let next : ℕ = place + length (dictionary_bytes d) in
+    let all : length (flat_map dictionary_bytes (d ∷ es)) ≡ length (dictionary_bytes d) + length (flat_map dictionary_bytes es) = ap length (flat_map-cons dictionary_bytes d es) ∙ length-append (dictionary_bytes d) (flat_map dictionary_bytes es) in
+    let same : next + length (flat_map dictionary_bytes es) ≡ place + length (flat_map dictionary_bytes (d ∷ es)) = omega (arith, all) in
+    rw (dictionary_blocks_push next es e, same) refl
 
-pub blocks_more : (place : ℕ) (bs more : List Arrays) (b : Arrays) (old new : List Block) (block : Block) (start : ℕ) → more ≡ bs ++ b ∷ [] → new ≡ old ++ block ∷ [] → old ≡ blocks_from place bs → block ≡ written_block start b → start ≡ place + length (flat_map batch_bytes bs)
-    → new ≡ blocks_from place more
-blocks_more place bs more b old new block start e pushed so_far is there = rw (e, blocks_push place bs b, pushed, so_far, is, there) refl
+pub dictionary_blocks_more : (place start : ℕ) (es more : Entries) (e : ℤ × Layout) (front old new : List Block) (block : Block) → more ≡ es ++ e ∷ [] → old ≡ front ++ dictionary_blocks place es → new ≡ old ++ block ∷ [] → block ≡ dictionary_block start e
+    → start ≡ place + length (flat_map dictionary_bytes es) → new ≡ front ++ dictionary_blocks place more
+dictionary_blocks_more place start es more e front old new block pushed so_far is there begins =
+    rw (is, so_far, pushed, dictionary_blocks_push place es e, there, begins) (append_assoc front (dictionary_blocks place es) (dictionary_block (place + length (flat_map dictionary_bytes es)) e ∷ []))
+
+-- ---- batches, one after another
+
+-- what was written last behind batches
+abbrev pub sent_after : Entries → List Arrays → Entries
+sent_after sent [] = sent
+sent_after sent (b ∷ bs) = sent_after (sent_behind sent b) bs
+
+pub sent_push : (sent : Entries) (bs : List Arrays) (b : Arrays) → sent_after sent (bs ++ b ∷ []) ≡ sent_behind (sent_after sent bs) b
+sent_push sent [] b = refl
+sent_push sent (c ∷ bs) b = sent_push (sent_behind sent c) bs b
+
+pub sent_more : (sent old new : Entries) (bs more : List Arrays) (b : Arrays) → more ≡ bs ++ b ∷ [] → old ≡ sent_after sent bs → new ≡ sent_behind old b → new ≡ sent_after sent more
+sent_more sent old new bs more b pushed so_far is = rw (is, so_far, pushed) (sym (sent_push sent bs b))
+
+module _ (refusal : Entries → Arrays → Option NoForm) where
+  pub from_push : (sent : Entries) (bs : List Arrays) (b : Arrays) → refusal_from refusal sent bs ≡ None → refusal (sent_after sent bs) b ≡ None → refusal_from refusal sent (bs ++ b ∷ []) ≡ None
+  from_push sent [] b none h = rw h refl
+  from_push sent (c ∷ bs) b none h =
+      let r : Option NoForm = refusal sent c in
+      let next : Entries = sent_behind sent c in
+      both_accepted r (refusal_from refusal next (bs ++ b ∷ [])) (first_accepts r (refusal_from refusal next bs) none) (from_push next bs b (others_accept r (refusal_from refusal next bs) none) h)
+
+  from_fails : (sent : Entries) (front back : List Arrays) (b : Arrays) (why : NoForm) → refusal_from refusal sent front ≡ None → IsRefused (refusal (sent_after sent front) b) why → IsRefused (refusal_from refusal sent (front ++ b ∷ back)) why
+  from_fails sent [] back b why none refused = first_refused (refusal sent b) (refusal_from refusal (sent_behind sent b) back) why refused
+  from_fails sent (c ∷ front) back b why none refused =
+      let r : Option NoForm = refusal sent c in
+      let next : Entries = sent_behind sent c in
+      later_refused r (refusal_from refusal next (front ++ b ∷ back)) why (first_accepts r (refusal_from refusal next front) none) (from_fails next front back b why (others_accept r (refusal_from refusal next front) none) refused)
+
+  pub from_refused : (sent now : Entries) (bs front back : List Arrays) (b : Arrays) (why : NoForm) → bs ≡ front ++ b ∷ back → now ≡ sent_after sent front → refusal_from refusal sent front ≡ None → IsRefused (refusal now b) why → IsRefused (refusal_from refusal sent bs) why
+  from_refused sent now bs front back b why e last none refused =
+      let here : IsRefused (refusal (sent_after sent front) b) why = subst (λ (x : Entries). IsRefused (refusal x b) why) last refused in
+      subst (λ (xs : List Arrays). IsRefused (refusal_from refusal sent xs) why) (sym e) (from_fails sent front back b why none here)
+
+  pub from_more : (sent now : Entries) (bs more : List Arrays) (b : Arrays) → more ≡ bs ++ b ∷ [] → now ≡ sent_after sent bs → refusal_from refusal sent bs ≡ None → refusal now b ≡ None → refusal_from refusal sent more ≡ None
+  from_more sent now bs more b e last none h =
+      let here : refusal (sent_after sent bs) b ≡ None = subst (λ (x : Entries). refusal x b ≡ None) last h in
+      subst (λ (xs : List Arrays). refusal_from refusal sent xs ≡ None) (sym e) (from_push sent bs b none here)
+
+batches_push : (sent : Entries) (bs : List Arrays) (b : Arrays) → batches_bytes sent (bs ++ b ∷ []) ≡ batches_bytes sent bs ++ part_bytes (sent_after sent bs) b
+unfolding batches_bytes
+batches_push sent [] b = append-nil (part_bytes sent b)
+batches_push sent (c ∷ bs) b =
+    let next : Entries = sent_behind sent c in
+    ap (λ (x : List ℕ). part_bytes sent c ++ x) (batches_push next bs b) ∙ sym (append_assoc (part_bytes sent c) (batches_bytes next bs) (part_bytes (sent_after next bs) b))
+
+pub none_written : (sent : Entries) → batches_bytes sent [] ≡ []
+unfolding batches_bytes
+none_written sent = refl
+
+pub bytes_push : (old out new : List ℕ) (sent now : Entries) (bs more : List Arrays) (b : Arrays) → more ≡ bs ++ b ∷ [] → now ≡ sent_after sent bs → out ≡ old ++ batches_bytes sent bs → new ≡ out ++ part_bytes now b → new ≡ old ++ batches_bytes sent more
+bytes_push old out new sent now bs more b pushed last so_far is =
+    let whole : batches_bytes sent more ≡ batches_bytes sent bs ++ part_bytes now b = ap (batches_bytes sent) pushed ∙ batches_push sent bs b ∙ ap (λ (x : Entries). batches_bytes sent bs ++ part_bytes x b) (sym last) in
+    joined old out new (batches_bytes sent bs) (part_bytes now b) (batches_bytes sent more) so_far is whole
+
+again_push : (sent : Entries) (bs : List Arrays) (b : Arrays) → AreAgain sent bs → IsPartAgain (sent_after sent bs) b → AreAgain sent (bs ++ b ∷ [])
+again_push sent [] b ok part = (part, tt)
+again_push sent (c ∷ bs) b ok part = (ok.0, again_push (sent_behind sent c) bs b ok.1 part)
+
+pub again_more : (sent now : Entries) (bs more : List Arrays) (b : Arrays) → more ≡ bs ++ b ∷ [] → now ≡ sent_after sent bs → AreAgain sent bs → IsPartAgain now b → AreAgain sent more
+again_more sent now bs more b pushed last ok part = subst (AreAgain sent) (sym pushed) (again_push sent bs b ok (subst (λ (x : Entries). IsPartAgain x b) last part))
+
+-- ---- a schema
+
+pub fields_formed : (s : SchemaTree) → schema_refusal s ≡ None → keyed_form s.fields ≡ Ok tt
+fields_formed s none = by (keyed_form s.fields) (metadata_refusal (schema_message s)) none
+  where
+    by : (form : Result (Unit {0}) NoForm) (rest : Option NoForm) → else_for (reason_in form) rest ≡ None → form ≡ Ok tt
+    by (Ok tt) rest h = refl
+    by (Err why) rest h = cc
+
+pub schema_refused : (s : SchemaTree) (why : NoForm) → forms.IsUnformed (keyed_form s.fields) (metadata_size (schema_message s)) why → IsRefused (schema_refusal s) why
+schema_refused s why (inl memory) = inl memory
+schema_refused s why (inr (inl reason)) = inr (rw reason refl)
+schema_refused s why (inr (inr (form, size, long))) =
+    let past : leb (2 ^ 31) (metadata_size (schema_message s)) ≡ true = le-leb _ _ long in
+    inr (rw (form, past, size) refl)
+
+pub schema_accepted : (s : SchemaTree) → keyed_form s.fields ≡ Ok tt → metadata_size (schema_message s) < 2 ^ 31 → schema_refusal s ≡ None
+schema_accepted s form small =
+    let past : leb (2 ^ 31) (metadata_size (schema_message s)) ≡ false = lt-leb _ _ small in
+    rw (form, past) refl
+
+-- ---- a file
+
+-- a message that is longer than a footer has a number for
+pub long_refused : (r : Option NoForm) (head : List ℕ) (why : NoForm) → r ≡ None → why ≡ Size → 2 ^ 31 ≤ length head → IsRefused (else_for r (long_refusal head)) why
+long_refused r head why none size long =
+    let past : leb (2 ^ 31) (length head) ≡ true = le-leb _ _ long in
+    inr (rw (none, past, size) refl)
+
+pub short_accepted : (r : Option NoForm) (head : List ℕ) → r ≡ None → length head < 2 ^ 31 → else_for r (long_refusal head) ≡ None
+short_accepted r head none short =
+    let fits : leb (2 ^ 31) (length head) ≡ false = lt-leb _ _ short in
+    rw (none, fits) refl
+
+-- what is written into a file is written into a stream
+each_accepts : (es : Entries) → each_refusal dictionary_block_refusal es ≡ None → each_refusal dictionary_refusal es ≡ None
+each_accepts [] none = refl
+each_accepts (e ∷ es) none =
+    let first : dictionary_block_refusal e ≡ None = first_accepts (dictionary_block_refusal e) (each_refusal dictionary_block_refusal es) none in
+    let others : each_refusal dictionary_block_refusal es ≡ None = others_accept (dictionary_block_refusal e) (each_refusal dictionary_block_refusal es) none in
+    both_accepted (dictionary_refusal e) (each_refusal dictionary_refusal es) (first_accepts (dictionary_refusal e) (long_refusal (dictionary_head e)) first) (each_accepts es others)
+
+pub part_accepts : (types : List TypeTree) (sent : Entries) (b : Arrays) → block_refusal types sent b ≡ None → batch_refusal types sent b ≡ None
+part_accepts types sent b none = by (are_columns types b.rows b.columns) none
+  where
+    new : Entries
+    new = needed_by sent b
+
+    by : (are : Bool) → (if are then else_for (replaced_refusal sent (needed_by sent b)) (else_for (each_refusal dictionary_block_refusal (needed_by sent b)) (arrays_block_refusal b)) else Some Columns) ≡ None
+        → (if are then else_for (each_refusal dictionary_refusal (needed_by sent b)) (arrays_refusal b) else Some Columns) ≡ None
+    by false h = cc
+    by true h =
+        let each : Option NoForm = each_refusal dictionary_block_refusal (needed_by sent b) in
+        let rest : else_for each (arrays_block_refusal b) ≡ None = others_accept (replaced_refusal sent (needed_by sent b)) (else_for each (arrays_block_refusal b)) h in
+        let last : arrays_block_refusal b ≡ None = others_accept each (arrays_block_refusal b) rest in
+        both_accepted (each_refusal dictionary_refusal (needed_by sent b)) (arrays_refusal b) (each_accepts (needed_by sent b) (first_accepts each (arrays_block_refusal b) rest)) (first_accepts (arrays_refusal b) (long_refusal (batch_head b)) last)
+
+pub stream_accepts : (types : List TypeTree) (sent : Entries) (bs : List Arrays) → blocks_refusal types sent bs ≡ None → batches_refusal types sent bs ≡ None
+stream_accepts types sent [] none = refl
+stream_accepts types sent (b ∷ bs) none =
+    let r : Option NoForm = block_refusal types sent b in
+    let others : Option NoForm = blocks_refusal types (sent_behind sent b) bs in
+    both_accepted (batch_refusal types sent b) (batches_refusal types (sent_behind sent b) bs) (part_accepts types sent b (first_accepts r others none)) (stream_accepts types (sent_behind sent b) bs (others_accept r others none))
+
+-- ---- the blocks of batches
+
+-- blocks behind blocks
+abbrev pub with_part : Blocks → ℕ → Entries → Arrays → Blocks
+with_part blocks place sent b = record { dictionaries = blocks.dictionaries ++ dictionary_blocks place (needed_by sent b); batches = blocks.batches ++ written_block (batch_place place sent b) b ∷ [] }
+
+pub part_long : (sent : Entries) (b : Arrays) → length (part_bytes sent b) ≡ length (flat_map dictionary_bytes (needed_by sent b)) + length (batch_bytes b)
+unfolding part_bytes
+part_long sent b = length-append (flat_map dictionary_bytes (needed_by sent b)) (batch_bytes b)
+
+pub batches_long : (sent : Entries) (b : Arrays) (bs : List Arrays) → length (batches_bytes sent (b ∷ bs)) ≡ length (part_bytes sent b) + length (batches_bytes (sent_behind sent b) bs)
+unfolding batches_bytes
+batches_long sent b bs = length-append (part_bytes sent b) (batches_bytes (sent_behind sent b) bs)
+
+blocks_push : (place : ℕ) (sent : Entries) (bs : List Arrays) (b : Arrays) → blocks_from place sent (bs ++ b ∷ []) ≡ with_part (blocks_from place sent bs) (place + length (batches_bytes sent bs)) (sent_after sent bs) b
+unfolding blocks_from
+blocks_push place sent [] b =
+    let start : place + length (batches_bytes sent []) ≡ place = omega (arith, ap length (none_written sent)) in
+    let none : dictionary_blocks place (needed_by sent b) ++ [] ≡ dictionary_blocks place (needed_by sent b) = append-nil (dictionary_blocks place (needed_by sent b)) in
+    rw (start, none) refl
+blocks_push place sent (c ∷ bs) b =
+    let next : Entries = sent_behind sent c in
+    let behind : ℕ = batch_place place sent c + length (batch_bytes c) in
+    let same : behind + length (batches_bytes next bs) ≡ place + length (batches_bytes sent (c ∷ bs)) = omega (arith, batches_long sent c bs, part_long sent c) in
+    let new : List Block = dictionary_blocks (behind + length (batches_bytes next bs)) (needed_by (sent_after next bs) b) in
+    rw (sym same, blocks_push behind next bs b, append_assoc (dictionary_blocks place (needed_by sent c)) (blocks_from behind next bs).dictionaries new) refl
+
+pub blocks_more : (place start : ℕ) (sent now : Entries) (bs more : List Arrays) (b : Arrays) (old new : Blocks) → more ≡ bs ++ b ∷ [] → now ≡ sent_after sent bs → old ≡ blocks_from place sent bs → new ≡ with_part old start now b → start ≡ place + length (batches_bytes sent bs)
+    → new ≡ blocks_from place sent more
+blocks_more place start sent now bs more b old new pushed last so_far is begins = rw (is, so_far, last, begins, pushed) (sym (blocks_push place sent bs b))
+
+pub no_blocks_yet : (place : ℕ) (sent : Entries) → blocks_from place sent [] ≡ no_blocks
+unfolding blocks_from
+no_blocks_yet place sent = refl

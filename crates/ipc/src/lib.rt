@@ -18,5 +18,5 @@ pub use reader::StreamReader;
 pub use reading::{next_batch, read_message};
 pub use state::State;
 pub use stream::{Stream, read_stream, read_stream_columns};
-pub use writing::{put_batch, write_stream};
-pub use writing_files::write_file;
+pub use writing::{put_batch, put_part, write_stream};
+pub use writing_files::{Blocks, put_part_blocks, write_file};

@@ -1,12 +1,11 @@
 -- What was read, as bytes of either form.
 use Rattle.std.specs.Prelude.{◌≡◌, ◌++◌, ℕ, List, length, Option, Result, Ok, Err}
-use Rattle.std.specs.List.{AllByRecursion}
 use Rattle.ipc_model.specs.Reading.{Fails}
 use Rattle.ipc_model.specs.declared.fault.Fault as formats
 use Rattle.ipc_model.specs.declared.fault.NoForm.{NoForm}
 use Rattle.ipc.specs.Streams.{stream_in}
 use Rattle.ipc.specs.Files.{file_in}
-use Rattle.ipc.specs.Written.{IsRefused, IsSameBatch, shown_stream, stream_refusal}
+use Rattle.ipc.specs.Written.{AreSameBatches, IsRefused, shown_batches, shown_stream, stream_refusal}
 use Rattle.ipc.specs.WrittenFiles.{file_refusal, shown_file}
 use Rattle.nest_words.specs.declared.form.Form.{Form}
 use Rattle.nest_words.specs.declared.form.Form.TheVariants.{File, Stream}
@@ -22,7 +21,7 @@ IsReadAs Stream t bytes = (rest : List ℕ) → stream_in (bytes ++ rest) ≡ Ok
 
 -- bytes of this form are read back to it: an equal schema, and of each batch the same rows and the same arrays
 abbrev pub IsFormOf : Form → HeldTree → List ℕ → Type 0
-IsFormOf form t bytes = IsReadAs form t bytes × AllByRecursion IsSameBatch t.batches
+IsFormOf form t bytes = IsReadAs form t bytes × AreSameBatches t.batches (shown_batches t.batches)
 
 -- the first reason why it is not written
 abbrev pub refusal : Form → HeldTree → Option NoForm

@@ -1,11 +1,10 @@
 //! Arrow IPC. For every sequence of bytes the readers answer just the stream, or the file, that the bytes spell, or the first fault
 //! in the order of reading, want of memory aside; what is written of a schema and batches, in either form, spells them, so that
 //! reading gives them back; and nothing is written just where there is a reason, of which the first is told. Of columns of every
-//! kind, of all of them or of some; dictionaries are read, those that are replaced too, and neither joined nor written so far.
+//! kind, of all of them or of some, with their dictionaries: what is replaced is read and written too, what is to be joined is refused.
 #![tactic(auto)]
 
 ghost use Rattle.std.specs.Prelude.{◌≡◌, ◌<◌, ◌⊎◌, ◌++◌, List, ℕ, [], None, Ok, map, length, IfErr, IfOk, OnOk};
-ghost use Rattle.std.specs.List.{AllByRecursion};
 ghost use Rattle.std.specs.Option.{option_map};
 ghost use Rattle.ipc_model.specs.Reading.{Gives};
 ghost use Rattle.ipc_schema.specs.Picks.{all, picks_of};
@@ -14,7 +13,7 @@ ghost use Rattle.ipc.specs.Streams.{arrays_of, picked_stream_in, stream_in, stre
 ghost use Rattle.ipc.specs.Readers.{next_of, reader_in};
 ghost use Rattle.ipc.specs.Files.{batch_of_file, file_in, file_of, file_reader_in, picked_file_in};
 ghost use Rattle.ipc.specs.WrittenFiles.{file_bytes, file_refusal, shown_file};
-ghost use Rattle.ipc.specs.Written.{IsRefused, IsSameBatch, shown_arrays, shown_stream, stream_bytes, stream_refusal};
+ghost use Rattle.ipc.specs.Written.{AreSameBatches, IsRefused, shown_batches, shown_stream, stream_bytes, stream_refusal};
 ghost use Rattle.promises_ipc.specs.Words.{two_of};
 
 use ipc::{
@@ -108,7 +107,7 @@ pub fn behind_a_fault(alloc: Global, reader: &mut StreamReader<'_>) -> Option<Ba
 pub fn bytes_of_stream(alloc: Global, schema: &Schema, batches: &[Batch]) -> Result<Vec<u8>, NoForm>
     ensures bytes { IfOk result (λ out. out.items ≡ stream_bytes (schema_of schema.now) (map arrays_of batches.now)) }
     ensures again { IfOk result (λ out. (rest : List ℕ) → stream_in (out.items ++ rest) ≡ Ok (shown_stream (schema_of schema.now) (map arrays_of batches.now) (length out.items))) }
-    ensures same { OnOk result (AllByRecursion IsSameBatch (map arrays_of batches.now)) }
+    ensures same { OnOk result (AreSameBatches (map arrays_of batches.now) (shown_batches (map arrays_of batches.now))) }
     ensures form { OnOk result (stream_refusal (schema_of schema.now) (map arrays_of batches.now) ≡ None) }
     ensures err { IfErr result (IsRefused (stream_refusal (schema_of schema.now) (map arrays_of batches.now))) }
 {
@@ -118,8 +117,8 @@ pub fn bytes_of_stream(alloc: Global, schema: &Schema, batches: &[Batch]) -> Res
 /// What is written is read back: an equal schema, as many batches, of each the same rows and the same arrays.
 pub fn written_and_read(alloc: Global, schema: &Schema, batches: &[Batch]) -> Result<Stream, NoForm>
     ensures schema { IfOk result (λ r. schema_of r.schema ≡ schema_of schema.now) }
-    ensures batches { IfOk result (λ r. map arrays_of r.batches.items ≡ map shown_arrays (map arrays_of batches.now)) }
-    ensures same { OnOk result (AllByRecursion IsSameBatch (map arrays_of batches.now)) }
+    ensures batches { IfOk result (λ r. map arrays_of r.batches.items ≡ shown_batches (map arrays_of batches.now)) }
+    ensures same { OnOk result (AreSameBatches (map arrays_of batches.now) (shown_batches (map arrays_of batches.now))) }
     ensures err { IfErr result (IsRefused (stream_refusal (schema_of schema.now) (map arrays_of batches.now))) }
 {
     let bytes = write_stream(alloc, schema, batches)?;
@@ -177,7 +176,7 @@ pub fn batch_of_file_reader(
 pub fn bytes_of_file(alloc: Global, schema: &Schema, batches: &[Batch]) -> Result<Vec<u8>, NoForm>
     ensures bytes { IfOk result (λ out. out.items ≡ file_bytes (schema_of schema.now) (map arrays_of batches.now)) }
     ensures again { IfOk result (λ out. file_in out.items ≡ Ok (shown_file (schema_of schema.now) (map arrays_of batches.now))) }
-    ensures same { OnOk result (AllByRecursion IsSameBatch (map arrays_of batches.now)) }
+    ensures same { OnOk result (AreSameBatches (map arrays_of batches.now) (shown_batches (map arrays_of batches.now))) }
     ensures form { OnOk result (file_refusal (schema_of schema.now) (map arrays_of batches.now) ≡ None) }
     ensures err { IfErr result (IsRefused (file_refusal (schema_of schema.now) (map arrays_of batches.now))) }
 {
@@ -191,8 +190,8 @@ pub fn file_written_and_read(
     batches: &[Batch],
 ) -> Result<File, NoForm>
     ensures schema { IfOk result (λ r. schema_of r.schema ≡ schema_of schema.now) }
-    ensures batches { IfOk result (λ r. map arrays_of r.batches.items ≡ map shown_arrays (map arrays_of batches.now)) }
-    ensures same { OnOk result (AllByRecursion IsSameBatch (map arrays_of batches.now)) }
+    ensures batches { IfOk result (λ r. map arrays_of r.batches.items ≡ shown_batches (map arrays_of batches.now)) }
+    ensures same { OnOk result (AreSameBatches (map arrays_of batches.now) (shown_batches (map arrays_of batches.now))) }
     ensures err { IfErr result (IsRefused (file_refusal (schema_of schema.now) (map arrays_of batches.now))) }
 {
     let bytes = write_file(alloc, schema, batches)?;
