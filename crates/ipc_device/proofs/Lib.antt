@@ -1,4 +1,5 @@
 mod Puts
+mod Places
 mod Fetches
 mod Steps
 mod Answered

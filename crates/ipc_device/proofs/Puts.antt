@@ -1,7 +1,8 @@
 -- What one more write leaves.
-use Rattle.std.proofs.Common.{◌≡◌, ℕ, ◌-◌, List, ◌++◌, length, take, drop, Option, sym, ap, ◌∙◌, append_assoc}
+use Rattle.std.proofs.Common.{◌≡◌, ℕ, ◌-◌, List, [], ◌++◌, append-nil, length, take, drop, Option, sym, ap, ◌∙◌, append_assoc}
 use Rattle.std.specs.Io.KnownBytes.{Appends, Keeps}
 use Rattle.std.proofs.KnownBytes.{Appends-trans, Appends-kept}
+use Rattle.ipc_device.specs.Devices.{PutsBeginning}
 use Rattle.std.proofs.lemmas.List.{take_rest, take-append-drop}
 
 -- what went out, and what is left
@@ -18,3 +19,7 @@ put_more a b c bytes rest n way now =
 
 pub put_kept : (a b c : Option (List ℕ)) (bytes rest : List ℕ) → IsUnderWay a b bytes rest → Keeps b c → IsUnderWay a c bytes rest
 put_kept a b c bytes rest way kept = (way.0, way.1, Appends-kept a b c way.0 way.2 kept)
+
+-- where all of the bytes are out, a beginning of them is
+pub whole_is_out : (old new : Option (List ℕ)) (bytes : List ℕ) → Appends old new bytes → PutsBeginning old new bytes
+whole_is_out old new bytes put = (bytes, [], sym (append-nil bytes), put)

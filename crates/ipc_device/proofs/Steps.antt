@@ -5,12 +5,10 @@ use Rattle.ipc_model.specs.Reading.{◌>>=◌, Fails}
 use Rattle.ipc_message.specs.Messages.{Parts, message_at}
 use Rattle.ipc_schema.specs.declared.picked.PickedSchema.{PickedSchema}
 use Rattle.ipc_schema.specs.declared.schema.Schema.{Schema}
-use Rattle.ipc_schema.specs.Dictionaries.{Seen, unseen}
-use Rattle.ipc_schema.specs.PickedLaws.{all_picked, stream_same}
+use Rattle.ipc_schema.specs.SchemaLaws.{with_ids}
 use Rattle.ipc_schema.specs.PickedSchemas.{PickedTree, in_any_version, picked_of, picked_schema_at, stream_picked_at}
-use Rattle.ipc_schema.specs.Picks.{Picks, all}
+use Rattle.ipc_schema.specs.Picks.{Picks}
 use Rattle.ipc_schema.specs.Schemas.{SchemaTree, schema_of, schema_parts, stream_keyed_schema_at}
-use Rattle.ipc_schema.specs.SchemaBytes.{schema_message}
 use Rattle.ipc.specs.Streams.{Arrays, State, Next, message_in, next_in, next_by, or_next}
 use Rattle.ipc.specs.StreamLaws.{by_message}
 use Rattle.ipc_device.specs.declared.device_reader.Found.{Found}
@@ -99,11 +97,7 @@ first_fails picks (Some xs) (Some ys) came fault fetched read = λ known. rw (fi
 -- ---- a schema that was written
 
 -- the schema that is read of its message is the one that was written
-pub copied : (schema : Schema) (s : SchemaTree) (bytes : List ℕ) → stream_keyed_schema_at (bytes ++ []) ≡ Ok ((s, unseen), []) → IsSchemaOf schema (stream_keyed_schema_at bytes) → schema_of schema ≡ s
+pub copied : (schema : Schema) (s : SchemaTree) (bytes : List ℕ) → stream_keyed_schema_at (bytes ++ []) ≡ Ok (with_ids s, []) → IsSchemaOf schema (stream_keyed_schema_at bytes) → schema_of schema ≡ s
 copied schema s bytes again is =
-    let read : stream_keyed_schema_at bytes ≡ Ok ((s, unseen), []) = subst (λ (x : List ℕ). stream_keyed_schema_at x ≡ Ok ((s, unseen), [])) (append-nil bytes) again in
+    let read : stream_keyed_schema_at bytes ≡ Ok (with_ids s, []) = subst (λ (x : List ℕ). stream_keyed_schema_at x ≡ Ok (with_ids s, [])) (append-nil bytes) again in
     rw read at is
-
--- and where all columns are read it has no dictionaries
-pub picked_again : (s : SchemaTree) → ((after : List ℕ) → stream_keyed_schema_at (schema_message s ++ after) ≡ Ok ((s, unseen), after)) → (rest : List ℕ) → stream_picked_at all (schema_message s ++ rest) ≡ Ok (all_picked s unseen, rest)
-picked_again s keyed rest = stream_same (schema_message s ++ rest) ∙ ap (λ (r : Result ((SchemaTree × Seen) × List ℕ) faults.Fault). r >>= λ x. Ok (all_picked x.0.0 x.0.1, x.1)) (keyed rest)

@@ -3,5 +3,7 @@ pub mod Devices
 pub mod Fetched
 pub mod Writers
 pub mod WriterLaws
+pub mod FileWriters
+pub mod FileWriterLaws
 pub mod Readers
 pub mod ReaderLaws

@@ -1,49 +1,58 @@
--- What a writer has put is the stream of its batches, and is read back.
+-- What a writer has put is the stream of its batches, and is read back. What files share with streams stands here too.
 use Rattle.std.specs.Prelude.{◌≡◌, ℕ, ⊤, Bool, true, false, List, [], ◌∷◌, ◌++◌, length, Option, None, Result, Ok, Err, refl}
-use Rattle.std.specs.List.{AllByRecursion, flat_map}
 use Rattle.std.specs.Io.KnownBytes.{Appends}
 use Rattle.std.proofs.Common.{sym, ap, ◌∙◌, append_assoc, append-nil, subst}
 use Rattle.std.proofs.KnownBytes.{Appends-trans}
 use Rattle.ipc_model.specs.declared.fault.NoForm as reasons
 use Rattle.ipc_message.specs.MessageBytes.{end_mark}
-use Rattle.ipc_schema.specs.Dictionaries.{unseen}
-use Rattle.ipc_schema.specs.PickedLaws.{all_picked}
-use Rattle.ipc_schema.specs.PickedSchemas.{stream_picked_at}
-use Rattle.ipc_schema.specs.Picks.{all}
 use Rattle.ipc_schema.specs.Schemas.{SchemaTree}
 use Rattle.ipc_schema.specs.SchemaBytes.{schema_message}
+use Rattle.ipc_needed.specs.Entries.{Entries}
 use Rattle.ipc.specs.Streams.{Arrays, types_of, stream_in}
-use Rattle.ipc.specs.Written.{batch_bytes, stream_bytes, batch_refusal, batches_refusal, schema_refusal, shown_stream, IsReadAgain, IsSameBatch}
-use Rattle.ipc.specs.WrittenLaws.{stream_again}
-use Rattle.ipc.specs.WrittenLists.{batches_push, all_push, all_same, all_read, bytes_push}
+use Rattle.ipc.specs.Written.{sent_behind, part_bytes, batches_bytes, stream_bytes, batch_refusal, batches_refusal, schema_refusal, shown_batches, shown_stream, IsPartAgain, AreAgain, AreSameBatches}
+use Rattle.ipc.specs.WrittenLaws.{stream_again, same_batches}
+use Rattle.ipc.specs.WrittenLists.{sent_after, sent_more, from_more, again_more, bytes_push, none_written, fields_formed}
 use Rattle.ipc_device.specs.declared.fault.WriteError as errors
 use Rattle.ipc_device.specs.declared.fault.WriteError.TheVariants.{NoForm, Io, Failed}
-use Rattle.ipc_device.specs.Writers.{WriterTree, Begins, Puts, Ends}
+use Rattle.ipc_device.specs.Devices.{PutsBeginning}
+use Rattle.ipc_device.specs.Writers.{WriterTree, Begins, IsIo, IsSchemaAgain, Puts, Ends}
 
--- the bytes of a stream whose end mark is still to come
-abbrev begun_bytes : SchemaTree → List Arrays → List ℕ
-begun_bytes s bs = schema_message s ++ flat_map batch_bytes bs
+-- the bytes of a stream or a file whose end is still to come: what stands before the batches, then those
+abbrev pub begun_bytes : List ℕ → List Arrays → List ℕ
+begun_bytes front bs = front ++ batches_bytes [] bs
 
--- a schema's message is read back, without dictionaries
-abbrev pub IsSchemaAgain : SchemaTree → Type 0
-IsSchemaAgain s = (rest : List ℕ) → stream_picked_at all (schema_message s ++ rest) ≡ Ok (all_picked s unseen, rest)
+none_begun : (front : List ℕ) → front ≡ begun_bytes front []
+none_begun front = sym (ap (λ (x : List ℕ). front ++ x) (none_written []) ∙ append-nil front)
 
-begun_push : (s : SchemaTree) (bs : List Arrays) (b : Arrays) → begun_bytes s (bs ++ b ∷ []) ≡ begun_bytes s bs ++ batch_bytes b
-begun_push s bs b = sym (bytes_push (schema_message s) (begun_bytes s bs) (begun_bytes s bs ++ batch_bytes b) bs (bs ++ b ∷ []) b refl refl refl)
+begun_push : (front : List ℕ) (bs : List Arrays) (b : Arrays) → begun_bytes front (bs ++ b ∷ []) ≡ begun_bytes front bs ++ part_bytes (sent_after [] bs) b
+begun_push front bs b = sym (bytes_push front (begun_bytes front bs) (begun_bytes front bs ++ part_bytes (sent_after [] bs) b) [] (sent_after [] bs) bs (bs ++ b ∷ []) b refl refl refl refl)
 
-begun_end : (s : SchemaTree) (bs : List Arrays) → begun_bytes s bs ++ end_mark ≡ stream_bytes s bs
+begun_end : (s : SchemaTree) (bs : List Arrays) → begun_bytes (schema_message s) bs ++ end_mark ≡ stream_bytes s bs
 unfolding stream_bytes
-begun_end s bs = append_assoc (schema_message s) (flat_map batch_bytes bs) end_mark
+begun_end s bs = append_assoc (schema_message s) (batches_bytes [] bs) end_mark
+
+-- a batch, and others behind it, behind those before it
+parts_split : (sent : Entries) (bs more : List Arrays) (b : Arrays) → batches_bytes sent (bs ++ b ∷ more) ≡ batches_bytes sent bs ++ (part_bytes (sent_after sent bs) b ++ batches_bytes (sent_behind (sent_after sent bs) b) more)
+unfolding batches_bytes
+parts_split sent [] more b = refl
+parts_split sent (c ∷ bs) more b =
+    let next : Entries = sent_behind sent c in
+    let rest : List ℕ = part_bytes (sent_after next bs) b ++ batches_bytes (sent_behind (sent_after next bs) b) more in
+    ap (λ (x : List ℕ). part_bytes sent c ++ x) (parts_split next bs more b) ∙ sym (append_assoc (part_bytes sent c) (batches_bytes next bs) rest)
 
 never : (b : Bool) → b ≡ true → b ≡ false → ⊥
 never true is other = cc
 never false is other = cc
 
 module _ {W : Type 0} (contents : W → Option (List ℕ)) where
+  -- this batch was written, behind the dictionaries that it needs
+  abbrev pub WritesOne : Arrays → WriterTree W → WriterTree W → Type 0
+  WritesOne b old new = Puts contents (batch_refusal (types_of old.schema) old.sent b) (part_bytes old.sent b) (sent_behind old.sent b) old new (Ok tt) × IsPartAgain old.sent b
+
   -- these batches were written, one after another
   abbrev pub Writes : List Arrays → WriterTree W → WriterTree W → Type 0
   Writes [] old new = new ≡ old
-  Writes (b ∷ bs) old new = (next : WriterTree W) × Puts contents (batch_refusal (types_of old.schema) b) (batch_bytes b) old next (Ok tt) × IsReadAgain b × Writes bs next new
+  Writes (b ∷ bs) old new = (next : WriterTree W) × WritesOne b old next × Writes bs next new
 
   -- a stream of this schema and these batches was begun, written and ended, and no call had an error
   pub record IsFinished (s : SchemaTree) (bs : List Arrays) (start end : W) : Type 0 where
@@ -54,54 +63,93 @@ module _ {W : Type 0} (contents : W → Option (List ℕ)) where
     pub written : Writes bs first last
     pub ended : Ends contents None end_mark last (Ok end)
 
-  -- behind what there was, a writer has put the schema and these batches
-  record HasPut (start : Option (List ℕ)) (s : SchemaTree) (bs : List Arrays) (w : WriterTree W) : Type 0 where
-    pub bytes : Appends start (contents w.device) (begun_bytes s bs)
-    pub again : AllByRecursion IsReadAgain bs
-    pub form : batches_refusal (types_of s) bs ≡ None
+  -- behind what there was, a writer has put this front and these batches
+  pub record HasPut (start : Option (List ℕ)) (front : List ℕ) (s : SchemaTree) (bs : List Arrays) (w : WriterTree W) : Type 0 where
+    pub bytes : Appends start (contents w.device) (begun_bytes front bs)
+    pub again : AreAgain [] bs
+    pub form : batches_refusal (types_of s) [] bs ≡ None
+    pub sent : w.sent ≡ sent_after [] bs
     pub schema : w.schema ≡ s
 
-  -- the first call puts the schema
-  has_begun : (s : SchemaTree) (device : W) (w : WriterTree W) → Begins contents (schema_refusal s) (schema_message s) s device (Ok w) → HasPut (contents device) s [] w
-  has_begun s device w begun = record {
-    bytes = subst (Appends (contents device) (contents w.device)) (sym (append-nil (schema_message s))) begun.1;
+  -- the first call puts the front
+  has_begun : (reason : Option reasons.NoForm) (front : List ℕ) (s : SchemaTree) (device : W) (w : WriterTree W) → Begins contents reason front s device (Ok w) → HasPut (contents device) front s [] w
+  has_begun reason front s device w begun = record {
+    bytes = subst (Appends (contents device) (contents w.device)) (none_begun front) begun.1;
     again = tt;
     form = refl;
+    sent = ap (λ (x : WriterTree W). x.sent) begun.2;
     schema = ap (λ (x : WriterTree W). x.schema) begun.2;
   }
 
   -- each further call puts its batch
-  has_more : (start : Option (List ℕ)) (s : SchemaTree) (bs : List Arrays) (b : Arrays) (old new : WriterTree W) → HasPut start s bs old → Puts contents (batch_refusal (types_of old.schema) b) (batch_bytes b) old new (Ok tt) → IsReadAgain b → HasPut start s (bs ++ b ∷ []) new
-  has_more start s bs b old new has put again = record {
-    bytes = subst (Appends start (contents new.device)) (sym (begun_push s bs b)) (Appends-trans start (contents old.device) (contents new.device) (begun_bytes s bs) (batch_bytes b) has.bytes put.2);
-    again = all_push IsReadAgain bs b has.again again;
-    form = batches_push (batch_refusal (types_of s)) bs b has.form (subst (λ (x : SchemaTree). batch_refusal (types_of x) b ≡ None) has.schema put.1);
-    schema = ap (λ (x : WriterTree W). x.schema) put.3 ∙ has.schema;
-  }
+  pub has_more : (start : Option (List ℕ)) (front : List ℕ) (s : SchemaTree) (bs : List Arrays) (b : Arrays) (old new : WriterTree W) → HasPut start front s bs old → WritesOne b old new → HasPut start front s (bs ++ b ∷ []) new
+  has_more start front s bs b old new has one =
+      let put = one.0 in
+      let more : Appends (contents old.device) (contents new.device) (part_bytes (sent_after [] bs) b) = subst (λ (x : Entries). Appends (contents old.device) (contents new.device) (part_bytes x b)) has.sent put.2 in
+      let form : batch_refusal (types_of s) old.sent b ≡ None = subst (λ (x : SchemaTree). batch_refusal (types_of x) old.sent b ≡ None) has.schema put.1 in
+      record {
+        bytes = subst (Appends start (contents new.device)) (sym (begun_push front bs b)) (Appends-trans start (contents old.device) (contents new.device) (begun_bytes front bs) (part_bytes (sent_after [] bs) b) has.bytes more);
+        again = again_more [] old.sent bs (bs ++ b ∷ []) b refl has.sent has.again one.1;
+        form = from_more (batch_refusal (types_of s)) [] old.sent bs (bs ++ b ∷ []) b refl has.sent has.form form;
+        sent = sent_more [] old.sent new.sent bs (bs ++ b ∷ []) b refl has.sent (ap (λ (x : WriterTree W). x.sent) put.3);
+        schema = ap (λ (x : WriterTree W). x.schema) put.3 ∙ has.schema;
+      }
 
-  has_all : (start : Option (List ℕ)) (s : SchemaTree) (done bs : List Arrays) (old new : WriterTree W) → HasPut start s done old → Writes bs old new → HasPut start s (done ++ bs) new
-  has_all start s done [] old new has wrote = subst (λ (x : List Arrays). HasPut start s x new) (sym (append-nil done)) (subst (HasPut start s done) (sym wrote) has)
-  has_all start s done (b ∷ bs) old new has wrote =
-      subst (λ (x : List Arrays). HasPut start s x new) (append_assoc done (b ∷ []) bs) (has_all start s (done ++ b ∷ []) bs wrote.0 new (has_more start s done b old wrote.0 has wrote.1 wrote.2) wrote.3)
+  has_all : (start : Option (List ℕ)) (front : List ℕ) (s : SchemaTree) (done bs : List Arrays) (old new : WriterTree W) → HasPut start front s done old → Writes bs old new → HasPut start front s (done ++ bs) new
+  has_all start front s done [] old new has wrote = subst (λ (x : List Arrays). HasPut start front s x new) (sym (append-nil done)) (subst (HasPut start front s done) (sym wrote) has)
+  has_all start front s done (b ∷ bs) old new has wrote =
+      subst (λ (x : List Arrays). HasPut start front s x new) (append_assoc done (b ∷ []) bs) (has_all start front s (done ++ b ∷ []) bs wrote.0 new (has_more start front s done b old wrote.0 has wrote.1) wrote.2)
 
-  has : (s : SchemaTree) (bs : List Arrays) (start end : W) (run : IsFinished s bs start end) → HasPut (contents start) s bs run.last
-  has s bs start end run = has_all (contents start) s [] bs run.first run.last (has_begun s start run.first run.begun) run.written
+  -- from the first call on
+  pub has : (reason : Option reasons.NoForm) (front : List ℕ) (s : SchemaTree) (bs : List Arrays) (start : W) (first last : WriterTree W) → Begins contents reason front s start (Ok first) → Writes bs first last → HasPut (contents start) front s bs last
+  has reason front s bs start first last begun wrote = has_all (contents start) front s [] bs first last (has_begun reason front s start first begun) wrote
+
+  -- what has been put, and what is put behind it
+  pub has_ended : (start : Option (List ℕ)) (front : List ℕ) (s : SchemaTree) (bs : List Arrays) (w : WriterTree W) (new : Option (List ℕ)) (tail : List ℕ) → HasPut start front s bs w → Appends (contents w.device) new tail → Appends start new (begun_bytes front bs ++ tail)
+  has_ended start front s bs w new tail has more = Appends-trans start (contents w.device) new (begun_bytes front bs) tail has.bytes more
+
+  -- a beginning went out where it fails
+  pub went_out : (reason : Option reasons.NoForm) (bytes : List ℕ) (sent : Entries) (old new : WriterTree W) (result : Result ⊤ errors.WriteError) → IsIo result → Puts contents reason bytes sent old new result → PutsBeginning (contents old.device) (contents new.device) bytes
+  went_out reason bytes sent old new (Ok done) is put = absurd is
+  went_out reason bytes sent old new (Err (NoForm why)) is put = absurd is
+  went_out reason bytes sent old new (Err (Io e)) is put = put.2
+  went_out reason bytes sent old new (Err Failed) is put = absurd is
+
+  -- Where a beginning of one more batch went out, a beginning of all went out that was to come.
+  pub has_beginning : (start : Option (List ℕ)) (front : List ℕ) (s : SchemaTree) (bs more : List Arrays) (b : Arrays) (w : WriterTree W) (new : Option (List ℕ)) (tail : List ℕ) → HasPut start front s bs w → PutsBeginning (contents w.device) new (part_bytes w.sent b)
+      → PutsBeginning start new (begun_bytes front (bs ++ b ∷ more) ++ tail)
+  has_beginning start front s bs more b w new tail has put =
+      let others : List ℕ = batches_bytes (sent_behind (sent_after [] bs) b) more in
+      let part : part_bytes (sent_after [] bs) b ≡ put.0 ++ put.1 = ap (λ (x : Entries). part_bytes x b) (sym has.sent) ∙ put.2 in
+      let parts : batches_bytes [] (bs ++ b ∷ more) ≡ batches_bytes [] bs ++ ((put.0 ++ put.1) ++ others) = parts_split [] bs more b ∙ ap (λ (x : List ℕ). batches_bytes [] bs ++ (x ++ others)) part in
+      let regrouped : (front ++ (batches_bytes [] bs ++ ((put.0 ++ put.1) ++ others))) ++ tail ≡ (begun_bytes front bs ++ put.0) ++ (put.1 ++ (others ++ tail)) = simp append_assoc in
+      (begun_bytes front bs ++ put.0, put.1 ++ (others ++ tail), ap (λ (x : List ℕ). (front ++ x) ++ tail) parts ∙ regrouped, Appends-trans start (contents w.device) new (begun_bytes front bs) put.0 has.bytes put.3)
+
+  has_stream : (s : SchemaTree) (bs : List Arrays) (start end : W) (run : IsFinished s bs start end) → HasPut (contents start) (schema_message s) s bs run.last
+  has_stream s bs start end run = has (schema_refusal s) (schema_message s) s bs start run.first run.last run.begun run.written
 
   -- all together is the stream
   pub stream_put : (s : SchemaTree) (bs : List Arrays) (start end : W) → IsFinished s bs start end → Appends (contents start) (contents end) (stream_bytes s bs)
-  stream_put s bs start end run =
-      subst (Appends (contents start) (contents end)) (begun_end s bs) (Appends-trans (contents start) (contents run.last.device) (contents end) (begun_bytes s bs) end_mark (has s bs start end run).bytes run.ended.2)
+  stream_put s bs start end run = subst (Appends (contents start) (contents end)) (begun_end s bs) (has_ended (contents start) (schema_message s) s bs run.last (contents end) end_mark (has_stream s bs start end run) run.ended.2)
 
   -- and that is read back: the schema, and the same batches
   pub stream_read : (s : SchemaTree) (bs : List Arrays) (start end : W) → IsFinished s bs start end → (rest : List ℕ) → stream_in (stream_bytes s bs ++ rest) ≡ Ok (shown_stream s bs (length (stream_bytes s bs)))
-  stream_read s bs start end run rest = let put = has s bs start end run in stream_again s bs rest run.again put.again (all_read s bs put.form)
+  stream_read s bs start end run rest = let put = has_stream s bs start end run in stream_again s bs rest run.again (fields_formed s run.begun.0) put.form put.again
 
-  pub stream_same : (s : SchemaTree) (bs : List Arrays) (start end : W) → IsFinished s bs start end → AllByRecursion IsSameBatch bs
-  stream_same s bs start end run = all_same bs (has s bs start end run).again
+  pub stream_same : (s : SchemaTree) (bs : List Arrays) (start end : W) → IsFinished s bs start end → AreSameBatches bs (shown_batches bs)
+  stream_same s bs start end run = same_batches s bs (fields_formed s run.begun.0) (has_stream s bs start end run).again
+
+  -- where it fails in one more batch, a beginning of the stream went out, whatever was to come behind that batch
+  pub stream_begins : (s : SchemaTree) (bs more : List Arrays) (b : Arrays) (start : W) (first last new : WriterTree W) (reason : Option reasons.NoForm) (sent : Entries) (result : Result ⊤ errors.WriteError) → IsIo result → Begins contents (schema_refusal s) (schema_message s) s start (Ok first)
+      → Writes bs first last → Puts contents reason (part_bytes last.sent b) sent last new result → PutsBeginning (contents start) (contents new.device) (stream_bytes s (bs ++ b ∷ more))
+  stream_begins s bs more b start first last new reason sent result is begun wrote put =
+      let has_put = has (schema_refusal s) (schema_message s) s bs start first last begun wrote in
+      subst (PutsBeginning (contents start) (contents new.device)) (begun_end s (bs ++ b ∷ more))
+      (has_beginning (contents start) (schema_message s) s bs more b last (contents new.device) end_mark has_put (went_out reason (part_bytes last.sent b) sent last new result is put))
 
   -- behind a failure nothing is put
-  pub failed_stays : (reason : Option reasons.NoForm) (bytes : List ℕ) (old new : WriterTree W) (result : Result ⊤ errors.WriteError) → Puts contents reason bytes old new result → old.failed ≡ true → (result ≡ Err Failed) × (new ≡ old)
-  failed_stays reason bytes old new (Ok done) put is = absurd (never old.failed is put.0)
-  failed_stays reason bytes old new (Err (NoForm why)) put is = absurd (never old.failed is put.0)
-  failed_stays reason bytes old new (Err (Io e)) put is = absurd (never old.failed is put.0)
-  failed_stays reason bytes old new (Err Failed) put is = (refl, put.1)
+  pub failed_stays : (reason : Option reasons.NoForm) (bytes : List ℕ) (sent : Entries) (old new : WriterTree W) (result : Result ⊤ errors.WriteError) → Puts contents reason bytes sent old new result → old.failed ≡ true → (result ≡ Err Failed) × (new ≡ old)
+  failed_stays reason bytes sent old new (Ok done) put is = absurd (never old.failed is put.0)
+  failed_stays reason bytes sent old new (Err (NoForm why)) put is = absurd (never old.failed is put.0)
+  failed_stays reason bytes sent old new (Err (Io e)) put is = absurd (never old.failed is put.0)
+  failed_stays reason bytes sent old new (Err Failed) put is = (refl, put.1)

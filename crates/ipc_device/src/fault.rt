@@ -12,10 +12,11 @@ pub enum WriteError {
     /// What was to be written has no form, or there is no memory for it: nothing was written, and the writer goes on.
     #[error("{0}")]
     NoForm(NoForm),
-    /// The device failed: a beginning of what was to be written may have gone out, and the writer writes nothing more.
+    /// The device failed, or there was no memory to remember a dictionary that went out (`OutOfMemory`): a beginning of what was to be
+    /// written may have gone out, and the writer writes nothing more.
     #[error("{0}")]
     Io(io::Error),
-    /// The device failed before, so nothing is written.
+    /// An earlier call failed, so nothing is written.
     #[error("an earlier write failed")]
     Failed,
 }

@@ -1,32 +1,35 @@
 //! Writes streams to devices.
-ghost use Rattle.std.specs.Prelude.{◌≡◌, ◌++◌, List, ℕ, None, Ok, IfErr, IfOk, OnOk};
+ghost use Rattle.std.specs.Prelude.{◌≡◌, ◌++◌, List, ℕ, None, map, Ok, IfErr, IfOk, OnOk};
 ghost use Rattle.ipc_model.specs.declared.fault.NoForm.TheVariants.{Memory};
 ghost use Rattle.ipc_message.specs.MessageBytes.{end_mark};
-ghost use Rattle.ipc_schema.specs.Dictionaries.{unseen};
-ghost use Rattle.ipc_schema.specs.PickedLaws.{all_picked};
-ghost use Rattle.ipc_schema.specs.PickedSchemas.{stream_picked_at};
-ghost use Rattle.ipc_schema.specs.Picks.{all};
 ghost use Rattle.ipc_schema.specs.Schemas.{schema_of, stream_keyed_schema_at};
 ghost use Rattle.ipc_schema.specs.SchemaBytes.{schema_message};
+ghost use Rattle.ipc_needed.specs.Needed.{with_entries};
+ghost use Rattle.ipc_needed.specs.Sent.{entry_of, entries_of};
 ghost use Rattle.ipc.specs.Streams.{arrays_of, types_of};
-ghost use Rattle.ipc.specs.Written.{batch_bytes, batch_refusal, schema_refusal, IsRefused, IsReadAgain};
+ghost use Rattle.ipc.specs.Written.{part_bytes, sent_behind, batch_refusal, schema_refusal, IsRefused, IsPartAgain};
 ghost use Rattle.ipc_device.specs.Readers.{IsSchemaOf};
-ghost use Rattle.ipc_device.specs.Writers.{Begins, Ends, Puts};
+ghost use Rattle.ipc_device.specs.Writers.{Begins, Ends, IsSchemaAgain, Puts};
 
 use crate::fault::WriteError;
 use crate::putting::put_all;
-use ipc::{Batch, put_batch};
+use ipc::{Batch, put_part};
 use ipc_model::NoForm;
-use ipc_schema::{Schema, read_schema, write_schema};
+use ipc_needed::remember;
+use ipc_schema::{Schema, read_schema, write_keyed_schema};
+use nest_array::any::AnyArray;
 use std::alloc::Global;
-use std::io::Write;
+use std::collections::BTreeMap;
+use std::io;
+use std::io::{ErrorKind, Write};
 use std::marker::Model;
 
-/// A stream that is written to a device, batch by batch.
+/// A stream that is written to a device, batch by batch, with the memory of one batch and of the dictionaries that were written last.
 #[derive(Drop)]
 pub struct StreamWriter<W> {
     device: W,
     schema: Schema,
+    sent: BTreeMap<i64, AnyArray>,
     failed: bool,
 }
 
@@ -38,8 +41,9 @@ impl<W> Model for StreamWriter<W> {
     ghost coded = { coded_writer W.code };
 
     ghost use Rattle.ipc_schema.specs.Schemas.{schema_of};
+    ghost use Rattle.ipc_needed.specs.Sent.{entries_of};
 
-    ghost view = { λ w. record { device = w.device; schema = schema_of w.schema; failed = w.failed } };
+    ghost view = { λ w. record { device = w.device; schema = schema_of w.schema; sent = entries_of w.sent.entries; failed = w.failed } };
 }
 
 // An equal schema of its own: what the message of a schema is read as.
@@ -57,11 +61,11 @@ pub(crate) fn schema_in(alloc: Global, message: &[u8]) -> Result<Schema, NoForm>
 pub(crate) fn message_of(alloc: Global, schema: &Schema) -> Result<(Vec<u8>, Schema), NoForm>
     ensures bytes { IfOk result (λ x. x.0.items ≡ schema_message (schema_of schema.now)) }
     ensures same { IfOk result (λ x. schema_of x.1 ≡ schema_of schema.now) }
-    ensures again { OnOk result ((rest : List ℕ) → stream_picked_at all (schema_message (schema_of schema.now) ++ rest) ≡ Ok (all_picked (schema_of schema.now) unseen, rest)) }
+    ensures again { OnOk result (IsSchemaAgain (schema_of schema.now)) }
     ensures form { OnOk result (schema_refusal (schema_of schema.now) ≡ None) }
     ensures err { IfErr result (IsRefused (schema_refusal (schema_of schema.now))) }
 {
-    let message = write_schema(alloc, schema)?;
+    let message = write_keyed_schema(alloc, schema)?;
     let copy = schema_in(alloc, &message)?;
     Ok((message, copy))
 }
@@ -81,11 +85,18 @@ impl<W> StreamWriter<W> {
         &self.device
     }
 
-    /// Whether the device failed, so that nothing more is written.
+    /// Whether a call failed, so that nothing more is written.
     pub fn is_failed(&self) -> bool
         ensures { result ≡ self.now.failed }
     {
         self.failed
+    }
+
+    // What was written last of each dictionary, by its id.
+    pub(crate) fn sent(&self) -> &BTreeMap<i64, AnyArray>
+        ensures { entries_of result.now.entries ≡ self.now.sent }
+    {
+        &self.sent
     }
 }
 
@@ -96,16 +107,17 @@ impl<W: Write + Drop> StreamWriter<W> {
     /// `NoForm` with the first reason why the schema is not written: nothing was. `Io` where the device fails.
     pub fn new(alloc: Global, device: W, schema: &Schema) -> Result<StreamWriter<W>, WriteError>
         ensures begun { Begins W.contents (schema_refusal (schema_of schema.now)) (schema_message (schema_of schema.now)) (schema_of schema.now) device result }
-        ensures again { OnOk result ((rest : List ℕ) → stream_picked_at all (schema_message (schema_of schema.now) ++ rest) ≡ Ok (all_picked (schema_of schema.now) unseen, rest)) }
+        ensures again { OnOk result (IsSchemaAgain (schema_of schema.now)) }
     {
         match message_of(alloc, schema) {
-            Ok((message, schema)) => StreamWriter::begin(device, schema, &message),
+            Ok((message, schema)) => StreamWriter::begin(alloc, device, schema, &message),
             Err(why) => Err(WriteError::NoForm(why)),
         }
     }
 
     // Writes the first bytes of a stream of a schema.
     pub(crate) fn begin(
+        alloc: Global,
         device: W,
         schema: Schema,
         bytes: &[u8],
@@ -117,6 +129,7 @@ impl<W: Write + Drop> StreamWriter<W> {
             Ok(()) => Ok(StreamWriter {
                 device,
                 schema,
+                sent: BTreeMap::new(alloc),
                 failed: false,
             }),
             Err(e) => Err(WriteError::Io(e)),
@@ -124,8 +137,8 @@ impl<W: Write + Drop> StreamWriter<W> {
     }
 
     // Writes bytes, where the device did not fail before.
-    pub(crate) fn put(&mut self, bytes: &[u8]) -> Result<(), WriteError>
-        ensures { Puts W.contents None bytes.now self.old self.new result }
+    fn put(&mut self, bytes: &[u8]) -> Result<(), WriteError>
+        ensures { Puts W.contents None bytes.now self.old.sent self.old self.new result }
     {
         if self.failed {
             return Err(WriteError::Failed);
@@ -139,21 +152,41 @@ impl<W: Write + Drop> StreamWriter<W> {
         }
     }
 
-    /// Writes a batch: its message and its body, as `write_stream` does.
+    // Writes bytes in which these dictionaries are. They are out where there is no memory to remember that, so nothing more may follow.
+    pub(crate) fn put_with(
+        &mut self,
+        alloc: Global,
+        bytes: &[u8],
+        needed: &[(i64, &AnyArray)],
+    ) -> Result<(), WriteError>
+        ensures { Puts W.contents None bytes.now (with_entries self.old.sent (map entry_of needed.now)) self.old self.new result }
+    {
+        self.put(bytes)?;
+        match remember(alloc, &mut self.sent, needed) {
+            Ok(()) => Ok(()),
+            Err(_) => {
+                self.failed = true;
+                Err(WriteError::Io(io::Error::from(ErrorKind::OutOfMemory)))
+            }
+        }
+    }
+
+    /// Writes a batch: its message and its body, behind the dictionaries that it needs, as `write_stream` does.
     ///
     /// # Errors
     /// `NoForm` with the first reason why the batch is not written: nothing was, and the writer goes on. `Io` where the device
-    /// fails: a beginning of the batch may have gone out, and nothing more is written. `Failed` where it failed before.
+    /// fails, or where there is no memory to remember a dictionary that went out: a beginning of the batch may have gone out, and
+    /// nothing more is written. `Failed` where a call failed before.
     pub fn write(&mut self, alloc: Global, batch: &Batch) -> Result<(), WriteError>
-        ensures put { Puts W.contents (batch_refusal (types_of self.old.schema) (arrays_of batch.now)) (batch_bytes (arrays_of batch.now)) self.old self.new result }
-        ensures again { OnOk result (IsReadAgain (arrays_of batch.now)) }
+        ensures put { Puts W.contents (batch_refusal (types_of self.old.schema) self.old.sent (arrays_of batch.now)) (part_bytes self.old.sent (arrays_of batch.now)) (sent_behind self.old.sent (arrays_of batch.now)) self.old self.new result }
+        ensures again { OnOk result (IsPartAgain self.old.sent (arrays_of batch.now)) }
     {
         if self.failed {
             return Err(WriteError::Failed);
         }
         let mut out = Vec::new(alloc);
-        match put_batch(alloc, &mut out, &self.schema.fields, batch) {
-            Ok(_) => self.put(&out),
+        match put_part(alloc, &mut out, &self.schema.fields, &self.sent, batch) {
+            Ok((_, needed)) => self.put_with(alloc, &out, &needed),
             Err(why) => Err(WriteError::NoForm(why)),
         }
     }
@@ -174,7 +207,7 @@ impl<W: Write + Drop> StreamWriter<W> {
     /// answers of the batches that were written.
     ///
     /// # Errors
-    /// `Io` where the device fails, `Failed` where it failed before.
+    /// `Io` where the device fails, `Failed` where a call failed before.
     pub fn finish(self) -> Result<W, WriteError>
         ensures { Ends W.contents None end_mark self result }
     {

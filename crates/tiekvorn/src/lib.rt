@@ -17,6 +17,7 @@ pub use ipc::read_stream_columns;
 pub use ipc::write_file;
 pub use ipc::write_stream;
 pub use ipc_device::DeviceReader;
+pub use ipc_device::FileWriter;
 pub use ipc_device::ReadError;
 pub use ipc_device::StreamWriter;
 pub use ipc_device::WriteError;
