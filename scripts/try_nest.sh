@@ -118,12 +118,70 @@ expect 1 '' "nest: $room/truths: its schema is not that of $room/file" concat "$
 expect 1 '' "nest: $room/packed: the body is compressed" concat "$room/file" "$room/packed" -o "$room/none"
 expect 1 '' "nest: $room/absent: input cannot be read" concat "$room/file" "$room/absent" -o "$room/none"
 [ ! -e "$room/none" ] || { echo 'nest concat: an output of a fault'; failed=1; }
+# Rows that are chosen, as a stream, as a file and on standard output: the same as are written as lines; some columns; an output that is the
+# input; each fault, none of which leaves an output; rows without a column are counted.
+# NAME WORD..: with an output the rows that are written without one.
+chosen() {
+    local want
+    want=$("$program" "$@" <"$room/stream")
+    for out in "$room/chosen.arrows" "$room/chosen"; do
+        expect 0 '' '' "$@" -o "$out"
+        [ "$("$program" rows "$out")" = "$want" ] || { echo "nest $* -o $out: other rows"; failed=1; }
+    done
+    case $(head -c 4 "$room/chosen.arrows" | od -An -tx1)$(head -c 6 "$room/chosen") in
+    ' ff ff ff ffARROW1') ;;
+    *) echo "nest $*: another form"; failed=1 ;;
+    esac
+    [ "$("$program" "$@" -o - <"$room/stream" | "$program" rows -)" = "$want" ] || { echo "nest $* -o -: other rows"; failed=1; }
+}
+for file in "$room/stream" "$room/file" -; do
+    for words in '0 0' '0 1' '1 1' '1 2' '0 3' '1 9' '2 1' '3 1' '9 18446744073709551615'; do
+        chosen cut "$file" $words
+    done
+    for words in '' '0' '2 0 2' '1 1 1' '0 1 2'; do
+        chosen take "$file" $words
+    done
+    chosen cut "$file" 1 2 --columns b
+    chosen take --columns a "$file" 2
+    expect 1 '' "nest: $file: there is no row at a place" take "$file" 0 3 -o "$room/none"
+    expect 1 '' "nest: $file: the column is not of booleans" where "$file" b -o "$room/none"
+    expect 1 '' "nest: $file: there is no column of that name" where "$file" c -o "$room/none"
+    expect 1 '' "nest: $file: there is no column of that name" where "$file" a --columns b -o "$room/none"
+done
+chosen where "$room/truths" a
+chosen where "$room/truths" b
+chosen where "$room/truths" a --columns a
+"$program" convert "$room/file" "$room/same"
+expect 0 '' '' cut -o "$room/same" "$room/same" 1 2
+expect 0 '{"a":null,"b":"b"}\n{"a":3,"b":null}\n' '' rows "$room/same"
+expect 0 '' '' cut "$room/file" 0 3 -o "$room/same"
+expect 0 '' '' equal "$room/file" "$room/same"
+expect 0 '' '' cut "$room/bare" 1 9 -o "$room/two"
+expect 0 '' '' take "$room/bare" 0 2 -o "$room/other"
+expect 0 '' '' equal "$room/two" "$room/other"
+expect 1 'row 2\n' '' equal "$room/two" "$room/bare"
+expect 1 '' "nest: $room/bare: there is no row at a place" take "$room/bare" 3 -o "$room/none"
+expect 1 '' "nest: $room/bare: there is no column of that name" where "$room/bare" a -o "$room/none"
+expect 1 '' "nest: $room/packed: the body is compressed" cut "$room/packed" 0 1 -o "$room/none"
+expect 1 '' "nest: $room/csv: a message does not begin with FF FF FF FF" take "$room/csv" 0 -o "$room/none"
+expect 1 '' "nest: $room/absent: input cannot be read" where "$room/absent" a -o "$room/none"
+expect 1 '' "nest: $room/no/out: output cannot be written" cut "$room/file" 0 1 -o "$room/no/out"
+[ ! -e "$room/none" ] || { echo 'nest: an output of a fault'; failed=1; }
+misplaced='nest: --columns and -o each stand once, with a word behind; try --help'
+expect 2 '' "$misplaced" cut "$room/file" 0 1 -o
+expect 2 '' "$misplaced" take "$room/file" 0 -o "$room/none" -o "$room/none"
+expect 2 '' "$misplaced" where "$room/truths" a -o "$room/none" -o
+expect 2 '' "$misplaced" rows "$room/file" --columns
+expect 2 '' "$misplaced" rows "$room/file" --columns a --columns b
 unknown='nest: unknown words; try --help'
+expect 2 '' "$unknown" cut "$room/file" 1 -o "$room/none"
+expect 2 '' "$unknown" take "$room/file" 01 -o "$room/none"
+expect 2 '' "$unknown" where "$room/truths" a b -o "$room/none"
+expect 2 '' "$unknown" cut -o "$room/none"
+expect 2 '' "$unknown" convert "$room/file" "$room/as" -o "$room/none"
 expect 2 '' "$unknown" concat "$room/file"
 expect 2 '' "$unknown" concat -o "$room/none"
 expect 2 '' "$unknown" rows "$room/file" -o "$room/none"
-expect 2 '' "$unknown" rows "$room/file" --columns
-expect 2 '' "$unknown" rows "$room/file" --columns a --columns b
 expect 2 '' "$unknown" --columns a rows
 expect 2 '' "$unknown"
 expect 2 '' "$unknown" rows

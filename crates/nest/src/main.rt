@@ -4,27 +4,29 @@
 use ipc_schema::Columns;
 use nest_look::answering::answer;
 use nest_look::comparing::{Difference, Uncompared, compare, difference_line};
-use nest_look::converting;
 use nest_look::fault::Fault;
 use nest_look::joining::{self, Unjoined};
 use nest_look::running::{read_input, write_bytes};
-use nest_words::{Request, form_of, parse_names, parse_options, parse_request};
+use nest_look::{converting, selecting};
+use nest_words::{
+    Choice, Request, form_of, parse_choice, parse_names, parse_options, parse_request,
+};
 use std::io::ErrorKind;
 use std::process::ExitCode;
 use std::rt::{Env, Files};
 use std::{env, fs, io};
 
 const USAGE: &str = "\
-nest schema FILE                  a line for each column: its name and its type
-nest rows FILE [START COUNT]      rows as JSON, a line each; from a place on, so many at most
-nest cut FILE START COUNT         rows from a place on, so many at most
-nest take FILE PLACE ..           the row at each place, in that order
-nest where FILE COLUMN            rows at which a column of booleans is true; null is not true
-nest equal FILE FILE              nothing where schema and rows are equal, else what differs first: `schema`, or `row` and its place
-nest concat FILE .. -o OUT        all FILES, whose schemas are equal, one after another as one
-nest convert FILE OUT             FILE as OUT
+nest schema FILE                    a line for each column: its name and its type
+nest rows FILE [START COUNT]        rows as JSON, a line each; from a place on, so many at most
+nest cut FILE START COUNT [-o OUT]  rows from a place on, so many at most; with -o as OUT, else as JSON
+nest take FILE PLACE .. [-o OUT]    the row at each place, in that order; likewise
+nest where FILE COLUMN [-o OUT]     rows at which a column of booleans is true; null is not true; likewise
+nest equal FILE FILE                nothing where schema and rows are equal, else what differs first: `schema`, or `row` and its place
+nest concat FILE .. -o OUT          all FILES, whose schemas are equal, one after another as one
+nest convert FILE OUT               FILE as OUT
 OUT is a stream where its name ends in .arrows, else a file.
---columns NAME,NAME               of each FILE these columns alone; a name that no column has picks none
+--columns NAME,NAME                 of each FILE these columns alone; a name that no column has picks none
 FILE is an Arrow file or stream; - is standard input, and as OUT standard output. Places count from 0.
 ";
 
@@ -96,6 +98,23 @@ fn convert(
     let made = converting::convert(rt.alloc(), columns, form_of(out), &bytes)?;
     drop(bytes);
     write_out(rt, out, &made)
+}
+
+/// Writes the rows that are chosen of a file, or of standard input. The output is touched once all bytes are there: it may be the input.
+fn select(
+    rt: &HostRuntime,
+    columns: Columns<'_>,
+    file: &String,
+    choice: &Choice,
+    out: &String,
+) -> ExitCode {
+    match input(rt, file) {
+        Err(fault) => status(rt, file, Err(fault)),
+        Ok(bytes) => match selecting::select(rt.alloc(), columns, form_of(out), choice, &bytes) {
+            Err(fault) => status(rt, file, Err(fault)),
+            Ok(made) => status(rt, out, write_out(rt, out, &made)),
+        },
+    }
 }
 
 /// Says where two files differ first; the status is that of a difference.
@@ -201,6 +220,12 @@ fn unknown(rt: &HostRuntime) -> ExitCode {
     ExitCode::from(2)
 }
 
+/// Says that options stand in no such way, and the status of it.
+fn misplaced(rt: &HostRuntime) -> ExitCode {
+    let _ = eprintln!(rt; "nest: --columns and -o each stand once, with a word behind; try --help");
+    ExitCode::from(2)
+}
+
 /// Says what went wrong with a file, and the status of it.
 fn status(rt: &HostRuntime, file: &String, done: Result<(), Fault>) -> ExitCode {
     match done {
@@ -239,6 +264,22 @@ fn run(
     }
 }
 
+/// Does what a command with an output asks of a file: it chooses rows.
+fn run_choice(
+    rt: &HostRuntime,
+    columns: Columns<'_>,
+    command: &String,
+    file: &String,
+    rest: &[String],
+    out: &String,
+) -> ExitCode {
+    match parse_choice(rt.alloc(), command, rest) {
+        Err(_) => status(rt, file, Err(Fault::Memory)),
+        Ok(None) => unknown(rt),
+        Ok(Some(choice)) => select(rt, columns, file, &choice, out),
+    }
+}
+
 /// Does what words ask, with an output or without one.
 fn run_words(
     rt: &HostRuntime,
@@ -250,6 +291,9 @@ fn run_words(
         ([command, files @ ..], Some(out)) if is(command, "concat") => {
             concat(rt, columns, files, out)
         }
+        ([command, file, rest @ ..], Some(out)) => {
+            run_choice(rt, columns, command, file, rest, out)
+        }
         ([command, file, rest @ ..], None) => run(rt, columns, command, file, rest),
         _ => unknown(rt),
     }
@@ -258,7 +302,7 @@ fn run_words(
 /// Reads the names of columns, and does what the other words ask.
 fn nest(rt: &HostRuntime, words: Vec<String>) -> ExitCode {
     let Some(options) = parse_options(words) else {
-        return unknown(rt);
+        return misplaced(rt);
     };
     let out = options.out.as_ref();
     let Some(text) = &options.columns else {

@@ -13,5 +13,6 @@ mod table;
 
 pub use answering::answer;
 pub use making::records;
+pub use named::column_refusal;
 pub use refusal::Refusal;
 pub use table::Table;

@@ -11,4 +11,4 @@ mod truths;
 
 pub use choosing::choose;
 pub use differing::{TooManyRows, first_difference};
-pub use truths::is_named;
+pub use truths::{boolean_column, is_named};

@@ -1,5 +1,6 @@
 mod Alike
 mod Batches
+mod Chosen
 mod Gathered
 mod Joins
 mod OneDifference

@@ -1,5 +1,5 @@
 -- What two inputs hold, alike or not.
-use Rattle.std.specs.Prelude.{ℕ, Bool, true, List, [], ◌∷◌, length, None, codes}
+use Rattle.std.specs.Prelude.{ℕ, Bool, true, false, List, [], ◌∷◌, length, None, codes}
 use Rattle.nest_memory.specs.TypeTree as types
 use Rattle.nest_memory.specs.TypeTree.{FieldTree, field}
 use Rattle.nest_model.specs.Layout as layouts
@@ -16,6 +16,10 @@ truths_in (bs ∷ others) = record { rows = length bs; columns = layouts.boolean
 
 abbrev pub truths : List (List Bool) → HeldTree
 truths batches = record { schema = record { fields = ok_field ∷ []; metadata = [] }; batches = truths_in batches }
+
+-- true and false, and true in the next batch
+abbrev pub three_truths : HeldTree
+three_truths = truths ((true ∷ false ∷ []) ∷ (true ∷ []) ∷ [])
 
 -- batches without a column, of so many rows each
 abbrev pub bare_batches : List ℕ → List Arrays

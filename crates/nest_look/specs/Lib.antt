@@ -4,5 +4,6 @@ pub mod Outcome
 pub mod Converted
 pub mod Compared
 pub mod Joined
+pub mod Selected
 pub mod Words
 pub mod Examples

@@ -101,7 +101,7 @@ fn record_arrays(alloc: Global, held: Held) -> Result<Vec<AnyArray>, Fault>
 }
 
 /// Each batch as one array of its rows.
-fn row_arrays(alloc: Global, held: Held) -> Result<Vec<AnyArray>, Fault>
+pub(crate) fn row_arrays(alloc: Global, held: Held) -> Result<Vec<AnyArray>, Fault>
     ensures rows { IfOk result (λ v. map layout_of v.items ≡ batch_arrays (held_of held)) }
     ensures fault { IfErr result (λ e. IsUnread e (Ok (held_of held))) }
 {

@@ -12,3 +12,4 @@ pub mod holding;
 pub mod joining;
 pub mod laws;
 pub mod running;
+pub mod selecting;

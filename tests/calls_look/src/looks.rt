@@ -8,7 +8,8 @@ use nest_look::fault::Fault;
 use nest_look::holding::read_held;
 use nest_look::joining::{Unjoined, concat};
 use nest_look::running::{read_input, write_bytes};
-use nest_words::{Choice, Form, Request, parse_request};
+use nest_look::selecting::select;
+use nest_words::{Choice, Form, Request, parse_choice, parse_request};
 use std::alloc::{AllocError, Global};
 use std::test::*;
 
@@ -347,4 +348,63 @@ fn samples_are_joined(rt: HostRuntime) -> Result<(), Fail> {
     let packed = together(rt.alloc(), &[STREAM, PACKED]).err();
     assert!(rt; packed == Some(Unjoined::Input(1, ipc_model::Fault::Compressed)));
     Ok(())
+}
+
+/// The rows that words choose of a sample, in a form.
+fn selected(alloc: Global, form: Form, words: &[&str], digits: &str) -> Result<Vec<u8>, Fault> {
+    let bytes = bytes_of(alloc, digits)?;
+    let command = String::from_str(alloc, words[0])?;
+    let mut all = Vec::new(alloc);
+    for i in 1..words.len() {
+        all.push(String::from_str(alloc, words[i])?)?;
+    }
+    match parse_choice(alloc, &command, &all)? {
+        None => Ok(Vec::new(alloc)),
+        Some(choice) => select(alloc, Columns::All, form, &choice, &bytes),
+    }
+}
+
+#[test]
+fn rows_are_selected(rt: HostRuntime) -> Result<(), Fail> {
+    for (digits, words) in [
+        (STREAM, ["cut", "0", "3"].as_slice()),
+        (STREAM, ["cut", "1", "1"].as_slice()),
+        (FILE, ["cut", "1", "18446744073709551615"].as_slice()),
+        (STREAM, ["cut", "3", "1"].as_slice()),
+        (FILE, ["take", "2", "0", "2"].as_slice()),
+        (STREAM, ["take"].as_slice()),
+        (TRUTHS, ["where", "a"].as_slice()),
+        (TRUTHS, ["where", "b"].as_slice()),
+    ] {
+        let want = said(rt.alloc(), words, digits)?;
+        for form in [Form::File, Form::Stream] {
+            let made = selected(rt.alloc(), form, words, digits)?;
+            assert!(rt; made.starts_with(b"ARROW1") == (form == Form::File));
+            let text = answer(rt.alloc(), Columns::All, &Request::Rows(Choice::All), &made)?;
+            assert!(rt; text.as_str() == want.as_str(), "{text}");
+        }
+    }
+    let two = selected(rt.alloc(), Form::File, &["cut", "1", "9"], BARE)?;
+    let held = read_held(rt.alloc(), Columns::All, &two)?;
+    assert!(rt; held.batches.len() == 1 && held.batches[0].rows == 2);
+    Ok(())
+}
+
+#[test]
+fn refuses_to_select(rt: HostRuntime) {
+    for (digits, words, want) in [
+        (STREAM, ["take", "0", "3"].as_slice(), Fault::Place),
+        (BARE, ["take", "3"].as_slice(), Fault::Place),
+        (FILE, ["where", "c"].as_slice(), Fault::NoColumn),
+        (BARE, ["where", "a"].as_slice(), Fault::NoColumn),
+        (FILE, ["where", "b"].as_slice(), Fault::NotBoolean),
+        (
+            PACKED,
+            ["cut", "0", "1"].as_slice(),
+            Fault::Format(ipc_model::Fault::Compressed),
+        ),
+    ] {
+        let fault = selected(rt.alloc(), Form::Stream, words, digits).err();
+        assert!(rt; fault == Some(want));
+    }
 }
