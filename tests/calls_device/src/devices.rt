@@ -46,7 +46,8 @@ impl Read for Source {
     }
 }
 
-/// Takes at most so many bytes a turn; every second turn is interrupted; it fails once it has so many.
+/// Takes at most so many bytes a turn; every second turn is interrupted; it fails once it has so many, and when it is flushed
+/// where that is asked for.
 #[derive(Drop)]
 pub struct Sink {
     pub bytes: Vec<u8>,
@@ -54,6 +55,7 @@ pub struct Sink {
     pub fails_at: usize,
     pub turns: usize,
     pub flushes: usize,
+    pub flush_fails: bool,
 }
 
 impl Sink {
@@ -64,6 +66,7 @@ impl Sink {
             fails_at,
             turns: 0,
             flushes: 0,
+            flush_fails: false,
         }
     }
 }
@@ -86,6 +89,9 @@ impl Write for Sink {
 
     fn flush(&mut self) -> io::Result<()> {
         self.flushes += 1;
+        if self.flush_fails {
+            return Err(io::Error::from(ErrorKind::BrokenPipe));
+        }
         Ok(())
     }
 }

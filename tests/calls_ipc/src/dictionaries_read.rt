@@ -7,11 +7,13 @@ use crate::samples_dictionaries::{
 };
 use crate::samples_read::bytes_of;
 use crate::texts::{answer, file_answer, is_file_read, is_read, put_batch};
-use ipc::{FileReader, State, StreamReader, next_batch, read_file_columns, read_stream};
-use ipc::{read_message, read_stream_columns, write_file, write_stream};
+use ipc::{
+    FileReader, State, StreamReader, next_batch, read_file_columns, read_message, read_stream,
+    read_stream_columns,
+};
 use ipc_footer::Block;
 use ipc_message::{Kind, next_message};
-use ipc_model::{Fault, NoForm};
+use ipc_model::Fault;
 use ipc_schema::{Columns, read_picked_schema, read_schema};
 use std::alloc::Global;
 
@@ -114,7 +116,11 @@ fn dictionaries_of_other_columns_are_passed_over(rt: HostRuntime) {
     for sample in &READ_DICTIONARIES {
         if !is_refused(sample) {
             let bytes = bytes_of(alloc, sample).expect(&rt, "no bytes");
-            assert!(rt; has_each_column(alloc, &bytes) == Ok(true), "{}", sample.name);
+            assert!(rt;
+                has_each_column(alloc, &bytes) == Ok(true),
+                "{}",
+                sample.name
+            );
         }
     }
 }
@@ -164,7 +170,10 @@ fn a_batch_keeps_the_values_that_are_replaced(rt: HostRuntime) {
             "dictionary_nested",
             "batch 2\nrow {s72,1,}\nrow N\nbatch 4\nrow {s70,1,}\nrow {s71,1,}\nrow N\nrow {s70,1,}\n",
         ),
-        ("dictionary_keys_under_nulls", "none\nbatch 3\nrow N\nrow s78\nrow N\n"),
+        (
+            "dictionary_keys_under_nulls",
+            "none\nbatch 3\nrow N\nrow s78\nrow N\n",
+        ),
     ] {
         let bytes = named(alloc, name).expect(&rt, "no bytes");
         let text = first_behind_second(alloc, &bytes).expect(&rt, "a fault");
@@ -290,7 +299,11 @@ fn a_file_has_each_dictionary_once(rt: HostRuntime) {
     for (name, order, want) in [
         ("dictionary", [].as_slice(), "fault MissingDictionary\n"),
         ("replaced", [0usize, 1].as_slice(), "fault Replaced\n"),
-        ("dictionaries_inside", [0usize].as_slice(), "fault MissingDictionary\n"),
+        (
+            "dictionaries_inside",
+            [0usize].as_slice(),
+            "fault MissingDictionary\n",
+        ),
     ] {
         let text = with_dictionaries(alloc, name, order).expect(&rt, "no file");
         assert!(rt; text.as_str() == want, "{name}: {text}");
@@ -327,30 +340,14 @@ fn batches_of_a_file_in_any_order(rt: HostRuntime) {
             let mut count = 0;
             for part in sample.answer.split("batch ") {
                 let part = part.trim_end();
-                assert!(rt; count == 0 || text.contains(part), "{}: {text}", sample.name);
+                assert!(rt;
+                    count == 0 || text.contains(part),
+                    "{}: {text}",
+                    sample.name
+                );
                 count += 1;
             }
             assert!(rt; count == reader.len() + 1, "{}", sample.name);
-        }
-    }
-}
-
-// What is read of columns with dictionaries is not written.
-fn reasons(alloc: Global, bytes: &[u8]) -> Result<(Option<NoForm>, Option<NoForm>), Fault> {
-    let stream = read_stream(alloc, bytes)?;
-    let one = write_stream(alloc, &stream.schema, &stream.batches).err();
-    let other = write_file(alloc, &stream.schema, &stream.batches).err();
-    Ok((one, other))
-}
-
-#[test]
-fn none_is_written(rt: HostRuntime) {
-    let alloc = rt.alloc();
-    for sample in &READ_DICTIONARIES {
-        if !is_refused(sample) {
-            let bytes = bytes_of(alloc, sample).expect(&rt, "no bytes");
-            let (one, other) = reasons(alloc, &bytes).expect(&rt, "a fault");
-            assert!(rt; one == Some(NoForm::Type) && other == one, "{}", sample.name);
         }
     }
 }
@@ -365,7 +362,11 @@ fn each_beginning(rt: HostRuntime) {
         let bytes = bytes_of(alloc, sample).expect(&rt, "no bytes");
         if bytes.len() <= BYTES {
             for end in 0..bytes.len() {
-                assert!(rt; is_read(alloc, &bytes[..end]).is_some(), "{} up to {end}", sample.name);
+                assert!(rt;
+                    is_read(alloc, &bytes[..end]).is_some(),
+                    "{} up to {end}",
+                    sample.name
+                );
             }
         }
     }

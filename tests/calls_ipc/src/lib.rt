@@ -5,7 +5,7 @@
 //! |---|---|
 //! | Streams of other writers are read: one field and a batch, byte by byte, whole and batch by batch; all kinds of whole numbers | `worked` |
 //! | Streams of another program have their answers, or their faults | `samples_read` |
-//! | A schema that is written is read back, with its metadata, and so is a batch | `written` |
+//! | A schema that is written is read back, with its metadata, and so are a batch and a dictionary | `written` |
 //! | Schemas of another program have their text, or their faults; each type is read back; schemas drawn, over every type, are read back or have the first reason of a plain model; each beginning of a message and each byte of it changed is answered | `schemas` |
 //! | Schemas with dictionaries, of another program and laid down by hand, have their text and their ids; each fault of them, in its place of the order | `keyed_schemas` |
 //! | Schemas with dictionaries, of another program, drawn, and of each type of keys, are written and read back with the ids 0, 1, 2 and so on, or have the first reason of a plain model; without dictionaries both calls write the same | `keyed_written` |
@@ -19,6 +19,9 @@
 //! | Arrays of every nesting, drawn and cut, are written and read back, over the values of their dictionaries; columns stand one behind the other | `nested_written` |
 //! | Streams that are written, and read back: windows, nothing, streams of others, rows without columns; each reason not to | `streams_written` |
 //! | Streams and files with dictionaries, of another program: read by every reader alike, or refused; dictionaries that are replaced, shared, nested, missing, passed over, under nulls; each byte of the short ones changed | `dictionaries_read` |
+//! | Columns by dictionaries are written and read back in both forms: keys of each width, nulls, cuts, values that no key names, inside of others and of values, ids in pre-order; streams and files of another program are written again; each beginning of what is written, and each byte changed | `dictionaries_written` |
+//! | Dictionaries of several batches: the same, equal, grown and changed ones, inner and outer; which come again in a stream, and which file is refused; a batch at a time, and behind a refusal | `dictionaries_anew` |
+//! | Schemas with dictionaries at any depth, drawn, and batches that share, grow or change values, held against a plain model of which come | `dictionaries_drawn` |
 //! | Each fault once | `faults` |
 //! | Files of another program, streams of others as files, blocks in another order, batches in any order, and files that are written | `files` |
 //! | Each fault of files once; each beginning of a file, and each of its bytes changed, is answered, by `read_file` and by a reader alike | `file_faults` |
@@ -33,7 +36,13 @@ mod columns;
 #[cfg(test)]
 mod columns_read;
 #[cfg(test)]
+mod dictionaries_anew;
+#[cfg(test)]
+mod dictionaries_drawn;
+#[cfg(test)]
 mod dictionaries_read;
+#[cfg(test)]
+mod dictionaries_written;
 #[cfg(test)]
 mod faults;
 #[cfg(test)]
@@ -48,6 +57,10 @@ mod flat_read;
 mod flat_written;
 #[cfg(test)]
 mod hostile;
+#[cfg(test)]
+mod keyed_columns;
+#[cfg(test)]
+mod keyed_model;
 #[cfg(test)]
 mod keyed_samples;
 #[cfg(test)]

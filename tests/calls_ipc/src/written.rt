@@ -1,8 +1,9 @@
 //! What is written is read back.
-use ipc_batch::{BatchMetadata, read_batch, write_batch};
-use ipc_message::next_message;
+use ipc_batch::{BatchMetadata, read_batch, write_batch, write_dictionary};
+use ipc_message::{Kind, next_message};
 use ipc_model::{NoForm, Node, Region};
 use ipc_schema::{Schema, read_schema, write_schema};
+use ipc_words::{i64_field, offset_field, u8_field, visit_table};
 use nest_memory::datatypes::{DataType, Field, Metadata};
 use std::alloc::Global;
 use std::collections::BTreeMap;
@@ -79,40 +80,32 @@ fn refused_schemas(rt: HostRuntime) {
     assert!(rt; write_schema(alloc, &schema).err() == Some(NoForm::Extension));
 }
 
-#[test]
-fn a_batch(rt: HostRuntime) {
-    let alloc = rt.alloc();
+fn three_rows(alloc: Global) -> Result<BatchMetadata, NoForm> {
     let mut nodes = Vec::new(alloc);
-    assert!(rt;
-        nodes
-            .push(Node {
-                length: 3,
-                null_count: 1
-            })
-            .is_ok()
-    );
+    nodes.push(Node {
+        length: 3,
+        null_count: 1,
+    })?;
     let mut regions = Vec::new(alloc);
-    assert!(rt;
-        regions
-            .push(Region {
-                offset: 8,
-                length: 8
-            })
-            .is_ok()
-    );
-    assert!(rt;
-        regions
-            .push(Region {
-                offset: 0,
-                length: 1
-            })
-            .is_ok()
-    );
-    let batch = BatchMetadata {
+    regions.push(Region {
+        offset: 8,
+        length: 8,
+    })?;
+    regions.push(Region {
+        offset: 0,
+        length: 1,
+    })?;
+    Ok(BatchMetadata {
         rows: 3,
         nodes,
         regions,
-    };
+    })
+}
+
+#[test]
+fn a_batch(rt: HostRuntime) {
+    let alloc = rt.alloc();
+    let batch = three_rows(alloc).expect(&rt, "no rows");
     let mut bytes = Vec::new(alloc);
     assert!(rt; write_batch(alloc, &mut bytes, &batch, 16).is_ok());
     assert!(rt; bytes.len() % 8 == 0);
@@ -129,6 +122,31 @@ fn a_batch(rt: HostRuntime) {
         root.body_length,
     )
     .expect(&rt, "no batch");
+    assert!(rt; read.rows == 3);
+    assert!(rt; read.nodes == batch.nodes);
+    assert!(rt; read.regions == batch.regions);
+}
+
+#[test]
+fn a_dictionary(rt: HostRuntime) {
+    let alloc = rt.alloc();
+    let batch = three_rows(alloc).expect(&rt, "no rows");
+    let mut bytes = Vec::new(alloc);
+    assert!(rt; write_dictionary(alloc, &mut bytes, 515, &batch, 16).is_ok());
+    assert!(rt; bytes.len() % 8 == 0);
+    assert!(rt; bytes.extend_from_slice(&[7; 16]).is_ok());
+    let (message, rest) = next_message(&bytes).expect(&rt, "no message");
+    let message = message.expect(&rt, "the end");
+    assert!(rt; rest.is_empty());
+    let root = message.root;
+    assert!(rt; root.kind == Kind::DictionaryBatch);
+    let metadata = message.metadata;
+    let (table, left) = visit_table(metadata, root.header, root.left).expect(&rt, "no table");
+    assert!(rt; i64_field(metadata, table, 0, 0) == Ok(515));
+    assert!(rt; u8_field(metadata, table, 2) == Ok(0));
+    let to = offset_field(metadata, table, 1).expect(&rt, "no field");
+    let place = to.expect(&rt, "no place");
+    let read = read_batch(alloc, metadata, place, left, root.body_length).expect(&rt, "no batch");
     assert!(rt; read.rows == 3);
     assert!(rt; read.nodes == batch.nodes);
     assert!(rt; read.regions == batch.regions);

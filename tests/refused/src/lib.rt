@@ -11,6 +11,7 @@ mod arrays;
 mod builders;
 mod iterators;
 mod keyed;
+mod keyed_written;
 mod nested;
 mod parsed;
 mod parts;

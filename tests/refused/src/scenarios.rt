@@ -1,7 +1,9 @@
 //! What is tried.
 
 use crate::trial::Trial;
-use crate::{arrays, builders, keyed, nested, parsed, program, schemas, streams, typed};
+use crate::{
+    arrays, builders, keyed, keyed_written, nested, parsed, program, schemas, streams, typed,
+};
 use drawn_builders::wrong::Wrong;
 use std::alloc::Global;
 
@@ -28,6 +30,8 @@ pub enum Scenario {
     Streams,
     NestedStreams,
     KeyedStreams,
+    WrittenDictionaries,
+    FiledDictionaries,
 }
 
 impl Scenario {
@@ -54,6 +58,8 @@ impl Scenario {
             Scenario::Streams => streams::both_ways(trial, alloc),
             Scenario::NestedStreams => nested::both_ways(trial, alloc),
             Scenario::KeyedStreams => keyed::read(trial, alloc),
+            Scenario::WrittenDictionaries => keyed_written::streams(trial, alloc),
+            Scenario::FiledDictionaries => keyed_written::files(trial, alloc),
         }
     }
 }

@@ -1,0 +1,382 @@
+//! Several batches with dictionaries: which dictionaries come again, and which files are refused for it.
+use crate::keyed_columns::{batch, by, keyed, keyed_words, record, schema_of, single, words};
+use crate::keyed_model::{Written, is_written, messages_of, model_of, unread, unwritten, written};
+use ipc::{Batch, Blocks, put_batch, put_part, put_part_blocks, write_file, write_stream};
+use ipc_footer::write_footer;
+use ipc_model::NoForm;
+use ipc_needed::remember;
+use ipc_schema::{Schema, write_keyed_schema};
+use nest_array::any::AnyArray;
+use nest_memory::datatypes::IntegerType;
+use nest_memory::error::Error;
+use std::alloc::Global;
+use std::collections::BTreeMap;
+
+// What is written of batches, at least one.
+fn written_of(alloc: Global, batches: &[Batch]) -> Result<Written, Error> {
+    let schema = schema_of(alloc, &batches[0].columns)?;
+    written(alloc, &schema, batches)
+}
+
+// Whether batches are written as these messages, for the model too.
+fn are_written(
+    alloc: Global,
+    batches: &[Batch],
+    messages: &str,
+    replaces: bool,
+) -> Result<bool, Error> {
+    let model = model_of(alloc, batches).map_err(unread)?;
+    let found = written_of(alloc, batches)?;
+    Ok(
+        is_written(&found, messages, replaces)
+            && model.messages.as_str() == messages
+            && model.replaces == replaces,
+    )
+}
+
+/// Batches of words by keys: the keys and the words of each.
+#[derive(Drop)]
+struct Run {
+    steps: &'static [(&'static str, &'static str)],
+    messages: &'static str,
+    replaces: bool,
+}
+
+/// All arrays are made anew, so that equal words are other memory.
+const RUNS: [Run; 11] = [
+    Run {
+        steps: &[("01", "ab"), ("10-", "ab")],
+        messages: "s d0 b2 b3 ",
+        replaces: false,
+    },
+    Run {
+        steps: &[("01", "ab"), ("", "ab"), ("1", "ab"), ("1111", "ab")],
+        messages: "s d0 b2 b0 b1 b4 ",
+        replaces: false,
+    },
+    Run {
+        steps: &[("01", "ab"), ("012", "abc")],
+        messages: "s d0 b2 d0 b3 ",
+        replaces: true,
+    },
+    Run {
+        steps: &[("012", "abc"), ("01", "ab")],
+        messages: "s d0 b3 d0 b2 ",
+        replaces: true,
+    },
+    Run {
+        steps: &[("01", "ab"), ("01", "cd")],
+        messages: "s d0 b2 d0 b2 ",
+        replaces: true,
+    },
+    Run {
+        steps: &[("01", "ab"), ("10", "ba")],
+        messages: "s d0 b2 d0 b2 ",
+        replaces: true,
+    },
+    Run {
+        steps: &[("01", "ab"), ("01", "cd"), ("1", "cd"), ("01", "ab")],
+        messages: "s d0 b2 d0 b2 b1 d0 b2 ",
+        replaces: true,
+    },
+    Run {
+        steps: &[("01", "ab"), ("", "cd")],
+        messages: "s d0 b2 d0 b0 ",
+        replaces: true,
+    },
+    Run {
+        steps: &[("", ""), ("--", ""), ("01", "ab")],
+        messages: "s d0 b0 b2 d0 b2 ",
+        replaces: true,
+    },
+    Run {
+        steps: &[("01", "a-"), ("0-", "a-"), ("0", "ab")],
+        messages: "s d0 b2 b2 d0 b1 ",
+        replaces: true,
+    },
+    Run {
+        steps: &[],
+        messages: "s ",
+        replaces: false,
+    },
+];
+
+fn batches_of(alloc: Global, run: &Run) -> Result<Vec<Batch>, Error> {
+    let mut batches = Vec::new(alloc);
+    for (keys, letters) in run.steps {
+        batches.push(single(alloc, keyed_words(alloc, keys, letters)?)?)?;
+    }
+    Ok(batches)
+}
+
+fn is_run(alloc: Global, run: &Run) -> Result<bool, Error> {
+    let column = keyed_words(alloc, "0", "a")?;
+    let schema = schema_of(alloc, std::slice::from_ref(&column))?;
+    let batches = batches_of(alloc, run)?;
+    let model = model_of(alloc, &batches).map_err(unread)?;
+    let found = written(alloc, &schema, &batches)?;
+    Ok(
+        is_written(&found, run.messages, run.replaces)
+            && model.messages.as_str() == run.messages
+            && model.replaces == run.replaces,
+    )
+}
+
+#[test]
+fn words_by_keys_in_batches(rt: HostRuntime) {
+    for i in 0..RUNS.len() {
+        assert!(rt; is_run(rt.alloc(), &RUNS[i]) == Ok(true), "run {i}");
+    }
+}
+
+// Batches that share one array of values, and one whose values are a cut of more with the same slots.
+fn shared(alloc: Global) -> Result<Vec<Batch>, Error> {
+    let values = words(alloc, "abc")?;
+    let mut batches = Vec::new(alloc);
+    for keys in ["01", "2-", "0"] {
+        batches.push(single(alloc, keyed(alloc, keys, values.clone(alloc)?)?)?)?;
+    }
+    let cut = words(alloc, "zabcz")?.sliced(1, 3);
+    batches.push(single(alloc, keyed(alloc, "210", cut)?)?)?;
+    Ok(batches)
+}
+
+#[test]
+fn what_is_shared_or_equal_comes_once(rt: HostRuntime) {
+    let batches = shared(rt.alloc()).expect(&rt, "no batches");
+    let same = are_written(rt.alloc(), &batches, "s d0 b2 b2 b1 b3 ", false);
+    assert!(rt; same == Ok(true));
+}
+
+// Cuts of one column.
+fn cuts(alloc: Global) -> Result<Vec<Batch>, Error> {
+    let column = keyed_words(alloc, "0120-1", "abc")?;
+    let mut batches = Vec::new(alloc);
+    for (o, n) in [(0, 2), (2, 4), (3, 0), (0, 6)] {
+        batches.push(single(alloc, column.clone(alloc)?.sliced(o, n))?)?;
+    }
+    Ok(batches)
+}
+
+#[test]
+fn cuts_of_one_column_share_its_values(rt: HostRuntime) {
+    let batches = cuts(rt.alloc()).expect(&rt, "no batches");
+    let same = are_written(rt.alloc(), &batches, "s d0 b2 b4 b0 b6 ", false);
+    assert!(rt; same == Ok(true));
+}
+
+/// Batches of records of words, the records by keys too: the words, their keys, the keys of records.
+#[derive(Drop)]
+struct Nest {
+    steps: &'static [(&'static str, &'static str, &'static str)],
+    messages: &'static str,
+    replaces: bool,
+}
+
+const NESTS: [Nest; 7] = [
+    Nest {
+        steps: &[("ab", "01", "01"), ("ab", "01", "10-"), ("ab", "01", "")],
+        messages: "s d1 d0 b2 b3 b0 ",
+        replaces: false,
+    },
+    // The records stay the same; what their keys name has more words.
+    Nest {
+        steps: &[("ab", "01", "01"), ("abc", "01", "01")],
+        messages: "s d1 d0 b2 d1 d0 b2 ",
+        replaces: true,
+    },
+    // The records stay the same, by other keys of other words.
+    Nest {
+        steps: &[("ab", "01", "01"), ("ba", "10", "01"), ("ba", "10", "1")],
+        messages: "s d1 d0 b2 d1 d0 b2 b1 ",
+        replaces: true,
+    },
+    // More records of the same words.
+    Nest {
+        steps: &[("ab", "01", "01"), ("ab", "010", "012")],
+        messages: "s d1 d0 b2 d0 b3 ",
+        replaces: true,
+    },
+    // And back.
+    Nest {
+        steps: &[("ab", "01", "01"), ("cb", "01", "01"), ("ab", "01", "01")],
+        messages: "s d1 d0 b2 d1 d0 b2 d1 d0 b2 ",
+        replaces: true,
+    },
+    // First the outer, then the inner one.
+    Nest {
+        steps: &[("ab", "01", "0"), ("ab", "10", "0"), ("cd", "10", "0")],
+        messages: "s d1 d0 b1 d0 b1 d1 d0 b1 ",
+        replaces: true,
+    },
+    // Nulls are the same by a key and by its value.
+    Nest {
+        steps: &[("a-", "01", "01"), ("a-", "0-", "01")],
+        messages: "s d1 d0 b2 b2 ",
+        replaces: false,
+    },
+];
+
+fn nested(alloc: Global, letters: &str, keys: &str, outer: &str) -> Result<AnyArray, Error> {
+    let inner = record(alloc, vec![in alloc; keyed_words(alloc, keys, letters)?]?)?;
+    by(alloc, IntegerType::UInt16, outer, inner)
+}
+
+fn batches_of_nest(alloc: Global, nest: &Nest) -> Result<Vec<Batch>, Error> {
+    let mut batches = Vec::new(alloc);
+    for (letters, keys, outer) in nest.steps {
+        batches.push(single(alloc, nested(alloc, letters, keys, outer)?)?)?;
+    }
+    Ok(batches)
+}
+
+#[test]
+fn records_by_keys_in_batches(rt: HostRuntime) {
+    let alloc = rt.alloc();
+    for i in 0..NESTS.len() {
+        let nest = &NESTS[i];
+        let batches = batches_of_nest(alloc, nest).expect(&rt, "no batches");
+        let same = are_written(alloc, &batches, nest.messages, nest.replaces);
+        assert!(rt; same == Ok(true), "nest {i}");
+    }
+}
+
+/// Two columns of words by keys: the words of each.
+const PAIRS: [(&[(&str, &str)], &str, bool); 4] = [
+    (&[("ab", "ab"), ("ab", "ab")], "s d0 d1 b2 b2 ", false),
+    (&[("ab", "ab"), ("ab", "cd")], "s d0 d1 b2 d1 b2 ", true),
+    (&[("ab", "ab"), ("cd", "ab")], "s d0 d1 b2 d0 b2 ", true),
+    // The words of one are the other's: each has its own.
+    (&[("ab", "cd"), ("cd", "ab")], "s d0 d1 b2 d0 d1 b2 ", true),
+];
+
+fn batches_of_pairs(alloc: Global, steps: &[(&str, &str)]) -> Result<Vec<Batch>, Error> {
+    let mut batches = Vec::new(alloc);
+    for (one, other) in steps {
+        let one = keyed_words(alloc, "01", one)?;
+        let other = keyed_words(alloc, "10", other)?;
+        batches.push(batch(vec![in alloc; one, other]?))?;
+    }
+    Ok(batches)
+}
+
+#[test]
+fn two_columns_in_batches(rt: HostRuntime) {
+    let alloc = rt.alloc();
+    for i in 0..PAIRS.len() {
+        let (steps, messages, replaces) = PAIRS[i];
+        let batches = batches_of_pairs(alloc, steps).expect(&rt, "no batches");
+        let same = are_written(alloc, &batches, messages, replaces);
+        assert!(rt; same == Ok(true), "pair {i}");
+    }
+}
+
+// Why no file is of batches of words by keys, some of which are texts without keys: `.` in the place of the keys.
+fn reason(
+    alloc: Global,
+    steps: &[(&str, &str)],
+) -> Result<(Option<NoForm>, Option<NoForm>), Error> {
+    let mut batches = Vec::new(alloc);
+    for (keys, letters) in steps {
+        let column = if *keys == "." {
+            words(alloc, letters)?
+        } else {
+            keyed_words(alloc, keys, letters)?
+        };
+        batches.push(single(alloc, column)?)?;
+    }
+    let schema = schema_of(alloc, &batches[0].columns)?;
+    let stream = write_stream(alloc, &schema, &batches).err();
+    Ok((stream, write_file(alloc, &schema, &batches).err()))
+}
+
+#[test]
+fn the_first_reason_in_the_order_of_writing(rt: HostRuntime) {
+    let alloc = rt.alloc();
+    let (columns, anew) = (Some(NoForm::Columns), Some(NoForm::Dictionaries));
+    let one = reason(alloc, &[("0", "a"), ("0", "b"), (".", "c")]);
+    assert!(rt; one == Ok((columns, anew)));
+    let other = reason(alloc, &[("0", "a"), (".", "c"), ("0", "b")]);
+    assert!(rt; other == Ok((columns, columns)));
+    let none = reason(alloc, &[("0", "a"), ("0", "b")]);
+    assert!(rt; none == Ok((None, anew)));
+}
+
+// A stream that is put together a batch at a time.
+fn stepwise(alloc: Global, schema: &Schema, batches: &[Batch]) -> Result<Vec<u8>, NoForm> {
+    let mut out = write_keyed_schema(alloc, schema)?;
+    let mut sent = BTreeMap::new(alloc);
+    for batch in batches {
+        put_batch(alloc, &mut out, &schema.fields, &mut sent, batch)?;
+    }
+    out.extend_from_slice(&[255, 255, 255, 255, 0, 0, 0, 0])?;
+    Ok(out)
+}
+
+// The same, where what each batch needed is remembered behind it.
+fn by_parts(alloc: Global, schema: &Schema, batches: &[Batch]) -> Result<Vec<u8>, NoForm> {
+    let mut out = write_keyed_schema(alloc, schema)?;
+    let mut sent = BTreeMap::new(alloc);
+    for batch in batches {
+        let (_, needed) = put_part(alloc, &mut out, &schema.fields, &sent, batch)?;
+        remember(alloc, &mut sent, &needed)?;
+    }
+    out.extend_from_slice(&[255, 255, 255, 255, 0, 0, 0, 0])?;
+    Ok(out)
+}
+
+// A file that is put together a batch at a time.
+fn file_by_parts(alloc: Global, schema: &Schema, batches: &[Batch]) -> Result<Vec<u8>, NoForm> {
+    let mut out = Vec::new(alloc);
+    out.extend_from_slice(b"ARROW1\0\0")?;
+    out.extend_from_slice(&write_keyed_schema(alloc, schema)?)?;
+    let mut sent = BTreeMap::new(alloc);
+    let mut blocks = Blocks::new(alloc);
+    for batch in batches {
+        let fields = &schema.fields;
+        let needed = put_part_blocks(alloc, &mut out, &mut blocks, fields, &sent, batch)?;
+        remember(alloc, &mut sent, &needed)?;
+    }
+    out.extend_from_slice(&[255, 255, 255, 255, 0, 0, 0, 0])?;
+    write_footer(alloc, &mut out, schema, &blocks.dictionaries, &blocks.batches)?;
+    Ok(out)
+}
+
+fn is_stepwise(alloc: Global, nest: &Nest) -> Result<bool, Error> {
+    let batches = batches_of_nest(alloc, nest)?;
+    let schema = schema_of(alloc, &batches[0].columns)?;
+    let whole = write_stream(alloc, &schema, &batches).map_err(unwritten)?;
+    let file = write_file(alloc, &schema, &batches);
+    Ok(
+        stepwise(alloc, &schema, &batches).map_err(unwritten)? == whole
+            && by_parts(alloc, &schema, &batches).map_err(unwritten)? == whole
+            && file_by_parts(alloc, &schema, &batches) == file,
+    )
+}
+
+#[test]
+fn a_batch_at_a_time(rt: HostRuntime) {
+    for i in 0..NESTS.len() {
+        assert!(rt; is_stepwise(rt.alloc(), &NESTS[i]) == Ok(true), "nest {i}");
+    }
+}
+
+// The messages of a stream in which a batch of other columns was refused: what was written last is still known.
+fn behind_a_refusal(alloc: Global) -> Result<(Option<NoForm>, String), Error> {
+    let good = single(alloc, nested(alloc, "ab", "01", "01")?)?;
+    let bad = single(alloc, keyed_words(alloc, "0", "c")?)?;
+    let schema = schema_of(alloc, &good.columns)?;
+    let mut out = write_keyed_schema(alloc, &schema).map_err(unwritten)?;
+    let mut sent = BTreeMap::new(alloc);
+    put_batch(alloc, &mut out, &schema.fields, &mut sent, &good).map_err(unwritten)?;
+    let why = put_batch(alloc, &mut out, &schema.fields, &mut sent, &bad).err();
+    put_batch(alloc, &mut out, &schema.fields, &mut sent, &good).map_err(unwritten)?;
+    Ok((why, messages_of(alloc, &out).map_err(unread)?))
+}
+
+#[test]
+fn a_refusal_changes_nothing(rt: HostRuntime) {
+    let (why, messages) = behind_a_refusal(rt.alloc()).expect(&rt, "not written");
+    assert!(rt; why == Some(NoForm::Columns));
+    assert!(rt; messages.as_str() == "s d1 d0 b2 b2 ", "{messages}");
+}

@@ -1,0 +1,99 @@
+//! Records of words by keys, the records by keys too, in two batches: a stream in which the words of the second change, and a file in
+//! which they stay; a file of the first is refused.
+
+use crate::parts::{buffer, field, offsets};
+use crate::streams::{refused, unwritten};
+use crate::trial::Trial;
+use drawn_builders::wrong::{Wrong, expect};
+use ipc::{Batch, FileReader, read_file, read_stream, write_file, write_stream};
+use ipc_model::NoForm;
+use ipc_schema::Schema;
+use nest_array::{AnyArray, AnyKeys, DictionaryArray, StructArray};
+use nest_flat::primitive::PrimitiveArray;
+use nest_flat::utf8::Utf8Array;
+use nest_memory::datatypes::DataType;
+use nest_memory::error::Error;
+use std::alloc::Global;
+use std::collections::BTreeMap;
+
+/// Two words of a letter each.
+fn words(alloc: Global, letters: &[u8]) -> Result<AnyArray, Error> {
+    let ends = offsets(alloc, &[0i32, 1, 2])?;
+    Ok(AnyArray::Utf8(Utf8Array::try_new(DataType::Utf8, ends, buffer(alloc, letters)?, None)?))
+}
+
+/// Two values by keys of 8 bits, the second first.
+fn keyed(alloc: Global, values: AnyArray) -> Result<AnyArray, Error> {
+    let keys = PrimitiveArray::try_new(DataType::Int8, buffer(alloc, &[1i8, 0])?, None)?;
+    Ok(DictionaryArray::try_from_keys(alloc, AnyKeys::Int8(keys), values)?.boxed())
+}
+
+fn column(alloc: Global, letters: &[u8]) -> Result<AnyArray, Error> {
+    let inner = keyed(alloc, words(alloc, letters)?)?;
+    let mut fields = Vec::with_capacity(alloc, 1)?;
+    fields.push(field(alloc, inner.data_type().clone(alloc)?)?)?;
+    let children = vec![in alloc; inner]?;
+    let records = StructArray::try_new(DataType::Struct(fields), children, None)?;
+    keyed(alloc, records.boxed())
+}
+
+/// Two batches, and their schema.
+fn batches(alloc: Global, letters: [&[u8]; 2]) -> Result<(Schema, Vec<Batch>), Error> {
+    let mut batches = Vec::with_capacity(alloc, 2)?;
+    for letters in letters {
+        let columns = vec![in alloc; column(alloc, letters)?]?;
+        batches.push(Batch { rows: 2, columns })?;
+    }
+    let data_type = batches[0].columns[0].data_type().clone(alloc)?;
+    let mut fields = Vec::with_capacity(alloc, 1)?;
+    fields.push(field(alloc, data_type)?)?;
+    let metadata = BTreeMap::new(alloc);
+    Ok((Schema { fields, metadata }, batches))
+}
+
+/// Whether what is read is what was written.
+fn are_same(read: &[Batch], want: &[Batch]) -> bool {
+    read.len() == 2
+        && read[0].columns[0] == want[0].columns[0]
+        && read[1].columns[0] == want[1].columns[0]
+}
+
+/// Whether a stream is read back whose words change.
+fn stream(alloc: Global) -> Result<bool, Error> {
+    let (schema, batches) = batches(alloc, [b"ab", b"cd"])?;
+    let bytes = write_stream(alloc, &schema, &batches).map_err(unwritten)?;
+    let stream = read_stream(alloc, &bytes).map_err(refused)?;
+    Ok(are_same(&stream.batches, &batches))
+}
+
+/// Whether a file is read back whose words stay, and its second batch by itself.
+fn file(alloc: Global) -> Result<bool, Error> {
+    let (schema, batches) = batches(alloc, [b"ab", b"ab"])?;
+    let bytes = write_file(alloc, &schema, &batches).map_err(unwritten)?;
+    let file = read_file(alloc, &bytes).map_err(refused)?;
+    let reader = FileReader::new(alloc, &bytes).map_err(refused)?;
+    let second = reader.batch(alloc, 1).map_err(refused)?;
+    Ok(are_same(&file.batches, &batches) && second.columns[0] == batches[1].columns[0])
+}
+
+/// Whether a file is refused whose words change.
+fn is_refused(alloc: Global) -> Result<bool, Error> {
+    let (schema, batches) = batches(alloc, [b"ab", b"cd"])?;
+    match write_file(alloc, &schema, &batches) {
+        Ok(_file) => Ok(false),
+        Err(NoForm::Dictionaries) => Ok(true),
+        Err(why) => Err(unwritten(why)),
+    }
+}
+
+pub fn streams(trial: &mut Trial, alloc: Global) -> Result<(), Wrong> {
+    expect(trial.again(|| stream(alloc))?, "another stream")
+}
+
+pub fn files(trial: &mut Trial, alloc: Global) -> Result<(), Wrong> {
+    expect(trial.again(|| file(alloc))?, "another file")?;
+    expect(
+        trial.again(|| is_refused(alloc))?,
+        "a file of two dictionaries of one id",
+    )
+}
