@@ -1,0 +1,14 @@
+-- Bytes spell one stream.
+use Rattle.std.proofs.Common.{◌≡◌, ℕ, List, [], ◌++◌, Result, Ok, Err, ap, sym, ◌∙◌, subst}
+use Rattle.std.proofs.lemmas.List.{append-nil}
+use Rattle.ipc_model.specs.declared.fault.Fault.{Fault}
+use Rattle.ipc.specs.Streams.{StreamTree, stream_in}
+
+abbrev value : StreamTree → Result StreamTree Fault → StreamTree
+value other (Ok x) = x
+value other (Err fault) = other
+
+pub one_stream : (bytes : List ℕ) (got want : StreamTree) → stream_in bytes ≡ Ok got → stream_in (bytes ++ []) ≡ Ok want → got ≡ want
+one_stream bytes got want g w =
+    let same : stream_in bytes ≡ Ok want = subst (λ (x : List ℕ). stream_in x ≡ Ok want) (append-nil bytes) w in
+    ap (value want) (sym g ∙ same)

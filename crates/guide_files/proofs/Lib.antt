@@ -1,0 +1,4 @@
+mod Again
+mod Columns
+mod Last
+mod Steps
