@@ -3,28 +3,26 @@ use Rattle.std.proofs.Common.{◌≡◌, ℕ, ◌+◌, ◌<◌, ◌≤◌, List,
 use Rattle.std.proofs.lemmas.List.{append-nil, map-append, drop_more, drop_all}
 use Rattle.ipc_model.specs.declared.fault.Fault.{Fault}
 use Rattle.ipc_model.specs.Reading.{◌>>=◌, Fails}
-use Rattle.ipc_message.specs.Messages.{Parts}
-use Rattle.ipc_message.specs.declared.message.Kind.TheVariants.{DictionaryBatch}
 use Rattle.ipc_footer.specs.declared.footer.Block.{Block}
-use Rattle.std.specs.Prelude.{true}
-use Rattle.ipc.specs.Streams.{Arrays, State, dictionary_in}
-use Rattle.ipc.specs.Files.{block_in, block_batch_in, batches_at, dictionaries_at, no_block}
+use Rattle.ipc_footer.specs.Footers.{block_bytes}
+use Rattle.ipc.specs.Streams.{Arrays, State}
+use Rattle.ipc.specs.Files.{dictionary_in_block, block_batch_in, batches_at, dictionaries_at, no_block}
 
 -- ---- dictionaries
 
+-- what is known behind the dictionary of the block at a place
+abbrev behind_block : State → List ℕ → List Block → ℕ → Result State Fault
+behind_block s bytes blocks i = dictionary_in_block s (block_bytes bytes (get_or blocks i no_block)) (get_or blocks i no_block)
+
 module _ (s : State) (bytes : List ℕ) (blocks : List Block) (i : ℕ) (total : Result State Fault) where
-  pub dictionary_lacks_message : (f : Fault) → i < length blocks → block_in DictionaryBatch s.picked bytes (get_or blocks i no_block) ≡ Err f → dictionaries_at s bytes (drop i blocks) ≡ total → total ≡ Err f
+  pub dictionary_fails : (f : Fault) → i < length blocks → Fails f (behind_block s bytes blocks i) → dictionaries_at s bytes (drop i blocks) ≡ total → Fails f total
   unfolding dictionaries_at
-  dictionary_lacks_message f lt read so_far = sym so_far ∙ rw (drop_more blocks i no_block lt, read) refl
+  dictionary_fails f lt fails so_far = λ known. sym so_far ∙ rw (drop_more blocks i no_block lt, fails known) refl
 
-  pub dictionary_fails : (m : Parts) (f : Fault) → i < length blocks → block_in DictionaryBatch s.picked bytes (get_or blocks i no_block) ≡ Ok m → Fails f (dictionary_in true s m) → dictionaries_at s bytes (drop i blocks) ≡ total → Fails f total
+  pub dictionary_goes_on : (t : State) → i < length blocks → behind_block s bytes blocks i ≡ Ok t → dictionaries_at s bytes (drop i blocks) ≡ total → dictionaries_at t bytes (drop (i + 1) blocks) ≡ total
   unfolding dictionaries_at
-  dictionary_fails m f lt read fails so_far = λ known. sym so_far ∙ rw (drop_more blocks i no_block lt, read, fails known) refl
-
-  pub dictionary_goes_on : (m : Parts) (t : State) → i < length blocks → block_in DictionaryBatch s.picked bytes (get_or blocks i no_block) ≡ Ok m → dictionary_in true s m ≡ Ok t → dictionaries_at s bytes (drop i blocks) ≡ total → dictionaries_at t bytes (drop (i + 1) blocks) ≡ total
-  unfolding dictionaries_at
-  dictionary_goes_on m t lt read given so_far =
-      let one : dictionaries_at s bytes (drop i blocks) ≡ dictionaries_at t bytes (drop (i + 1) blocks) = rw (drop_more blocks i no_block lt, read, given) refl in
+  dictionary_goes_on t lt given so_far =
+      let one : dictionaries_at s bytes (drop i blocks) ≡ dictionaries_at t bytes (drop (i + 1) blocks) = rw (drop_more blocks i no_block lt, given) refl in
       sym one ∙ so_far
 
   pub dictionaries_end : length blocks ≤ i → dictionaries_at s bytes (drop i blocks) ≡ total → total ≡ Ok s

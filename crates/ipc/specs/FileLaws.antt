@@ -41,7 +41,7 @@ use Rattle.ipc_needed.specs.KnownLaws.{entry_put, entry_kept, IsOther, all_parts
 use Rattle.ipc_needed.specs.ApartLaws.{AreApart, needed_apart}
 use Rattle.ipc_needed.specs.Named.{IsNamed, AreNamed, seen_of_fields}
 use Rattle.ipc.specs.Streams.{Arrays, State, types_of, record_batch_in, dictionary_in}
-use Rattle.ipc.specs.Files.{block_in, block_batch_in, batches_at, dictionaries_at, no_block, file_reader_in, picked_file_in, file_in}
+use Rattle.ipc.specs.Files.{message_in_block, block_in, block_batch_in, batches_at, dictionaries_at, no_block, file_reader_in, picked_file_in, file_in}
 use Rattle.ipc.specs.Written.{batch_head, batch_bytes, dictionary_head, dictionary_bytes, needed_by, sent_behind, part_bytes, batches_bytes, stream_bytes, are_columns, else_for, known_behind, read_arrays, read_batches, IsMessage, ReadsBatch, ReadsValues, IsDictionaryAgain, IsPartAgain, AreAgain, known_more}
 use Rattle.ipc.specs.WrittenLaws.{IsBehind, behind_values, behind_batch, part_known, part_named, still_behind, written_start, starts_behind, columns_if}
 use Rattle.ipc.specs.WrittenLists.{first_accepts, others_accept, part_long, batches_long}
@@ -178,7 +178,7 @@ same_number n m e = (Decides-eqb n m).1 e
 
 message_found : (kind : Kind) (p : PickedTree) (bytes head body : List ℕ) (m : Parts) (front behind whole : List ℕ) → IsMessage bytes head body m → m.root.kind ≡ kind → length bytes ≡ length head + length body → whole ≡ front ++ (bytes ++ behind)
     → block_in kind p whole (block_at (length front) head body) ≡ Ok m
-unfolding block_in
+unfolding message_in_block
 message_found kind p bytes head body m front behind whole ok is long e =
     let n : ℕ = length head + length body in
     let named : take n (drop (length front) whole) ≡ bytes =

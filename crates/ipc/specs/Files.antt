@@ -25,18 +25,30 @@ abbrev pub of_block : Block → Option Parts → Result Parts Fault
 of_block b None = Err faults.Block
 of_block b (Some m) = check (8 + length m.metadata == unsigned_abs b.metadata_length && length m.body == unsigned_abs b.body_length) faults.Block >>= λ same. Ok m
 
--- the message of a block, within the block's own bytes, and of the kind of its list
-unfoldable pub block_in : Kind → PickedTree → List ℕ → Block → Result Parts Fault
-block_in kind p bytes b = do
-  next ← message_at (block_bytes bytes b)
+-- the message that the own bytes of a block spell, of the kind of its list
+unfoldable pub message_in_block : Kind → PickedTree → List ℕ → Block → Result Parts Fault
+message_in_block kind p own b = do
+  next ← message_at own
   m ← of_block b next.0
   same ← check (tag_of m.root.kind == tag_of kind) faults.HeaderType
   allowed ← in_any_version m.root.version p.schema.fields p.steps
   Ok m
 
--- the batch of a block
+-- the batch that they spell
+abbrev pub batch_in_block : State → List ℕ → Block → Result Arrays Fault
+batch_in_block s own b = message_in_block RecordBatch s.picked own b >>= record_batch_in s
+
+-- what is known behind the dictionary that they spell, whose id did not come before
+abbrev pub dictionary_in_block : State → List ℕ → Block → Result State Fault
+dictionary_in_block s own b = message_in_block DictionaryBatch s.picked own b >>= dictionary_in true s
+
+-- the message of a block of a file
+abbrev pub block_in : Kind → PickedTree → List ℕ → Block → Result Parts Fault
+block_in kind p bytes b = message_in_block kind p (block_bytes bytes b) b
+
+-- its batch
 abbrev pub block_batch_in : State → List ℕ → Block → Result Arrays Fault
-block_batch_in s bytes b = block_in RecordBatch s.picked bytes b >>= record_batch_in s
+block_batch_in s bytes b = batch_in_block s (block_bytes bytes b) b
 
 -- the batches of blocks, in the order of the blocks
 unfoldable pub batches_at : State → List ℕ → List Block → Result (List Arrays) Fault
@@ -50,8 +62,7 @@ batches_at s bytes (b ∷ bs) = do
 unfoldable pub dictionaries_at : State → List ℕ → List Block → Result State Fault
 dictionaries_at s bytes [] = Ok s
 dictionaries_at s bytes (b ∷ bs) = do
-  m ← block_in DictionaryBatch s.picked bytes b
-  known ← dictionary_in true s m
+  known ← dictionary_in_block s (block_bytes bytes b) b
   dictionaries_at known bytes bs
 
 -- ---- files
@@ -103,7 +114,7 @@ file_of f = record { schema = schema_of f.schema; batches = map arrays_of f.batc
 
 -- ---- a code of readers, by which a ghost value that is one is told apart from another
 
-abbrev coded_block : Coded Block
+abbrev pub coded_block : Coded Block
 coded_block = code_by (ℤ × (ℤ × ℤ)) (coded× coded_ℤ (coded× coded_ℤ coded_ℤ)) (λ b. (b.offset, (b.metadata_length, b.body_length))) (λ p. record { offset = p.0; metadata_length = p.1.0; body_length = p.1.1 }) (λ _. refl)
 
 abbrev pub coded_file_reader : Coded FileReaderTree

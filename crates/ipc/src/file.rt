@@ -1,24 +1,19 @@
 //! Reads files.
-ghost use Rattle.std.specs.Prelude.{◌≡◌, ◌<◌, ◌^◌, ◌==◌, true, length, map, IfOk};
+ghost use Rattle.std.specs.Prelude.{◌≡◌, ◌<◌, true, length, map};
 ghost use Rattle.std.specs.List.{list_all};
-ghost use Rattle.ipc_model.specs.Reading.{Gives, Spells};
-ghost use Rattle.ipc_message.specs.Messages.{parts_of, message_of};
-ghost use Rattle.ipc_message.specs.MessageBytes.{tag_of};
+ghost use Rattle.ipc_model.specs.Reading.{Gives};
 ghost use Rattle.ipc_schema.specs.Picks.{all, picks_of};
-ghost use Rattle.ipc_schema.specs.PickedSchemas.{picked_of};
 ghost use Rattle.ipc_schema.specs.Schemas.{schema_of};
 ghost use Rattle.ipc_footer.specs.Footers.{block_before};
 ghost use Rattle.ipc.specs.Streams.{arrays_of, state_of};
-ghost use Rattle.ipc.specs.Files.{of_block as of_block_lem, block_in, dictionaries_at, file_reader_in, batch_of_file, batches_of_file, picked_file_in, file_in, file_of};
+ghost use Rattle.ipc.specs.Files.{dictionaries_at, file_reader_in, batch_of_file, batches_of_file, picked_file_in, file_in, file_of};
 
 use crate::batch::Batch;
-use crate::dictionary::read_dictionary;
-use crate::reading::record_batch;
+use crate::block::{read_batch_block, read_dictionary_block};
 use crate::state::State;
 use ipc_footer::{Block, block_bytes, read_footer};
-use ipc_message::{Kind, Message, next_message};
 use ipc_model::Fault;
-use ipc_schema::{Columns, PickedSchema, Schema, in_any_version};
+use ipc_schema::{Columns, Schema};
 use std::alloc::Global;
 use std::marker::Model;
 
@@ -29,57 +24,6 @@ pub struct File {
     pub schema: Schema,
     /// The batches in the order of the footer.
     pub batches: Vec<Batch>,
-}
-
-// A message that has the lengths of its block.
-fn of_block(block: Block, next: Option<Message<'_>>) -> Result<Message<'_>, Fault>
-    ensures parts { Spells parts_of result (of_block_lem block (message_of next.entry)) }
-    ensures same { IfOk result (λ m. Some m ≡ next.entry) }
-{
-    match next {
-        None => Err(Fault::Block),
-        Some(message) => {
-            let metadata = block.metadata_length.unsigned_abs() as usize;
-            let body = block.body_length.unsigned_abs() as usize;
-            if 8 + message.metadata.len() == metadata && message.body.len() == body {
-                Ok(message)
-            } else {
-                Err(Fault::Block)
-            }
-        }
-    }
-}
-
-// Whether a kind is another.
-fn is_kind(kind: Kind, want: Kind) -> bool
-    ensures { result ≡ (tag_of kind == tag_of want) }
-{
-    match kind {
-        Kind::Schema => matches!(want, Kind::Schema),
-        Kind::DictionaryBatch => matches!(want, Kind::DictionaryBatch),
-        Kind::RecordBatch => matches!(want, Kind::RecordBatch),
-    }
-}
-
-// The message of a block, within the block's own bytes, and of this kind.
-#[tactic(auto, unfolding(crate::specs::Files::block_in))]
-fn block_message<'a>(
-    kind: Kind,
-    picked: &PickedSchema,
-    bytes: &'a [u8],
-    block: Block,
-) -> Result<Message<'a>, Fault>
-    requires { block_before (length bytes.now) block ≡ true }
-    ensures parts { Spells parts_of result (block_in kind (picked_of picked.now) bytes.now block) }
-    ensures small { IfOk result (λ m. length m.metadata.now < 2 ^ 31) }
-{
-    let (next, _) = next_message(block_bytes(bytes, block))?;
-    let message = of_block(block, next)?;
-    if !is_kind(message.root.kind, kind) {
-        return Err(Fault::HeaderType);
-    }
-    in_any_version(message.root.version, &picked.schema.fields, &picked.steps)?;
-    Ok(message)
 }
 
 // The dictionaries of blocks, which are known from then on.
@@ -93,8 +37,7 @@ fn read_dictionaries(
     ensures { Gives (λ done. state_of state.new) result (dictionaries_at (state_of state.old) bytes.now blocks.now) }
 {
     for block in blocks {
-        let message = block_message(Kind::DictionaryBatch, &state.picked, bytes, *block)?;
-        read_dictionary(alloc, true, state, message)?;
+        read_dictionary_block(alloc, state, block_bytes(bytes, *block), *block)?;
     }
     Ok(())
 }
@@ -173,9 +116,8 @@ impl<'a> FileReader<'a> {
         requires { i < length self.now.blocks }
         ensures { Gives arrays_of result (batch_of_file self.now i) }
     {
-        let picked = &self.state.picked;
-        let message = block_message(Kind::RecordBatch, picked, self.bytes, self.blocks[i])?;
-        record_batch(alloc, &self.state, message)
+        let block = self.blocks[i];
+        read_batch_block(alloc, &self.state, block_bytes(self.bytes, block), block)
     }
 
     // All batches, in the order of the footer.

@@ -2,6 +2,7 @@
 #![tactic(auto)]
 
 mod batch;
+mod block;
 mod dictionary;
 mod file;
 pub mod laws;
@@ -13,6 +14,7 @@ mod writing;
 mod writing_files;
 
 pub use batch::Batch;
+pub use block::{read_batch_block, read_dictionary_block};
 pub use file::{File, FileReader, read_file, read_file_columns};
 pub use reader::StreamReader;
 pub use reading::{next_batch, read_message};

@@ -29,7 +29,8 @@ fn each_before(end: usize, blocks: &[Block]) -> bool
     true
 }
 
-fn block_length(block: Block) -> usize
+/// How long a message with its body is.
+pub fn block_length(block: Block) -> usize
     ensures { result ≡ block_length_lem block }
 {
     block.metadata_length.unsigned_abs() as usize + block.body_length.unsigned_abs() as usize

@@ -7,7 +7,7 @@ pub mod laws;
 mod reading;
 mod writing;
 
-pub use blocks::block_bytes;
+pub use blocks::{block_bytes, block_length};
 pub use footer::{Block, PickedFooter};
-pub use reading::read_footer;
+pub use reading::{footer_length, read_footer, read_footer_at};
 pub use writing::write_footer;

@@ -4,8 +4,9 @@ ghost use Rattle.std.specs.List.{list_all};
 ghost use Rattle.ipc_model.specs.Reading.{Gives};
 ghost use Rattle.ipc_words.specs.Words.{structs_at};
 ghost use Rattle.ipc_schema.specs.Picks.{picks_of, IsMade};
-ghost use Rattle.ipc_footer.specs.Footers.{block_at as block_at_lem, schema_place as schema_place_lem, blocks_in as blocks_in_lem, lists_at as lists_at_lem, check_ends as check_ends_lem, has_magic as has_magic_lem, footer_length as footer_length_lem, footer_place, block_before};
+ghost use Rattle.ipc_footer.specs.Footers.{block_at as block_at_lem, schema_place as schema_place_lem, blocks_in as blocks_in_lem, lists_at as lists_at_lem, footer_place, block_before};
 ghost use Rattle.ipc_footer.specs.PickedFooters.{picked_footer_at as picked_footer_at_lem, placed as placed_lem, file_picked_in, picked_footer_of};
+ghost use Rattle.ipc_footer.specs.FooterParts.{footer_before, length_by_ends, length_of_footer};
 
 use crate::blocks::blocks_before;
 use crate::footer::{Block, PickedFooter};
@@ -117,40 +118,36 @@ fn picked_footer_at(alloc: Global, picker: &Picker<'_>, bytes: &[u8]) -> Result<
     }
 }
 
-fn has_magic(bytes: &[u8]) -> bool
-    ensures { result ≡ has_magic_lem bytes.now }
+/// How long the footer is of a file of so many bytes, by its first 6 bytes and its last 10; or the first fault. More may stand
+/// behind the first 6, and a file that is shorter than its ends has no tail to give.
+pub fn footer_length(size: usize, head: &[u8], tail: &[u8]) -> Result<usize, Fault>
+    requires tail { 18 ≤ size → 10 ≤ length tail.now }
+    ensures value { result ≡ length_by_ends size head.now tail.now }
+    ensures within { IfOk result (λ long. (18 + long ≤ size) × (long < 2 ^ 31)) }
 {
-    let magic = b"ARROW1";
-    bytes.starts_with(magic) && bytes.ends_with(magic)
-}
-
-// That a file is marked at both ends.
-fn check_ends(bytes: &[u8]) -> Result<(), Fault>
-    ensures value { result ≡ check_ends_lem bytes.now }
-    ensures long { IfOk result (λ _. 18 ≤ length bytes.now) }
-{
-    if bytes.len() < 18 {
+    if size < 18 {
         return Err(Fault::Truncated);
     }
-    if !has_magic(bytes) {
+    let magic = b"ARROW1";
+    if !(head.starts_with(magic) && tail.ends_with(magic)) {
         return Err(Fault::Magic);
     }
-    Ok(())
-}
-
-// How long the footer is.
-fn footer_length(bytes: &[u8]) -> Result<usize, Fault>
-    requires { 18 ≤ length bytes.now }
-    ensures value { result ≡ footer_length_lem bytes.now }
-    ensures within { IfOk result (λ long. (18 + long ≤ length bytes.now) × (long < 2 ^ 31)) }
-{
-    let (_, end) = bytes.split_at(bytes.len() - 10);
-    let number = u32::from_le_bytes([end[0], end[1], end[2], end[3]]).cast_signed();
+    let number = u32::from_le_bytes([tail[0], tail[1], tail[2], tail[3]]).cast_signed();
     let long = natural(Fault::FooterLength, number as i64)?;
-    if long < 1 || long > bytes.len() - 18 {
+    if long < 1 || long > size - 18 {
         return Err(Fault::FooterLength);
     }
     Ok(long)
+}
+
+// The same of all bytes of a file.
+fn length_in_file(bytes: &[u8]) -> Result<usize, Fault>
+    ensures value { result ≡ length_of_footer bytes.now }
+    ensures within { IfOk result (λ long. (18 + long ≤ length bytes.now) × (long < 2 ^ 31)) }
+{
+    let size = bytes.len();
+    let (_, tail) = bytes.split_at(size.saturating_sub(10));
+    footer_length(size, bytes, tail)
 }
 
 // The bytes of the footer.
@@ -177,6 +174,24 @@ fn placed(end: usize, footer: PickedFooter) -> Result<PickedFooter, Fault>
     }
 }
 
+/// The footer that its own bytes spell, of the columns that are read, where it begins at a place of its file: its blocks all lie
+/// before that; or the first fault in the order of reading.
+pub fn read_footer_at(
+    alloc: Global,
+    columns: Columns<'_>,
+    bytes: &[u8],
+    place: usize,
+) -> Result<PickedFooter, Fault>
+    requires length { length bytes.now < 2 ^ 31 }
+    ensures footer { Gives picked_footer_of result (footer_before (picks_of columns.entry) bytes.now place) }
+    ensures dictionaries { IfOk result (λ f. list_all (block_before place) f.dictionaries.items ≡ true) }
+    ensures batches { IfOk result (λ f. list_all (block_before place) f.batches.items ≡ true) }
+{
+    let picker = Picker::new(alloc, columns)?;
+    let footer = picked_footer_at(alloc, &picker, bytes)?;
+    placed(place, footer)
+}
+
 /// The footer of a file: the schema of the columns that are read, and the file's blocks, which all lie before it; or the first
 /// fault in the order of reading.
 #[tactic(auto, unfolding(crate::specs::PickedFooters::file_picked_in))]
@@ -185,9 +200,7 @@ pub fn read_footer(alloc: Global, columns: Columns<'_>, bytes: &[u8]) -> Result<
     ensures dictionaries { IfOk result (λ f. list_all (block_before (length bytes.now)) f.dictionaries.items ≡ true) }
     ensures batches { IfOk result (λ f. list_all (block_before (length bytes.now)) f.batches.items ≡ true) }
 {
-    check_ends(bytes)?;
-    let long = footer_length(bytes)?;
-    let picker = Picker::new(alloc, columns)?;
-    let footer = picked_footer_at(alloc, &picker, footer_part(bytes, long))?;
-    placed(bytes.len() - (10 + long), footer)
+    let long = length_in_file(bytes)?;
+    let place = bytes.len() - (10 + long);
+    read_footer_at(alloc, columns, footer_part(bytes, long), place)
 }
