@@ -3,3 +3,5 @@ mod Places
 mod Fetches
 mod Steps
 mod Answered
+mod Parts
+mod FileSteps

@@ -1,5 +1,5 @@
 -- What is read of a message that came is read of all that the device had.
-use Rattle.std.proofs.Common.{◌≡◌, ℕ, List, [], ◌++◌, Option, Some, None, Result, Ok, Err, refl, ap, ◌∙◌, subst, append-nil}
+use Rattle.std.proofs.Common.{◌≡◌, ℕ, List, [], ◌++◌, Option, Some, None, Result, Ok, Err, refl, ◌∙◌, subst, append-nil}
 use Rattle.ipc_model.specs.declared.fault.Fault as faults
 use Rattle.ipc_model.specs.Reading.{◌>>=◌, Fails}
 use Rattle.ipc_message.specs.Messages.{Parts, message_at}

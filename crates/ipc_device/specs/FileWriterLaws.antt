@@ -4,7 +4,6 @@ use Rattle.std.specs.Io.KnownBytes.{Appends}
 use Rattle.std.proofs.Common.{sym, ap, ◌∙◌, append_assoc, append-nil, subst, arith}
 use Rattle.std.proofs.lemmas.List.{length-append}
 use Rattle.ipc_model.specs.declared.fault.NoForm as reasons
-use Rattle.ipc_schema.specs.Forms.{keyed_form}
 use Rattle.ipc_schema.specs.Picks.{all}
 use Rattle.ipc_schema.specs.Schemas.{SchemaTree}
 use Rattle.ipc_schema.specs.SchemaBytes.{schema_message}

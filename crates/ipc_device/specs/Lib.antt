@@ -7,3 +7,6 @@ pub mod FileWriters
 pub mod FileWriterLaws
 pub mod Readers
 pub mod ReaderLaws
+pub mod Seeks
+pub mod FileReaders
+pub mod FileReaderLaws

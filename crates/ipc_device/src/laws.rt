@@ -1,5 +1,5 @@
 //! Laws of streams and files over devices, as functions with empty bodies.
-ghost use Rattle.std.specs.Prelude.{◌≡◌, ◌++◌, List, [], ◌∷◌, ℕ, ⊤, length, true, Option, None, Some, Result, Ok, Err};
+ghost use Rattle.std.specs.Prelude.{◌≡◌, ◌<◌, ◌++◌, List, [], ◌∷◌, ℕ, ⊤, length, true, Option, None, Some, Result, Ok, Err};
 ghost use Rattle.std.specs.Io.KnownBytes.{Appends};
 ghost use Rattle.ipc_model.specs.declared.fault.Fault as faults;
 ghost use Rattle.ipc_model.specs.declared.fault.Fault.TheVariants.{Memory};
@@ -9,7 +9,7 @@ ghost use Rattle.ipc_schema.specs.Schemas.{SchemaTree};
 ghost use Rattle.ipc_schema.specs.SchemaBytes.{schema_message};
 ghost use Rattle.ipc_needed.specs.Entries.{Entries};
 ghost use Rattle.ipc.specs.Streams.{Arrays, stream_in};
-ghost use Rattle.ipc.specs.Files.{file_in};
+ghost use Rattle.ipc.specs.Files.{file_in, picked_file_in};
 ghost use Rattle.ipc.specs.Written.{part_bytes, stream_bytes, schema_refusal, shown_batches, shown_stream, AreSameBatches};
 ghost use Rattle.ipc.specs.WrittenFiles.{Blocks, written_footer, file_bytes, footer_refusal, file_refusal, shown_file};
 ghost use Rattle.ipc.specs.Readers.{batches_of_stream};
@@ -23,7 +23,11 @@ ghost use Rattle.ipc_device.specs.FileWriters.{FileWriterTree, footer_of, end_re
 ghost use Rattle.ipc_device.specs.FileWriterLaws.{IsBegun, IsFinishedFile};
 ghost use Rattle.ipc_device.specs.Readers.{DeviceTree, Opens};
 ghost use Rattle.ipc_device.specs.ReaderLaws.{Reads};
+ghost use Rattle.ipc_device.specs.Seeks.{known};
+ghost use Rattle.ipc_device.specs.FileReaders.{DeviceFileTree, OpensFile, GivesBatch};
+ghost use Rattle.ipc_device.specs.FileReaderLaws.{GoesThrough};
 
+use crate::seek_read::SeekRead;
 use std::io::{Read, Write};
 
 /// What a device got from a writer's first call to its last is what `write_stream` answers of the batches.
@@ -85,4 +89,14 @@ pub fn a_device_gives_the_batches_of_its_stream<R: Read>()
 /// A fault that comes of a device, behind any batches, is that of the stream that it has.
 pub fn a_device_gives_the_fault_of_its_stream<R: Read>()
     ensures { (picks : Picks) (bytes : List ℕ) (bs : List Arrays) (fault : faults.Fault) (device : R) (first last : DeviceTree R) → (fault ≡ Memory → ⊥) → R.remaining device ≡ Some bytes → Opens R.remaining picks device (Ok first) → Reads R.remaining bs (Err (Fault fault)) first last → batches_of_stream picks bytes ≡ Err fault }
+{}
+
+/// The batches that come of a device one after another, in the order of the footer, are those of the file that it has.
+pub fn a_device_gives_the_batches_of_its_file<R: SeekRead>()
+    ensures { (picks : Picks) (bytes : List ℕ) (bs : List Arrays) (device : R) (first last : DeviceFileTree R) → known (R.stream_position device) (R.stream_bytes device) ≡ Some bytes → OpensFile R.stream_position R.stream_bytes picks device (Ok first) → GoesThrough R.stream_position R.stream_bytes 0 bs first last → length bs ≡ length first.blocks → picked_file_in picks bytes ≡ Ok (record { schema = first.state.picked.schema; batches = bs }) }
+{}
+
+/// A fault that comes behind any of them is that of the file.
+pub fn a_device_gives_the_fault_of_its_file<R: SeekRead>()
+    ensures { (picks : Picks) (bytes : List ℕ) (bs : List Arrays) (fault : faults.Fault) (device : R) (first last : DeviceFileTree R) → (fault ≡ Memory → ⊥) → known (R.stream_position device) (R.stream_bytes device) ≡ Some bytes → OpensFile R.stream_position R.stream_bytes picks device (Ok first) → GoesThrough R.stream_position R.stream_bytes 0 bs first last → length bs < length first.blocks → GivesBatch R.stream_position R.stream_bytes (length bs) last (Err (Fault fault)) → picked_file_in picks bytes ≡ Err fault }
 {}

@@ -4,12 +4,17 @@
 mod device_reader;
 mod fault;
 mod fetching;
+mod file_reader;
 mod file_writer;
 pub mod laws;
 mod putting;
+mod seek_read;
+mod seeking;
 mod stream_writer;
 
 pub use device_reader::DeviceReader;
 pub use fault::{ReadError, WriteError};
+pub use file_reader::DeviceFileReader;
 pub use file_writer::FileWriter;
+pub use seek_read::SeekRead;
 pub use stream_writer::StreamWriter;

@@ -1,7 +1,8 @@
 //! Devices in memory: they give and take few bytes at a time, are interrupted, and fail at a byte.
+use ipc_device::SeekRead;
 use std::alloc::Global;
 use std::io;
-use std::io::{ErrorKind, Read, Write};
+use std::io::{ErrorKind, Read, Seek, SeekFrom, Write};
 
 /// Gives at most so many bytes a turn; every second turn is interrupted; it fails once it has given so many.
 #[derive(Drop)]
@@ -43,6 +44,82 @@ impl Read for Source {
         }
         self.at += n;
         Ok(n)
+    }
+}
+
+/// Has bytes at any place, and says how many: gives at most so many a turn, every second turn is interrupted, and the call of a number
+/// fails, of those that seek or are not interrupted.
+#[derive(Drop)]
+pub struct Disk<'a> {
+    pub bytes: &'a [u8],
+    pub says: usize,
+    pub at: usize,
+    pub most: usize,
+    pub fails_at: usize,
+    pub calls: usize,
+    pub turns: usize,
+    pub wanted: usize,
+}
+
+impl<'a> Disk<'a> {
+    pub fn new(bytes: &'a [u8], most: usize, fails_at: usize) -> Disk<'a> {
+        Disk {
+            bytes,
+            says: bytes.len(),
+            at: 0,
+            most,
+            fails_at,
+            calls: 0,
+            turns: 0,
+            wanted: 0,
+        }
+    }
+
+    // Whether this call fails.
+    fn fails(&mut self) -> bool {
+        self.calls += 1;
+        self.calls - 1 == self.fails_at
+    }
+}
+
+impl<'a> Read for Disk<'a> {
+    fn read(&mut self, buf: &mut [u8]) -> io::Result<usize> {
+        self.turns += 1;
+        if self.turns % 2 == 0 {
+            return Err(io::Error::from(ErrorKind::Interrupted));
+        }
+        if self.fails() {
+            return Err(io::Error::from(ErrorKind::ConnectionReset));
+        }
+        self.wanted = self.wanted.max(buf.len());
+        let mut n = buf.len();
+        n = n.min(self.most);
+        n = n.min(self.bytes.len().saturating_sub(self.at));
+        for i in 0..n {
+            buf[i] = self.bytes[self.at + i];
+        }
+        self.at += n;
+        Ok(n)
+    }
+}
+
+impl<'a> Seek for Disk<'a> {
+    fn seek(&mut self, to: SeekFrom) -> io::Result<u64> {
+        if self.fails() {
+            return Err(io::Error::from(ErrorKind::ConnectionReset));
+        }
+        match to {
+            SeekFrom::Start(place) => self.at = place as usize,
+            SeekFrom::End(_) => self.at = self.says,
+            SeekFrom::Current(_) => return Err(io::Error::from(ErrorKind::Unsupported)),
+        }
+        Ok(self.at as u64)
+    }
+}
+
+impl<'a> SeekRead for Disk<'a> {
+    fn read_there(&mut self, buf: &mut [u8]) -> io::Result<usize> {
+        self.read(buf)
     }
 }
 

@@ -9,10 +9,14 @@
 //! | A stream from a device, in pieces of any size and interrupted, has the batches of `StreamReader`; what stands behind the end mark is left | `readers` |
 //! | Each beginning of a stream, and each byte changed, has the answers of `StreamReader`; a device that fails at any byte is told, and nothing comes behind | `readers` |
 //! | The same of streams with dictionaries: a batch comes over those before it, and none of a dictionary alone | `readers` |
+//! | A file from a device, in pieces of any size and interrupted, has the batches of `FileReader`, whole and of some columns, in any order and again; so have each beginning of it and each byte changed | `file_readers` |
+//! | A device that fails at any call, or ends before it said, is told; a reader goes on behind that; a body of 2^62 bytes is refused and not asked for | `file_readers` |
 #![tactic(auto)]
 
 #[cfg(test)]
 mod devices;
+#[cfg(test)]
+mod file_readers;
 #[cfg(test)]
 mod file_writers;
 #[cfg(test)]

@@ -1,7 +1,7 @@
 //! Streams that are read from devices.
 use crate::devices::Source;
 use crate::keyed::{DICTIONARIES_INSIDE, REPLACED, bytes_of};
-use crate::worked::{batches, schema};
+use crate::worked::{batches, same, schema};
 use ipc::{Batch, StreamReader, write_stream};
 use ipc_device::{DeviceReader, ReadError};
 use ipc_schema::Columns;
@@ -9,20 +9,10 @@ use nest_memory::datatypes::DataType;
 use std::alloc::Global;
 use std::io::ErrorKind;
 
-fn same(one: &Option<Batch>, other: &Option<Batch>) -> bool {
+fn alike_next(one: &Option<Batch>, other: &Option<Batch>) -> bool {
     match (one, other) {
         (None, None) => true,
-        (Some(one), Some(other)) => {
-            if one.rows != other.rows || one.columns.len() != other.columns.len() {
-                return false;
-            }
-            for k in 0..one.columns.len() {
-                if one.columns[k] != other.columns[k] {
-                    return false;
-                }
-            }
-            true
-        }
+        (Some(one), Some(other)) => same(one, other),
         _ => false,
     }
 }
@@ -60,7 +50,7 @@ fn alike(alloc: Global, bytes: &[u8], most: usize) -> bool {
         let other = reader.next_batch(alloc);
         match (one, other) {
             (Ok(one), Ok(other)) => {
-                if !same(&one, &other) {
+                if !alike_next(&one, &other) {
                     return false;
                 }
             }

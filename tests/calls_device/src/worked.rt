@@ -41,3 +41,16 @@ pub fn batches(alloc: Global, count: usize) -> Result<Vec<Batch>, Error> {
     }
     Ok(batches)
 }
+
+/// Whether batches have the same rows and columns.
+pub fn same(one: &Batch, other: &Batch) -> bool {
+    if one.rows != other.rows || one.columns.len() != other.columns.len() {
+        return false;
+    }
+    for k in 0..one.columns.len() {
+        if one.columns[k] != other.columns[k] {
+            return false;
+        }
+    }
+    true
+}

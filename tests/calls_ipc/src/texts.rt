@@ -1,11 +1,13 @@
 //! What a reader answers, as the text that stands beside the samples.
 use crate::type_texts::put_schema;
 use ipc::{Batch, FileReader, StreamReader, read_file, read_stream};
+use ipc_device::{DeviceFileReader, ReadError};
 use ipc_model::Fault;
 use ipc_schema::Schema;
 use nest_array::any::AnyArray;
 use nest_flat::any_native::AnyNative;
 use std::alloc::Global;
+use std::io::Cursor;
 
 fn put_value(text: &mut String, value: AnyNative) -> Result<(), Fault> {
     match value {
@@ -233,13 +235,39 @@ fn put_file(text: &mut String, alloc: Global, bytes: &[u8]) -> Result<(), Fault>
     Ok(())
 }
 
-/// Whether a file is read, by `read_file` and by a reader alike. None where they differ.
+// The batches that a reader of the bytes as a device gives, asked for in the same order.
+fn put_device_read(text: &mut String, alloc: Global, bytes: &[u8]) -> Result<(), ReadError> {
+    let mut reader = DeviceFileReader::new(alloc, Cursor::new(bytes))?;
+    for i in 0..reader.len() {
+        let _last = reader.batch(alloc, reader.len() - 1 - i);
+        let batch = reader.batch(alloc, i)?;
+        put_batch(text, &batch)?;
+    }
+    Ok(())
+}
+
+// Whether both answer the same fault, or the same batches.
+fn same_read(read: Result<(), Fault>, text: &str, other: Result<(), ReadError>, by: &str) -> bool {
+    match (read, other) {
+        (Ok(()), Ok(())) => text == by,
+        (Err(fault), Err(ReadError::Fault(other))) => fault == other,
+        _ => false,
+    }
+}
+
+/// Whether a file is read, by `read_file`, by a reader and by a reader of a device alike. None where they differ.
 pub fn is_file_read(alloc: Global, bytes: &[u8]) -> Option<bool> {
     let mut one_by_one = String::new(alloc);
     let mut whole = String::new(alloc);
+    let mut by_device = String::new(alloc);
     let read = put_file_read(&mut one_by_one, alloc, bytes);
     if read != put_file(&mut whole, alloc, bytes) || read.is_ok() && one_by_one != whole {
         return None;
     }
-    Some(read.is_ok())
+    let device = put_device_read(&mut by_device, alloc, bytes);
+    if same_read(read, one_by_one.as_str(), device, by_device.as_str()) {
+        Some(read.is_ok())
+    } else {
+        None
+    }
 }

@@ -38,7 +38,7 @@ fn column(alloc: Global, letters: &[u8]) -> Result<AnyArray, Error> {
 }
 
 /// Two batches, and their schema.
-fn batches(alloc: Global, letters: [&[u8]; 2]) -> Result<(Schema, Vec<Batch>), Error> {
+pub fn batches(alloc: Global, letters: [&[u8]; 2]) -> Result<(Schema, Vec<Batch>), Error> {
     let mut batches = Vec::with_capacity(alloc, 2)?;
     for letters in letters {
         let columns = vec![in alloc; column(alloc, letters)?]?;

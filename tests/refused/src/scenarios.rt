@@ -2,7 +2,7 @@
 
 use crate::trial::Trial;
 use crate::{
-    arrays, builders, keyed, keyed_written, nested, parsed, program, schemas, streams, typed,
+    arrays, builders, device_files, keyed, keyed_written, nested, parsed, program, schemas, streams, typed,
 };
 use drawn_builders::wrong::Wrong;
 use std::alloc::Global;
@@ -32,6 +32,7 @@ pub enum Scenario {
     KeyedStreams,
     WrittenDictionaries,
     FiledDictionaries,
+    DeviceFiles,
 }
 
 impl Scenario {
@@ -60,6 +61,7 @@ impl Scenario {
             Scenario::KeyedStreams => keyed::read(trial, alloc),
             Scenario::WrittenDictionaries => keyed_written::streams(trial, alloc),
             Scenario::FiledDictionaries => keyed_written::files(trial, alloc),
+            Scenario::DeviceFiles => device_files::read(trial, alloc),
         }
     }
 }
