@@ -74,6 +74,13 @@ one-more P ys n y l f t k d m = go (last-or-before k n m)
     go (inl b) = subst (λ z. P k (layout_of z)) (sym (before-last ys y d k (omega arith))) (f k d b)
     go (inr e) = subst (λ z. P k (layout_of z)) (sym (at-last ys y d k (omega arith))) (subst (λ j. P j (layout_of y)) (sym e) t)
 
+pub each-more : (P : ℕ → Type 0) (n : ℕ) → ((k : ℕ) → k < n → P k) → P n → (k : ℕ) → k < n + 1 → P k
+each-more P n f t k m = go (last-or-before k n m)
+  where
+    go : (k < n) ⊎ (k ≡ n) → P k
+    go (inl b) = f k b
+    go (inr e) = subst P (sym e) t
+
 -- a window more over an array
 pub fit-more : (ws : Seq WindowParts) (w : WindowParts) → AreArrays ws → TopFits w.array → AreArrays (ws ++ w ∷ [])
 fit-more ws w h f = All-append (λ x. TopFits x.array) ws (w ∷ []) h (All-cons (λ x. TopFits x.array) w [] f (All-nil (λ x. TopFits x.array)))

@@ -1,5 +1,5 @@
 -- Keys that are added to others, and when one has no room.
-use Rattle.std.specs.Prelude.{◌⊎◌, Bool, IfErr, IfOk, MatchResult, List, [], ◌∷◌, ◌++◌, alloc_error, map, length, get_or}
+use Rattle.std.specs.Prelude.{◌⊎◌, Bool, Some, IfErr, IfOk, MatchResult, List, [], ◌∷◌, ◌++◌, alloc_error, map, length, get_or}
 use Rattle.std.specs.List.{sum_by}
 use Rattle.std.proofs.Common.{◌≡◌, ℕ, ℤ, Result, Ok, Err, zero, suc, ◌+◌, ◌<◌, ◌≤◌, ◌^◌, true, false, take, drop, inl, inr, refl, ap, sym, ◌∙◌, subst, arith, append-nil, append_assoc}
 use Rattle.std.proofs.lemmas.List.{drop_all, drop_more, length-map, map-append}
@@ -8,6 +8,8 @@ use Rattle.nest_memory.specs.declared.datatypes.IntegerType.{IntegerType}
 use Rattle.nest_memory.specs.declared.datatypes.IntegerType.TheVariants as integers
 use Rattle.nest_memory.specs.declared.datatypes.physical_type.PhysicalType.TheVariants as physical
 use Rattle.nest_memory.specs.declared.datatypes.physical_type.PrimitiveType.{PrimitiveType}
+use Rattle.nest_memory.specs.declared.datatypes.physical_type.PrimitiveType.TheVariants as primitives
+use Rattle.nest_memory.specs.Native.{parts_of}
 use Rattle.nest_memory.specs.TypeTree.{TypeTree}
 use Rattle.nest_memory.specs.Physical.{physical_type}
 use Rattle.nest_memory.specs.declared.error.Error.{Error}
@@ -17,13 +19,15 @@ use Rattle.nest_model.specs.Array.{TopFits}
 use Rattle.nest_model.specs.BuilderTree.{key_count}
 use Rattle.nest_model.specs.Decide.{pass-no_fault}
 use Rattle.nest_model.specs.Fits.{Fits, FirstFault, ValidityFits, checks}
-use Rattle.nest_model.specs.Layout.{Layout, primitive, layout_type}
+use Rattle.nest_model.specs.Layout.{Layout, primitive, dictionary, layout_type}
 use Rattle.nest_model.specs.Part.{Validity, valid_at}
 use Rattle.nest_array.specs.WindowParts.{WindowParts}
 use Rattle.nest_concat.specs.Joined.{AreWithin, RefusesKeys}
+use Rattle.nest_concat.specs.Laid.{laid_keys}
 use Rattle.nest_concat.specs.Limits.{PassesLength}
-use Rattle.nest_concat.specs.Lookups.{AreJoinedKeys, IsPast, KeyPasses, KeysPass, SomePast, count_values, joined_keys, keys_in, moved_key, moved_keys, moved_run, values_in}
+use Rattle.nest_concat.specs.Lookups.{AreJoinedKeys, IsPast, KeyFits, KeyPasses, KeysFit, KeysPass, SomePast, count_values, joined_keys, keys_in, moved_key, moved_keys, moved_run, values_in}
 use Rattle.nest_concat.specs.Windows.{count_of, count_slots, joined_validity}
+use Rattle.nest_concat.proofs.Children.{each-more}
 use Rattle.nest_concat.proofs.Grown.{sum-within}
 use Rattle.nest_concat.proofs.Keyed.{keys-long, moved-count}
 use Rattle.nest_concat.proofs.Pieces.{flat-length}
@@ -152,3 +156,57 @@ pub pushed-refuse : (e : Error) (n : ℕ) (ws : List WindowParts) (s i : ℕ) (w
     → (e ≡ Memory alloc_error) ⊎ ((e ≡ Overflow) × ((0 < s) × KeyPasses n s w)) → RefusesKeys true e n ws
 pushed-refuse e n ws s i w h k f (inl m) = inl m
 pushed-refuse e n ws s i w h k f (inr (o, (b, p))) = inr (o, (refl, inl (f (pass-left n ws s i w h k (inl p)))))
+
+-- a key more that its type has, and no key of the window that it hasn't
+pub fit-key-more : (n s : ℕ) (ks : Layout) (o m : ℕ) → KeysFit n s ks o m → KeyFits n s ks (o + m) → KeysFit n s ks o (m + 1)
+fit-key-more n s ks o m f k = each-more (λ j. KeyFits n s ks (o + j)) m f k
+
+keys-validity : (a : Layout) (k : IntegerType) → key_type_of (keys_of a) ≡ Some k → validity_of a ≡ validity_of (keys_of a)
+keys-validity (dictionary t ks c) k h = refl
+keys-validity a k h = cc
+
+pub fit-window : (k : IntegerType) (n s : ℕ) (w : WindowParts) (ks : Layout) (o m : ℕ) → key_type_of ks ≡ Some k → ks ≡ keys_of w.array → o ≡ w.offset → m ≡ w.count → KeysFit n s ks o m → KeyPasses n s w → ⊥
+fit-window k n s w ks o m p e g h fit past =
+    let v = keys-validity w.array k (ap key_type_of (sym e) ∙ p) in
+    let here = subst (KeysFit n s (keys_of w.array) w.offset) h (subst (λ z. KeysFit n s (keys_of w.array) z m) g (subst (λ z. KeysFit n s z o m) e fit)) in
+    let j = past.0 in
+    let r = past.1 in
+    let l = here j r.0 (sym (ap (λ va. valid_at va (w.offset + j)) v) ∙ r.1.0) in
+    let q = r.1.1 in
+    omega (arith, l, q)
+
+-- a key that passes does so in a window that is left
+pub pass-behind : (n : ℕ) (ws : List WindowParts) (s i t : ℕ) (w : WindowParts) → i < length ws → w ≡ get_or ws i w → t ≡ s + count_values w → (KeyPasses n s w → ⊥) → (KeysPass n 0 ws → KeysPass n s (drop i ws)) → KeysPass n 0 ws
+    → KeysPass n t (drop (i + 1) ws)
+pass-behind n ws s i t w h e z f g p = go (subst (λ x. KeyPasses n s x ⊎ KeysPass n (s + count_values x) (drop (i + 1) ws)) (sym e) (subst (KeysPass n s) (drop_more ws i w h) (g p)))
+  where
+    go : KeyPasses n s w ⊎ KeysPass n (s + count_values w) (drop (i + 1) ws) → KeysPass n t (drop (i + 1) ws)
+    go (inl x) = absurd (f x)
+    go (inr y) = subst (λ b. KeysPass n b (drop (i + 1) ws)) (sym z) y
+
+pub pass-none : (n : ℕ) (ws : List WindowParts) (s i : ℕ) → length ws ≤ i → (KeysPass n 0 ws → KeysPass n s (drop i ws)) → KeysPass n 0 ws → ⊥
+pass-none n ws s i h g p = subst (λ vs. KeysPass n s vs) (drop_all i ws h) (g p)
+
+-- a key is one number
+pub one-part : (q : PrimitiveType) (k : IntegerType) → key_kind q ≡ Some k → parts_of q ≡ 1
+one-part primitives.Int256 k h = cc
+one-part primitives.DaysMs k h = cc
+one-part primitives.MonthDayNano k h = cc
+one-part q k h = refl
+
+single : (zs : List ℤ) → length zs ≡ 1 → zs ≡ number_of zs ∷ []
+single [] h = absurd (omega (arith, h))
+single (z ∷ []) h = refl
+single (z ∷ y ∷ zs) h = absurd (omega (arith, h))
+
+pub singles : {T : Type 0} (f : T → List ℤ) → ((x : T) → length (f x) ≡ 1) → (xs : List T) → map f xs ≡ map (λ z. z ∷ []) (numbers_in f xs)
+singles f h [] = refl
+singles f h (x ∷ xs) = ap (λ y. y ∷ map f xs) (single (f x) (h x)) ∙ ap (λ ys. (number_of (f x) ∷ []) ∷ ys) (singles f h xs)
+
+pub keys-laid : (r : Result Layout Error) (moved : Bool) (q : PrimitiveType) (t : TypeTree) (ks : Layout) (ws : List WindowParts) (vs : List (List ℤ)) (va : Validity)
+    → MatchResult r (λ a. Fits (primitive q t vs va) × (a ≡ primitive q t vs va)) (λ e. FirstFault e (primitive q t vs va)) → ks ≡ primitive q (layout_type ks) (natives_of ks) (validity_of ks) → t ≡ layout_type ks
+    → vs ≡ map (λ z. z ∷ []) (joined_keys moved ws) → va ≡ joined_validity ws → IfOk r (λ k. k ≡ laid_keys moved ks ws)
+keys-laid (Ok a) moved q t ks ws vs va m k e f v =
+    let x : primitive q t vs va ≡ primitive q (layout_type ks) (map (λ z. z ∷ []) (joined_keys moved ws)) (joined_validity ws) = cc in
+    m.1 ∙ subst (λ z. primitive q t vs va ≡ laid_keys moved z ws) (sym k) x
+keys-laid (Err x) moved q t ks ws vs va m k e f v = tt

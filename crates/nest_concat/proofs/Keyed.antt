@@ -310,7 +310,7 @@ kept-joined a u ks c new d ws f e h q g s z =
 abbrev pub IsFirst : Layout → List WindowParts → Type 0
 IsFirst a ws = (a ≡ first_array ws) × (0 < length ws)
 
-values-first : (a : Layout) (t : TypeTree) (ks c : Layout) (ws cws : List WindowParts) → a ≡ dictionary t ks c → IsFirst a ws → cws ≡ map values_in ws → first_array cws ≡ c
+pub values-first : (a : Layout) (t : TypeTree) (ks c : Layout) (ws cws : List WindowParts) → a ≡ dictionary t ks c → IsFirst a ws → cws ≡ map values_in ws → first_array cws ≡ c
 values-first a t ks c ws cws k h e = ap first_array e ∙ first-of-map values_in child_of ws (λ w. refl) h.1 ∙ ap child_of (sym h.0 ∙ k)
 
 -- over values that are joined

@@ -4,6 +4,9 @@ pub mod Grown
 pub mod KeyExamples
 pub mod Keyed
 pub mod KeyRuns
+pub mod LaidArrays
+pub mod LaidWholes
+pub mod LaidParts
 pub mod Logical
 pub mod Made
 pub mod Moving

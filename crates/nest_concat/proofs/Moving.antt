@@ -1,8 +1,8 @@
 -- What one window more adds to the offsets of dense unions.
-use Rattle.std.specs.Prelude.{List, Some, None, map, length, get_or, replicate, unwrap_or}
+use Rattle.std.specs.Prelude.{List, Option, Some, None, map, length, get_or, replicate, unwrap_or}
 use Rattle.std.specs.List.{range_with_len, sum_by}
 use Rattle.std.proofs.Common.{◌≡◌, ℕ, ℤ, pos, zero, suc, ◌+◌, ◌-◌, ◌<◌, ◌≤◌, [], ◌∷◌, ◌++◌, take, refl, ap, sym, ◌∙◌, subst, arith, append-nil, append_assoc}
-use Rattle.std.proofs.lemmas.List.{take_more}
+use Rattle.std.proofs.lemmas.List.{take_all, take_more}
 use Rattle.std.proofs.lemmas.List.Sums.{sum_by-cons}
 use Rattle.nest_memory.specs.Physical.{physical_type}
 use Rattle.nest_memory.specs.TypeTree.{TypeTree, count_fields, fields_of, logical_type}
@@ -121,3 +121,13 @@ few-none counts e = λ f. omega (arith, ap (λ z. get_or z f 0) e, zero-at 128 f
 -- what is known of one of the windows
 pub item-within : (t : TypeTree) (ws : List WindowParts) (k : ℕ) (w : WindowParts) → AreWithin t ws → k < length ws → w ≡ get_or ws k w → IsWithin t w
 item-within t ws k w h l e = subst (IsWithin t) (sym e) (h k w l)
+
+-- counts of all windows that are few
+pub picks-room : (o : Option (List ℤ)) (m n : ℕ) (ws : List WindowParts) (i : ℕ) (counts : List ℕ) → length ws ≤ i → n ≡ m → ((f : ℕ) → f < n → get_or counts f 0 ≡ count_slots (map (field_of f) (take i ws))) → AreFew counts → PassesPicks o m ws → ⊥
+picks-room None m n ws i counts h e c k p = p
+picks-room (Some os) m n ws i counts h e c k p =
+    let f = p.0 in
+    let q = c f (omega (arith, p.1, e)) ∙ ap (λ vs. count_slots (map (field_of f) vs)) (take_all i ws h) in
+    let r = p.2 in
+    let s = k f in
+    omega (arith, q, r, s)

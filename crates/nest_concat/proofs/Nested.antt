@@ -163,7 +163,7 @@ child-refuses e a c ws cws f (inr p) = inr (p.0, f p.1)
 abbrev pub IsFirst : Layout → List WindowParts → Type 0
 IsFirst a ws = (a ≡ first_array ws) × (0 < length ws)
 
-child-first : (f : WindowParts → WindowParts) (a : Layout) (ws cws : List WindowParts) → ((w : WindowParts) → (f w).array ≡ child_of w.array) → IsFirst a ws → cws ≡ map f ws → first_array cws ≡ child_of a
+pub child-first : (f : WindowParts → WindowParts) (a : Layout) (ws cws : List WindowParts) → ((w : WindowParts) → (f w).array ≡ child_of w.array) → IsFirst a ws → cws ≡ map f ws → first_array cws ≡ child_of a
 child-first f a ws cws m h e = ap first_array e ∙ first-of-map f child_of ws m h.1 ∙ ap child_of (sym h.0)
 
 pub list-refuses : (large : Bool) (e : Error) (a : Layout) (t : TypeTree) (os : List ℕ) (c : Layout) (va : Validity) (ws cws : List WindowParts) → a ≡ list large t os c va → IsFirst a ws → cws ≡ map items_in ws

@@ -1,12 +1,13 @@
 -- Whole arrays of one data type, and the windows over them.
-use Rattle.std.specs.Prelude.{IfErr, IfOk, List, [], ◌∷◌, ◌++◌, map, length, get_or}
+use Rattle.std.specs.Prelude.{IfErr, IfOk, IsErrOf, List, [], ◌∷◌, ◌++◌, map, length, get_or}
 use Rattle.std.specs.List.{All, flat_map}
-use Rattle.std.proofs.Common.{◌≡◌, ℕ, zero, suc, false, ◌==◌, ◌+◌, ◌<◌, ◌≤◌, take, Result, Ok, Err, inr, refl, ap, sym, ◌∙◌, subst, arith}
+use Rattle.std.proofs.Common.{◌≡◌, ℕ, zero, suc, true, false, ◌==◌, ◌+◌, ◌<◌, ◌≤◌, take, Result, Ok, Err, inl, inr, refl, ap, sym, ◌∙◌, subst, arith}
 use Rattle.std.proofs.lemmas.List.Elements.{All-cons, All-map, All-more, All-tail}
 use Rattle.std.proofs.lemmas.List.{take_all}
 use Rattle.nest_memory.specs.TypeTree.{TypeTree, logical_type}
 use Rattle.nest_array.specs.Seen.{layout_of}
 use Rattle.nest_memory.specs.declared.error.Error.{Error}
+use Rattle.nest_memory.specs.declared.error.Error.TheVariants.{Overflow}
 use Rattle.nest_array.specs.WindowParts.{WindowParts, window_slots}
 use Rattle.nest_array.specs.declared.any.AnyArray.{AnyArray}
 use Rattle.nest_model.specs.Array.{TopFits}
@@ -14,6 +15,9 @@ use Rattle.nest_model.specs.Layout.{Layout, layout_type}
 use Rattle.nest_model.specs.Meaning.{len, slots_of}
 use Rattle.nest_model.specs.Reads.{slots-length}
 use Rattle.nest_concat.specs.Joined.{AreArrays, AreOfOneType, AreWithin, IsConcatenated, IsJoined, IsWithin, RefusesConcatenate, RefusesJoin, first_array, first_type, whole}
+use Rattle.nest_concat.specs.Laid.{joined_layout, joins_past, laid, passes}
+use Rattle.nest_concat.specs.LaidLaws.{limits-pass, none-passes}
+use Rattle.nest_concat.specs.Limits.{PassesLimits}
 use Rattle.nest_concat.proofs.Nested.{of-map}
 
 -- each has this data type
@@ -81,6 +85,22 @@ pub wholes-refused : (r : Result AnyArray Error) (xs : List AnyArray) (ws : List
     → IfErr r (λ e. RefusesConcatenate e (map layout_of xs))
 wholes-refused (Ok a) xs ws e h = tt
 wholes-refused (Err x) xs ws e h = inr (subst (λ z. RefusesJoin x (first_array z) z) (e ∙ sym (wholes-map xs)) h)
+
+wholes-are : (xs : List AnyArray) (ws : List WindowParts) → ws ≡ map whole_of xs → ws ≡ map whole (map layout_of xs)
+wholes-are xs ws e = e ∙ sym (wholes-map xs)
+
+pub wholes-laid : (r : Result AnyArray Error) (xs : List AnyArray) (ws : List WindowParts) → ws ≡ map whole_of xs → IfOk r (λ a. layout_of a ≡ laid (first_array ws) ws) → IfOk r (λ a. layout_of a ≡ joined_layout (map layout_of xs))
+wholes-laid (Ok a) xs ws e h = h ∙ ap (λ z. laid (first_array z) z) (wholes-are xs ws e)
+wholes-laid (Err x) xs ws e h = tt
+
+pub wholes-room : (r : Result AnyArray Error) (xs : List AnyArray) (ws : List WindowParts) → ws ≡ map whole_of xs → IfOk r (λ _. PassesLimits (first_array ws) ws → ⊥) → IfOk r (λ _. joins_past (map layout_of xs) ≡ false)
+wholes-room (Ok a) xs ws e h = let z = ap (λ y. passes (first_array y) y) (wholes-are xs ws e) in sym z ∙ none-passes (first_array ws) ws h
+wholes-room (Err x) xs ws e h = tt
+
+pub wholes-past : (r : Result AnyArray Error) (xs : List AnyArray) (ws : List WindowParts) → ws ≡ map whole_of xs → IfErr r (λ e. RefusesJoin e (first_array ws) ws) → IsErrOf r Overflow → joins_past (map layout_of xs) ≡ true
+wholes-past (Ok a) xs ws e h q = cc
+wholes-past (Err x) xs ws e (inl m) q = cc
+wholes-past (Err x) xs ws e (inr p) q = let z = ap (λ y. passes (first_array y) y) (wholes-are xs ws e) in sym z ∙ limits-pass (first_array ws) ws p.1
 
 pub wholes-within : (xs : List AnyArray) (ws : List WindowParts) → ws ≡ map whole_of xs → AreArrays ws → AreOfOneType (map layout_of xs) → AreWithin (layout_type (first_array ws)) ws
 wholes-within [] ws e f g = absurd g

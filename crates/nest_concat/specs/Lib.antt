@@ -1,8 +1,11 @@
 pub mod Examples
 pub mod Interleaved
+pub mod Joinable
 pub mod Joined
 pub mod JoinedLaws
 pub mod KeyedExamples
+pub mod Laid
+pub mod LaidLaws
 pub mod Limits
 pub mod Moved
 pub mod Parts

@@ -43,6 +43,13 @@ IsPast n s ks i = (0 < s) × ((valid_at (validity_of ks) i ≡ true) × (n ≤ s
 abbrev pub SomePast : ℕ → ℕ → Layout → ℕ → ℕ → Type 0
 SomePast n s ks o m = (j : ℕ) × ((j < m) × IsPast n s ks (o + j))
 
+-- it is none of slot i, where that is null or one of the first n is named; of n slots
+abbrev pub KeyFits : ℕ → ℕ → Layout → ℕ → Type 0
+KeyFits n s ks i = valid_at (validity_of ks) i ≡ true → s + place (key_at ks i) < n
+
+abbrev pub KeysFit : ℕ → ℕ → Layout → ℕ → ℕ → Type 0
+KeysFit n s ks o m = (j : ℕ) → j < m → KeyFits n s ks (o + j)
+
 -- the raw key that slot i has behind s other values, 0 where it is null
 abbrev pub moved_key : ℕ → Layout → ℕ → ℤ
 moved_key s ks i = if valid_at (validity_of ks) i then pos (s + place (key_at ks i)) else pos 0

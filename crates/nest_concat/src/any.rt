@@ -2,7 +2,7 @@
 ghost use Rattle.std.specs.Prelude.{◌≡◌, ◌<◌, IfErr, IfOk, MatchResult, length};
 ghost use Rattle.nest_array.specs.Seen.{layout_of};
 ghost use Rattle.nest_flat.specs.AnyPrimitive.{primitive_layout};
-ghost use Rattle.nest_concat.specs.Words.{AreWithin, IsJoined, Overflow, PassesLength, RefusesJoin, count_slots, first_array, layout_type};
+ghost use Rattle.nest_concat.specs.Words.{AreWithin, IsJoined, Overflow, PassesLength, RefusesJoin, count_slots, first_array, layout_type, laid, PassesLimits};
 
 use crate::{
     binary, boolean, dictionary, fixed_size_binary, fixed_size_list, list, map, null, primitive,
@@ -32,6 +32,8 @@ pub(crate) fn join(alloc: Global, windows: &[Window<'_>]) -> Result<AnyArray, Er
     requires some { 0 < length windows.now }
     requires within { AreWithin (layout_type (first_array windows.now)) windows.now }
     ensures ok { IfOk result (λ a. IsJoined (layout_type (first_array windows.now)) windows.now (layout_of a)) }
+    ensures laid { IfOk result (λ a. layout_of a ≡ laid (first_array windows.now) windows.now) }
+    ensures room { IfOk result (λ a. PassesLimits (first_array windows.now) windows.now → ⊥) }
     ensures err { IfErr result (λ e. RefusesJoin e (first_array windows.now) windows.now) }
 {
     let total = count(windows)?;

@@ -1,8 +1,8 @@
 //! Whole arrays.
-ghost use Rattle.std.specs.Prelude.{◌≡◌, ◌<◌, ◌↔◌, IfErr, IfOk, IsErrOf, IsOkUnless, IsTrue, alloc_error, length, map};
+ghost use Rattle.std.specs.Prelude.{◌≡◌, ◌<◌, ◌↔◌, IfErr, IfOk, IsErrOf, IsOkUnless, IsTrue, alloc_error, false, length, map, true};
 ghost use Rattle.std.specs.List.{All};
 ghost use Rattle.nest_array.specs.Seen.{layout_of};
-ghost use Rattle.nest_concat.specs.Words.{AreOfOneType, AreWithin, InvalidArgumentError, IsConcatenated, ItemType, Memory, RefusesConcatenate, first_array, layout_type, type_of, whole};
+ghost use Rattle.nest_concat.specs.Words.{AreOfOneType, AreWithin, InvalidArgumentError, IsConcatenated, ItemType, Memory, Overflow, RefusesConcatenate, first_array, joined_layout, joins_past, layout_type, type_of, whole};
 
 use crate::any::join;
 use nest_array::{AnyArray, Window};
@@ -56,7 +56,8 @@ fn windows(alloc: Global, arrays: &[AnyArray]) -> Result<Vec<Window<'_>>, Error>
 /// The slots of arrays of one data type, one array after another, under that data type. The arrays stay as they are.
 ///
 /// Dictionaries whose values are all equal keep them, in memory that they share with the first; those of other values have the
-/// values of all arrays, one array after another, and keys behind them. A raw key under a null is 0.
+/// values of all arrays, one array after another, and keys behind them. A raw key under a null is 0. Each other part of the array
+/// is that of the arrays, one after another, with offsets from 0 on; it has a validity where one of the arrays has one.
 ///
 /// # Errors
 /// `InvalidArgumentError(ItemType)` where there is no array, or one has another data type than the first. Else
@@ -65,6 +66,9 @@ fn windows(alloc: Global, arrays: &[AnyArray]) -> Result<Vec<Window<'_>>, Error>
 /// isn't null is past its type behind the values of other arrays; `Memory`.
 pub fn concatenate(alloc: Global, arrays: &[AnyArray]) -> Result<AnyArray, Error>
     ensures ok { IfOk result (λ a. IsConcatenated (map layout_of arrays.now) (layout_of a)) }
+    ensures laid { IfOk result (λ a. layout_of a ≡ joined_layout (map layout_of arrays.now)) }
+    ensures room { IfOk result (λ a. joins_past (map layout_of arrays.now) ≡ false) }
+    ensures past { IsErrOf result Overflow → joins_past (map layout_of arrays.now) ≡ true }
     ensures types { IsErrOf result (InvalidArgumentError ItemType) ↔ (AreOfOneType (map layout_of arrays.now) → ⊥) }
     ensures err { IfErr result (λ e. RefusesConcatenate e (map layout_of arrays.now)) }
 {

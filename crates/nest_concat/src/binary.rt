@@ -2,7 +2,7 @@
 ghost use Rattle.std.specs.Prelude.{◌≡◌, ◌⊎◌, IfErr, IfOk, alloc_error};
 ghost use Rattle.nest_memory.specs.declared.datatypes.physical_type.PhysicalType.TheVariants as physical;
 ghost use Rattle.nest_array.specs.Seen.{layout_of};
-ghost use Rattle.nest_concat.specs.Words.{AreWithin, IsJoined, Memory, Overflow, PassesOffsets, RefusesJoin, binary_of_width, count_slots, layout_type, physical_type};
+ghost use Rattle.nest_concat.specs.Words.{AreWithin, IsJoined, Memory, Overflow, PassesOffsets, RefusesJoin, binary_of_width, count_slots, layout_type, physical_type, laid, PassesLimits};
 
 use crate::bits;
 use crate::spans::{self, Spanned, SpannedBytes};
@@ -74,6 +74,8 @@ fn joined<O: Offset, K: SpannedBytes<O>>(
     requires within { AreWithin (layout_type array.now) windows.now }
     requires total { total ≡ count_slots windows.now }
     ensures ok { IfOk result (λ a. IsJoined (layout_type array.now) windows.now a) }
+    ensures laid { IfOk result (λ a. a ≡ laid array.now windows.now) }
+    ensures room { IfOk result (λ a. PassesOffsets O.IS_LARGE windows.now → ⊥) }
     ensures err { IfErr result (λ e. (e ≡ Memory alloc_error) ⊎ ((e ≡ Overflow) × PassesOffsets O.IS_LARGE windows.now)) }
 {
     array.known();
@@ -96,6 +98,8 @@ pub(crate) fn join(
     requires within { AreWithin (layout_type array.now) windows.now }
     requires total { total ≡ count_slots windows.now }
     ensures ok { IfOk result (λ a. IsJoined (layout_type array.now) windows.now (layout_of a)) }
+    ensures laid { IfOk result (λ a. layout_of a ≡ laid array.now windows.now) }
+    ensures room { IfOk result (λ a. PassesLimits array.now windows.now → ⊥) }
     ensures err { IfErr result (λ e. RefusesJoin e array.now windows.now) }
 {
     array.known();
@@ -116,6 +120,8 @@ pub(crate) fn join_large(
     requires within { AreWithin (layout_type array.now) windows.now }
     requires total { total ≡ count_slots windows.now }
     ensures ok { IfOk result (λ a. IsJoined (layout_type array.now) windows.now (layout_of a)) }
+    ensures laid { IfOk result (λ a. layout_of a ≡ laid array.now windows.now) }
+    ensures room { IfOk result (λ a. PassesLimits array.now windows.now → ⊥) }
     ensures err { IfErr result (λ e. RefusesJoin e array.now windows.now) }
 {
     array.known();

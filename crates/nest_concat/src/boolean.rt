@@ -3,7 +3,7 @@ ghost use Rattle.std.specs.Prelude.{◌≡◌, ◌+◌, ◌<◌, ◌^◌, ◌++�
 ghost use Rattle.std.specs.List.{flat_map};
 ghost use Rattle.nest_memory.specs.declared.datatypes.physical_type.PhysicalType.TheVariants as physical;
 ghost use Rattle.nest_array.specs.Seen.{layout_of};
-ghost use Rattle.nest_concat.specs.Words.{AreOfKind, AreWithin, IsJoined, Memory, count_slots, layout_type, physical_type, truths_in};
+ghost use Rattle.nest_concat.specs.Words.{AreOfKind, AreWithin, IsJoined, Memory, count_slots, layout_type, physical_type, truths_in, laid, PassesLimits};
 
 use crate::bits;
 use nest_array::{AnyArray, Window};
@@ -54,6 +54,8 @@ pub(crate) fn join(
     requires within { AreWithin (layout_type array.now) windows.now }
     requires total { total ≡ count_slots windows.now }
     ensures ok { IfOk result (λ a. IsJoined (layout_type array.now) windows.now (layout_of a)) }
+    ensures laid { IfOk result (λ a. layout_of a ≡ laid array.now windows.now) }
+    ensures room { IfOk result (λ a. PassesLimits array.now windows.now → ⊥) }
     ensures err { IsOkUnless result (Memory alloc_error) }
 {
     array.known();

@@ -4,7 +4,7 @@ ghost use Rattle.nest_model.specs.Layout as layouts;
 ghost use Rattle.nest_array.specs.Kinds.{IsKeyed};
 ghost use Rattle.nest_array.specs.Seen.{layout_of};
 ghost use Rattle.nest_array.specs.SeenKeys.{keys_layout};
-ghost use Rattle.nest_concat.specs.Words.{AreArrays, AreKeyed, AreWithin, Fits, HaveValues, IsJoined, Memory, RefusesJoin, child_of, count_slots, first_array, layout_type, physical_type, type_of, values_in};
+ghost use Rattle.nest_concat.specs.Words.{AreArrays, AreKeyed, AreWithin, Fits, HaveValues, IsJoined, Memory, RefusesJoin, child_of, count_slots, first_array, layout_type, physical_type, type_of, values_in, laid, PassesLimits};
 
 use crate::any::join;
 use crate::keys;
@@ -70,6 +70,8 @@ pub(crate) fn join_keyed(
     requires within { AreWithin (layout_type array.now) windows.now }
     requires total { total ≡ count_slots windows.now }
     ensures ok { IfOk result (λ a. IsJoined (layout_type array.now) windows.now (layout_of a)) }
+    ensures laid { IfOk result (λ a. layout_of a ≡ laid array.now windows.now) }
+    ensures room { IfOk result (λ a. PassesLimits array.now windows.now → ⊥) }
     ensures err { IfErr result (λ e. RefusesJoin e array.now windows.now) }
 {
     array.known();
@@ -99,6 +101,8 @@ fn keep_values(
     requires total { total ≡ count_slots windows.now }
     requires same { HaveValues (child_of array.now) windows.now }
     ensures ok { IfOk result (λ a. IsJoined (layout_type array.now) windows.now (layout_of a)) }
+    ensures laid { IfOk result (λ a. layout_of a ≡ laid array.now windows.now) }
+    ensures room { IfOk result (λ a. PassesLimits array.now windows.now → ⊥) }
     ensures err { IsOkUnless result (Memory alloc_error) }
 {
     array.known();

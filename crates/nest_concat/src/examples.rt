@@ -6,7 +6,7 @@ ghost use Rattle.nest_memory.specs.declared.error.Error.{Error};
 ghost use Rattle.nest_model.specs.Examples.{a_field, both, dictionaries, in_turn, ints, list_type, lists, number, numbers, texts, truths, two_fields};
 ghost use Rattle.nest_model.specs.Layout as layouts;
 ghost use Rattle.nest_model.specs.Layout.{Layout};
-ghost use Rattle.nest_concat.specs.Words.{AreOfOneType, InvalidArgumentError, ItemType, Memory, Overflow, PassesLength, PassesLimits, PassesOffsets, PassesPicks, RefusesConcatenate, blocks_of, bytes_in, count_slots, extents_in, field_of, items_in, joined_validity, moved_offsets, slots_of, whole, window_parts, KeysPass, joined_keys, slot_windows};
+ghost use Rattle.nest_concat.specs.Words.{AreOfOneType, InvalidArgumentError, ItemType, Memory, Overflow, PassesLength, PassesLimits, PassesOffsets, PassesPicks, RefusesConcatenate, blocks_of, bytes_in, count_slots, extents_in, field_of, items_in, joined_validity, moved_offsets, slots_of, whole, window_parts, KeysPass, joined_keys, joined_layout, joins_past, slot_windows};
 ghost use Rattle.nest_concat.specs.Interleaved.{IsPlaceOf, slot_of};
 ghost use Rattle.nest_concat.specs.Examples.{dense, four, sparse_from};
 ghost use Rattle.nest_concat.specs.KeyedExamples.{one_key};
@@ -82,4 +82,22 @@ pub fn refusals()
     ensures other { RefusesConcatenate (InvalidArgumentError ItemType) (ints (7 ∷ []) ∷ truths (true ∷ []) ∷ []) }
     ensures same { RefusesConcatenate (InvalidArgumentError ItemType) (ints (7 ∷ []) ∷ ints [] ∷ []) → ⊥ }
     ensures overflow { RefusesConcatenate Overflow (ints (7 ∷ []) ∷ ints [] ∷ []) → ⊥ }
+{}
+
+/// Arrays one after another, part by part: numbers; bits, the last of which are of an array with a validity; texts whose offsets
+/// begin past 0; dictionaries of equal values, and of others, behind which keys move.
+pub fn joined_arrays()
+    ensures numbers { joined_layout (ints (7 ∷ []) ∷ ints (8 ∷ 9 ∷ []) ∷ []) ≡ ints (7 ∷ 8 ∷ 9 ∷ []) }
+    ensures validity { joined_layout (truths (true ∷ []) ∷ layouts.boolean types.boolean (true ∷ []) (Some (false ∷ [])) ∷ []) ≡ layouts.boolean types.boolean (true ∷ true ∷ []) (Some (true ∷ false ∷ [])) }
+    ensures texts { joined_layout (texts (1 ∷ 3 ∷ []) (97 ∷ 98 ∷ 99 ∷ []) ∷ texts (0 ∷ 1 ∷ 2 ∷ []) (100 ∷ 101 ∷ []) ∷ []) ≡ texts (0 ∷ 2 ∷ 3 ∷ 4 ∷ []) (98 ∷ 99 ∷ 100 ∷ 101 ∷ []) }
+    ensures kept { joined_layout (dictionaries (1 ∷ []) None (texts (0 ∷ 1 ∷ 2 ∷ []) (97 ∷ 98 ∷ [])) ∷ dictionaries (0 ∷ []) None (texts (1 ∷ 2 ∷ 3 ∷ []) (99 ∷ 97 ∷ 98 ∷ [])) ∷ []) ≡ dictionaries (1 ∷ 0 ∷ []) None (texts (0 ∷ 1 ∷ 2 ∷ []) (97 ∷ 98 ∷ [])) }
+    ensures moved { joined_layout (dictionaries (1 ∷ []) None (texts (0 ∷ 1 ∷ 2 ∷ []) (97 ∷ 98 ∷ [])) ∷ dictionaries (0 ∷ []) None (texts (1 ∷ 2 ∷ []) (97 ∷ 99 ∷ [])) ∷ []) ≡ dictionaries (1 ∷ 2 ∷ []) None (texts (0 ∷ 1 ∷ 2 ∷ 3 ∷ []) (97 ∷ 98 ∷ 99 ∷ [])) }
+{}
+
+/// Whether dictionaries pass a limit: 127 values may stand before a key of 8 bits, and not 128, but before a null; equal values are kept.
+pub fn joined_limits()
+    ensures last { joins_past (one_key true 0 127 ∷ one_key true 0 1 ∷ []) ≡ false }
+    ensures past { joins_past (one_key true 0 128 ∷ one_key true 0 1 ∷ []) ≡ true }
+    ensures null_key { joins_past (one_key true 0 128 ∷ one_key false 0 1 ∷ []) ≡ false }
+    ensures equal { joins_past (one_key true 127 128 ∷ one_key true 127 128 ∷ []) ≡ false }
 {}

@@ -4,7 +4,7 @@ ghost use Rattle.nest_memory.specs.TypeTree.{size_of};
 ghost use Rattle.nest_memory.specs.declared.datatypes.physical_type.PhysicalType.TheVariants as physical;
 ghost use Rattle.nest_model.specs.Layout as layouts;
 ghost use Rattle.nest_array.specs.Seen.{layout_of};
-ghost use Rattle.nest_concat.specs.Words.{AreArrays, AreWithin, Fits, IsJoined, Memory, RefusesJoin, TopFits, blocks_of, count_slots, first_array, layout_type, physical_type, type_of};
+ghost use Rattle.nest_concat.specs.Words.{AreArrays, AreWithin, Fits, IsJoined, Memory, RefusesJoin, TopFits, blocks_of, count_slots, first_array, layout_type, physical_type, type_of, laid, PassesLimits};
 
 use crate::any::join;
 use crate::bits;
@@ -68,6 +68,8 @@ pub(crate) fn join_lists(
     requires within { AreWithin (layout_type array.now) windows.now }
     requires total { total ≡ count_slots windows.now }
     ensures ok { IfOk result (λ a. IsJoined (layout_type array.now) windows.now (layout_of a)) }
+    ensures laid { IfOk result (λ a. layout_of a ≡ laid array.now windows.now) }
+    ensures room { IfOk result (λ a. PassesLimits array.now windows.now → ⊥) }
     ensures err { IfErr result (λ e. RefusesJoin e array.now windows.now) }
 {
     array.known();

@@ -1,5 +1,5 @@
 //! The keys of dictionaries, as they are or behind the values of other arrays.
-ghost use Rattle.std.specs.Prelude.{◌≡◌, ◌⊎◌, ◌+◌, ◌++◌, ◌<◌, ◌≤◌, IfErr, IfOk, IsErrOf, IsOkUnless, MatchOption, MatchResult, OnOk, Some, alloc_error, map, true};
+ghost use Rattle.std.specs.Prelude.{◌≡◌, ◌⊎◌, ◌+◌, ◌++◌, ◌<◌, ◌≤◌, IfErr, IfOk, IfSome, IsErrOf, IsOkUnless, IsTrue, MatchOption, MatchResult, OnOk, Some, alloc_error, map, true};
 ghost use Rattle.std.specs.List.{flat_map};
 ghost use Rattle.nest_memory.specs.declared.datatypes.physical_type.PhysicalType.TheVariants as physical;
 ghost use Rattle.nest_model.specs.Accessors.{key_at, key_type_of, keys_of, whole};
@@ -7,7 +7,7 @@ ghost use Rattle.nest_model.specs.BuilderTree.{key_count};
 ghost use Rattle.nest_model.specs.Part.{place};
 ghost use Rattle.nest_array.specs.Keys.{keyed_by};
 ghost use Rattle.nest_array.specs.SeenKeys.{keys_layout};
-ghost use Rattle.nest_concat.specs.Words.{AreJoinedKeys, AreOfKind, AreWithin, IsPast, KeyPasses, Memory, Overflow, RefusesKeys, SomePast, count_slots, first_array, joined_keys, keys_in, layout_type, len, moved_key, moved_keys, moved_run, physical_type};
+ghost use Rattle.nest_concat.specs.Words.{AreJoinedKeys, AreOfKind, AreWithin, IsPast, KeyPasses, Memory, Overflow, RefusesKeys, SomePast, count_slots, first_array, joined_keys, keys_in, layout_type, len, moved_key, moved_keys, moved_run, physical_type, KeysPass, KeysFit, KeyFits, laid_keys};
 
 use crate::{bits, dictionary};
 use nest_array::{AnyKeys, DictionaryKey, Window};
@@ -55,9 +55,10 @@ fn index_at(keys: &AnyKeys, i: usize) -> usize
 fn moved<K: DictionaryKey>(keys: &AnyKeys, i: usize, before: usize) -> Option<K>
     requires within { i < len (keys_layout keys.now) }
     requires width { key_type_of (keys_layout keys.now) ≡ Some K.KEY_TYPE }
-    ensures { MatchOption result
+    ensures key { MatchOption result
         (IsPast (key_count K.KEY_TYPE) before (keys_layout keys.now) i)
         (λ k. whole (K.numbers k) ≡ moved_key before (keys_layout keys.now) i) }
+    ensures room { IfSome result (λ k. KeyFits (key_count K.KEY_TYPE) before (keys_layout keys.now) i) }
 {
     if keys.is_null(i) {
         return Some(K::zero());
@@ -79,6 +80,7 @@ fn push_run<K: DictionaryKey>(
     requires within { start + n ≤ len (keys_layout keys.now) }
     requires width { key_type_of (keys_layout keys.now) ≡ Some K.KEY_TYPE }
     ensures ok { OnOk result (map whole (map K.numbers raw.new.items) ≡ map whole (map K.numbers raw.old.items) ++ moved_run before (keys_layout keys.now) start n) }
+    ensures room { OnOk result (KeysFit (key_count K.KEY_TYPE) before (keys_layout keys.now) start n) }
     ensures err { IfErr result (λ e. (e ≡ Memory alloc_error) ⊎ ((e ≡ Overflow) × SomePast (key_count K.KEY_TYPE) before (keys_layout keys.now) start n)) }
 {
     let _len = keys.len();
@@ -113,6 +115,7 @@ fn push_window<K: DictionaryKey>(
 ) -> Result<(), Error>
     requires kind { physical_type (layout_type window.now.array) ≡ physical.Dictionary K.KEY_TYPE }
     ensures ok { OnOk result (map whole (map K.numbers raw.new.items) ≡ map whole (map K.numbers raw.old.items) ++ keys_in before window.now) }
+    ensures room { OnOk result (KeyPasses (key_count K.KEY_TYPE) before window.now → ⊥) }
     ensures err { IfErr result (λ e. (e ≡ Memory alloc_error) ⊎ ((e ≡ Overflow) × ((0 < before) × KeyPasses (key_count K.KEY_TYPE) before window.now))) }
 {
     window.known();
@@ -145,6 +148,7 @@ fn keys_behind<K: DictionaryKey>(
 ) -> Result<Buffer<K>, Error>
     requires kind { AreOfKind (physical.Dictionary K.KEY_TYPE) windows.now }
     ensures ok { IfOk result (λ b. map whole (map K.numbers b) ≡ moved_keys 0 windows.now) }
+    ensures room { IfOk result (λ b. KeysPass (key_count K.KEY_TYPE) 0 windows.now → ⊥) }
     ensures err { IfErr result (λ e. RefusesKeys true e (key_count K.KEY_TYPE) windows.now) }
 {
     let mut raw = Vec::with_capacity(alloc, total)?;
@@ -168,6 +172,7 @@ fn raw_keys<K: DictionaryKey>(
 ) -> Result<Buffer<K>, Error>
     requires kind { AreOfKind (physical.Dictionary K.KEY_TYPE) windows.now }
     ensures ok { IfOk result (λ b. map whole (map K.numbers b) ≡ joined_keys moved windows.now) }
+    ensures room { IfOk result (λ b. IsTrue moved → KeysPass (key_count K.KEY_TYPE) 0 windows.now → ⊥) }
     ensures err { IfErr result (λ e. RefusesKeys moved e (key_count K.KEY_TYPE) windows.now) }
 {
     if moved {
@@ -189,6 +194,8 @@ fn joined_of<K: DictionaryKey>(
     requires kind { AreOfKind (physical.Dictionary (keyed_by (key_type_of keys.now))) windows.now }
     requires total { total ≡ count_slots windows.now }
     ensures ok { IfOk result (λ k. AreJoinedKeys moved keys.now windows.now k) }
+    ensures laid { IfOk result (λ k. k ≡ laid_keys moved keys.now windows.now) }
+    ensures room { IfOk result (λ k. IsTrue moved → KeysPass (key_count (keyed_by (key_type_of keys.now))) 0 windows.now → ⊥) }
     ensures err { IfErr result (λ e. RefusesKeys moved e (key_count (keyed_by (key_type_of keys.now))) windows.now) }
 {
     keys.known();
@@ -223,6 +230,8 @@ pub(crate) fn joined(
     requires kind { AreOfKind (physical.Dictionary (keyed_by (key_type_of (keys_layout keys.now)))) windows.now }
     requires total { total ≡ count_slots windows.now }
     ensures ok { IfOk result (λ k. AreJoinedKeys moved (keys_layout keys.now) windows.now (keys_layout k)) }
+    ensures laid { IfOk result (λ k. keys_layout k ≡ laid_keys moved (keys_layout keys.now) windows.now) }
+    ensures room { IfOk result (λ k. IsTrue moved → KeysPass (key_count (keyed_by (key_type_of (keys_layout keys.now)))) 0 windows.now → ⊥) }
     ensures err { IfErr result (λ e. RefusesKeys moved e (key_count (keyed_by (key_type_of (keys_layout keys.now)))) windows.now) }
 {
     match keys {

@@ -1,8 +1,15 @@
 //! Laws of what is concatenated.
-ghost use Rattle.std.specs.Prelude.{ℕ, List, [], ◌∷◌, ◌++◌, ◌-◌, ◌<◌, ◌≤◌, length};
+ghost use Rattle.std.specs.Prelude.{◌≡◌, ℕ, List, [], ◌∷◌, ◌++◌, ◌+◌, ◌-◌, ◌<◌, ◌≤◌, ◌↔◌, IsTrue, length, map};
+ghost use Rattle.std.specs.List.{All};
+ghost use Rattle.nest_memory.specs.TypeTree.{TypeTree};
+ghost use Rattle.nest_model.specs.Array.{IsArray};
 ghost use Rattle.nest_model.specs.Cut.{cut_layout};
+ghost use Rattle.nest_model.specs.Layout.{dictionary};
+ghost use Rattle.nest_model.specs.Meaning.{slot};
 ghost use Rattle.nest_model.specs.SameArray.{IsSameArray};
-ghost use Rattle.nest_concat.specs.Words.{IsConcatenated, Layout, len};
+ghost use Rattle.nest_concat.specs.Joinable.{MayJoin};
+ghost use Rattle.nest_concat.specs.Laid.{joined_layout, joins_past, laid, passes};
+ghost use Rattle.nest_concat.specs.Words.{AreOfOneType, IsConcatenated, IsJoined, Layout, PassesLimits, WindowParts, first_array, layout_type, len, slots_of, whole};
 
 /// Concatenating one array gives an equal array.
 pub fn one_array()
@@ -18,4 +25,29 @@ pub fn cuts_of_an_array()
 pub fn of_concatenated()
     ensures first { (bs cs : List Layout) (a d : Layout) → 0 < length bs → IsConcatenated bs a → IsConcatenated (a ∷ cs) d → IsConcatenated (bs ++ cs) d }
     ensures last { (bs cs : List Layout) (a d : Layout) → 0 < length bs → IsConcatenated cs a → IsConcatenated (bs ++ a ∷ []) d → IsConcatenated (bs ++ cs) d }
+{}
+
+/// What windows, or whole arrays, are joined to has their slots, and is an array at every level where they are.
+pub fn joined_layouts_have_their_slots()
+    ensures windows { (a : Layout) (ws : List WindowParts) → MayJoin a ws → IsJoined (layout_type a) ws (laid a ws) }
+    ensures arrays { (a : Layout) (ws : List WindowParts) → MayJoin a ws → IsArray (laid a ws) }
+    ensures wholes { (bs : List Layout) → AreOfOneType bs → All IsArray bs → IsConcatenated bs (joined_layout bs) }
+    ensures array { (bs : List Layout) → AreOfOneType bs → All IsArray bs → IsArray (joined_layout bs) }
+    ensures two { (a b : Layout) → layout_type b ≡ layout_type a → IsArray a → IsArray b → slots_of (joined_layout (a ∷ b ∷ [])) ≡ slots_of a ++ slots_of b }
+{}
+
+/// The tests of limits tell which are passed.
+pub fn limits_are_told()
+    ensures windows { (a : Layout) (ws : List WindowParts) → IsTrue (passes a ws) ↔ PassesLimits a ws }
+    ensures wholes { (bs : List Layout) → IsTrue (joins_past bs) ↔ PassesLimits (first_array (map whole bs)) (map whole bs) }
+{}
+
+/// Of two arrays of one data type, the slots of the first stay at their places and those of the second stand behind them. So keys
+/// name the same values where others are joined to these.
+pub fn joined_slots_keep_their_places()
+    ensures count { (a b : Layout) → layout_type b ≡ layout_type a → IsArray a → IsArray b → len (joined_layout (a ∷ b ∷ [])) ≡ len a + len b }
+    ensures first { (a b : Layout) (i : ℕ) → layout_type b ≡ layout_type a → IsArray a → IsArray b → i < len a → slot (joined_layout (a ∷ b ∷ [])) i ≡ slot a i }
+    ensures behind { (a b : Layout) (i : ℕ) → layout_type b ≡ layout_type a → IsArray a → IsArray b → i < len b → slot (joined_layout (a ∷ b ∷ [])) (len a + i) ≡ slot b i }
+    ensures keyed { (t : TypeTree) (ks c d : Layout) → IsArray (dictionary t ks c) → IsArray d → layout_type d ≡ layout_type c → IsArray (dictionary t ks (joined_layout (c ∷ d ∷ []))) }
+    ensures same { (t : TypeTree) (ks c d : Layout) → IsArray (dictionary t ks c) → IsArray d → layout_type d ≡ layout_type c → IsSameArray (dictionary t ks (joined_layout (c ∷ d ∷ []))) (dictionary t ks c) }
 {}

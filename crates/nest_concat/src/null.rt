@@ -2,7 +2,7 @@
 ghost use Rattle.std.specs.Prelude.{◌≡◌, IfOk, IsOkUnless, alloc_error};
 ghost use Rattle.nest_model.specs.Layout as layouts;
 ghost use Rattle.nest_array.specs.Seen.{layout_of};
-ghost use Rattle.nest_concat.specs.Words.{AreWithin, IsJoined, Memory, count_slots, layout_type};
+ghost use Rattle.nest_concat.specs.Words.{AreWithin, IsJoined, Memory, count_slots, layout_type, laid, PassesLimits};
 
 use nest_array::{AnyArray, NullArray, Window};
 use nest_memory::error::Error;
@@ -29,6 +29,8 @@ pub(crate) fn join(
     requires within { AreWithin (layout_type array.now) windows.now }
     requires total { total ≡ count_slots windows.now }
     ensures ok { IfOk result (λ a. IsJoined (layout_type array.now) windows.now (layout_of a)) }
+    ensures laid { IfOk result (λ a. layout_of a ≡ laid array.now windows.now) }
+    ensures room { IfOk result (λ a. PassesLimits array.now windows.now → ⊥) }
     ensures err { IsOkUnless result (Memory alloc_error) }
 {
     let _ = windows;

@@ -3,8 +3,8 @@ ghost use Rattle.std.specs.Prelude.{◌≡◌, ◌++◌, IfOk, IsErrOf, IsOkUnle
 ghost use Rattle.std.specs.List.{flat_map};
 ghost use Rattle.nest_memory.specs.declared.datatypes.physical_type.PhysicalType.TheVariants as physical;
 ghost use Rattle.nest_array.specs.Seen.{layout_of};
-ghost use Rattle.nest_flat.specs.AnyPrimitive.{primitive_layout};
-ghost use Rattle.nest_concat.specs.Words.{AreOfKind, AreWithin, IsJoined, Memory, count_slots, layout_type, natives_in, physical_type, type_of};
+ghost use Rattle.nest_flat.specs.AnyPrimitive.{primitive_kind, primitive_layout};
+ghost use Rattle.nest_concat.specs.Words.{AreOfKind, AreWithin, IsJoined, Memory, count_slots, layout_type, natives_in, physical_type, laid, PassesLimits};
 
 use crate::bits;
 use crate::natives::{self, Natives};
@@ -12,7 +12,6 @@ use nest_array::{AnyArray, Window};
 use nest_flat::any_primitive::{AnyPrimitive, NativeArray};
 use nest_flat::primitive::PrimitiveArray;
 use nest_memory::buffer::Buffer;
-use nest_memory::datatypes::DataType;
 use nest_memory::error::Error;
 use nest_memory::types::{days_ms, i256, months_days_ns};
 use std::alloc::Global;
@@ -49,22 +48,25 @@ fn values<T: Natives>(
     Buffer::from_vec(alloc, taken)
 }
 
-/// The slots of windows over native values of one type, of so many slots in all.
+/// The slots of windows over native values of one type, of so many slots in all, under the data type of one of the arrays.
 fn join_natives<T: Natives>(
     alloc: Global,
-    data_type: &DataType,
+    array: &AnyPrimitive,
     windows: &[Window<'_>],
     total: usize,
 ) -> Result<PrimitiveArray<T>, Error>
-    requires kind { physical_type (type_of data_type.now) ≡ physical.Primitive T.PRIMITIVE }
-    requires within { AreWithin (type_of data_type.now) windows.now }
+    requires kind { primitive_kind array.now ≡ T.PRIMITIVE }
+    requires within { AreWithin (layout_type (primitive_layout array.now)) windows.now }
     requires total { total ≡ count_slots windows.now }
-    ensures ok { IfOk result (λ a. IsJoined (type_of data_type.now) windows.now a) }
+    ensures ok { IfOk result (λ a. IsJoined (layout_type (primitive_layout array.now)) windows.now a) }
+    ensures laid { IfOk result (λ a. a ≡ laid (primitive_layout array.now) windows.now) }
+    ensures room { IfOk result (λ a. PassesLimits (primitive_layout array.now) windows.now → ⊥) }
     ensures err { IsOkUnless result (Memory alloc_error) }
 {
+    array.known();
     let values = values::<T>(alloc, windows, total)?;
     let validity = bits::validity(alloc, windows, total)?;
-    let data_type = data_type.clone(alloc)?;
+    let data_type = array.data_type().clone(alloc)?;
     PrimitiveArray::try_new(data_type, values, validity)
 }
 
@@ -91,24 +93,24 @@ pub(crate) fn join(
     requires within { AreWithin (layout_type (primitive_layout array.now)) windows.now }
     requires total { total ≡ count_slots windows.now }
     ensures ok { IfOk result (λ a. IsJoined (layout_type (primitive_layout array.now)) windows.now (layout_of a)) }
+    ensures laid { IfOk result (λ a. layout_of a ≡ laid (primitive_layout array.now) windows.now) }
+    ensures room { IfOk result (λ a. PassesLimits (primitive_layout array.now) windows.now → ⊥) }
     ensures err { IsOkUnless result (Memory alloc_error) }
 {
-    array.known();
-    let t = array.data_type();
     match array {
-        AnyPrimitive::Int8(_) => wrapped::<i8>(join_natives(alloc, t, windows, total)),
-        AnyPrimitive::Int16(_) => wrapped::<i16>(join_natives(alloc, t, windows, total)),
-        AnyPrimitive::Int32(_) => wrapped::<i32>(join_natives(alloc, t, windows, total)),
-        AnyPrimitive::Int64(_) => wrapped::<i64>(join_natives(alloc, t, windows, total)),
-        AnyPrimitive::Int128(_) => wrapped::<i128>(join_natives(alloc, t, windows, total)),
-        AnyPrimitive::Int256(_) => wrapped::<i256>(join_natives(alloc, t, windows, total)),
-        AnyPrimitive::UInt8(_) => wrapped::<u8>(join_natives(alloc, t, windows, total)),
-        AnyPrimitive::UInt16(_) => wrapped::<u16>(join_natives(alloc, t, windows, total)),
-        AnyPrimitive::UInt32(_) => wrapped::<u32>(join_natives(alloc, t, windows, total)),
-        AnyPrimitive::UInt64(_) => wrapped::<u64>(join_natives(alloc, t, windows, total)),
-        AnyPrimitive::DaysMs(_) => wrapped::<days_ms>(join_natives(alloc, t, windows, total)),
+        AnyPrimitive::Int8(_) => wrapped::<i8>(join_natives(alloc, array, windows, total)),
+        AnyPrimitive::Int16(_) => wrapped::<i16>(join_natives(alloc, array, windows, total)),
+        AnyPrimitive::Int32(_) => wrapped::<i32>(join_natives(alloc, array, windows, total)),
+        AnyPrimitive::Int64(_) => wrapped::<i64>(join_natives(alloc, array, windows, total)),
+        AnyPrimitive::Int128(_) => wrapped::<i128>(join_natives(alloc, array, windows, total)),
+        AnyPrimitive::Int256(_) => wrapped::<i256>(join_natives(alloc, array, windows, total)),
+        AnyPrimitive::UInt8(_) => wrapped::<u8>(join_natives(alloc, array, windows, total)),
+        AnyPrimitive::UInt16(_) => wrapped::<u16>(join_natives(alloc, array, windows, total)),
+        AnyPrimitive::UInt32(_) => wrapped::<u32>(join_natives(alloc, array, windows, total)),
+        AnyPrimitive::UInt64(_) => wrapped::<u64>(join_natives(alloc, array, windows, total)),
+        AnyPrimitive::DaysMs(_) => wrapped::<days_ms>(join_natives(alloc, array, windows, total)),
         AnyPrimitive::MonthDayNano(_) => {
-            wrapped::<months_days_ns>(join_natives(alloc, t, windows, total))
+            wrapped::<months_days_ns>(join_natives(alloc, array, windows, total))
         }
     }
 }

@@ -6,7 +6,7 @@ ghost use Rattle.nest_model.specs.Accessors.{child_at};
 ghost use Rattle.nest_model.specs.Layout as layouts;
 ghost use Rattle.nest_model.specs.Layout.{count_layouts};
 ghost use Rattle.nest_array.specs.Seen.{layout_of, layouts_of};
-ghost use Rattle.nest_concat.specs.Words.{AreArrays, AreWithin, EachJoined, Fits, HasFields, IsJoined, IsWithin, Memory, RefusesEach, RefusesJoin, TopFits, children_of, count_slots, field_of, first_array, layout_type, physical_type, type_of};
+ghost use Rattle.nest_concat.specs.Words.{AreArrays, AreWithin, EachJoined, Fits, HasFields, IsJoined, IsWithin, Memory, RefusesEach, RefusesJoin, TopFits, children_of, count_slots, field_of, first_array, layout_type, physical_type, type_of, laid, PassesLimits, laid_each, SomePasses};
 
 use crate::any::join;
 use crate::{bits, union};
@@ -86,6 +86,8 @@ pub(crate) fn join_records(
     requires within { AreWithin (layout_type array.now) windows.now }
     requires total { total ≡ count_slots windows.now }
     ensures ok { IfOk result (λ a. IsJoined (layout_type array.now) windows.now (layout_of a)) }
+    ensures laid { IfOk result (λ a. layout_of a ≡ laid array.now windows.now) }
+    ensures room { IfOk result (λ a. PassesLimits array.now windows.now → ⊥) }
     ensures err { IfErr result (λ e. RefusesJoin e array.now windows.now) }
 {
     array.known();
@@ -108,6 +110,8 @@ pub(crate) fn join_fields(
     requires within { AreWithin (layout_type (first_array windows.now)) windows.now }
     requires children { layouts_of children.now ≡ children_of (first_array windows.now) }
     ensures ok { IfOk result (λ v. EachJoined (layouts_of children.now) 0 windows.now (layouts_of v.items)) }
+    ensures laid { IfOk result (λ v. layouts_of v.items ≡ laid_each (layouts_of children.now) 0 windows.now) }
+    ensures room { IfOk result (λ v. SomePasses (layouts_of children.now) 0 windows.now → ⊥) }
     ensures err { IfErr result (λ e. RefusesEach e (layouts_of children.now) windows.now) }
 {
     let mut joined = Vec::with_capacity(alloc, children.len())?;

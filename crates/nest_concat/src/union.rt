@@ -7,7 +7,7 @@ ghost use Rattle.nest_model.specs.Accessors.{child_at, union_offsets_of};
 ghost use Rattle.nest_model.specs.Layout as layouts;
 ghost use Rattle.nest_model.specs.Layout.{count_layouts};
 ghost use Rattle.nest_array.specs.Seen.{layout_of, layouts_of};
-ghost use Rattle.nest_concat.specs.Words.{AreAdvanced, AreFew, AreOfKind, AreWithin, Fits, IsJoined, Memory, Overflow, PassesOne, PassesPicks, RefusesJoin, TopFits, ArePlaced, behind, children_of, count_slots, field_of, first_array, joined_offsets, layout_type, len, lowest, moved_offsets, offset_by, part_of, physical_type, picks_in, type_of, types_in};
+ghost use Rattle.nest_concat.specs.Words.{AreAdvanced, AreFew, AreOfKind, AreWithin, Fits, IsJoined, Memory, Overflow, PassesOne, PassesPicks, RefusesJoin, TopFits, ArePlaced, behind, children_of, count_slots, field_of, first_array, joined_offsets, layout_type, len, lowest, moved_offsets, offset_by, part_of, physical_type, picks_in, type_of, types_in, laid, PassesLimits};
 
 use crate::natives;
 use crate::struct_::{child, join_fields};
@@ -183,6 +183,7 @@ fn offsets_behind(
     requires within { AreWithin (layout_type array.now) windows.now }
     requires dense { union_offsets_of array.now ≡ None → ⊥ }
     ensures ok { IfOk result (λ b. b ≡ moved_offsets windows.now) }
+    ensures room { IfOk result (λ b. PassesPicks (union_offsets_of array.now) (count_layouts (children_of array.now)) windows.now → ⊥) }
     ensures err { IfErr result (λ e. (e ≡ Memory alloc_error) ⊎ ((e ≡ Overflow) × PassesPicks (union_offsets_of array.now) (count_layouts (children_of array.now)) windows.now)) }
 {
     array.known();
@@ -206,6 +207,7 @@ fn offsets(
 ) -> Result<Option<Buffer<i32>>, Error>
     requires { AreWithin (layout_type array.now) windows.now }
     ensures ok { IfOk result (λ b. b ≡ joined_offsets (union_offsets_of array.now) windows.now) }
+    ensures room { IfOk result (λ b. PassesPicks (union_offsets_of array.now) (count_layouts (children_of array.now)) windows.now → ⊥) }
     ensures err { IfErr result (λ e. (e ≡ Memory alloc_error) ⊎ ((e ≡ Overflow) × PassesPicks (union_offsets_of array.now) (count_layouts (children_of array.now)) windows.now)) }
 {
     if array.offsets().is_none() {
@@ -229,6 +231,8 @@ pub(crate) fn join_unions(
     requires within { AreWithin (layout_type array.now) windows.now }
     requires total { total ≡ count_slots windows.now }
     ensures ok { IfOk result (λ a. IsJoined (layout_type array.now) windows.now (layout_of a)) }
+    ensures laid { IfOk result (λ a. layout_of a ≡ laid array.now windows.now) }
+    ensures room { IfOk result (λ a. PassesLimits array.now windows.now → ⊥) }
     ensures err { IfErr result (λ e. RefusesJoin e array.now windows.now) }
 {
     array.known();

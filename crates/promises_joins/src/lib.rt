@@ -1,10 +1,10 @@
-//! Arrays one after another. What is concatenated has the slots of all arrays in their order, under the data type of the first;
-//! arrays of different data types are refused, and rows, items or bytes that are too many. Of several arrays the slots that are
-//! named by array and place are given in that order.
+//! Arrays one after another. What is concatenated has the slots of all arrays in their order, under the data type of the first, and
+//! each part of its layout is told; arrays of different data types are refused, and rows, items or bytes that are too many. Of
+//! several arrays the slots that are named by array and place are given in that order.
 #![tactic(auto)]
 
-ghost use Rattle.std.specs.Prelude.{◌∷◌, ◌++◌, ◌<◌, ◌≤◌, ◌-◌, ◌↔◌, ℕ, List, [], IfErr, IfOk, IsErrOf, length, map};
-ghost use Rattle.promises_joins.specs.Words.{AreOfOneType, ArePlacesOf, InvalidArgumentError, IsConcatenated, IsInterleaved, IsSameArray, ItemType, Layout, RefusesConcatenate, RefusesInterleave, cut_layout, layout_of, len};
+ghost use Rattle.std.specs.Prelude.{◌≡◌, ◌∷◌, ◌++◌, ◌<◌, ◌≤◌, ◌-◌, ◌↔◌, ℕ, List, [], IfErr, IfOk, IsErrOf, false, length, map, true};
+ghost use Rattle.promises_joins.specs.Words.{AreOfOneType, ArePlacesOf, InvalidArgumentError, IsConcatenated, IsInterleaved, IsSameArray, ItemType, Layout, Overflow, RefusesConcatenate, RefusesInterleave, cut_layout, joined_layout, joins_past, layout_of, len};
 
 use nest_array::AnyArray;
 use nest_memory::error::Error;
@@ -17,6 +17,16 @@ pub fn slots_of_all(alloc: Global, arrays: &[AnyArray]) -> Result<AnyArray, Erro
     ensures err { IfErr result (λ e. RefusesConcatenate e (map layout_of arrays.now)) }
 {
     nest_concat::concatenate(alloc, arrays)
+}
+
+/// The very array that some arrays are joined to, each part of which is theirs, one array after another. No limit is passed, and
+/// `Overflow` says that one is.
+pub fn joined_exactly(alloc: Global, parts: &[AnyArray]) -> Result<AnyArray, Error>
+    ensures laid { IfOk result (λ a. layout_of a ≡ joined_layout (map layout_of parts.now)) }
+    ensures room { IfOk result (λ a. joins_past (map layout_of parts.now) ≡ false) }
+    ensures past { IsErrOf result Overflow → joins_past (map layout_of parts.now) ≡ true }
+{
+    nest_concat::concatenate(alloc, parts)
 }
 
 /// Slots of arrays, each by its array and its place there.

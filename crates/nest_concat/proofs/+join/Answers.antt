@@ -1,4 +1,4 @@
-use Rattle.std.proofs.Common.{◌∷◌, [], length, length-append, true, false, inl, inr, refl, ap, sym, ◌∙◌, subst, arith}
+use Rattle.std.proofs.Common.{◌≡◌, ◌∷◌, [], length, length-append, true, false, inl, inr, refl, ap, sym, ◌∙◌, subst, arith}
 use Rattle.std.specs.Prelude.{map}
 use Rattle.nest_memory.specs.Physical.{physical_type}
 use Rattle.nest_model.specs.Accessors.{child_at, children_of}
@@ -11,15 +11,18 @@ use Rattle.nest_model.specs.BuilderTree.{key_count}
 use Rattle.nest_array.specs.Keys.{keyed_by}
 use Rattle.nest_array.specs.SeenKeys.{keys_layout}
 use Rattle.std.proofs.lemmas.Result.{err_from_is_err_and}
-use Rattle.nest_concat.specs.Lookups.{AreJoinedKeys}
+use Rattle.nest_concat.specs.Lookups.{AreJoinedKeys, KeysPass}
 use Rattle.nest_concat.specs.Joined.{AreArrays, AreWithin, IsJoined, RefusesEach, RefusesJoin, RefusesKeys, first_array}
-use Rattle.nest_concat.proofs.Children.{count-of, each-joined, one-more, weight-at}
+use Rattle.nest_concat.specs.Laid.{laid, laid_each, laid_keys}
+use Rattle.nest_concat.specs.Limits.{PassesLimits, SomePasses}
+use Rattle.nest_concat.proofs.Children.{count-of, each-joined, each-more, one-more, weight-at}
 use Rattle.nest_concat.proofs.Picked.{facts-of}
 use Rattle.nest_concat.proofs.Made.{list-kind, map-kind, of-kind, ok-joined, record-kind, sized-kind}
 use Rattle.nest_concat.proofs.Keyed.{are-keyed, keyed-kind, keyed-lighter, keys-refuse, moved-joined, others-not, values-children, values-refuse, width_of}
 use Rattle.nest_concat.proofs.Nested.{list-children, list-joined, list-lighter, list-refuses, map-children, map-joined, map-lighter, map-refuses, sized-children, sized-joined, sized-lighter, sized-refuses}
 use Rattle.nest_concat.proofs.Records.{field-first, field-joined, field-refuses, record-joined, record-lighter, record-refuses}
 use Rattle.nest_concat.proofs.Unions.{field-children, field-count, union-joined, union-kind, union-lighter, union-refuses}
+use Rattle.nest_concat.proofs.LaidParts.{child-laid, child-room, each-laid, each-room, keys-room, length-room, list-laid, list-room, map-laid, map-room, moved-laid, moved-room, offsets-room, ok-always, ok-laid, record-laid, record-room, sized-laid, sized-room, union-laid, union-room}
 use Rattle.nest_concat.proofs.+join.Goals as goal
 
 pub list::join_lists-join-requires : goal.list::join_lists-join-requires
@@ -307,11 +310,15 @@ struct_::join_fields-loop-f-preserved t c =
     let e = c.push_reserved.ensures.items in
     let i = c.loop-f.invariant in
     let y = c.in-Ok.child in
-    let g = field-joined c.loop-f.f cs ws c.deref.result.now (layout_of y) c.requires.children c.requires.some (c.deref.ensures.value ∙ c.in_ok-slots.ensures.ok) c.in-Ok.ensures.ok in
+    let q = c.deref.ensures.value ∙ c.in_ok-slots.ensures.ok in
+    let p = field-first c.loop-f.f cs ws c.deref.result.now c.requires.children c.requires.some q in
+    let g = field-joined c.loop-f.f cs ws c.deref.result.now (layout_of y) c.requires.children c.requires.some q c.in-Ok.ensures.ok in
     record {
       same_length = omega (arith, c.push_reserved.ensures.len, ap length e, i.same_length, length-append c.loop-f.joined.items (y ∷ []));
       room = omega (arith, c.push_reserved.ensures.capacity, i.room);
       done = rw e (one-more (λ k z. IsJoined (layout_type (child_at cs k)) (map (field_of k) ws) z) c.loop-f.joined.items c.loop-f.f y i.same_length i.done g);
+      laid_so = rw e (one-more (λ k z. z ≡ laid (child_at cs k) (map (field_of k) ws)) c.loop-f.joined.items c.loop-f.f y i.same_length i.laid_so (child-laid (field_of c.loop-f.f) _ _ ws c.deref.result.now p q c.in-Ok.ensures.laid));
+      room_so = each-more (λ k. PassesLimits (child_at cs k) (map (field_of k) ws) → ⊥) c.loop-f.f i.room_so (child-room (field_of c.loop-f.f) _ ws c.deref.result.now p q c.in-Ok.ensures.room);
     }
 
 pub union::join_unions-types-requires : goal.union::join_unions-types-requires
@@ -351,3 +358,119 @@ union::join_unions-returns-in-Ok-clause-ok t c =
 pub union::join_unions-returns-in-Err-clause-err : goal.union::join_unions-returns-in-Err-clause-err
 union::join_unions-returns-in-Err-clause-err t c =
     union-refuses c.in-Err.error c.args.array.now _ _ _ _ _ _ c.args.windows.now c.known.ensures.kind c.fields.ensures c.in-Err.ensures.err
+
+pub list::join_lists-returns-in-Ok-clause-laid : goal.list::join_lists-returns-in-Ok-clause-laid
+list::join_lists-returns-in-Ok-clause-laid t c =
+    let a = c.args.array.now in
+    let ws = c.args.windows.now in
+    let e = c.deref.ensures.value ∙ c.in_ok-items.ensures.ok in
+    ok-laid c.lists_of.result _ _ c.lists_of.ensures.ok
+    (list-laid false a _ _ _ _ _ _ _ _ ws c.deref.result.now c.known.ensures.kind (c.requires.first, c.requires.some) e c.data_type.ensures c.in_ok-offsets.ensures.ok c.in_ok-validity.ensures.ok c.in-Ok.ensures.laid)
+
+pub list::join_lists-returns-in-Ok-clause-room : goal.list::join_lists-returns-in-Ok-clause-room
+list::join_lists-returns-in-Ok-clause-room t c =
+    let a = c.args.array.now in
+    let ws = c.args.windows.now in
+    let e = c.deref.ensures.value ∙ c.in_ok-items.ensures.ok in
+    ok-always c.lists_of.result _
+    (list-room false a _ _ _ _ ws c.deref.result.now c.known.ensures.kind (c.requires.first, c.requires.some) e (length-room ws _ c.requires.total c.ranges.total.fits) (offsets-room false ws _ 2147483647 c.in_ok-count.ensures.0 c.in_ok-count.ensures.1 refl) c.in-Ok.ensures.room)
+
+pub list::join_large_lists-returns-in-Ok-clause-laid : goal.list::join_large_lists-returns-in-Ok-clause-laid
+list::join_large_lists-returns-in-Ok-clause-laid t c =
+    let a = c.args.array.now in
+    let ws = c.args.windows.now in
+    let e = c.deref.ensures.value ∙ c.in_ok-items.ensures.ok in
+    ok-laid c.large_lists_of.result _ _ c.large_lists_of.ensures.ok
+    (list-laid true a _ _ _ _ _ _ _ _ ws c.deref.result.now c.known.ensures.kind (c.requires.first, c.requires.some) e c.data_type.ensures c.in_ok-offsets.ensures.ok c.in_ok-validity.ensures.ok c.in-Ok.ensures.laid)
+
+pub list::join_large_lists-returns-in-Ok-clause-room : goal.list::join_large_lists-returns-in-Ok-clause-room
+list::join_large_lists-returns-in-Ok-clause-room t c =
+    let a = c.args.array.now in
+    let ws = c.args.windows.now in
+    let e = c.deref.ensures.value ∙ c.in_ok-items.ensures.ok in
+    ok-always c.large_lists_of.result _
+    (list-room true a _ _ _ _ ws c.deref.result.now c.known.ensures.kind (c.requires.first, c.requires.some) e (length-room ws _ c.requires.total c.ranges.total.fits) (offsets-room true ws _ 9223372036854775807 c.in_ok-count.ensures.0 c.in_ok-count.ensures.1 refl) c.in-Ok.ensures.room)
+
+pub map::join_maps-returns-in-Ok-clause-laid : goal.map::join_maps-returns-in-Ok-clause-laid
+map::join_maps-returns-in-Ok-clause-laid t c =
+    let a = c.args.array.now in
+    let ws = c.args.windows.now in
+    let e = c.deref.ensures.value ∙ c.in_ok-items.ensures.ok in
+    ok-laid c.maps_of.result _ _ c.maps_of.ensures.ok
+    (map-laid a _ _ _ _ _ _ _ _ ws c.deref.result.now c.known.ensures.kind (c.requires.first, c.requires.some) e c.data_type.ensures c.in_ok-offsets.ensures.ok c.in_ok-validity.ensures.ok c.in-Ok.ensures.laid)
+
+pub map::join_maps-returns-in-Ok-clause-room : goal.map::join_maps-returns-in-Ok-clause-room
+map::join_maps-returns-in-Ok-clause-room t c =
+    let a = c.args.array.now in
+    let ws = c.args.windows.now in
+    let e = c.deref.ensures.value ∙ c.in_ok-items.ensures.ok in
+    ok-always c.maps_of.result _
+    (map-room a _ _ _ _ ws c.deref.result.now c.known.ensures.kind (c.requires.first, c.requires.some) e (length-room ws _ c.requires.total c.ranges.total.fits) (offsets-room false ws _ 2147483647 c.in_ok-count.ensures.0 c.in_ok-count.ensures.1 refl) c.in-Ok.ensures.room)
+
+pub fixed_size_list::join_lists-returns-in-Ok-clause-laid : goal.fixed_size_list::join_lists-returns-in-Ok-clause-laid
+fixed_size_list::join_lists-returns-in-Ok-clause-laid t c =
+    let a = c.args.array.now in
+    let ws = c.args.windows.now in
+    let e = c.deref.ensures.value ∙ c.in_ok-items.ensures.ok in
+    ok-laid c.array_of.result _ _ c.array_of.ensures.ok
+    (sized-laid a _ _ _ _ _ _ ws c.deref.result.now c.known.ensures.kind (c.requires.first, c.requires.some) e c.data_type.ensures c.in_ok-validity.ensures.ok c.in-Ok.ensures.laid)
+
+pub fixed_size_list::join_lists-returns-in-Ok-clause-room : goal.fixed_size_list::join_lists-returns-in-Ok-clause-room
+fixed_size_list::join_lists-returns-in-Ok-clause-room t c =
+    let a = c.args.array.now in
+    let ws = c.args.windows.now in
+    let e = c.deref.ensures.value ∙ c.in_ok-items.ensures.ok in
+    ok-always c.array_of.result _ (sized-room a _ _ _ ws c.deref.result.now c.known.ensures.kind (c.requires.first, c.requires.some) e (length-room ws _ c.requires.total c.ranges.total.fits) c.in-Ok.ensures.room)
+
+pub struct_::join_records-returns-in-Ok-clause-laid : goal.struct_::join_records-returns-in-Ok-clause-laid
+struct_::join_records-returns-in-Ok-clause-laid t c =
+    let a = c.args.array.now in
+    let ws = c.args.windows.now in
+    ok-laid c.array_of.result _ _ c.array_of.ensures.ok
+    (record-laid a _ _ _ _ _ _ ws c.known.ensures.kind c.data_type.ensures (c.in-Ok.ensures.laid ∙ ap (λ z. laid_each z 0 ws) c.values.ensures) c.in_ok-validity.ensures.ok)
+
+pub struct_::join_records-returns-in-Ok-clause-room : goal.struct_::join_records-returns-in-Ok-clause-room
+struct_::join_records-returns-in-Ok-clause-room t c =
+    let a = c.args.array.now in
+    let ws = c.args.windows.now in
+    ok-always c.array_of.result _ (record-room a _ _ _ ws c.known.ensures.kind (length-room ws _ c.requires.total c.ranges.total.fits) (subst (λ z. SomePasses z 0 ws → ⊥) c.values.ensures c.in-Ok.ensures.room))
+
+pub union::join_unions-returns-in-Ok-clause-laid : goal.union::join_unions-returns-in-Ok-clause-laid
+union::join_unions-returns-in-Ok-clause-laid t c =
+    let a = c.args.array.now in
+    let ws = c.args.windows.now in
+    ok-laid c.array_of.result _ _ c.array_of.ensures.ok
+    (union-laid a _ _ _ _ _ _ _ _ _ ws c.known.ensures.kind c.data_type.ensures c.in_ok-types.ensures.ok (c.in-Ok.ensures.laid ∙ ap (λ z. laid_each z 0 ws) c.fields.ensures) c.in_ok-offsets.ensures.ok)
+
+pub union::join_unions-returns-in-Ok-clause-room : goal.union::join_unions-returns-in-Ok-clause-room
+union::join_unions-returns-in-Ok-clause-room t c =
+    let a = c.args.array.now in
+    let ws = c.args.windows.now in
+    ok-always c.array_of.result _ (union-room a _ _ _ _ _ ws c.known.ensures.kind (length-room ws _ c.requires.total c.ranges.total.fits) c.in_ok-offsets.ensures.room (subst (λ z. SomePasses z 0 ws → ⊥) c.fields.ensures c.in-Ok.ensures.room))
+
+pub dictionary::join_keyed-returns-in-Ok-clause-laid : goal.dictionary::join_keyed-returns-in-Ok-clause-laid
+dictionary::join_keyed-returns-in-Ok-clause-laid t c =
+    let a = c.args.array.now in
+    let ws = c.args.windows.now in
+    let e = c.deref.ensures.value ∙ c.in_ok-values.ensures.ok in
+    let n = others-not _ _ ws c.values.ensures c.if-have_values.ensures in
+    ok-laid c.array_of.result _ _ c.array_of.ensures.ok
+    (moved-laid a _ _ _ _ _ _ ws c.deref.result.now c.known.ensures.kind (c.requires.first, c.requires.some) e c.data_type.ensures (c.in_ok-keys.ensures.laid ∙ ap (λ z. laid_keys true z ws) c.keys.ensures) n c.in-Ok.ensures.laid)
+
+pub dictionary::join_keyed-returns-in-Ok-clause-room : goal.dictionary::join_keyed-returns-in-Ok-clause-room
+dictionary::join_keyed-returns-in-Ok-clause-room t c =
+    let a = c.args.array.now in
+    let ws = c.args.windows.now in
+    let e = c.deref.ensures.value ∙ c.in_ok-values.ensures.ok in
+    let k = keys-room a _ _ ws c.known.ensures.fits c.known.ensures.kind (subst (λ z. KeysPass (key_count (keyed_by (key_type_of z))) 0 ws → ⊥) c.keys.ensures (c.in_ok-keys.ensures.room refl)) in
+    ok-always c.array_of.result _ (moved-room a _ _ _ ws c.deref.result.now c.known.ensures.kind (c.requires.first, c.requires.some) e (length-room ws _ c.requires.total c.ranges.total.fits) k c.in-Ok.ensures.room)
+
+pub struct_::join_fields-returns-clause-laid : goal.struct_::join_fields-returns-clause-laid
+struct_::join_fields-returns-clause-laid t c =
+    let l = count-of c.args.children.now in
+    each-laid (layouts_of c.args.children.now) c.args.windows.now c.loop-f.joined.items (omega (arith, l, c.loop-f.invariant.same_length)) (λ k d h. c.loop-f.invariant.laid_so k d (omega (arith, l)))
+
+pub struct_::join_fields-returns-clause-room : goal.struct_::join_fields-returns-clause-room
+struct_::join_fields-returns-clause-room t c =
+    let l = count-of c.args.children.now in
+    each-room (layouts_of c.args.children.now) c.args.windows.now (λ k h. c.loop-f.invariant.room_so k (omega (arith, l)))

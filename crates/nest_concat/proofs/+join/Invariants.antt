@@ -5,6 +5,8 @@ use Rattle.nest_model.specs.Layout.{layout_type, weight, weight_all}
 use Rattle.nest_array.specs.declared.any.AnyArray.{AnyArray}
 use Rattle.nest_array.specs.Seen.{layout_of, layouts_of}
 use Rattle.nest_concat.specs.Joined.{IsJoined, first_array}
+use Rattle.nest_concat.specs.Laid.{laid}
+use Rattle.nest_concat.specs.Limits.{PassesLimits}
 use Rattle.nest_concat.specs.Windows.{field_of}
 use Rattle.nest_concat.proofs.+join.Given as goal
 
@@ -41,4 +43,6 @@ invariant-struct_::join_fields-loop-f l =
       same_length : length l.joined.items ≡ l.f;
       room : length l.children ≤ vec_capacity l.joined;
       done : (k : ℕ) (d : AnyArray) → k < l.f → IsJoined (layout_type (child_at (layouts_of l.children) k)) (map (field_of k) l.windows) (layout_of (get_or l.joined.items k d));
+      laid_so : (k : ℕ) (d : AnyArray) → k < l.f → layout_of (get_or l.joined.items k d) ≡ laid (child_at (layouts_of l.children) k) (map (field_of k) l.windows);
+      room_so : (k : ℕ) → k < l.f → PassesLimits (child_at (layouts_of l.children) k) (map (field_of k) l.windows) → ⊥;
     }

@@ -2,6 +2,7 @@ use Rattle.std.proofs.Common.{sym, ◌∙◌, arith}
 use Rattle.nest_model.specs.Layout.{layout_type}
 use Rattle.nest_concat.proofs.Rows.{binary-joined}
 use Rattle.nest_concat.proofs.Made.{made-err, made-ok, of-kind, binary-kind}
+use Rattle.nest_concat.proofs.LaidParts.{binary-laid, made-laid, offsets-room, ok-always}
 use Rattle.nest_concat.proofs.binary.joined.Goals as goal
 
 pub count-requires : goal.count-requires
@@ -38,3 +39,14 @@ returns-clause-err g c =
     let ws = c.args.windows.now in
     let p = binary-kind _ a _ _ _ _ c.known.ensures.fits c.known.ensures.kind in
     made-err c.try_new.result _ (layout_type a) ws _ c.try_new.ensures (binary-joined _ (layout_type a) _ ws _ _ _ c.requires.within p (c.in_ok-data_type.ensures.ok ∙ c.data_type.ensures) c.in_ok-offsets.ensures.ok c.in_ok-bytes.ensures.ok c.in_ok-validity.ensures.ok)
+
+pub returns-clause-laid : goal.returns-clause-laid
+returns-clause-laid g c =
+    let a = c.args.array.now in
+    let ws = c.args.windows.now in
+    made-laid c.try_new.result _ _ c.try_new.ensures (binary-laid _ a _ _ _ _ _ _ _ _ ws c.known.ensures.kind (c.in_ok-data_type.ensures.ok ∙ c.data_type.ensures) c.in_ok-offsets.ensures.ok c.in_ok-bytes.ensures.ok c.in_ok-validity.ensures.ok)
+
+pub returns-clause-room : goal.returns-clause-room
+returns-clause-room g c =
+    let ws = c.args.windows.now in
+    ok-always c.try_new.result _ (offsets-room _ ws _ _ c.in_ok-count.ensures.0 c.in_ok-count.ensures.1 g.met.O.Offset.largest_is)

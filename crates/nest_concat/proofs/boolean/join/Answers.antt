@@ -7,6 +7,7 @@ use Rattle.nest_model.specs.Layout.{layout_type}
 use Rattle.nest_concat.specs.Joined.{IsJoined}
 use Rattle.nest_concat.proofs.Flats.{boolean-joined}
 use Rattle.nest_concat.proofs.Made.{boolean-kind, of-kind}
+use Rattle.nest_concat.proofs.LaidParts.{boolean-laid, boolean-room, length-room}
 use Rattle.nest_concat.proofs.boolean.join.Goals as goal
 
 pub truths-requires : goal.truths-requires
@@ -28,3 +29,15 @@ returns-in-Err-clause-err c =
     absurd (pass-no_fault (checks (layouts.boolean (type_of c.in_ok-data_type.data_type) c.in_ok-values.values c.in_ok-validity.validity)) c.in-Err.error
     (boolean-joined (layout_type a) _ ws _ _ c.requires.within (boolean-kind a _ _ _ c.known.ensures.fits c.known.ensures.kind) (c.in_ok-data_type.ensures.ok ∙ c.data_type.ensures) c.in_ok-values.ensures.ok c.in_ok-validity.ensures.ok).0
     c.in-Err.ensures)
+
+pub returns-in-Ok-clause-laid : goal.returns-in-Ok-clause-laid
+returns-in-Ok-clause-laid c =
+    let a = c.args.array.now in
+    let ws = c.args.windows.now in
+    c.in-Ok.ensures.1 ∙ boolean-laid a _ _ _ _ _ _ ws c.known.ensures.kind (c.in_ok-data_type.ensures.ok ∙ c.data_type.ensures) c.in_ok-values.ensures.ok c.in_ok-validity.ensures.ok
+
+pub returns-in-Ok-clause-room : goal.returns-in-Ok-clause-room
+returns-in-Ok-clause-room c =
+    let a = c.args.array.now in
+    let ws = c.args.windows.now in
+    boolean-room a _ _ _ ws c.known.ensures.kind (length-room ws _ c.requires.total c.ranges.total.fits)

@@ -8,6 +8,8 @@ use Rattle.nest_concat.specs.Joined.{AreWithin}
 use Rattle.nest_concat.specs.Lookups.{AreJoinedKeys}
 use Rattle.nest_concat.proofs.Keyed.{keyed-kind, kept-joined}
 use Rattle.nest_concat.proofs.Made.{of-kind, ok-joined}
+use Rattle.nest_concat.specs.Laid.{laid_keys}
+use Rattle.nest_concat.proofs.LaidParts.{kept-laid, kept-room, length-room, ok-always, ok-laid}
 use Rattle.nest_concat.proofs.dictionary.keep_values.Goals as goal
 
 pub joined-requires : goal.joined-requires
@@ -31,3 +33,16 @@ returns-in-Ok-clause-ok c =
     let g = subst (λ z. AreJoinedKeys false z ws (keys_layout c.in_ok-keys.keys)) c.keys.ensures c.in_ok-keys.ensures.ok in
     ok-joined c.array_of.result (layout_type a) _ ws c.array_of.ensures.ok
     (kept-joined a _ _ _ _ _ ws c.known.ensures.fits c.known.ensures.kind c.requires.within c.data_type.ensures g c.requires.same (c.in-Ok.ensures.ok ∙ c.values.ensures)).1
+
+pub returns-in-Ok-clause-laid : goal.returns-in-Ok-clause-laid
+returns-in-Ok-clause-laid c =
+    let a = c.args.array.now in
+    let ws = c.args.windows.now in
+    ok-laid c.array_of.result _ _ c.array_of.ensures.ok
+    (kept-laid a _ _ _ _ _ _ ws c.known.ensures.kind c.data_type.ensures (c.in_ok-keys.ensures.laid ∙ ap (λ z. laid_keys false z ws) c.keys.ensures) c.requires.same (c.in-Ok.ensures.ok ∙ c.values.ensures))
+
+pub returns-in-Ok-clause-room : goal.returns-in-Ok-clause-room
+returns-in-Ok-clause-room c =
+    let a = c.args.array.now in
+    let ws = c.args.windows.now in
+    ok-always c.array_of.result _ (kept-room a _ _ _ ws c.known.ensures.kind (length-room ws _ c.requires.total c.ranges.total.fits) c.requires.same)

@@ -10,5 +10,6 @@ invariant-loop-window g l =
     record {
       gathered : map whole (map g.K.NativeType.numbers l.raw.items) ++ moved_keys l.before (drop l.window-index l.windows) ≡ moved_keys 0 l.windows;
       passes : KeysPass (key_count g.K.DictionaryKey.KEY_TYPE) l.before (drop l.window-index l.windows) → KeysPass (key_count g.K.DictionaryKey.KEY_TYPE) 0 l.windows;
+      left : KeysPass (key_count g.K.DictionaryKey.KEY_TYPE) 0 l.windows → KeysPass (key_count g.K.DictionaryKey.KEY_TYPE) l.before (drop l.window-index l.windows);
       summed : l.before ≡ sum_by count_values (take l.window-index l.windows);
     }

@@ -9,8 +9,9 @@ use Rattle.nest_model.specs.Layout.{count_layouts, layout_type}
 use Rattle.nest_concat.specs.Limits.{PassesPicks}
 use Rattle.nest_concat.specs.Moved.{moved_offset}
 use Rattle.nest_concat.proofs.Children.{count-of}
+use Rattle.nest_concat.proofs.LaidParts.{ok-always}
 use Rattle.nest_concat.proofs.Logical.{fields-alike, kind-alike}
-use Rattle.nest_concat.proofs.Moving.{counts-more, few-none, item-within, none-counted, offsets-more, one-passes, same-offsets}
+use Rattle.nest_concat.proofs.Moving.{counts-more, few-none, item-within, none-counted, offsets-more, one-passes, picks-room, same-offsets}
 use Rattle.nest_concat.proofs.Picked.{facts-of, same-mode, union-is}
 use Rattle.nest_concat.proofs.Unions.{facts-by}
 use Rattle.nest_concat.proofs.union.offsets_behind.Goals as goal
@@ -85,3 +86,8 @@ loop-window-preserved c =
       counted = λ f l. omega (arith, (c.in_ok-advance.ensures.ok f l).1, i.counted f l, counts-more f ws k w c.loop-window-test.true c.window-item.is);
       few = c.in_ok-advance.ensures.few;
     }
+
+pub returns-clause-room : goal.returns-clause-room
+returns-clause-room c =
+    let n : length c.fields-n.result.now ≡ count_layouts (children_of c.args.array.now) = omega (arith, count-of c.fields-n.result.now, ap count_layouts c.fields-n.ensures) in
+    ok-always c.from_vec.result _ (picks-room _ _ _ c.args.windows.now c.loop-window.window-index c.loop-window.counts (omega (arith, c.loop-window-test.false)) n c.loop-window.invariant.counted c.loop-window.invariant.few)

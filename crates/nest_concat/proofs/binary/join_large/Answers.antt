@@ -1,0 +1,8 @@
+use Rattle.nest_concat.proofs.LaidParts.{length-room, binary-room}
+use Rattle.nest_concat.proofs.binary.join_large.Goals as goal
+
+pub returns-in-Ok-clause-room : goal.returns-in-Ok-clause-room
+returns-in-Ok-clause-room c =
+    let a = c.args.array.now in
+    let ws = c.args.windows.now in
+    binary-room _ a _ _ _ _ ws c.known.ensures.kind (length-room ws _ c.requires.total c.ranges.total.fits) c.in-Ok.ensures.room
