@@ -1,4 +1,4 @@
--- The fault of the last batch of a file.
+-- The last batch of a file, or its fault.
 use Rattle.std.proofs.Common.{◌≡◌, ℕ, zero, suc, ◌-◌, length, Some, Result, Ok, Err, refl, ap, sym, ◌∙◌, subst, arith}
 use Rattle.ipc_model.specs.Reading.{◌>>=◌, Fails}
 use Rattle.ipc_model.specs.declared.fault.Fault.{Fault}
@@ -13,3 +13,11 @@ last_fails r read (suc n) fault is all some fails = λ real.
     ap (λ (x : Result FileReaderTree Fault). x >>= last_of) is
     ∙ ap (last_from r) (sym all)
     ∙ ap (λ (x : Result Arrays Fault). x >>= λ batch. Ok (Some batch)) (subst (λ (i : ℕ). batch_of_file r i ≡ Err fault) before (fails real))
+
+pub last_is : (r : FileReaderTree) (read : Result FileReaderTree Fault) (count : ℕ) (batch : Arrays) → read ≡ Ok r → count ≡ length r.blocks → (count ≡ 0 → ⊥) → batch_of_file r (count - 1) ≡ Ok batch → (read >>= last_of) ≡ Ok (Some batch)
+last_is r read zero batch is all some given = absurd (some refl)
+last_is r read (suc n) batch is all some given =
+    let before : suc n - 1 ≡ n = omega arith in
+    ap (λ (x : Result FileReaderTree Fault). x >>= last_of) is
+    ∙ ap (last_from r) (sym all)
+    ∙ ap (λ (x : Result Arrays Fault). x >>= λ batch. Ok (Some batch)) (subst (λ (i : ℕ). batch_of_file r i ≡ Ok batch) before given)

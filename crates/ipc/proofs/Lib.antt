@@ -3,3 +3,5 @@ pub mod Loops
 pub mod Writes
 pub mod Places
 pub mod FileLoops
+pub mod Freshness
+pub mod Joins

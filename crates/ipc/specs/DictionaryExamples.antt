@@ -46,7 +46,7 @@ rows_metadata =
 abbrev texts_message : ℕ → ℕ → Parts
 texts_message one other = said DictionaryBatch 48 texts_metadata (0 ∷ 0 ∷ 0 ∷ 0 ∷ 1 ∷ 0 ∷ 0 ∷ 0 ∷ 2 ∷ 0 ∷ 0 ∷ 0 ∷ 0 ∷ 0 ∷ 0 ∷ 0 ∷ one ∷ other ∷ 0 ∷ 0 ∷ 0 ∷ 0 ∷ 0 ∷ 0 ∷ [])
 
-abbrev joined_message : Parts
+abbrev pub joined_message : Parts
 joined_message = said DictionaryBatch 52 joined_metadata (0 ∷ 0 ∷ 0 ∷ 0 ∷ 1 ∷ 0 ∷ 0 ∷ 0 ∷ 99 ∷ 0 ∷ 0 ∷ 0 ∷ 0 ∷ 0 ∷ 0 ∷ 0 ∷ [])
 
 abbrev rows_message : Parts
@@ -54,7 +54,7 @@ rows_message = said RecordBatch 52 rows_metadata (0 ∷ 0 ∷ 0 ∷ 0 ∷ 1 ∷ 
 
 -- ---- what is known
 
-abbrev colors : PickedTree
+abbrev pub colors : PickedTree
 colors = record {
   schema = record { fields = field (97 ∷ []) (types.dictionary Int32 types.utf8 false) false [] ∷ []; metadata = [] };
   steps = Read ∷ [];
@@ -64,8 +64,8 @@ colors = record {
 abbrev texts : ℕ → ℕ → Layout
 texts one other = text false types.utf8 (0 ∷ 1 ∷ 2 ∷ []) (one ∷ other ∷ []) None
 
-abbrev known : ℕ → ℕ → State
-known one other = record { picked = colors; known = (pos 0, texts one other) ∷ [] }
+abbrev pub known : ℕ → ℕ → State
+known one other = record { picked = colors; known = (pos 0, texts one other) ∷ []; fresh = pos 0 ∷ [] }
 
 abbrev rows : ℕ → ℕ → Arrays
 rows one other = record {

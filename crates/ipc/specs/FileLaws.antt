@@ -43,7 +43,7 @@ use Rattle.ipc_needed.specs.Named.{IsNamed, AreNamed, seen_of_fields}
 use Rattle.ipc.specs.Streams.{Arrays, State, types_of, record_batch_in, dictionary_in}
 use Rattle.ipc.specs.Files.{message_in_block, block_in, block_batch_in, batches_at, dictionaries_at, no_block, file_reader_in, picked_file_in, file_in}
 use Rattle.ipc.specs.Written.{batch_head, batch_bytes, dictionary_head, dictionary_bytes, needed_by, sent_behind, part_bytes, batches_bytes, stream_bytes, are_columns, else_for, known_behind, read_arrays, read_batches, IsMessage, ReadsBatch, ReadsValues, IsDictionaryAgain, IsPartAgain, AreAgain, known_more}
-use Rattle.ipc.specs.WrittenLaws.{IsBehind, behind_values, behind_batch, part_known, part_named, still_behind, written_start, starts_behind, columns_if}
+use Rattle.ipc.specs.WrittenLaws.{IsBehind, fresh_with, behind_values, behind_batch, part_known, part_named, still_behind, written_start, starts_behind, columns_if}
 use Rattle.ipc.specs.WrittenLists.{first_accepts, others_accept, part_long, batches_long}
 use Rattle.ipc.specs.WrittenFiles.{block_at, written_block, dictionary_blocks, Blocks, batch_place, blocks_from, written_footer, file_bytes, would_replace, block_refusal, blocks_refusal, shown_file}
 
@@ -362,8 +362,17 @@ abbrev pub known_at_end : Entries → Entries → List Arrays → Entries
 known_at_end known sent [] = known
 known_at_end known sent (b ∷ bs) = known_at_end (known_behind known sent b) (sent_behind sent b) bs
 
+-- and which ids are fresh
+abbrev pub fresh_at_end : PickedTree → List ℤ → Entries → List Arrays → List ℤ
+fresh_at_end p fresh sent [] = fresh
+fresh_at_end p fresh sent (b ∷ bs) = fresh_at_end p (fresh_with p fresh (needed_by sent b)) (sent_behind sent b) bs
+
 abbrev pub state_at_end : State → Entries → List Arrays → State
-state_at_end s sent bs = record { picked = s.picked; known = known_at_end s.known sent bs }
+state_at_end s sent bs = record { picked = s.picked; known = known_at_end s.known sent bs; fresh = fresh_at_end s.picked s.fresh sent bs }
+
+-- the same, over what is known and fresh behind other dictionaries
+abbrev pub state_over : State → Entries → List ℤ → State
+state_over s known fresh = record { picked = s.picked; known = known; fresh = fresh }
 
 -- what lies behind a place in the whole: the dictionaries of a batch, the batch, what comes after them
 record LiesAt (sent : Entries) (b : Arrays) (bs : List Arrays) (place : ℕ) (front behind whole : List ℕ) : Type 0 where
@@ -447,10 +456,10 @@ dictionaries_again s sent (b ∷ bs) place front behind whole ok at none there e
     ∙ dictionaries_again (behind_batch s sent b) (sent_behind sent b) bs next lies.next behind whole ok.1 (still_in_file s sent b ok.0 at) (more_none s sent b bs none) lies.further lies.more
 
 -- a batch is read over more that is known as over what was known before it
-block_again : (s : State) (sent : Entries) (b : Arrays) (more : Entries) (front behind whole : List ℕ) → IsPartAgain sent b → IsBehindFile s sent → IsPart s sent b → Extends more (known_behind s.known sent b) → whole ≡ front ++ (batch_bytes b ++ behind)
-    → block_batch_in (record { picked = s.picked; known = more }) whole (written_block (length front) b) ≡ Ok (read_arrays (known_behind s.known sent b) b)
-block_again s sent b more front behind whole ok at part ext e =
-    let over : State = record { picked = s.picked; known = more } in
+block_again : (s : State) (sent : Entries) (b : Arrays) (more : Entries) (fresh : List ℤ) (front behind whole : List ℕ) → IsPartAgain sent b → IsBehindFile s sent → IsPart s sent b → Extends more (known_behind s.known sent b) → whole ≡ front ++ (batch_bytes b ++ behind)
+    → block_batch_in (state_over s more fresh) whole (written_block (length front) b) ≡ Ok (read_arrays (known_behind s.known sent b) b)
+block_again s sent b more fresh front behind whole ok at part ext e =
+    let over : State = state_over s more fresh in
     let known : Entries = known_behind s.known sent b in
     let found = message_found RecordBatch s.picked (batch_bytes b) (batch_head b) (columns_body b.columns) ok.batch.parts front behind whole ok.batch.message ok.batch.kind (batch_long b) e in
     let over_more : AreKnown more b.columns = known_still more known (columns_own 0 b.columns) ext part.known.own in
@@ -464,21 +473,21 @@ batch_at_block : (s : State) (batch : Arrays) (batches : List Arrays) (whole : L
 unfolding batches_at
 batch_at_block s batch batches whole block blocks one others = rw (one, others) refl
 
-pub batches_again : (s : State) (sent : Entries) (bs : List Arrays) (more : Entries) (place : ℕ) (front behind whole : List ℕ) → AreAgain sent bs → IsBehindFile s sent → blocks_refusal (types_of s.picked.schema) sent bs ≡ None → Extends more (known_at_end s.known sent bs)
-    → place ≡ length front → whole ≡ front ++ (batches_bytes sent bs ++ behind) → batches_at (record { picked = s.picked; known = more }) whole (blocks_from place sent bs).batches ≡ Ok (read_batches s.known sent bs)
+pub batches_again : (s : State) (sent : Entries) (bs : List Arrays) (more : Entries) (fresh : List ℤ) (place : ℕ) (front behind whole : List ℕ) → AreAgain sent bs → IsBehindFile s sent → blocks_refusal (types_of s.picked.schema) sent bs ≡ None → Extends more (known_at_end s.known sent bs)
+    → place ≡ length front → whole ≡ front ++ (batches_bytes sent bs ++ behind) → batches_at (state_over s more fresh) whole (blocks_from place sent bs).batches ≡ Ok (read_batches s.known sent bs)
 unfolding blocks_from
-batches_again s sent [] more place front behind whole ok at none ext there e = unfold batches_at in refl
-batches_again s sent (b ∷ bs) more place front behind whole ok at none ext there e =
+batches_again s sent [] more fresh place front behind whole ok at none ext there e = unfold batches_at in refl
+batches_again s sent (b ∷ bs) more fresh place front behind whole ok at none ext there e =
     let lies : LiesAt sent b bs place front behind whole = lies_at sent b bs place front behind whole there e in
     let part : IsPart s sent b = is_part s sent b ok.0 at (one_none s sent b bs none) in
-    let over : State = record { picked = s.picked; known = more } in
+    let over : State = state_over s more fresh in
     let next : State = behind_batch s sent b in
     let blocks : List Block = (blocks_from (batch_place place sent b + length (batch_bytes b)) (sent_behind sent b) bs).batches in
     let others = more_none s sent b bs none in
     let behind_file : IsBehindFile next (sent_behind sent b) = still_in_file s sent b ok.0 at in
     let here : Extends more next.known = further more (known_at_end next.known (sent_behind sent b) bs) next.known ext (end_extends next (sent_behind sent b) bs ok.1 behind_file others) in
-    let one = block_again s sent b more lies.batch (batches_bytes (sent_behind sent b) bs ++ behind) whole ok.0 at part here lies.is in
-    let rest = batches_again next (sent_behind sent b) bs more (batch_place place sent b + length (batch_bytes b)) lies.next behind whole ok.1 behind_file others ext lies.further lies.more in
+    let one = block_again s sent b more fresh lies.batch (batches_bytes (sent_behind sent b) bs ++ behind) whole ok.0 at part here lies.is in
+    let rest = batches_again next (sent_behind sent b) bs more fresh (batch_place place sent b + length (batch_bytes b)) lies.next behind whole ok.1 behind_file others ext lies.further lies.more in
     ap (λ (n : ℕ). batches_at over whole (written_block n b ∷ blocks)) lies.there
     ∙ batch_at_block over (read_arrays next.known b) (read_batches next.known (sent_behind sent b) bs) whole (written_block (length lies.batch) b) blocks one rest
 
@@ -498,5 +507,5 @@ file_again s bs footer form none ok =
     let regrouped : whole ≡ front ++ (batches_bytes [] bs ++ behind) = unfold file_bytes stream_bytes in simp append_assoc in
     let place : 8 + length (schema_message s) ≡ length front = sym (length-append file_head (schema_message s)) in
     let dictionaries = dictionaries_again first [] bs (8 + length (schema_message s)) front behind whole ok at none place regrouped in
-    let batches = batches_again first [] bs (known_at_end [] [] bs) (8 + length (schema_message s)) front behind whole ok at none (itself (known_at_end [] [] bs)) place regrouped in
+    let batches = batches_again first [] bs (known_at_end [] [] bs) (fresh_at_end first.picked [] [] bs) (8 + length (schema_message s)) front behind whole ok at none (itself (known_at_end [] [] bs)) place regrouped in
     rw (footer, dictionaries, batches) refl

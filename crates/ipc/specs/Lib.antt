@@ -5,6 +5,8 @@ pub mod StreamLaws
 pub mod ReaderLaws
 pub mod Examples
 pub mod DictionaryExamples
+pub mod DeltaLaws
+pub mod DeltaExamples
 pub mod Written
 pub mod WrittenLaws
 pub mod Files

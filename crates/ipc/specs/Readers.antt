@@ -118,7 +118,8 @@ abbrev pub coded_known : Coded Known
 coded_known = coded_list (coded× coded_ℤ coded_layout)
 
 abbrev pub coded_state : Coded State
-coded_state = code_by (PickedTree × Known) (coded× coded_picked coded_known) (λ s. (s.picked, s.known)) (λ p. record { picked = p.0; known = p.1 }) (λ _. refl)
+coded_state =
+    code_by (PickedTree × (Known × List ℤ)) (coded× coded_picked (coded× coded_known (coded_list coded_ℤ))) (λ s. (s.picked, (s.known, s.fresh))) (λ p. record { picked = p.0; known = p.1.0; fresh = p.1.1 }) (λ _. refl)
 
 abbrev pub coded_reader : Coded ReaderTree
 coded_reader = code_by (State × List ℕ) (coded× coded_state (coded_list coded_ℕ)) (λ r. (r.state, r.left)) (λ p. record { state = p.0; left = p.1 }) (λ _. refl)

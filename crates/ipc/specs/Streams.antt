@@ -1,18 +1,22 @@
 -- The stream that bytes spell: "IPC Streaming Format" of the Arrow columnar format, in the order of reading. What stands in a batch of columns that are
 -- not read is passed over.
-use Rattle.std.specs.Prelude.{ℕ, zero, suc, ◌-◌, ℤ, pos, List, [], ◌∷◌, map, length, Option, Some, None, is_some, Result, Ok, Err, Bool, true, false, nat_lt, if◌then◌else◌}
-use Rattle.std.specs.List.{list_any}
+use Rattle.std.specs.Prelude.{ℕ, zero, suc, ◌-◌, ℤ, pos, List, [], ◌∷◌, map, length, Option, Some, None, is_some, Result, Ok, Err, Bool, true, false, not, ◌&&◌, nat_lt, if◌then◌else◌}
+use Rattle.std.specs.List.{filter, list_any}
 use Rattle.std.specs.Int.{w8, w64}
 use Rattle.std.specs.Map.{lookup}
 use Rattle.std.specs.BTreeMap.{insert_entry, is_at}
-use Rattle.std.specs.Ordering.{int_cmp}
+use Rattle.std.specs.Ordering.{int_cmp, int_eq}
 use Rattle.nest_memory.specs.TypeTree.{TypeTree, field_type}
-use Rattle.nest_model.specs.Layout.{Layout}
+use Rattle.nest_memory.specs.TypeEq.{same_type}
+use Rattle.nest_memory.specs.declared.error.Error.{Error}
+use Rattle.nest_memory.specs.declared.error.Error.TheVariants as errors
+use Rattle.nest_model.specs.Layout.{Layout, layout_type}
 use Rattle.nest_array.specs.Seen.{layout_of}
 use Rattle.nest_array.specs.declared.any.AnyArray.{AnyArray}
+use Rattle.nest_concat.specs.Laid.{joined_layout, joins_past}
 use Rattle.ipc_model.specs.Reading.{◌>>=◌, check}
 use Rattle.ipc_model.specs.declared.fault.Fault.{Fault}
-use Rattle.ipc_model.specs.declared.fault.Fault.TheVariants.{HeaderType, UnknownDictionary, NoData, MissingDictionary, Replaced, Delta}
+use Rattle.ipc_model.specs.declared.fault.Fault.TheVariants.{HeaderType, UnknownDictionary, NoData, MissingDictionary, Replaced, Delta, Memory}
 use Rattle.ipc_model.specs.declared.spans.Step.{Step}
 use Rattle.ipc_model.specs.declared.spans.Step.TheVariants.{Read, Skip}
 use Rattle.ipc_words.specs.Words.{number_at, signed_at, field, offset_field, visit_table}
@@ -40,10 +44,12 @@ use Rattle.ipc.specs.declared.stream.Stream.{Stream}
 abbrev pub Known : Type 0
 Known = List (ℤ × Layout)
 
--- what is known where a message begins: which columns are read, and the dictionaries that came
+-- What is known where a message begins: which columns are read, the dictionaries that came, and which of them are fresh: no
+-- dictionary inside of theirs was written anew since they were.
 pub record State : Type 0 where
   pub picked : PickedTree
   pub known : Known
+  pub fresh : List ℤ
 
 abbrev pub known_at : Known → ℤ → Option Layout
 known_at known id = lookup (is_at (int_cmp id)) known
@@ -113,10 +119,41 @@ may_come once false there = Ok tt
 abbrev pub only_column : TypeTree → ℕ → List ℕ → Rest → Result Layout Fault
 only_column t rows body rest = column_in t (Rows rows) body rest >>= λ column. none_left column.1 >>= λ all. Ok column.0
 
--- the dictionary of an id from now on. Deltas are not joined yet
+-- whether an id is one of these
+abbrev pub is_among : List ℤ → ℤ → Bool
+is_among ids id = list_any (λ other. int_eq other id) ids
+
+-- an id is inside of what another names
+abbrev pub has_inside : Option Values → ℤ → Bool
+has_inside None id = false
+has_inside (Some v) id = is_among v.inside id
+
+-- behind new values of an id, another one stays fresh unless it has that one inside
+abbrev pub stays_fresh : PickedTree → ℤ → ℤ → Bool
+stays_fresh p id other = not (int_eq other id) && not (has_inside (lookup (is_at (int_cmp other)) p.seen.named) id)
+
+-- which ids are fresh behind new values of one: it is itself
+abbrev pub fresh_behind : PickedTree → ℤ → List ℤ → List ℤ
+fresh_behind p id fresh = id ∷ filter (stays_fresh p id) fresh
+
+-- an id has new values from now on
+abbrev pub with_new : State → ℤ → Layout → State
+with_new s id values = record { picked = s.picked; known = insert_entry int_cmp s.known id values; fresh = fresh_behind s.picked id s.fresh }
+
+-- it has more of them
+abbrev pub with_more : State → ℤ → Layout → State
+with_more s id values = record { picked = s.picked; known = insert_entry int_cmp s.known id values; fresh = s.fresh }
+
+-- values of one type behind others, where nothing passes its type
+abbrev pub joined_values : Option Layout → Layout → Result Layout Fault
+joined_values None more = Err Delta
+joined_values (Some values) more = check (same_type (layout_type values) (layout_type more) && not (joins_past (values ∷ more ∷ []))) Delta >>= λ fits. Ok (joined_layout (values ∷ more ∷ []))
+
+-- The dictionary of an id from now on: new values, or a delta, whose values stand behind those that are there. Where a dictionary
+-- inside was written anew since, the keys of those would name other values.
 abbrev pub with_values : Bool → State → ℤ → Layout → Result State Fault
-with_values true s id values = Err Delta
-with_values false s id values = Ok (record { picked = s.picked; known = insert_entry int_cmp s.known id values })
+with_values false s id values = Ok (with_new s id values)
+with_values true s id more = check (is_among s.fresh id) Delta >>= λ is_fresh. joined_values (known_at s.known id) more >>= λ values. Ok (with_more s id values)
 
 -- the values of a batch at a place, over the dictionaries inside of them that are known
 abbrev pub column_in_batch : State → Parts → ℕ → ℕ → Values → Result Layout Fault
@@ -218,7 +255,7 @@ pub record StreamTree : Type 0 where
 
 -- behind a schema nothing is known
 abbrev pub start : PickedTree → State
-start p = record { picked = p; known = [] }
+start p = record { picked = p; known = []; fresh = [] }
 
 -- a schema, then batches, of the columns that are read; and how many bytes the stream takes, with the end mark
 unfoldable pub picked_stream_in : Picks → List ℕ → Result StreamTree Fault
@@ -240,7 +277,12 @@ abbrev pub known_of : List (ℤ × AnyArray) → Known
 known_of entries = map (λ e. (e.0, layout_of e.1)) entries
 
 abbrev pub state_of : declared.State → State
-state_of s = record { picked = picked_of s.picked; known = known_of s.known.entries }
+state_of s = record { picked = picked_of s.picked; known = known_of s.known.entries; fresh = s.fresh.items }
+
+-- why values are not joined
+abbrev pub fault_of : Error → Fault
+fault_of (errors.Memory refused) = Memory
+fault_of e = Delta
 
 abbrev pub stream_of : Stream → StreamTree
 stream_of s = record { schema = schema_of s.schema; batches = map arrays_of s.batches.items; read = s.read }

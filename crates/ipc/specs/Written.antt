@@ -1,8 +1,6 @@
 -- What a stream is written as ("IPC Streaming Format" of the Arrow columnar format), and why one is not written.
 use Rattle.std.specs.Prelude.{◌≡◌, ◌⊎◌, ◌^◌, ◌+◌, ℕ, suc, Bool, true, false, ◌&&◌, ◌==◌, nat_le, if◌then◌else◌, List, [], ◌∷◌, ◌++◌, map, length, Option, Some, None, Result, Ok, Err, ℤ}
-use Rattle.std.specs.BTreeMap.{insert_entry}
 use Rattle.std.specs.List.{AllByRecursion, AllZip, flat_map}
-use Rattle.std.specs.Ordering.{int_cmp}
 use Rattle.nest_memory.specs.TypeTree.{TypeTree}
 use Rattle.nest_memory.specs.TypeEq.{same_type}
 use Rattle.nest_model.specs.Array.{IsArray}
@@ -28,7 +26,7 @@ use Rattle.ipc_needed.specs.Entries.{Entries, own_entries}
 use Rattle.ipc_needed.specs.Needed.{entry_at, with_entries, needed}
 use Rattle.ipc_needed.specs.Known.{IsKnown, AreKnown, number_of, read_columns, read_values, known_with}
 use Rattle.ipc_needed.specs.Named.{IsNamed, AreNamed, seen_of_fields}
-use Rattle.ipc.specs.Streams.{Arrays, State, StreamTree, record_batch_in, dictionary_in, types_of}
+use Rattle.ipc.specs.Streams.{Arrays, State, StreamTree, record_batch_in, dictionary_in, types_of, with_new}
 
 -- ---- bytes
 
@@ -210,7 +208,7 @@ pub record IsReadAgain (b : Arrays) : Type 0 where
 
 -- what is known behind a dictionary
 abbrev pub known_more : State → ℤ × Layout → State
-known_more s e = record { picked = s.picked; known = insert_entry int_cmp s.known e.0 (read_values s.known (number_of e.0) e.1) }
+known_more s e = with_new s e.0 (read_values s.known (number_of e.0) e.1)
 
 -- where the values of an id can come: what is inside of them is known, and in a file the id is new
 pub record ReadsValues (once : Bool) (s : State) (e : ℤ × Layout) : Type 0 where

@@ -26,7 +26,7 @@ use Rattle.ipc_schema.specs.Dictionaries.{Values, Seen}
 use Rattle.ipc_schema.specs.Forms.{keyed_form}
 use Rattle.ipc_schema.specs.Outer.{outer_ids}
 use Rattle.ipc_schema.specs.PickedLaws.{all_steps, all_picked, all_written, stream_same}
-use Rattle.ipc_schema.specs.PickedSchemas.{stream_picked_at, in_any_version}
+use Rattle.ipc_schema.specs.PickedSchemas.{PickedTree, stream_picked_at, in_any_version}
 use Rattle.ipc_schema.specs.Picks.{all}
 use Rattle.ipc_schema.specs.Schemas.{SchemaTree, stream_keyed_schema_at}
 use Rattle.ipc_schema.specs.SchemaBytes.{schema_message}
@@ -49,7 +49,7 @@ use Rattle.ipc_needed.specs.Again as again
 use Rattle.ipc_needed.specs.AgainLaws.{columns_again, values_again, columns_known}
 use Rattle.ipc_needed.specs.KnownLaws.{columns_needed_of}
 use Rattle.ipc_needed.specs.NamedLaws.{are_named}
-use Rattle.ipc.specs.Streams.{Arrays, State, has_views, start, record_batch_in, dictionary_in, data_in, may_come, known_at, only_column, message_in, of_kind, next_in, batches_in, types_of, values_at, picked_stream_in, stream_in}
+use Rattle.ipc.specs.Streams.{Arrays, State, fresh_behind, has_views, start, record_batch_in, dictionary_in, data_in, may_come, known_at, only_column, message_in, of_kind, next_in, batches_in, types_of, values_at, picked_stream_in, stream_in}
 use Rattle.ipc.specs.StreamLaws.{by_message, one_by_one}
 use Rattle.ipc.specs.WrittenLists.{first_accepts, others_accept}
 use Rattle.ipc.specs.Written.{batch_tree, batch_head, batch_bytes, one_column, dictionary_head, dictionary_bytes, needed_by, sent_behind, part_bytes, batches_bytes, stream_bytes, is_column, are_columns, batch_refusal, batches_refusal, read_arrays, known_behind, read_batches, shown_batches, shown_stream, IsSameBatch, AreSameBatches, IsWhole, ReadsBatch, ReadsValues, IsReadAgain, IsDictionaryAgain, IsPartAgain, AreAgain, known_more}
@@ -203,9 +203,14 @@ dictionary_again e message over =
 
 -- ---- a batch behind the dictionaries that it needs
 
+-- which ids are fresh behind these dictionaries
+abbrev pub fresh_with : PickedTree → List ℤ → Entries → List ℤ
+fresh_with p fresh [] = fresh
+fresh_with p fresh (e ∷ es) = fresh_with p (fresh_behind p e.0 fresh) es
+
 -- behind these dictionaries
 abbrev pub behind_values : State → Entries → State
-behind_values s es = record { picked = s.picked; known = known_with s.known es }
+behind_values s es = record { picked = s.picked; known = known_with s.known es; fresh = fresh_with s.picked s.fresh es }
 
 -- a message of today's version is read by its kind
 by_kind : (s : State) (m : Parts) (kind : Kind) → m.root.version ≡ V5 → m.root.kind ≡ kind → message_in s m ≡ of_kind kind s m
@@ -252,7 +257,7 @@ pub record IsBehind (s : State) (sent : Entries) : Type 0 where
 
 -- a state behind a batch
 abbrev pub behind_batch : State → Entries → Arrays → State
-behind_batch s sent b = record { picked = s.picked; known = known_behind s.known sent b }
+behind_batch s sent b = behind_values s (needed_by sent b)
 
 pub part_known : (s : State) (sent : Entries) (b : Arrays) → IsPartAgain sent b → IsBehind s sent → AreAllKnown s.known sent b.columns
 part_known s sent b ok behind = columns_known s.known sent b.columns behind.follows (over_each (needed_by sent b) ok.dictionaries)

@@ -11,6 +11,7 @@ ghost use Rattle.ipc_schema.specs.PickedSchemas.{picked_of};
 ghost use Rattle.ipc_schema.specs.SeenOf.{values_of};
 ghost use Rattle.ipc.specs.Streams.{has_dictionary as has_dictionary_lem, named_in, data_place as data_place_lem, may_come as may_come_lem, only_column as only_column_lem, with_values as with_values_lem, column_in_batch, data_in, new_values_in, found_in, dictionary_in, known_at, state_of};
 
+use crate::deltas::more_values;
 use crate::state::{State, values_of as known_values};
 use ipc_batch::read_batch;
 use ipc_layout::{Left, Wanted, none_left, read_column};
@@ -157,15 +158,20 @@ fn new_values(
     }
 }
 
-fn with_values(state: &mut State, id: i64, delta: bool, values: AnyArray) -> Result<(), Fault>
+fn with_values(
+    alloc: Global,
+    state: &mut State,
+    id: i64,
+    delta: bool,
+    values: AnyArray,
+) -> Result<(), Fault>
     ensures picked { state.new.picked ≡ state.old.picked }
     ensures known { Gives (λ x. state_of state.new) result (with_values_lem delta (state_of state.old) id (layout_of values)) }
 {
     if delta {
-        drop(values);
-        return Err(Fault::Delta);
+        return more_values(alloc, state, id, values);
     }
-    state.insert(id, values)?;
+    state.insert(alloc, id, values)?;
     Ok(())
 }
 
@@ -196,8 +202,8 @@ fn found_values(
     }
 }
 
-/// The dictionary of a message, which is known from then on: each id may come once, or it is replaced when it comes again. Of a field
-/// that is passed over it is passed over.
+/// The dictionary of a message, which is known from then on: each id may come once, or it is replaced when it comes again; a delta
+/// stands behind what its id has. Of a field that is passed over it is passed over.
 #[tactic(auto, unfolding(crate::specs::Streams::dictionary_in))]
 pub(crate) fn read_dictionary(
     alloc: Global,
@@ -215,6 +221,6 @@ pub(crate) fn read_dictionary(
     match found_values(alloc, once, state, message, table, left, id) {
         Err(fault) => Err(fault),
         Ok(None) => Ok(()),
-        Ok(Some((delta, values))) => with_values(state, id, delta, values),
+        Ok(Some((delta, values))) => with_values(alloc, state, id, delta, values),
     }
 }

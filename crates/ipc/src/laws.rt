@@ -1,10 +1,17 @@
 //! Laws and examples of streams and files, as functions with empty bodies.
-ghost use Rattle.std.specs.Prelude.{◌≡◌, ◌<◌, List, ℕ, [], length, get_or, None, Ok};
+ghost use Rattle.std.specs.Prelude.{◌≡◌, ◌<◌, ◌∷◌, ◌++◌, List, ℕ, ℤ, [], length, get_or, true, false, None, Some, Ok};
+ghost use Rattle.nest_model.specs.Array.{IsArray};
+ghost use Rattle.nest_model.specs.Layout.{Layout};
+ghost use Rattle.nest_model.specs.Meaning.{slots_of};
+ghost use Rattle.nest_concat.specs.Laid.{joined_layout};
+ghost use Rattle.ipc_message.specs.Messages.{Parts};
 ghost use Rattle.ipc_schema.specs.Picks.{Picks};
-ghost use Rattle.ipc.specs.Streams.{State, next_in, batches_in, first_and_others, stream_in};
+ghost use Rattle.ipc.specs.Streams.{State, next_in, batches_in, first_and_others, stream_in, dictionary_in, known_at, with_more, with_values};
 ghost use Rattle.ipc.specs.Readers.{ReaderTree, batches_of, next_and_others, batches_of_stream, read_one_by_one};
 ghost use Rattle.ipc.specs.Streams.{Arrays};
 ghost use Rattle.ipc.specs.Examples.{worked_stream, worked_tree};
+ghost use Rattle.ipc.specs.DeltaExamples.{AreDeltas};
+ghost use Rattle.ipc.specs.DeltaLaws.{HasSlots};
 ghost use Rattle.ipc.specs.DictionaryExamples.{AreDictionaries};
 ghost use Rattle.ipc.specs.Files.{FileReaderTree, batch_of_file, batches_of_file, file_in};
 ghost use Rattle.ipc.specs.FileLaws.{no_arrays};
@@ -51,4 +58,20 @@ pub fn a_file_is_read()
 /// joined to nothing.
 pub fn dictionaries_are_read()
     ensures { AreDictionaries }
+{}
+
+/// A delta that is read is joined: its id has its values and those of the delta behind them, and nothing else changes. Where a
+/// dictionary is read of a file, it is read of a stream alike.
+pub fn deltas_are_joined()
+    ensures joined { (s t : State) (id : ℤ) (old more : Layout) → known_at s.known id ≡ Some old → with_values true s id more ≡ Ok t → t ≡ with_more s id (joined_layout (old ∷ more ∷ [])) }
+    ensures slots { (s t : State) (id : ℤ) (old more : Layout) → IsArray old → IsArray more → known_at s.known id ≡ Some old → with_values true s id more ≡ Ok t → HasSlots (slots_of old ++ slots_of more) (known_at t.known id) }
+    ensures files { (s t : State) (m : Parts) → dictionary_in true s m ≡ Ok t → dictionary_in false s m ≡ Ok t }
+{
+    nest_concat::laws::joined_layouts_have_their_slots();
+}
+
+/// Deltas, byte by byte and by their values: texts and records that are joined; which dictionaries are fresh; and a delta over words
+/// that were written anew.
+pub fn deltas_are_read()
+    ensures { AreDeltas }
 {}

@@ -3,8 +3,10 @@
 
 mod batch;
 mod block;
+mod deltas;
 mod dictionary;
 mod file;
+mod fresh;
 pub mod laws;
 mod reader;
 mod reading;

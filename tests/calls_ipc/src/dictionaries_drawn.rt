@@ -47,7 +47,8 @@ fn around(alloc: Global, draw: &mut Draw, values: DataType) -> Result<DataType, 
     })
 }
 
-fn draw_keyed_type(alloc: Global, draw: &mut Draw) -> Result<DataType, Error> {
+/// A type with a dictionary in it or two.
+pub fn draw_keyed_type(alloc: Global, draw: &mut Draw) -> Result<DataType, Error> {
     let depth = draw.below(3);
     let mut data_type = draw_type(alloc, draw, depth)?;
     for _ in 0..draw.between(1, 2) {

@@ -3,7 +3,8 @@
 use crate::files::{blocks_of, blocks_of_kind, file_with};
 use crate::samples::Sample;
 use crate::samples_dictionaries::{
-    READ_DICTIONARIES, READ_DICTIONARY_FILES, REFUSED_DICTIONARIES, REFUSED_DICTIONARY_FILES,
+    DENSE_DELTA, READ_DICTIONARIES, READ_DICTIONARY_FILES, REFUSED_DICTIONARIES,
+    REFUSED_DICTIONARY_FILES,
 };
 use crate::samples_read::bytes_of;
 use crate::texts::{answer, file_answer, is_file_read, is_read, put_batch};
@@ -16,22 +17,6 @@ use ipc_message::{Kind, next_message};
 use ipc_model::Fault;
 use ipc_schema::{Columns, read_picked_schema, read_schema};
 use std::alloc::Global;
-
-/// The samples with values that stand behind others, which are refused until they are joined.
-const DELTAS: [&str; 3] = ["delta", "delta_file", "dictionary_before_any_use"];
-
-// What a reader answers to a sample.
-fn wanted(sample: &Sample) -> &'static str {
-    if DELTAS.iter().any(|name| *name == sample.name) {
-        "fault Delta\n"
-    } else {
-        sample.answer
-    }
-}
-
-fn is_refused(sample: &Sample) -> bool {
-    wanted(sample).starts_with("fault")
-}
 
 fn answered(alloc: Global, sample: &Sample) -> Result<(String, Option<bool>), Fault> {
     let bytes = bytes_of(alloc, sample)?;
@@ -47,8 +32,8 @@ fn file_answered(alloc: Global, sample: &Sample) -> Result<(String, Option<bool>
 fn each_that_is_read(rt: HostRuntime) {
     for sample in &READ_DICTIONARIES {
         let (text, read) = answered(rt.alloc(), sample).expect(&rt, "no text");
-        assert!(rt; text.as_str() == wanted(sample), "{}: {text}", sample.name);
-        assert!(rt; read == Some(!is_refused(sample)), "{}", sample.name);
+        assert!(rt; text.as_str() == sample.answer, "{}: {text}", sample.name);
+        assert!(rt; read == Some(true), "{}", sample.name);
     }
 }
 
@@ -56,8 +41,8 @@ fn each_that_is_read(rt: HostRuntime) {
 fn each_file_that_is_read(rt: HostRuntime) {
     for sample in &READ_DICTIONARY_FILES {
         let (text, read) = file_answered(rt.alloc(), sample).expect(&rt, "no text");
-        assert!(rt; text.as_str() == wanted(sample), "{}: {text}", sample.name);
-        assert!(rt; read == Some(!is_refused(sample)), "{}", sample.name);
+        assert!(rt; text.as_str() == sample.answer, "{}: {text}", sample.name);
+        assert!(rt; read == Some(true), "{}", sample.name);
     }
 }
 
@@ -73,6 +58,15 @@ fn each_that_is_refused(rt: HostRuntime) {
         assert!(rt; text.as_str() == sample.answer, "{}: {text}", sample.name);
         assert!(rt; read == Some(false), "{}", sample.name);
     }
+}
+
+#[test]
+fn slots_that_are_picked_are_joined(rt: HostRuntime) {
+    let (text, read) = answered(rt.alloc(), &DENSE_DELTA).expect(&rt, "no text");
+    assert!(rt;
+        text.as_str() == DENSE_DELTA.answer && read == Some(true),
+        "{text}"
+    );
 }
 
 // The bytes of a sample that is read.
@@ -114,14 +108,12 @@ fn has_each_column(alloc: Global, bytes: &[u8]) -> Result<bool, Fault> {
 fn dictionaries_of_other_columns_are_passed_over(rt: HostRuntime) {
     let alloc = rt.alloc();
     for sample in &READ_DICTIONARIES {
-        if !is_refused(sample) {
-            let bytes = bytes_of(alloc, sample).expect(&rt, "no bytes");
-            assert!(rt;
-                has_each_column(alloc, &bytes) == Ok(true),
-                "{}",
-                sample.name
-            );
-        }
+        let bytes = bytes_of(alloc, sample).expect(&rt, "no bytes");
+        assert!(rt;
+            has_each_column(alloc, &bytes) == Ok(true),
+            "{}",
+            sample.name
+        );
     }
 }
 
@@ -272,7 +264,7 @@ fn streams_as_files(rt: HostRuntime) {
             let want = if replaces {
                 "fault Replaced\n"
             } else {
-                wanted(sample)
+                sample.answer
             };
             assert!(rt; text.as_str() == want, "{}: {text}", sample.name);
             count += 1;
@@ -333,22 +325,20 @@ fn backwards(alloc: Global, bytes: &[u8]) -> Result<String, Fault> {
 fn batches_of_a_file_in_any_order(rt: HostRuntime) {
     let alloc = rt.alloc();
     for sample in &READ_DICTIONARY_FILES {
-        if !is_refused(sample) {
-            let bytes = bytes_of(alloc, sample).expect(&rt, "no bytes");
-            let reader = FileReader::new(alloc, &bytes).expect(&rt, "no reader");
-            let text = backwards(alloc, &bytes).expect(&rt, "no text");
-            let mut count = 0;
-            for part in sample.answer.split("batch ") {
-                let part = part.trim_end();
-                assert!(rt;
-                    count == 0 || text.contains(part),
-                    "{}: {text}",
-                    sample.name
-                );
-                count += 1;
-            }
-            assert!(rt; count == reader.len() + 1, "{}", sample.name);
+        let bytes = bytes_of(alloc, sample).expect(&rt, "no bytes");
+        let reader = FileReader::new(alloc, &bytes).expect(&rt, "no reader");
+        let text = backwards(alloc, &bytes).expect(&rt, "no text");
+        let mut count = 0;
+        for part in sample.answer.split("batch ") {
+            let part = part.trim_end();
+            assert!(rt;
+                count == 0 || text.contains(part),
+                "{}: {text}",
+                sample.name
+            );
+            count += 1;
         }
+        assert!(rt; count == reader.len() + 1, "{}", sample.name);
     }
 }
 

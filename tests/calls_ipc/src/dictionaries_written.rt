@@ -218,30 +218,23 @@ fn is_file_again(alloc: Global, sample: &Sample) -> Result<bool, Error> {
     is_again(alloc, sample.answer, &file.schema, &file.batches)
 }
 
-/// The samples with values that stand behind others, which are not read.
-const DELTAS: [&str; 3] = ["delta", "delta_file", "dictionary_before_any_use"];
-
 #[test]
 fn what_another_program_has_is_written_again(rt: HostRuntime) {
     let alloc = rt.alloc();
     let mut count = 0;
     for sample in &READ_DICTIONARIES {
-        if !DELTAS.iter().any(|name| *name == sample.name) {
-            assert!(rt;
-                is_stream_again(alloc, sample) == Ok(true),
-                "{}",
-                sample.name
-            );
-            count += 1;
-        }
+        assert!(rt;
+            is_stream_again(alloc, sample) == Ok(true),
+            "{}",
+            sample.name
+        );
+        count += 1;
     }
     for sample in &READ_DICTIONARY_FILES {
-        if !DELTAS.iter().any(|name| *name == sample.name) {
-            assert!(rt; is_file_again(alloc, sample) == Ok(true), "{}", sample.name);
-            count += 1;
-        }
+        assert!(rt; is_file_again(alloc, sample) == Ok(true), "{}", sample.name);
+        count += 1;
     }
-    assert!(rt; count == 14);
+    assert!(rt; count == 17);
 }
 
 // Records by keys, whose words change in the second of two batches.
@@ -386,8 +379,16 @@ fn unread_byte(alloc: Global, bytes: &mut [u8], from: usize, to: usize) -> Optio
 #[test]
 fn each_byte_of_a_file_changed(rt: HostRuntime) {
     let mut bytes = file_of_two(rt.alloc()).expect(&rt, "no file");
-    let end = bytes.len() / 2;
+    let end = bytes.len() / 4;
     let place = unread_byte(rt.alloc(), &mut bytes, 0, end);
+    assert!(rt; place.is_none(), "{place:?}");
+}
+
+#[test]
+fn each_byte_of_the_middle_of_a_file_changed(rt: HostRuntime) {
+    let mut bytes = file_of_two(rt.alloc()).expect(&rt, "no file");
+    let (from, to) = (bytes.len() / 4, bytes.len() / 2);
+    let place = unread_byte(rt.alloc(), &mut bytes, from, to);
     assert!(rt; place.is_none(), "{place:?}");
 }
 

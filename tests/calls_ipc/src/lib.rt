@@ -22,6 +22,8 @@
 //! | Columns by dictionaries are written and read back in both forms: keys of each width, nulls, cuts, values that no key names, inside of others and of values, ids in pre-order; streams and files of another program are written again; each beginning of what is written, and each byte changed | `dictionaries_written` |
 //! | Dictionaries of several batches: the same, equal, grown and changed ones, inner and outer; which come again in a stream, and which file is refused; a batch at a time, and behind a refusal | `dictionaries_anew` |
 //! | Schemas with dictionaries at any depth, drawn, and batches that share, grow or change values, held against a plain model of which come | `dictionaries_drawn` |
+//! | Dictionaries that grow by deltas, in streams and files: words, records of words, nulls, none, words anew inside of records; each beginning, and each byte changed | `deltas` |
+//! | Dictionaries of any values, drawn, in three parts with batches between them, read whole, batch by batch and by columns, and from files | `deltas_drawn` |
 //! | Each fault once | `faults` |
 //! | Files of another program, streams of others as files, blocks in another order, batches in any order, and files that are written | `files` |
 //! | Each fault of files once; each beginning of a file, and each of its bytes changed, is answered, by `read_file` and by a reader alike | `file_faults` |
@@ -35,6 +37,12 @@ mod bodies;
 mod columns;
 #[cfg(test)]
 mod columns_read;
+#[cfg(test)]
+mod delta_messages;
+#[cfg(test)]
+mod deltas;
+#[cfg(test)]
+mod deltas_drawn;
 #[cfg(test)]
 mod dictionaries_anew;
 #[cfg(test)]

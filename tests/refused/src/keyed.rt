@@ -1,10 +1,11 @@
-//! A stream in which a dictionary is replaced: read whole, batch by batch, and by no column.
+//! A stream in which a dictionary is replaced, and one in which it grows: read whole, batch by batch, and by no column.
 
 use crate::streams::refused;
 use crate::trial::Trial;
 use drawn_builders::wrong::{Wrong, expect};
 use ipc::{StreamReader, read_stream, read_stream_columns};
 use ipc_schema::Columns;
+use nest_array::any::AnyArray;
 use nest_memory::error::Error;
 use std::alloc::Global;
 
@@ -41,14 +42,25 @@ const STREAM: [u8; 864] = [
     0, 0, 8, 0, 0, 0, 0, 0, 0, 0, 0, 0, 0, 0, 1, 0, 0, 0, 255, 255, 255, 255, 0, 0, 0, 0,
 ];
 
-fn whole(alloc: Global) -> Result<usize, Error> {
-    let stream = read_stream(alloc, &STREAM).map_err(refused)?;
+/// The length of a vtable of the second values: 8, for two fields of the table behind it.
+const FIELDS: usize = 552;
+
+/// The same stream, where the second values stand behind the first: with a third field, which the next two bytes place at a byte that
+/// is not 0, they are a delta.
+fn grown_stream() -> [u8; 864] {
+    let mut bytes = STREAM;
+    bytes[FIELDS] = 10;
+    bytes
+}
+
+fn whole(alloc: Global, bytes: &[u8]) -> Result<usize, Error> {
+    let stream = read_stream(alloc, bytes).map_err(refused)?;
     Ok(stream.batches.len())
 }
 
 /// The rows of all batches of a reader.
-fn one_by_one(alloc: Global) -> Result<usize, Error> {
-    let mut reader = StreamReader::new(alloc, &STREAM).map_err(refused)?;
+fn one_by_one(alloc: Global, bytes: &[u8]) -> Result<usize, Error> {
+    let mut reader = StreamReader::new(alloc, bytes).map_err(refused)?;
     let mut rows = 0;
     for _ in 0..3 {
         match reader.next_batch(alloc).map_err(refused)? {
@@ -59,16 +71,36 @@ fn one_by_one(alloc: Global) -> Result<usize, Error> {
     Ok(rows)
 }
 
-fn passed(alloc: Global) -> Result<usize, Error> {
-    let stream = read_stream_columns(alloc, &STREAM, Columns::At(&[])).map_err(refused)?;
+fn passed(alloc: Global, bytes: &[u8]) -> Result<usize, Error> {
+    let stream = read_stream_columns(alloc, bytes, Columns::At(&[])).map_err(refused)?;
     Ok(stream.batches.len())
 }
 
-pub fn read(trial: &mut Trial, alloc: Global) -> Result<(), Wrong> {
-    let batches = trial.again(|| whole(alloc))?;
+fn read_each(trial: &mut Trial, alloc: Global, bytes: &[u8]) -> Result<(), Wrong> {
+    let batches = trial.again(|| whole(alloc, bytes))?;
     expect(batches == 2, "another number of batches")?;
-    let rows = trial.again(|| one_by_one(alloc))?;
+    let rows = trial.again(|| one_by_one(alloc, bytes))?;
     expect(rows == 4, "another number of rows")?;
-    let batches = trial.again(|| passed(alloc))?;
+    let batches = trial.again(|| passed(alloc, bytes))?;
     expect(batches == 2, "another number of batches without columns")
+}
+
+pub fn read(trial: &mut Trial, alloc: Global) -> Result<(), Wrong> {
+    read_each(trial, alloc, &STREAM)
+}
+
+/// How many values the columns of the second batch name.
+fn count_values(alloc: Global, bytes: &[u8]) -> Result<usize, Error> {
+    let stream = read_stream(alloc, bytes).map_err(refused)?;
+    Ok(match &stream.batches[1].columns[0] {
+        AnyArray::Dictionary(array) => array.values().len(),
+        _ => 0,
+    })
+}
+
+pub fn grown(trial: &mut Trial, alloc: Global) -> Result<(), Wrong> {
+    let bytes = grown_stream();
+    let values = trial.again(|| count_values(alloc, &bytes))?;
+    expect(values == 4, "another number of values")?;
+    read_each(trial, alloc, &bytes)
 }
