@@ -14,3 +14,12 @@ pub mod WrittenFiles
 pub mod FileLaws
 pub mod WrittenLists
 pub mod FileExamples
+pub mod Grown
+pub mod FilesOfStreams
+pub mod GrownSlots
+pub mod GrownReads
+pub mod GrownColumns
+pub mod MessageLaws
+pub mod KnownGrows
+pub mod FilesOfStreamsLaws
+pub mod FilesOfStreamsExamples

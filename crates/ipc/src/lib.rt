@@ -6,6 +6,7 @@ mod block;
 mod deltas;
 mod dictionary;
 mod file;
+pub mod file_laws;
 mod fresh;
 pub mod laws;
 mod reader;

@@ -1,0 +1,261 @@
+-- What is known only grows behind dictionaries that come once, and batches are read over more as before.
+use Rattle.std.specs.Prelude.{◌≡◌, ℕ, ℤ, pos, Bool, true, false, nat_lt, List, [], ◌∷◌, map, Option, Some, None, is_some, ◌⊎◌, IfSome, ◌++◌, Result, Ok, Err, IfOk, refl, not, ◌&&◌}
+use Rattle.std.proofs.Common.{sym, ap, subst, inl, inr, ◌∙◌, append_assoc}
+use Rattle.std.specs.BTreeMap.{insert_entry}
+use Rattle.std.specs.Cmp.{Equal-is}
+use Rattle.std.specs.Int.{w8, w64}
+use Rattle.std.specs.Ordering.{int_cmp, is_eq}
+use Rattle.std.proofs.lemmas.Map.Lookups.{exact_signed}
+use Rattle.nest_memory.specs.TypeTree.{TypeTree, logical_type}
+use Rattle.nest_model.specs.Array.{IsArray}
+use Rattle.nest_model.specs.Layout.{Layout, layout_type}
+use Rattle.nest_model.specs.Meaning.{slots_of}
+use Rattle.nest_model.specs.Slot.{Slot}
+use Rattle.ipc_model.specs.Reading.{◌>>=◌, check}
+use Rattle.ipc_model.specs.declared.fault.Fault.{Fault}
+use Rattle.ipc_model.specs.declared.fault.Fault.TheVariants.{Replaced, Delta}
+use Rattle.ipc_words.specs.Words.{number_at, signed_at, field, offset_field, visit_table}
+use Rattle.ipc_words.specs.declared.tables.Table.{Table}
+use Rattle.ipc_message.specs.Messages.{Parts}
+use Rattle.ipc_schema.specs.Dictionaries.{Values}
+use Rattle.ipc_schema.specs.Outer.{outer_ids}
+use Rattle.ipc_schema.specs.PickedSchemas.{PickedTree}
+use Rattle.ipc_batch.specs.Batches.{batch_at}
+use Rattle.ipc_layout.specs.Columns.{Rest, column_in, none_left}
+use Rattle.ipc_layout.specs.Picked.{picked_in}
+use Rattle.ipc_layout.specs.ReadLaws.{after, found, checked}
+use Rattle.ipc_layout.specs.declared.parts.Wanted.TheVariants.{Rows}
+use Rattle.ipc_needed.specs.KnownLaws.{entry_put, entry_kept}
+use Rattle.std.proofs.lemmas.Bool.{and_parts}
+use Rattle.nest_memory.specs.TypeEq.{same_type, same_type-decides}
+use Rattle.nest_concat.specs.Laid.{joined_layout, joins_past}
+use Rattle.nest_concat.proofs.LaidWholes.{two-joined, two-slots}
+use Rattle.ipc.specs.Grown.{IsGrown, AllGrown, IsOver, HoldsArray, AreAllArrays, AreSameArrays, ReadTogether, Grows, HasArrays, IsLater, IsBatchAgain, AreGrown}
+use Rattle.ipc.specs.GrownColumns.{read_too, AreReadAlike, column_fits, grown_self, picked_next}
+use Rattle.ipc.specs.GrownReads.{Anything, any_read, then_read, then_same}
+use Rattle.ipc.specs.Streams.{Known, State, Arrays, known_at, values_at, rest_at, types_of, more_in, record_batch_in, named_in, data_place, may_come, only_column, with_values, column_in_batch, data_in, new_values_in, found_values, found_in, with_found, dictionary_in, is_among, with_more, joined_values}
+use Rattle.ipc.specs.Written.{IsSameBatch}
+
+-- ---- what is known grows
+
+grown_still : (o : Option Layout) → IsGrown o o
+grown_still None = tt
+grown_still (Some c) = grown_self c
+
+grown_further : (o p q : Option Layout) → IsGrown o p → IsGrown p q → IsGrown o q
+grown_further None p q h k = tt
+grown_further (Some c) None q h k = absurd h
+grown_further (Some c) (Some d) None h k = absurd k
+grown_further (Some c) (Some d) (Some e) h k =
+    record { logical = k.logical ∙ h.logical; more = h.more ++ k.more; slots = k.slots ∙ ap (λ (ss : List Slot). ss ++ k.more) h.slots ∙ append_assoc (slots_of c) h.more k.more }
+
+-- an id that has more in its place, others what they had
+put_at : (b : Bool) (known : Known) (id other : ℤ) (d : Layout) → is_eq (int_cmp other id) ≡ b → IsGrown (known_at known id) (Some d) → IsGrown (known_at known other) (known_at (insert_entry int_cmp known id d) other)
+put_at true known id other d is h =
+    let same : other ≡ id = exact_signed other id ((Equal-is (int_cmp other id)).0 is) in
+    subst (λ (k : ℤ). IsGrown (known_at known k) (known_at (insert_entry int_cmp known id d) k)) (sym same) (subst (IsGrown (known_at known id)) (sym (entry_put known id d)) h)
+put_at false known id other d is h = subst (IsGrown (known_at known other)) (sym (entry_kept known id other d is)) (grown_still (known_at known other))
+
+pub grows_put : (known : Known) (id : ℤ) (d : Layout) → IsGrown (known_at known id) (Some d) → Grows known (insert_entry int_cmp known id d)
+grows_put known id d h other = put_at (is_eq (int_cmp other id)) known id other d refl h
+
+array_at : (b : Bool) (known : Known) (id other : ℤ) (d : Layout) → is_eq (int_cmp other id) ≡ b → IsArray d → HasArrays known → HoldsArray (known_at (insert_entry int_cmp known id d) other)
+array_at true known id other d is h all =
+    let same : other ≡ id = exact_signed other id ((Equal-is (int_cmp other id)).0 is) in
+    subst (λ (k : ℤ). HoldsArray (known_at (insert_entry int_cmp known id d) k)) (sym same) (subst HoldsArray (sym (entry_put known id d)) h)
+array_at false known id other d is h all = subst HoldsArray (sym (entry_kept known id other d is)) (all other)
+
+pub arrays_put : (known : Known) (id : ℤ) (d : Layout) → IsArray d → HasArrays known → HasArrays (insert_entry int_cmp known id d)
+arrays_put known id d h all other = array_at (is_eq (int_cmp other id)) known id other d refl h all
+
+pub values_grow : (ids : List ℤ) (known more : Known) → Grows known more → AllGrown (values_at known ids) (values_at more ids)
+values_grow [] known more h = tt
+values_grow (id ∷ ids) known more h = (h id, values_grow ids known more h)
+
+values_fit : (ids : List ℤ) (known : Known) → HasArrays known → AreAllArrays (values_at known ids)
+values_fit [] known h = tt
+values_fit (id ∷ ids) known h = (h id, values_fit ids known h)
+
+pub later_self : (s : State) → HasArrays s.known → IsLater s s
+later_self s all = record { picked = refl; grows = λ id. grown_still (known_at s.known id); arrays = all }
+
+pub later_on : (s t u : State) → IsLater s t → IsLater t u → IsLater s u
+later_on s t u h k = record { picked = k.picked ∙ h.picked; grows = λ id. grown_further (known_at s.known id) (known_at t.known id) (known_at u.known id) (h.grows id) (k.grows id); arrays = k.arrays }
+
+-- ---- a batch over more that is known
+
+same_types : (xs ys : List Layout) → AreSameArrays xs ys → map layout_type ys ≡ map layout_type xs
+same_types [] [] h = refl
+same_types [] (y ∷ ys) h = absurd h
+same_types (x ∷ xs) [] h = absurd h
+same_types (x ∷ xs) (y ∷ ys) h = λ w. sym h.0.0 w ∷ same_types xs ys h.1 w
+
+same_slots : (xs ys : List Layout) → AreSameArrays xs ys → map slots_of ys ≡ map slots_of xs
+same_slots [] [] h = refl
+same_slots [] (y ∷ ys) h = absurd h
+same_slots (x ∷ xs) [] h = absurd h
+same_slots (x ∷ xs) (y ∷ ys) h = λ w. sym h.0.1 w ∷ same_slots xs ys h.1 w
+
+batch_over : (p : PickedTree) (m : Parts) (known more : Known) → Grows known more
+    → ReadTogether IsSameBatch (batch_at m.metadata m.root.header m.root.left m.root.body_length >>= λ batch. more_in p.steps m >>= λ buffers. picked_in p.steps (types_of p.schema) batch.rows m.body (record { rest = rest_at known (outer_ids p.seen.named p.seen.ids) batch; more = buffers }) >>= λ columns. Ok (record { rows = batch.rows; columns = columns }))
+    (batch_at m.metadata m.root.header m.root.left m.root.body_length >>= λ batch. more_in p.steps m >>= λ buffers. picked_in p.steps (types_of p.schema) batch.rows m.body (record { rest = rest_at more (outer_ids p.seen.named p.seen.ids) batch; more = buffers }) >>= λ columns. Ok (record { rows = batch.rows; columns = columns }))
+batch_over p m known more h =
+    let ids : List ℤ = outer_ids p.seen.named p.seen.ids in
+    then_same IsSameBatch Anything (batch_at m.metadata m.root.header m.root.left m.root.body_length) _ _ (any_read (batch_at m.metadata m.root.header m.root.left m.root.body_length))
+    (λ batch e _. then_same IsSameBatch Anything (more_in p.steps m) _ _ (any_read (more_in p.steps m))
+    (λ buffers g _.
+    let over : IsOver (rest_at known ids batch) (rest_at more ids batch) = record { nodes = refl; regions = refl; dictionaries = values_grow ids known more h } in
+    then_read (AreReadAlike (rest_at known ids batch)) IsSameBatch
+    (picked_in p.steps (types_of p.schema) batch.rows m.body (record { rest = rest_at known ids batch; more = buffers })) (picked_in p.steps (types_of p.schema) batch.rows m.body (record { rest = rest_at more ids batch; more = buffers })) _ _
+    (picked_next p.steps (types_of p.schema) batch.rows m.body buffers (rest_at known ids batch) (rest_at more ids batch) over)
+    (λ xs ys k alike. record { rows = refl; types = same_types xs ys alike.same; slots = same_slots xs ys alike.same })))
+
+pub batch_later : (s t : State) (m : Parts) → IsLater s t → ReadTogether IsSameBatch (record_batch_in s m) (record_batch_in t m)
+unfolding record_batch_in
+batch_later s t m h =
+    let read : PickedTree → Known → Result Arrays Fault = λ p known. batch_at m.metadata m.root.header m.root.left m.root.body_length >>= λ batch. more_in p.steps m >>= λ buffers. picked_in p.steps (types_of p.schema) batch.rows m.body (record { rest = rest_at known (outer_ids p.seen.named p.seen.ids) batch; more = buffers }) >>= λ columns. Ok (record { rows = batch.rows; columns = columns }) in
+    subst (λ (p : PickedTree). ReadTogether IsSameBatch (read s.picked s.known) (read p t.known)) (sym h.picked) (batch_over s.picked m s.known t.known h.grows)
+
+pub batch_again : (s t : State) (m : Parts) (b : Arrays) → IsLater s t → record_batch_in s m ≡ Ok b → IsBatchAgain b (record_batch_in t m)
+batch_again s t m b h e =
+    let found = read_too IsSameBatch (record_batch_in s m) (record_batch_in t m) b (batch_later s t m h) e in
+    record { batch = found.0; is = found.1; same = found.2 }
+
+-- ---- a dictionary that comes once
+
+-- a dictionary in a file is that of a stream, or it is refused as replaced
+abbrev pub OrReplaced : {A : Type 0} → Result A Fault → Result A Fault → Type 0
+OrReplaced r s = (r ≡ s) ⊎ (r ≡ Err Replaced)
+
+pub then_or : {A B : Type 0} (r s : Result A Fault) (f g : A → Result B Fault) → OrReplaced r s → ((x : A) → OrReplaced (f x) (g x)) → OrReplaced (r >>= f) (s >>= g)
+then_or r s f g (inl e) h = subst (λ (q : Result _ Fault). OrReplaced (q >>= f) (s >>= g)) (sym e) (by s)
+  where
+    by : (q : Result _ Fault) → OrReplaced (q >>= f) (q >>= g)
+    by (Ok x) = h x
+    by (Err fault) = inl refl
+then_or r s f g (inr e) h = inr (ap (λ (q : Result _ Fault). q >>= f) e)
+
+may_come_or : (delta there : Bool) → OrReplaced (may_come true delta there) (may_come false delta there)
+may_come_or true there = inl refl
+may_come_or false true = inr refl
+may_come_or false false = inl refl
+
+data_or : (there : Bool) (metadata : List ℕ) (table : Table) → OrReplaced (data_in true there metadata table) (data_in false there metadata table)
+unfolding data_in
+data_or there metadata table =
+    then_or (offset_field metadata table 1) (offset_field metadata table 1) _ _ (inl refl)
+    (λ to. then_or (data_place to) (data_place to) _ _ (inl refl)
+    (λ place. then_or (field (number_at w8 metadata) 0 metadata table 2) (field (number_at w8 metadata) 0 metadata table 2) _ _ (inl refl)
+    (λ delta. then_or (may_come true (nat_lt 0 delta) there) (may_come false (nat_lt 0 delta) there) _ _ (may_come_or (nat_lt 0 delta) there) (λ allowed. inl refl))))
+
+found_values_or : (s : State) (m : Parts) (table : Table) (left : ℕ) (id : ℤ) (o : Option Values) → OrReplaced (found_values true s m table left id o) (found_values false s m table left id o)
+found_values_or s m table left id None = inl refl
+found_values_or s m table left id (Some v) =
+    let there : Bool = is_some (known_at s.known id) in
+    then_or (new_values_in true s m table left id v) (new_values_in false s m table left id v) _ _
+    (then_or (data_in true there m.metadata table) (data_in false there m.metadata table) _ _ (data_or there m.metadata table) (λ at. inl refl)) (λ new. inl refl)
+
+pub dictionary_or : (s : State) (m : Parts) → OrReplaced (dictionary_in true s m) (dictionary_in false s m)
+unfolding dictionary_in
+dictionary_or s m =
+    then_or (visit_table m.metadata m.root.header m.root.left) (visit_table m.metadata m.root.header m.root.left) _ _ (inl refl)
+    (λ table. then_or (field (signed_at w64 m.metadata) (pos 0) m.metadata table.0 0) (field (signed_at w64 m.metadata) (pos 0) m.metadata table.0 0) _ _ (inl refl)
+    (λ id. then_or (found_in true s m table.0 table.1 id) (found_in false s m table.0 table.1 id) _ _
+    (then_or (named_in s.picked id) (named_in s.picked id) _ _ (inl refl) (λ named. found_values_or s m table.0 table.1 id named)) (λ found. inl refl)))
+
+-- what it brings: where no delta comes, the id is new; over arrays its values are an array
+record IsNew (s : State) (id : ℤ) (new : Bool × Layout) : Type 0 where
+  apart : new.0 ≡ false → known_at s.known id ≡ None
+  fits : HasArrays s.known → IsArray new.1
+
+come_once : (delta there : Bool) (x : Unit {0}) → may_come true delta there ≡ Ok x → delta ≡ false → there ≡ false
+come_once true there x e none = cc
+come_once false true x e none = cc
+come_once false false x e none = refl
+
+data_once : (there : Bool) (metadata : List ℕ) (table : Table) → IfOk (data_in true there metadata table) (λ at. at.1 ≡ false → there ≡ false)
+unfolding data_in
+data_once there metadata table =
+    after (λ (at : ℕ × Bool). at.1 ≡ false → there ≡ false) (offset_field metadata table 1) _
+    (λ to e. after (λ (at : ℕ × Bool). at.1 ≡ false → there ≡ false) (data_place to) _
+    (λ place g. after (λ (at : ℕ × Bool). at.1 ≡ false → there ≡ false) (field (number_at w8 metadata) 0 metadata table 2) _
+    (λ delta k. after (λ (at : ℕ × Bool). at.1 ≡ false → there ≡ false) (may_come true (nat_lt 0 delta) there) _
+    (λ allowed q. come_once (nat_lt 0 delta) there allowed q))))
+
+not_there : (o : Option Layout) → is_some o ≡ false → o ≡ None
+not_there None e = refl
+not_there (Some c) e = cc
+
+only_fits : (t : TypeTree) (rows : ℕ) (body : List ℕ) (rest : Rest) → AreAllArrays rest.dictionaries → IfOk (only_column t rows body rest) IsArray
+only_fits t rows body rest all =
+    after IsArray (column_in t (Rows rows) body rest) _
+    (λ column e. after IsArray (none_left column.1) _ (λ none g. column_fits t (Rows rows) body rest column all e))
+
+new_in : (s : State) (m : Parts) (table : Table) (left : ℕ) (id : ℤ) (v : Values) → HasArrays s.known → IfOk (new_values_in true s m table left id v) (IsNew s id)
+new_in s m table left id v all =
+    let there : Bool = is_some (known_at s.known id) in
+    after (IsNew s id) (data_in true there m.metadata table) _
+    (λ at e. after (IsNew s id) (column_in_batch s m at.0 left v) _
+    (λ values g. record {
+      apart = λ none. not_there (known_at s.known id) (found (λ (at : ℕ × Bool). at.1 ≡ false → there ≡ false) _ _ e (data_once there m.metadata table) none);
+      fits = λ _. found IsArray _ _ g (after IsArray (batch_at m.metadata at.0 left m.root.body_length) _ (λ batch k. only_fits v.values batch.rows m.body (rest_at s.known (outer_ids s.picked.seen.named v.inside) batch) (values_fit (outer_ids s.picked.seen.named v.inside) s.known all)));
+    }))
+
+-- more values behind those that are there
+joined_grown : (c more : Layout) → layout_type more ≡ layout_type c → IsArray c → IsArray more → AreGrown c (joined_layout (c ∷ more ∷ []))
+joined_grown c more typed f g = record { logical = ap logical_type (two-joined c more typed f g).1.same_type; more = slots_of more; slots = two-slots c more typed f g }
+
+module _ (s : State) (id : ℤ) (more : Layout) (fits : IsArray more) (all : HasArrays s.known) where
+  joined_later : (c : Layout) → known_at s.known id ≡ Some c → IsArray c → layout_type more ≡ layout_type c → IsLater s (with_more s id (joined_layout (c ∷ more ∷ [])))
+  joined_later c there is typed =
+      let joined : Layout = joined_layout (c ∷ more ∷ []) in
+      record {
+        picked = refl;
+        grows = grows_put s.known id joined (subst (λ (o : Option Layout). IsGrown o (Some joined)) (sym there) (joined_grown c more typed is fits));
+        arrays = arrays_put s.known id joined (two-joined c more typed is fits).0 all;
+      }
+
+  fits_later : (b : Bool) (values : Layout) → (b ≡ true → IsLater s (with_more s id values)) → IfOk ((check b Delta >>= λ fits. Ok values) >>= λ values. Ok (with_more s id values)) (IsLater s)
+  fits_later true values later = later refl
+  fits_later false values later = tt
+
+  more_later : (o : Option Layout) → known_at s.known id ≡ o → HoldsArray o → IfOk (joined_values o more >>= λ values. Ok (with_more s id values)) (IsLater s)
+  more_later None there is = tt
+  more_later (Some c) there is =
+      let typed : Bool = same_type (layout_type c) (layout_type more) in
+      fits_later (typed && not (joins_past (c ∷ more ∷ []))) (joined_layout (c ∷ more ∷ []))
+      (λ e. joined_later c there is (sym ((same_type-decides (layout_type c) (layout_type more)).0 (and_parts typed (not (joins_past (c ∷ more ∷ []))) e).0)))
+
+-- values that are new, or more of them
+values_later : (delta : Bool) (s : State) (id : ℤ) (values : Layout) → (delta ≡ false → known_at s.known id ≡ None) → IsArray values → HasArrays s.known → IfOk (with_values delta s id values) (IsLater s)
+values_later true s id more new fits all = checked (IsLater s) (is_among s.fresh id) Delta _ (λ fresh. more_later s id more fits all (known_at s.known id) refl (all id))
+values_later false s id values new fits all =
+    record {
+      picked = refl;
+      grows = grows_put s.known id values (subst (λ (o : Option Layout). IsGrown o (Some values)) (sym (new refl)) tt);
+      arrays = arrays_put s.known id values fits all;
+    }
+
+found_later : (s : State) (id : ℤ) (found : Option (Bool × Layout)) → IfSome found (IsNew s id) → HasArrays s.known → IfOk (with_found s id found) (IsLater s)
+found_later s id None new all = later_self s all
+found_later s id (Some x) new all = values_later x.0 s id x.1 new.apart (new.fits all) all
+
+found_new : (s : State) (m : Parts) (table : Table) (left : ℕ) (id : ℤ) (o : Option Values) → HasArrays s.known → IfOk (found_values true s m table left id o) (λ found. IfSome found (IsNew s id))
+found_new s m table left id None all = tt
+found_new s m table left id (Some v) all =
+    after (λ (found : Option (Bool × Layout)). IfSome found (IsNew s id)) (new_values_in true s m table left id v) _
+    (λ new e. found (IsNew s id) _ _ e (new_in s m table left id v all))
+
+pub dictionary_later : (s : State) (m : Parts) → HasArrays s.known → IfOk (dictionary_in true s m) (IsLater s)
+unfolding dictionary_in
+dictionary_later s m all =
+    after (IsLater s) (visit_table m.metadata m.root.header m.root.left) _
+    (λ table e. after (IsLater s) (field (signed_at w64 m.metadata) (pos 0) m.metadata table.0 0) _
+    (λ id g. after (IsLater s) (found_in true s m table.0 table.1 id) _
+    (λ x k.
+    let new = found (λ (o : Option (Bool × Layout)). IfSome o (IsNew s id)) _ _ k (after (λ (o : Option (Bool × Layout)). IfSome o (IsNew s id)) (named_in s.picked id) _ (λ named q. found_new s m table.0 table.1 id named all)) in
+    found_later s id x new all)))
+
+-- behind it only more is known
+pub later_known : (s t : State) (m : Parts) → HasArrays s.known → dictionary_in true s m ≡ Ok t → IsLater s t
+later_known s t m all e = found (IsLater s) _ _ e (dictionary_later s m all)
