@@ -5,4 +5,6 @@ pub mod Forms
 pub mod Options
 pub mod Seen
 pub mod SeenOptions
+pub mod Imports
+pub mod SeenImport
 pub mod Examples

@@ -1,6 +1,7 @@
 //! Words, and what they ask: each function's contract is an example, and its body is empty.
 ghost use Rattle.std.specs.Prelude.{◌≡◌, [], ◌∷◌, Some, None, codes};
 ghost use Rattle.nest_words.specs.Asked.{all, at, chosen_of, columns, from, query_of, rows, true_in};
+ghost use Rattle.nest_words.specs.Imports.{import_of};
 ghost use Rattle.nest_words.specs.Options.{names_of, options_of};
 
 /// `schema`, `rows`, `rows 10 3`, `cut 10 3`, `take 7 0 7`, `where ok`.
@@ -45,4 +46,18 @@ pub fn texts_name_columns()
     ensures one { names_of (codes "a") ≡ codes "a" ∷ [] }
     ensures empty { names_of [] ≡ [] ∷ [] }
     ensures last { names_of (codes "a,") ≡ codes "a" ∷ [] ∷ [] }
+{}
+
+/// `from-json t in out`.
+pub fn words_ask_for_an_import()
+    ensures { import_of (record { columns = None; out = None; words = codes "from-json" ∷ codes "t" ∷ codes "in" ∷ codes "out" ∷ [] }) ≡ Some (record { row_type = codes "t"; input = codes "in"; output = codes "out" }) }
+{}
+
+/// `from-json t in`, `from-json t in out more`, `to-json t in out`, `from-json t in -o out`, `--columns a from-json t in out`.
+pub fn words_ask_for_no_import()
+    ensures fewer { import_of (record { columns = None; out = None; words = codes "from-json" ∷ codes "t" ∷ codes "in" ∷ [] }) ≡ None }
+    ensures more { import_of (record { columns = None; out = None; words = codes "from-json" ∷ codes "t" ∷ codes "in" ∷ codes "out" ∷ codes "more" ∷ [] }) ≡ None }
+    ensures other { import_of (record { columns = None; out = None; words = codes "to-json" ∷ codes "t" ∷ codes "in" ∷ codes "out" ∷ [] }) ≡ None }
+    ensures out { import_of (record { columns = None; out = Some (codes "out"); words = codes "from-json" ∷ codes "t" ∷ codes "in" ∷ [] }) ≡ None }
+    ensures columns { import_of (record { columns = Some (codes "a"); out = None; words = codes "from-json" ∷ codes "t" ∷ codes "in" ∷ codes "out" ∷ [] }) ≡ None }
 {}
