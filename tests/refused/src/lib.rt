@@ -9,10 +9,10 @@
 mod any_kind;
 mod arrays;
 mod builders;
-mod device_files;
 mod iterators;
 mod keyed;
 mod keyed_written;
+mod looked;
 mod nested;
 mod parsed;
 mod parts;

@@ -2,7 +2,7 @@
 
 use crate::trial::Trial;
 use crate::{
-    arrays, builders, device_files, keyed, keyed_written, nested, parsed, program, schemas, streams, typed,
+    arrays, builders, keyed, keyed_written, looked, nested, parsed, program, schemas, streams, typed,
 };
 use drawn_builders::wrong::Wrong;
 use std::alloc::Global;
@@ -30,9 +30,10 @@ pub enum Scenario {
     Streams,
     NestedStreams,
     KeyedStreams,
+    GrownStreams,
     WrittenDictionaries,
     FiledDictionaries,
-    DeviceFiles,
+    Looked,
 }
 
 impl Scenario {
@@ -59,9 +60,10 @@ impl Scenario {
             Scenario::Streams => streams::both_ways(trial, alloc),
             Scenario::NestedStreams => nested::both_ways(trial, alloc),
             Scenario::KeyedStreams => keyed::read(trial, alloc),
+            Scenario::GrownStreams => keyed::grown(trial, alloc),
             Scenario::WrittenDictionaries => keyed_written::streams(trial, alloc),
             Scenario::FiledDictionaries => keyed_written::files(trial, alloc),
-            Scenario::DeviceFiles => device_files::read(trial, alloc),
+            Scenario::Looked => looked::calls(trial, alloc),
         }
     }
 }

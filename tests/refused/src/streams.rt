@@ -12,7 +12,7 @@ use nest_memory::error::Error;
 use std::alloc::{AllocError, Global};
 
 /// One field, nullable, of 32 bits, and one batch of 7 and a null.
-const STREAM: [u8; 296] = [
+pub const STREAM: [u8; 296] = [
     255, 255, 255, 255, 120, 0, 0, 0, 16, 0, 0, 0, 10, 0, 11, 0, 8, 0, 10, 0, 4, 0, 0, 0, 12, 0, 0,
     0, 16, 0, 0, 0, 4, 0, 1, 0, 8, 0, 8, 0, 0, 0, 4, 0, 8, 0, 0, 0, 4, 0, 0, 0, 1, 0, 0, 0, 20, 0,
     0, 0, 16, 0, 18, 0, 4, 0, 16, 0, 17, 0, 8, 0, 0, 0, 12, 0, 16, 0, 0, 0, 16, 0, 0, 0, 28, 0, 0,
