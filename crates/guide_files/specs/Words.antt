@@ -7,5 +7,6 @@ pub use Rattle.ipc_schema.specs.Schemas.{schema_of}
 pub use Rattle.ipc.specs.Files.{file_in, file_of, picked_file_in}
 pub use Rattle.ipc.specs.Streams.{arrays_of, stream_in}
 pub use Rattle.ipc.specs.Written.{AreSameBatches, shown_batches, shown_stream, stream_bytes}
+pub use Rattle.ipc.specs.WrittenFiles.{shown_file}
 pub use Rattle.nest_array.specs.Seen.{layout_of}
 pub use Rattle.nest_model.specs.Meaning.{slots_of}

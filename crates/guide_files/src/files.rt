@@ -1,6 +1,6 @@
 //! Batches as Arrow files and streams, in memory.
 ghost use Rattle.std.specs.Prelude.{◌≡◌, map, IfOk, OnOk};
-ghost use Rattle.guide_files.specs.Words.{AreSameBatches, Gives, Refuses, arrays_of, file_in, file_of, last_in, named, option_map, picked_file_in, schema_of, shown_batches};
+ghost use Rattle.guide_files.specs.Words.{AreSameBatches, Gives, Refuses, arrays_of, file_in, file_of, last_in, named, option_map, picked_file_in, schema_of, shown_batches, shown_file};
 
 use anyhow::Result;
 use std::alloc::Global;
@@ -12,8 +12,8 @@ use tiekvorn::{
 /// A schema and batches as a file, and what is read of it: an equal schema, and of each batch the same columns.
 pub fn file_and_back(alloc: Global, schema: &Schema, batches: &[Batch]) -> Result<File>
     ensures schema { IfOk result (λ f. schema_of f.schema ≡ schema_of schema.now) }
-    ensures batches { IfOk result (λ f. map arrays_of f.batches.items ≡ shown_batches (map arrays_of batches.now)) }
-    ensures same { OnOk result (AreSameBatches (map arrays_of batches.now) (shown_batches (map arrays_of batches.now))) }
+    ensures batches { IfOk result (λ f. map arrays_of f.batches.items ≡ (shown_file (schema_of schema.now) (map arrays_of batches.now)).batches) }
+    ensures same { OnOk result (AreSameBatches (map arrays_of batches.now) (shown_file (schema_of schema.now) (map arrays_of batches.now)).batches) }
 {
     let bytes = write_file(alloc, schema, batches)?;
     Ok(read_file(alloc, &bytes)?)

@@ -1,12 +1,18 @@
 -- Entries of the code and as they are spelled: what is found among them, and one more.
-use Rattle.std.proofs.Common.{◌≡◌, Bool, true, false, cond, List, [], ◌∷◌, map, Option, Some, None, refl, sym, ap, ◌∙◌}
+use Rattle.std.proofs.Common.{◌≡◌, ℕ, ◌+◌, ◌<◌, Bool, true, false, cond, List, [], ◌∷◌, ◌++◌, length, get_or, take, drop, map, Option, Some, None, refl, sym, ap, ◌∙◌}
 use Rattle.std.specs.Prelude.{ℤ, is_some}
+use Rattle.std.specs.Borrow.{Bor}
 use Rattle.std.specs.Option.{option_map}
 use Rattle.std.specs.Map.{lookup}
 use Rattle.std.specs.BTreeMap.{insert_entry}
 use Rattle.std.specs.Ordering.{int_cmp, match_ordering}
 use Rattle.std.specs.declared.cmp.Ordering.{Ordering}
 use Rattle.std.specs.declared.cmp.Ordering.TheVariants.{Less, Equal, Greater}
+use Rattle.std.proofs.lemmas.List.{map-append}
+use Rattle.nest_array.specs.declared.any.AnyArray.{AnyArray}
+use Rattle.ipc_needed.specs.Puts.{whole}
+use Rattle.ipc_needed.specs.Sent.{entry_of}
+use Rattle.ipc.specs.WrittenLists.{taken, split}
 
 module _ {V W : Type 0} (view : V → W) where
   abbrev pub viewed : List (ℤ × V) → List (ℤ × W)
@@ -37,3 +43,12 @@ module _ {V W : Type 0} (view : V → W) where
   viewed_more (e ∷ es) id new =
       match_both (int_cmp id e.0) ((id, new) ∷ e ∷ es) ((e.0, new) ∷ es) (e ∷ insert_entry int_cmp es id new)
       ∙ ap (λ (rest : List (ℤ × W)). match_ordering (int_cmp id e.0) ((id, view new) ∷ viewed (e ∷ es)) ((e.0, view new) ∷ viewed es) ((e.0, view e.1) ∷ rest)) (viewed_more es id new)
+
+-- ---- what is needed, put whole
+
+pub whole_taken : (needed : List (ℤ × Bor AnyArray)) (i : ℕ) (x : ℤ × Bor AnyArray) → i < length needed → x ≡ get_or needed i x → map whole (map entry_of (take (i + 1) needed)) ≡ map whole (map entry_of (take i needed)) ++ whole (entry_of x) ∷ []
+whole_taken needed i x lt is = ap (map whole) (taken entry_of needed i x lt is) ∙ map-append whole (map entry_of (take i needed)) (entry_of x ∷ [])
+
+pub whole_split : (needed : List (ℤ × Bor AnyArray)) (i : ℕ) (x : ℤ × Bor AnyArray) → i < length needed → x ≡ get_or needed i x
+    → map whole (map entry_of needed) ≡ map whole (map entry_of (take i needed)) ++ whole (entry_of x) ∷ map whole (map entry_of (drop (i + 1) needed))
+whole_split needed i x lt is = ap (map whole) (split entry_of needed i x lt is) ∙ map-append whole (map entry_of (take i needed)) (entry_of x ∷ map entry_of (drop (i + 1) needed))

@@ -1,4 +1,5 @@
 pub mod Entries
+pub mod Copies
 pub mod Loops
 pub mod Writes
 pub mod Places

@@ -1,9 +1,7 @@
--- Where messages lie that are put behind others, and whether one of some ids is found.
-use Rattle.std.proofs.Common.{◌≡◌, ℕ, ◌+◌, ◌-◌, ◌≤◌, Bool, true, false, List, [], ◌∷◌, ◌++◌, length, refl, sym, ap, ◌∙◌, arith}
-use Rattle.std.specs.Prelude.{pos, ◌||◌}
-use Rattle.std.specs.List.{list_any}
-use Rattle.std.proofs.lemmas.List.{length-append}
-use Rattle.std.proofs.lemmas.List.Folds.{list_any-append}
+-- Where messages lie that are put behind others.
+use Rattle.std.proofs.Common.{◌≡◌, ℕ, ◌+◌, ◌-◌, ◌≤◌, List, ◌++◌, length, take, drop, refl, sym, ap, ◌∙◌, arith}
+use Rattle.std.specs.Prelude.{pos}
+use Rattle.std.proofs.lemmas.List.{length-append, drop_at, take_all}
 use Rattle.ipc_footer.specs.declared.footer.Block.{Block}
 use Rattle.ipc.specs.WrittenFiles.{block_at}
 
@@ -31,14 +29,9 @@ module _ (old new bytes head body : List ℕ) (start end size : ℕ) (is : IsPut
   pub put_block : (block : Block) → block ≡ record { offset = pos start; metadata_length = pos (end - start - size); body_length = pos size } → block ≡ block_at (length old) head body
   put_block block e = rw (e, put_head, is.begins, is.long) refl
 
--- ---- ids
-
-module _ {A : Type 0} (found : A → Bool) where
-  one_found : (front back : List A) (x : A) → list_any found (front ++ x ∷ back) ≡ (list_any found front || (found x || list_any found back))
-  one_found front back x = list_any-append found front (x ∷ back)
-
-  pub any_push : (xs more : List A) (x : A) → more ≡ xs ++ x ∷ [] → list_any found xs ≡ false → found x ≡ false → list_any found more ≡ false
-  any_push xs more x e none h = ap (list_any found) e ∙ one_found xs [] x ∙ rw (none, h) refl
-
-  pub any_found : (xs front back : List A) (x : A) → xs ≡ front ++ x ∷ back → list_any found front ≡ false → found x ≡ true → true ≡ list_any found xs
-  any_found xs front back x e none h = sym (ap (list_any found) e ∙ one_found front back x ∙ rw (none, h) refl)
+-- what stands behind the first bytes is the message
+pub put_behind : (old new bytes : List ℕ) (start : ℕ) → new ≡ old ++ bytes → start ≡ length old → take (length new - start) (drop start new) ≡ bytes
+put_behind old new bytes start written begins =
+    let all : length new ≡ length old + length bytes = ap length written ∙ length-append old bytes in
+    let behind : drop start new ≡ bytes = ap (drop start) written ∙ drop_at old bytes start (sym begins) in
+    ap (take (length new - start)) behind ∙ take_all (length new - start) bytes (omega (arith, all, begins))

@@ -1,7 +1,8 @@
 -- Why a batch is not written, as the code goes through columns and messages.
-use Rattle.std.proofs.Common.{◌≡◌, ℕ, ◌^◌, ◌<◌, ◌≤◌, inl, inr, Bool, true, false, leb, List, [], ◌∷◌, ◌++◌, length, Option, Some, None, Ok, refl, sym, subst, ◌∙◌, append_assoc, arith}
+use Rattle.std.proofs.Common.{◌≡◌, ℕ, ◌^◌, ◌<◌, ◌≤◌, inl, inr, Bool, true, false, leb, List, [], ◌∷◌, ◌++◌, length, Option, Some, None, Ok, refl, sym, ap, subst, ◌∙◌, append_assoc, arith}
 use Rattle.std.specs.Prelude.{◌⊎◌, ◌&&◌}
 use Rattle.std.proofs.lemmas.Bool.{le-leb, lt-leb}
+use Rattle.std.proofs.lemmas.List.{append-nil}
 use Rattle.ipc_model.specs.declared.fault.NoForm.{NoForm}
 use Rattle.ipc_model.specs.declared.fault.NoForm.TheVariants.{Memory, Size, Dictionaries}
 use Rattle.nest_memory.specs.TypeTree.{TypeTree}
@@ -11,9 +12,18 @@ use Rattle.ipc_batch.specs.Batches.{BatchTree, all_within}
 use Rattle.ipc_batch.specs.BatchBytes as batches
 use Rattle.ipc_layout.specs.Written.{columns_body, no_form, IsUnwritten}
 use Rattle.ipc_needed.specs.Entries.{Entries}
-use Rattle.ipc.specs.Streams.{Arrays}
-use Rattle.ipc.specs.Written.{batch_tree, needed_by, is_column, are_columns, else_for, size_if, message_refusal, arrays_refusal, dictionary_refusal, each_refusal, batch_refusal, IsRefused}
-use Rattle.ipc.specs.WrittenFiles.{would_replace, dictionary_block_refusal, arrays_block_refusal, replaced_refusal, block_refusal}
+use Rattle.ipc_needed.specs.Puts.{any_anew}
+use Rattle.ipc_schema.specs.PickedLaws.{all_written}
+use Rattle.ipc_schema.specs.PickedSchemas.{stream_picked_at}
+use Rattle.ipc_schema.specs.Picks.{all}
+use Rattle.ipc_schema.specs.Schemas.{SchemaTree, stream_keyed_schema_at}
+use Rattle.ipc_schema.specs.SchemaBytes.{schema_message}
+use Rattle.ipc_schema.specs.SchemaLaws.{with_ids}
+use Rattle.ipc.specs.Streams.{Arrays, State, start}
+use Rattle.ipc.specs.Readers.{state_in}
+use Rattle.ipc.specs.Written.{batch_tree, needed_by, wholes_by, is_column, are_columns, else_for, size_if, message_refusal, arrays_refusal, dictionary_refusal, each_refusal, batch_refusal, IsRefused}
+use Rattle.ipc.specs.WrittenFiles.{state_or, Filed, puts_by, arrays_block_refusal, anew_refusal, puts_refusal, block_refusal}
+use Rattle.ipc.specs.WrittenLaws.{whole_schema}
 use Rattle.ipc.specs.WrittenLists.{IsMetadata, first_refused, later_refused, both_accepted}
 
 -- ---- columns
@@ -94,36 +104,47 @@ module _ (message : BatchTree → ℕ → List ℕ) (b : Arrays) (metadata : Bat
 
 -- ---- a batch of the columns of a schema
 
-module _ (types : List TypeTree) (sent : Entries) (b : Arrays) (are : are_columns types b.rows b.columns ≡ true) where
-  pub dictionary_stops : (why : NoForm) → IsRefused (each_refusal dictionary_refusal (needed_by sent b)) why → IsRefused (batch_refusal types sent b) why
-  dictionary_stops why refused = rw are (first_refused (each_refusal dictionary_refusal (needed_by sent b)) (arrays_refusal b) why refused)
+module _ (types : List TypeTree) (b : Arrays) (are : are_columns types b.rows b.columns ≡ true) where
+  module _ (sent : Entries) where
+    abbrev each : Option NoForm
+    each = each_refusal dictionary_refusal (wholes_by sent b)
 
-  pub arrays_stop : (why : NoForm) → each_refusal dictionary_refusal (needed_by sent b) ≡ None → IsRefused (arrays_refusal b) why → IsRefused (batch_refusal types sent b) why
-  arrays_stop why none refused = rw are (later_refused (each_refusal dictionary_refusal (needed_by sent b)) (arrays_refusal b) why none refused)
+    pub dictionary_stops : (why : NoForm) → IsRefused each why → IsRefused (batch_refusal types sent b) why
+    dictionary_stops why refused = rw are (first_refused each (arrays_refusal b) why refused)
 
-  pub batch_accepted : each_refusal dictionary_refusal (needed_by sent b) ≡ None → arrays_refusal b ≡ None → batch_refusal types sent b ≡ None
-  batch_accepted each last = rw are (both_accepted (each_refusal dictionary_refusal (needed_by sent b)) (arrays_refusal b) each last)
+    pub arrays_stop : (why : NoForm) → each ≡ None → IsRefused (arrays_refusal b) why → IsRefused (batch_refusal types sent b) why
+    arrays_stop why none refused = rw are (later_refused each (arrays_refusal b) why none refused)
+
+    pub batch_accepted : each ≡ None → arrays_refusal b ≡ None → batch_refusal types sent b ≡ None
+    batch_accepted none last = rw are (both_accepted each (arrays_refusal b) none last)
 
   -- in a file
+  module _ (f : Filed) where
+    pub anew_stops : any_anew f.sent (needed_by f.sent b) ≡ true → block_refusal types f b ≡ Some Dictionaries
+    anew_stops anew = rw (are, anew) refl
 
-  pub replaced_stops : would_replace sent (needed_by sent b) ≡ true → block_refusal types sent b ≡ Some Dictionaries
-  replaced_stops replaced = rw (are, replaced) refl
+    module _ (kept : any_anew f.sent (needed_by f.sent b) ≡ false) where
+      abbrev puts : Option NoForm
+      puts = puts_refusal f.state (puts_by f.sent b)
 
-  module _ (kept : would_replace sent (needed_by sent b) ≡ false) where
-    none_replaced : replaced_refusal sent (needed_by sent b) ≡ None
-    none_replaced = rw kept refl
+      none_anew : anew_refusal f.sent (needed_by f.sent b) ≡ None
+      none_anew = rw kept refl
 
-    pub dictionary_block_stops : (why : NoForm) → IsRefused (each_refusal dictionary_block_refusal (needed_by sent b)) why → IsRefused (block_refusal types sent b) why
-    dictionary_block_stops why refused =
-        let each : Option NoForm = each_refusal dictionary_block_refusal (needed_by sent b) in
-        rw are (later_refused (replaced_refusal sent (needed_by sent b)) (else_for each (arrays_block_refusal b)) why none_replaced (first_refused each (arrays_block_refusal b) why refused))
+      pub puts_stop : (why : NoForm) → IsRefused puts why → IsRefused (block_refusal types f b) why
+      puts_stop why refused = rw are (later_refused (anew_refusal f.sent (needed_by f.sent b)) (else_for puts (arrays_block_refusal b)) why none_anew (first_refused puts (arrays_block_refusal b) why refused))
 
-    pub arrays_block_stops : (why : NoForm) → each_refusal dictionary_block_refusal (needed_by sent b) ≡ None → IsRefused (arrays_block_refusal b) why → IsRefused (block_refusal types sent b) why
-    arrays_block_stops why none refused =
-        let each : Option NoForm = each_refusal dictionary_block_refusal (needed_by sent b) in
-        rw are (later_refused (replaced_refusal sent (needed_by sent b)) (else_for each (arrays_block_refusal b)) why none_replaced (later_refused each (arrays_block_refusal b) why none refused))
+      pub arrays_block_stops : (why : NoForm) → puts ≡ None → IsRefused (arrays_block_refusal b) why → IsRefused (block_refusal types f b) why
+      arrays_block_stops why none refused =
+          rw are (later_refused (anew_refusal f.sent (needed_by f.sent b)) (else_for puts (arrays_block_refusal b)) why none_anew (later_refused puts (arrays_block_refusal b) why none refused))
 
-    pub block_accepted : each_refusal dictionary_block_refusal (needed_by sent b) ≡ None → arrays_block_refusal b ≡ None → block_refusal types sent b ≡ None
-    block_accepted none last =
-        let each : Option NoForm = each_refusal dictionary_block_refusal (needed_by sent b) in
-        rw are (both_accepted (replaced_refusal sent (needed_by sent b)) (else_for each (arrays_block_refusal b)) none_replaced (both_accepted each (arrays_block_refusal b) none last))
+      pub block_accepted : puts ≡ None → arrays_block_refusal b ≡ None → block_refusal types f b ≡ None
+      block_accepted none last = rw are (both_accepted (anew_refusal f.sent (needed_by f.sent b)) (else_for puts (arrays_block_refusal b)) none_anew (both_accepted puts (arrays_block_refusal b) none last))
+
+-- ---- the schema
+
+-- behind a schema that is written nothing is known
+pub known_start : (s : SchemaTree) (message : List ℕ) (t : State) → message ≡ schema_message s → ((after : List ℕ) → stream_keyed_schema_at (schema_message s ++ after) ≡ Ok (with_ids s, after)) → state_in message ≡ Ok t → t ≡ start (all_written s)
+known_start s message t is keyed read =
+    let whole : stream_picked_at all (schema_message s) ≡ Ok (all_written s, []) = ap (stream_picked_at all) (sym (append-nil (schema_message s))) ∙ whole_schema s [] (keyed []) in
+    let again : state_in message ≡ Ok (start (all_written s)) = ap state_in is ∙ rw whole refl in
+    ap (state_or t) (sym read ∙ again)

@@ -1,22 +1,14 @@
 -- Values of dictionaries that only grow: others have in their place the same slots, and maybe more behind them.
-use Rattle.std.specs.Prelude.{◌≡◌, ℤ, List, ◌++◌, Option, Some, None, Result, Ok, Err}
+use Rattle.std.specs.Prelude.{◌≡◌, ℤ, List, Option, Some, None, Result, Ok, Err}
 use Rattle.std.specs.List.{AllByRecursion, AllZip}
 use Rattle.ipc_model.specs.declared.fault.Fault.{Fault}
-use Rattle.nest_memory.specs.TypeTree.{logical_type}
 use Rattle.nest_model.specs.Array.{IsArray}
-use Rattle.nest_model.specs.Layout.{Layout, layout_type}
-use Rattle.nest_model.specs.Meaning.{slots_of}
+use Rattle.nest_model.specs.Layout.{Layout}
 use Rattle.nest_model.specs.SameArray.{IsSameArray}
-use Rattle.nest_model.specs.Slot.{Slot}
 use Rattle.ipc_layout.specs.Columns.{Rest}
+use Rattle.ipc_layout.specs.Rekeyed.{AreGrown}
 use Rattle.ipc.specs.Streams.{Known, State, Arrays, known_at}
 use Rattle.ipc.specs.Written.{IsSameBatch}
-
--- the slots of d begin with those of c, and its type is the same, extensions looked through
-pub record AreGrown (c d : Layout) : Type 0 where
-  pub logical : logical_type (layout_type d) ≡ logical_type (layout_type c)
-  pub more : List Slot
-  pub slots : slots_of d ≡ slots_of c ++ more
 
 -- values that are there stay, and may be more; where none are, some may be
 abbrev pub IsGrown : Option Layout → Option Layout → Type 0

@@ -31,11 +31,12 @@ use Rattle.ipc_layout.specs.Meant.{CoversWhereSparse, IsPickable}
 use Rattle.ipc_layout.specs.Picked.{AheadTree, behind, views_in, passed_in, steps_in, picked_in, all_read}
 use Rattle.ipc_layout.specs.PickedLaws.{picked_same}
 use Rattle.ipc_layout.specs.ReadLaws.{ArePicks, Suits, EachSuits, found, array_is, item_is, items_are, picks_are, kind_stored, item_stored, ids_stored}
+use Rattle.ipc_layout.specs.Rekeyed.{AreGrown}
 use Rattle.ipc_layout.specs.Stored.{offset_form}
 use Rattle.ipc_layout.specs.declared.parts.Counts.{Counts}
 use Rattle.ipc_layout.specs.declared.parts.Wanted.{Wanted}
 use Rattle.ipc_layout.specs.declared.parts.Wanted.TheVariants.{Rows, Exactly, Any}
-use Rattle.ipc.specs.Grown.{AreGrown, IsOver, IsReadOver, AllGrown, AreAllArrays, AreSameArrays, ReadTogether, AreReadAgain}
+use Rattle.ipc.specs.Grown.{IsOver, IsReadOver, AllGrown, AreAllArrays, AreSameArrays, ReadTogether, AreReadAgain}
 use Rattle.ipc.specs.GrownReads.{then_read, then_same, then_checked, GoesOn, on_and_on, IsPart, then_part, Anything, any_read, node_next, buffer_next, head_next, rows_next, RowsFit, IsRead, IsReadOf, so_many, kind_next}
 use Rattle.ipc.specs.GrownSlots.{EachSame, list_same, map_same, sized_same, struct_same, union_same}
 

@@ -39,10 +39,11 @@ use Rattle.ipc_layout.proofs.Nested.{names_so}
 use Rattle.ipc_layout.specs.Columns.{Rest, RowsHead, Strings, are_texts, next_counts, next_bytes, validity_in, bits_in, natives_in, bytes_in, offsets_from, offsets_in, covered_in, are_wanted, node_in, buffer_in, head_in, boolean_in, native_in, fixed_size_binary_in, rows_in, strings_in, binary_in, text_of, text_in, key_names, names, keys_by, keys_in, keys_name, over_values, next_values, known_in, dictionary_in, of_form, of_kind, without_nulls}
 use Rattle.ipc_layout.specs.Keys.{key_native, key_form, are_logically, blanked}
 use Rattle.ipc_layout.specs.ReadLaws.{AreRead, after, checked, found, keys_are, keys_of_type}
+use Rattle.ipc_layout.specs.Rekeyed.{AreGrown}
 use Rattle.ipc_layout.specs.Stored.{Form, form_of, offset_form, only}
 use Rattle.ipc_layout.specs.declared.parts.Counts.{Counts}
 use Rattle.ipc_layout.specs.declared.parts.Wanted.{Wanted}
-use Rattle.ipc.specs.Grown.{AreGrown, AllGrown, IsOver, AreAllArrays, ReadTogether}
+use Rattle.ipc.specs.Grown.{AllGrown, IsOver, AreAllArrays, ReadTogether}
 use Rattle.ipc.specs.GrownSlots.{keyed_same}
 
 -- ---- what is read next

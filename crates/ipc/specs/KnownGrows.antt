@@ -24,13 +24,14 @@ use Rattle.ipc_batch.specs.Batches.{batch_at}
 use Rattle.ipc_layout.specs.Columns.{Rest, column_in, none_left}
 use Rattle.ipc_layout.specs.Picked.{picked_in}
 use Rattle.ipc_layout.specs.ReadLaws.{after, found, checked}
+use Rattle.ipc_layout.specs.Rekeyed.{AreGrown}
 use Rattle.ipc_layout.specs.declared.parts.Wanted.TheVariants.{Rows}
 use Rattle.ipc_needed.specs.KnownLaws.{entry_put, entry_kept}
 use Rattle.std.proofs.lemmas.Bool.{and_parts}
 use Rattle.nest_memory.specs.TypeEq.{same_type, same_type-decides}
 use Rattle.nest_concat.specs.Laid.{joined_layout, joins_past}
 use Rattle.nest_concat.proofs.LaidWholes.{two-joined, two-slots}
-use Rattle.ipc.specs.Grown.{IsGrown, AllGrown, IsOver, HoldsArray, AreAllArrays, AreSameArrays, ReadTogether, Grows, HasArrays, IsLater, IsBatchAgain, AreGrown}
+use Rattle.ipc.specs.Grown.{IsGrown, AllGrown, IsOver, HoldsArray, AreAllArrays, AreSameArrays, ReadTogether, Grows, HasArrays, IsLater, IsBatchAgain}
 use Rattle.ipc.specs.GrownColumns.{read_too, AreReadAlike, column_fits, grown_self, picked_next}
 use Rattle.ipc.specs.GrownReads.{Anything, any_read, then_read, then_same}
 use Rattle.ipc.specs.Streams.{Known, State, Arrays, known_at, values_at, rest_at, types_of, more_in, record_batch_in, named_in, data_place, may_come, only_column, with_values, column_in_batch, data_in, new_values_in, found_values, found_in, with_found, dictionary_in, is_among, with_more, joined_values}

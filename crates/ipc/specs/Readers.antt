@@ -10,7 +10,7 @@ use Rattle.ipc_model.specs.declared.spans.Span.{Span}
 use Rattle.ipc_model.specs.declared.spans.Step.{Step}
 use Rattle.ipc_model.specs.declared.spans.Step.TheVariants.{Read, Skip}
 use Rattle.ipc_schema.specs.Dictionaries.{Values, Seen}
-use Rattle.ipc_schema.specs.Picks.{Picks}
+use Rattle.ipc_schema.specs.Picks.{Picks, all}
 use Rattle.ipc_schema.specs.PickedSchemas.{PickedTree, stream_picked_at}
 use Rattle.ipc_schema.specs.Schemas.{SchemaTree}
 use Rattle.ipc.specs.Streams.{Arrays, Known, State, start, next_in, batches_in, picked_stream_in}
@@ -23,6 +23,10 @@ pub record ReaderTree : Type 0 where
 -- the reader that begins with bytes
 unfoldable pub reader_in : Picks → List ℕ → Result ReaderTree Fault
 reader_in picks bytes = stream_picked_at picks bytes >>= λ picked. Ok (record { state = start picked.0; left = picked.1 })
+
+-- what is known behind the message of a schema that bytes begin with
+abbrev pub state_in : List ℕ → Result State Fault
+state_in bytes = stream_picked_at all bytes >>= λ picked. Ok (start picked.0)
 
 -- a reader that has nothing left
 abbrev pub spent : State → ReaderTree

@@ -35,6 +35,7 @@ use Rattle.ipc_layout.specs.Columns.{Rest, column_in, none_left}
 use Rattle.ipc_layout.specs.Picked.{picked_in}
 use Rattle.ipc_layout.specs.declared.parts.Wanted.TheVariants.{Rows}
 use Rattle.ipc.specs.declared.batch.Batch.{Batch}
+use Rattle.ipc.specs.declared.state.Dictionaries.{Dictionaries}
 use Rattle.ipc.specs.declared.state.State as declared
 use Rattle.ipc.specs.declared.stream.Stream.{Stream}
 
@@ -278,6 +279,10 @@ known_of entries = map (λ e. (e.0, layout_of e.1)) entries
 
 abbrev pub state_of : declared.State → State
 state_of s = record { picked = picked_of s.picked; known = known_of s.known.entries; fresh = s.fresh.items }
+
+-- what a state says of dictionaries: the values that each has, and which are fresh
+abbrev pub dictionaries_of : Dictionaries → Known × List ℤ
+dictionaries_of d = (known_of d.known.entries, d.fresh.items)
 
 -- why values are not joined
 abbrev pub fault_of : Error → Fault

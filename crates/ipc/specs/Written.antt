@@ -1,5 +1,5 @@
 -- What a stream is written as ("IPC Streaming Format" of the Arrow columnar format), and why one is not written.
-use Rattle.std.specs.Prelude.{◌≡◌, ◌⊎◌, ◌^◌, ◌+◌, ℕ, suc, Bool, true, false, ◌&&◌, ◌==◌, nat_le, if◌then◌else◌, List, [], ◌∷◌, ◌++◌, map, length, Option, Some, None, Result, Ok, Err, ℤ}
+use Rattle.std.specs.Prelude.{◌≡◌, ◌⊎◌, ◌^◌, ◌+◌, ℕ, suc, Bool, true, false, ◌&&◌, ◌==◌, nat_le, if◌then◌else◌, List, [], ◌∷◌, ◌++◌, map, length, Option, Some, None, is_some, Result, Ok, Err, ℤ}
 use Rattle.std.specs.List.{AllByRecursion, AllZip, flat_map}
 use Rattle.nest_memory.specs.TypeTree.{TypeTree}
 use Rattle.nest_memory.specs.TypeEq.{same_type}
@@ -24,9 +24,10 @@ use Rattle.ipc_layout.specs.Rekeyed.{AreReadOver}
 use Rattle.ipc_layout.specs.Written.{column_node, written, buffers_of, columns_body, no_form}
 use Rattle.ipc_needed.specs.Entries.{Entries, own_entries}
 use Rattle.ipc_needed.specs.Needed.{entry_at, with_entries, needed}
-use Rattle.ipc_needed.specs.Known.{IsKnown, AreKnown, number_of, read_columns, read_values, known_with}
+use Rattle.ipc_needed.specs.Known.{Covers, CoversColumns, number_of, read_columns, read_values, known_with}
 use Rattle.ipc_needed.specs.Named.{IsNamed, AreNamed, seen_of_fields}
-use Rattle.ipc.specs.Streams.{Arrays, State, StreamTree, record_batch_in, dictionary_in, types_of, with_new}
+use Rattle.ipc_needed.specs.Puts.{Put, whole}
+use Rattle.ipc.specs.Streams.{Arrays, State, StreamTree, record_batch_in, dictionary_in, may_come, types_of, with_new, with_values}
 
 -- ---- bytes
 
@@ -46,13 +47,13 @@ batch_bytes b = batch_head b ++ columns_body b.columns
 abbrev pub one_column : Layout → Arrays
 one_column c = record { rows = len c; columns = c ∷ [] }
 
--- the message of an id's values, without its body
-abbrev pub dictionary_head : ℤ × Layout → List ℕ
-dictionary_head e = dictionary_message e.0 (batch_tree (one_column e.1)) (length (columns_body (e.1 ∷ [])))
+-- the message of what is put of an id, without its body
+abbrev pub dictionary_head : Put → List ℕ
+dictionary_head p = dictionary_message p.0 p.1.0 (batch_tree (one_column p.1.1)) (length (columns_body (p.1.1 ∷ [])))
 
 -- with its body
-unfoldable pub dictionary_bytes : ℤ × Layout → List ℕ
-dictionary_bytes e = dictionary_head e ++ columns_body (e.1 ∷ [])
+unfoldable pub dictionary_bytes : Put → List ℕ
+dictionary_bytes p = dictionary_head p ++ columns_body (p.1.1 ∷ [])
 
 -- the dictionaries that a batch needs, where these were written last
 abbrev pub needed_by : Entries → Arrays → Entries
@@ -62,18 +63,25 @@ needed_by sent b = needed sent b.columns
 abbrev pub sent_behind : Entries → Arrays → Entries
 sent_behind sent b = with_entries sent (needed_by sent b)
 
--- a batch behind the dictionaries that it needs
-unfoldable pub part_bytes : Entries → Arrays → List ℕ
-part_bytes sent b = flat_map dictionary_bytes (needed_by sent b) ++ batch_bytes b
+-- what is put before a batch in a stream: all values of each
+abbrev pub wholes_by : Entries → Arrays → List Put
+wholes_by sent b = map whole (needed_by sent b)
+
+-- a batch behind what is put before it
+unfoldable pub part_bytes : (Entries → Arrays → List Put) → Entries → Arrays → List ℕ
+part_bytes puts sent b = flat_map dictionary_bytes (puts sent b) ++ batch_bytes b
 
 -- batches, one after another
-unfoldable pub batches_bytes : Entries → List Arrays → List ℕ
-batches_bytes sent [] = []
-batches_bytes sent (b ∷ bs) = part_bytes sent b ++ batches_bytes (sent_behind sent b) bs
+unfoldable pub batches_bytes : (Entries → Arrays → List Put) → Entries → List Arrays → List ℕ
+batches_bytes puts sent [] = []
+batches_bytes puts sent (b ∷ bs) = part_bytes puts sent b ++ batches_bytes puts (sent_behind sent b) bs
 
 -- the message of the schema, the batches, the end mark
-unfoldable pub stream_bytes : SchemaTree → List Arrays → List ℕ
-stream_bytes s bs = schema_message s ++ (batches_bytes [] bs ++ end_mark)
+unfoldable pub messages_bytes : (Entries → Arrays → List Put) → SchemaTree → List Arrays → List ℕ
+messages_bytes puts s bs = schema_message s ++ (batches_bytes puts [] bs ++ end_mark)
+
+abbrev pub stream_bytes : SchemaTree → List Arrays → List ℕ
+stream_bytes s bs = messages_bytes wholes_by s bs
 
 -- ---- why a stream is not written
 
@@ -116,9 +124,9 @@ message_refusal columns rows head = else_for (no_form columns) (else_for (size_i
 unfoldable pub arrays_refusal : Arrays → Option NoForm
 arrays_refusal b = message_refusal b.columns b.rows (batch_head b)
 
--- of the values of an id
-unfoldable pub dictionary_refusal : ℤ × Layout → Option NoForm
-dictionary_refusal e = message_refusal (e.1 ∷ []) (len e.1) (dictionary_head e)
+-- of what is put of an id
+unfoldable pub dictionary_refusal : Put → Option NoForm
+dictionary_refusal p = message_refusal (p.1.1 ∷ []) (len p.1.1) (dictionary_head p)
 
 -- the first reason of any of them
 abbrev pub each_refusal : {A : Type 0} → (A → Option NoForm) → List A → Option NoForm
@@ -127,15 +135,16 @@ each_refusal refusal (x ∷ xs) = else_for (refusal x) (each_refusal refusal xs)
 
 -- of a batch of columns of these types: a dictionary that it needs, then the batch
 abbrev pub batch_refusal : List TypeTree → Entries → Arrays → Option NoForm
-batch_refusal types sent b = if are_columns types b.rows b.columns then else_for (each_refusal dictionary_refusal (needed_by sent b)) (arrays_refusal b) else Some Columns
+batch_refusal types sent b = if are_columns types b.rows b.columns then else_for (each_refusal dictionary_refusal (wholes_by sent b)) (arrays_refusal b) else Some Columns
 
--- the first reason batch by batch, each behind what the batches before it need
-abbrev pub refusal_from : (Entries → Arrays → Option NoForm) → Entries → List Arrays → Option NoForm
-refusal_from refusal sent [] = None
-refusal_from refusal sent (b ∷ bs) = else_for (refusal sent b) (refusal_from refusal (sent_behind sent b) bs)
+-- the first reason of any of them, one after another, each where what came before it leads
+abbrev pub refusal_from : {S A : Type 0} → (S → A → S) → (S → A → Option NoForm) → S → List A → Option NoForm
+refusal_from next refusal s [] = None
+refusal_from next refusal s (x ∷ xs) = else_for (refusal s x) (refusal_from next refusal (next s x) xs)
 
+-- batch by batch, each behind what the batches before it need
 abbrev pub batches_refusal : List TypeTree → Entries → List Arrays → Option NoForm
-batches_refusal types sent bs = refusal_from (batch_refusal types) sent bs
+batches_refusal types sent bs = refusal_from sent_behind (batch_refusal types) sent bs
 
 -- the first reason why a stream is not written: the schema, then batch by batch
 abbrev pub stream_refusal : SchemaTree → List Arrays → Option NoForm
@@ -191,12 +200,12 @@ pub record IsWhole (s : State) : Type 0 where
   pub steps : s.picked.steps ≡ all_steps s.picked.schema.fields
   pub seen : s.picked.seen ≡ seen_of_fields s.picked.schema.fields
 
--- where such columns can come: what their keys name is known
+-- where such columns can come: of what their keys name at least that is known
 pub record ReadsBatch (s : State) (b : Arrays) : Type 0 where
   pub whole : IsWhole s
   pub columns : are_columns (types_of s.picked.schema) b.rows b.columns ≡ true
   pub named : AreNamed s.picked.schema.fields b.columns
-  pub known : AreKnown s.known b.columns
+  pub known : CoversColumns s.known b.columns
 
 -- a batch that is written is read back
 pub record IsReadAgain (b : Arrays) : Type 0 where
@@ -206,31 +215,31 @@ pub record IsReadAgain (b : Arrays) : Type 0 where
   pub columns : (s : State) → ReadsBatch s b → record_batch_in s parts ≡ Ok (read_arrays s.known b)
   pub over : AreReadOver b.columns
 
--- what is known behind a dictionary
+-- what is known behind all values of an id
 abbrev pub known_more : State → ℤ × Layout → State
 known_more s e = with_new s e.0 (read_values s.known (number_of e.0) e.1)
 
--- where the values of an id can come: what is inside of them is known, and in a file the id is new
-pub record ReadsValues (once : Bool) (s : State) (e : ℤ × Layout) : Type 0 where
-  pub named : IsNamed s.picked.seen.named e
-  pub inside : AllByRecursion (IsKnown s.known) (own_entries (suc (number_of e.0)) e.1)
-  pub new : once ≡ true → entry_at s.known e.0 ≡ None
+-- where what is put of an id can come: of what is inside of its values at least that is known, and it is allowed: in a file the id has no values twice
+pub record ReadsPut (once : Bool) (s : State) (p : Put) : Type 0 where
+  pub named : IsNamed s.picked.seen.named p.1
+  pub inside : AllByRecursion (Covers s.known) (own_entries (suc (number_of p.1.0)) p.1.1)
+  pub comes : may_come once p.0 (is_some (entry_at s.known p.1.0)) ≡ Ok tt
 
--- a dictionary that is written is read back
-pub record IsDictionaryAgain (e : ℤ × Layout) : Type 0 where
+-- what is put of an id is read back: its values are known from then on, or stand behind those that are
+pub record IsPutAgain (p : Put) : Type 0 where
   pub parts : Parts
-  pub message : IsMessage (dictionary_bytes e) (dictionary_head e) (columns_body (e.1 ∷ [])) parts
+  pub message : IsMessage (dictionary_bytes p) (dictionary_head p) (columns_body (p.1.1 ∷ [])) parts
   pub kind : parts.root.kind ≡ DictionaryBatch
-  pub values : (once : Bool) (s : State) → ReadsValues once s e → dictionary_in once s parts ≡ Ok (known_more s e)
-  pub over : AreReadOver (e.1 ∷ [])
+  pub values : (once : Bool) (s : State) → ReadsPut once s p → dictionary_in once s parts ≡ with_values p.0 s p.1.0 (read_values s.known (number_of p.1.0) p.1.1)
+  pub over : AreReadOver (p.1.1 ∷ [])
 
--- a batch with what it needs
-pub record IsPartAgain (sent : Entries) (b : Arrays) : Type 0 where
-  pub dictionaries : AllByRecursion IsDictionaryAgain (needed_by sent b)
+-- a batch behind what is put before it
+pub record IsPartAgain (ps : List Put) (b : Arrays) : Type 0 where
+  pub dictionaries : AllByRecursion IsPutAgain ps
   pub batch : IsReadAgain b
   pub fits : AllByRecursion IsArray b.columns
 
 -- batches, one after another
-abbrev pub AreAgain : Entries → List Arrays → Type 0
-AreAgain sent [] = Unit {0}
-AreAgain sent (b ∷ bs) = IsPartAgain sent b × AreAgain (sent_behind sent b) bs
+abbrev pub AreAgain : (Entries → Arrays → List Put) → Entries → List Arrays → Type 0
+AreAgain puts sent [] = Unit {0}
+AreAgain puts sent (b ∷ bs) = IsPartAgain (puts sent b) b × AreAgain puts (sent_behind sent b) bs

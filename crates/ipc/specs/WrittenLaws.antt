@@ -1,5 +1,5 @@
 -- A stream that is written is read back.
-use Rattle.std.specs.Prelude.{◌≡◌, ℕ, suc, ◌-◌, Bool, true, false, ◌&&◌, ◌==◌, ℤ, List, [], ◌∷◌, ◌++◌, map, length, Option, Some, None, is_some, Result, Ok, Err, refl, if◌then◌else◌}
+use Rattle.std.specs.Prelude.{◌≡◌, ℕ, suc, ◌-◌, Bool, true, false, ◌&&◌, ◌==◌, nat_lt, ℤ, List, [], ◌∷◌, ◌++◌, map, length, Option, Some, None, is_some, Result, Ok, Err, refl, if◌then◌else◌}
 use Rattle.std.proofs.Common.{sym, ap, subst, ◌∙◌, append_assoc, arith}
 use Rattle.std.specs.List.{AllByRecursion, flat_map, list_any}
 use Rattle.std.proofs.lemmas.Bool.Decides.{Decides-eqb}
@@ -33,6 +33,7 @@ use Rattle.ipc_schema.specs.SchemaBytes.{schema_message}
 use Rattle.ipc_schema.specs.SchemaLaws.{with_ids}
 use Rattle.ipc_batch.specs.Batches.{batch_at}
 use Rattle.ipc_batch.specs.BatchLaws.{IsReadBack}
+use Rattle.ipc_batch.specs.DictionaryBytes.{delta_byte}
 use Rattle.ipc_batch.specs.DictionaryLaws.{IsDictionaryBack}
 use Rattle.ipc_layout.specs.declared.parts.Wanted.TheVariants.{Rows}
 use Rattle.ipc_layout.specs.Columns.{Rest, columns_in, each_in, none_left, column_in}
@@ -42,17 +43,18 @@ use Rattle.ipc_layout.specs.Rekeyed.{AreReadOver}
 use Rattle.ipc_layout.specs.Written.{columns_body}
 use Rattle.ipc_needed.specs.Entries.{Entries, own_entries, columns_own}
 use Rattle.ipc_needed.specs.Needed.{entry_at}
-use Rattle.ipc_needed.specs.Known.{IsKnown, Follows, ComeInOrder, AreAllKnown, number_of, read_columns, read_values, known_with}
+use Rattle.ipc_needed.specs.Known.{IsKnown, Covers, Follows, ComeInOrder, AreAllKnown, number_of, read_columns, read_values, known_with}
 use Rattle.ipc_needed.specs.Named.{ids_of, values_of, IsNamed, AreNamed, seen_of_fields}
 use Rattle.ipc_needed.specs.Again.{written_rest, AreColumnsAgain, AreValuesAgain}
 use Rattle.ipc_needed.specs.Again as again
-use Rattle.ipc_needed.specs.AgainLaws.{columns_again, values_again, columns_known}
+use Rattle.ipc_needed.specs.AgainLaws.{columns_again, covers_all, values_again, columns_known}
 use Rattle.ipc_needed.specs.KnownLaws.{columns_needed_of}
 use Rattle.ipc_needed.specs.NamedLaws.{are_named}
-use Rattle.ipc.specs.Streams.{Arrays, State, fresh_behind, has_views, start, record_batch_in, dictionary_in, data_in, may_come, known_at, only_column, message_in, of_kind, next_in, batches_in, types_of, values_at, picked_stream_in, stream_in}
+use Rattle.ipc_needed.specs.Puts.{Put, whole}
+use Rattle.ipc.specs.Streams.{Arrays, State, fresh_behind, has_views, start, record_batch_in, dictionary_in, data_in, may_come, known_at, only_column, with_values, message_in, of_kind, next_in, batches_in, types_of, values_at, picked_stream_in, stream_in}
 use Rattle.ipc.specs.StreamLaws.{by_message, one_by_one}
 use Rattle.ipc.specs.WrittenLists.{first_accepts, others_accept}
-use Rattle.ipc.specs.Written.{batch_tree, batch_head, batch_bytes, one_column, dictionary_head, dictionary_bytes, needed_by, sent_behind, part_bytes, batches_bytes, stream_bytes, is_column, are_columns, batch_refusal, batches_refusal, read_arrays, known_behind, read_batches, shown_batches, shown_stream, IsSameBatch, AreSameBatches, IsWhole, ReadsBatch, ReadsValues, IsReadAgain, IsDictionaryAgain, IsPartAgain, AreAgain, known_more}
+use Rattle.ipc.specs.Written.{batch_tree, batch_head, batch_bytes, one_column, dictionary_head, dictionary_bytes, needed_by, wholes_by, sent_behind, part_bytes, batches_bytes, messages_bytes, stream_bytes, is_column, are_columns, batch_refusal, batches_refusal, read_arrays, known_behind, read_batches, shown_batches, shown_stream, IsSameBatch, AreSameBatches, IsWhole, ReadsBatch, ReadsPut, IsReadAgain, IsPutAgain, IsPartAgain, AreAgain, known_more}
 
 first_is : (a b : Bool) → (a && b) ≡ true → a ≡ true
 first_is true b h = refl
@@ -148,56 +150,50 @@ only_of t rows body rest c h = by (column_in t (Rows rows) body rest) h
     by (Ok x) h = left x.0 (none_left x.1) h
     by (Err f) h = cc
 
-abbrev IsBack : ℤ × Layout → Type 0
-IsBack e = IsDictionaryBack e.0 (batch_tree (one_column e.1)) (dictionary_head e) (columns_body (e.1 ∷ []))
+abbrev IsBack : Put → Type 0
+IsBack p = IsDictionaryBack p.0 p.1.0 (batch_tree (one_column p.1.1)) (dictionary_head p) (columns_body (p.1.1 ∷ []))
 
--- values come whole; in a file once
-may_again : (once there : Bool) → (once ≡ true → there ≡ false) → may_come once false there ≡ Ok tt
-may_again true true h = absurd (cc (h refl))
-may_again true false h = refl
-may_again false there h = refl
+-- a flag says what it was put for
+said : (delta : Bool) → nat_lt 0 (delta_byte delta) ≡ delta
+said true = refl
+said false = refl
 
-is_new : (known : Option Layout) → known ≡ None → is_some known ≡ false
-is_new known h = ap is_some h
-
-data_again : (e : ℤ × Layout) (once : Bool) (s : State) (message : IsBack e) → ReadsValues once s e → data_in once (is_some (known_at s.known e.0)) message.parts.metadata message.table ≡ Ok (message.place, false)
+data_again : (p : Put) (once : Bool) (s : State) (message : IsBack p) → ReadsPut once s p → data_in once (is_some (known_at s.known p.1.0)) message.parts.metadata message.table ≡ Ok (message.place, p.0)
 unfolding data_in
-data_again e once s message reads =
-    let may : may_come once false (is_some (known_at s.known e.0)) ≡ Ok tt = may_again once (is_some (known_at s.known e.0)) (λ h. is_new (known_at s.known e.0) (reads.new h)) in
-    rw (message.batch_place, message.no_delta, may) refl
+data_again p once s message reads = rw (message.batch_place, message.same_delta, said p.0, reads.comes) refl
 
-values_known : (e : ℤ × Layout) (once : Bool) (s : State) (message : IsBack e) → AreReadOver (e.1 ∷ []) → ReadsValues once s e → dictionary_in once s message.parts ≡ Ok (known_more s e)
+values_known : (p : Put) (once : Bool) (s : State) (message : IsBack p) → AreReadOver (p.1.1 ∷ []) → ReadsPut once s p → dictionary_in once s message.parts ≡ with_values p.0 s p.1.0 (read_values s.known (number_of p.1.0) p.1.1)
 unfolding dictionary_in
-values_known e once s message over reads =
+values_known p once s message over reads =
     let m : Parts = message.parts in
-    let named : IsNamed s.picked.seen.named e = reads.named in
+    let named : IsNamed s.picked.seen.named p.1 = reads.named in
     let id : ℕ = named.id in
-    let c : Layout = e.1 in
-    let number : number_of e.0 ≡ id = ap number_of named.number in
-    let inside : AllByRecursion (IsKnown s.known) (own_entries (suc id) c) = subst (λ (n : ℕ). AllByRecursion (IsKnown s.known) (own_entries (suc n) c)) number reads.inside in
+    let c : Layout = p.1.1 in
+    let number : number_of p.1.0 ≡ id = ap number_of named.number in
+    let inside : AllByRecursion (Covers s.known) (own_entries (suc id) c) = subst (λ (n : ℕ). AllByRecursion (Covers s.known) (own_entries (suc n) c)) number reads.inside in
     let back : AreValuesAgain s.known id c = values_again s.known id c over inside in
     let v : Values = values_of id c in
     let values : values_at s.known (outer_ids s.picked.seen.named v.inside) ≡ again.values_at s.known (own_entries (suc id) c) = ap (values_at s.known) named.outer ∙ values_of_ids s.known (own_entries (suc id) c) in
     let column : only_column v.values (len c) (columns_body (c ∷ [])) (written_rest (c ∷ []) (again.values_at s.known (own_entries (suc id) c))) ≡ Ok (read_values s.known id c) =
     only_of v.values (len c) (columns_body (c ∷ [])) (written_rest (c ∷ []) (again.values_at s.known (own_entries (suc id) c))) (read_values s.known id c) back.read in
-    let at : data_in once (is_some (known_at s.known e.0)) m.metadata message.table ≡ Ok (message.place, false) = data_again e once s message reads in
-    let same : read_values s.known id c ≡ read_values s.known (number_of e.0) c = ap (λ (n : ℕ). read_values s.known n c) (sym number) in
+    let at : data_in once (is_some (known_at s.known p.1.0)) m.metadata message.table ≡ Ok (message.place, p.0) = data_again p once s message reads in
+    let same : read_values s.known id c ≡ read_values s.known (number_of p.1.0) c = ap (λ (n : ℕ). read_values s.known n c) (sym number) in
     rw (message.visited, message.same_id, named.values, at, message.same_batch, values, message.same_body, column, same) refl
 
-pub dictionary_again : (e : ℤ × Layout) → IsBack e → AreReadOver (e.1 ∷ []) → IsDictionaryAgain e
+pub dictionary_again : (p : Put) → IsBack p → AreReadOver (p.1.1 ∷ []) → IsPutAgain p
 unfolding dictionary_bytes
-dictionary_again e message over =
-    let body : List ℕ = columns_body (e.1 ∷ []) in
+dictionary_again p message over =
+    let body : List ℕ = columns_body (p.1.1 ∷ []) in
     record {
       parts = message.parts;
       message = record {
-        again = λ rest. rw (append_assoc (dictionary_head e) body rest) (message.again rest);
+        again = λ rest. rw (append_assoc (dictionary_head p) body rest) (message.again rest);
         version = message.version;
         head_long = message.long;
         body_long = ap length message.same_body;
       };
       kind = message.kind;
-      values = λ once s reads. values_known e once s message over reads;
+      values = λ once s reads. values_known p once s message over reads;
       over = over;
     }
 
@@ -220,22 +216,21 @@ by_kind s m kind version is = ap (λ (v : Version). allowed v) version ∙ ap (�
     allowed : Version → Result (Option Arrays × State) Fault
     allowed v = in_any_version v s.picked.schema.fields s.picked.steps >>= λ read. of_kind m.root.kind s m
 
--- a dictionary that is written is passed, and known from then on
-values_next : (e : ℤ × Layout) → IsDictionaryAgain e → (s : State) (rest : List ℕ) → ReadsValues false s e → next_in s (dictionary_bytes e ++ rest) ≡ next_in (known_more s e) rest
+-- all values of an id that are written are passed, and known from then on
+values_next : (e : ℤ × Layout) → IsPutAgain (whole e) → (s : State) (rest : List ℕ) → ReadsPut false s (whole e) → next_in s (dictionary_bytes (whole e) ++ rest) ≡ next_in (known_more s e) rest
 values_next e ok s rest reads =
     let m : Parts = ok.parts in
     let known : message_in s m ≡ Ok (None, known_more s e) = by_kind s m DictionaryBatch ok.message.version ok.kind ∙ rw (ok.values false s reads) refl in
-    by_message s (dictionary_bytes e ++ rest) ∙ rw (ok.message.again rest, known) refl
+    by_message s (dictionary_bytes (whole e) ++ rest) ∙ rw (ok.message.again rest, known) refl
 
-not_once : (e : ℤ × Layout) (s : State) → false ≡ true → entry_at s.known e.0 ≡ None
-not_once e s h = cc
-
-all_values_next : (es : Entries) (s : State) (rest : List ℕ) → AllByRecursion IsDictionaryAgain es → AllByRecursion (IsNamed s.picked.seen.named) es → ComeInOrder s.known es → next_in s (flat_map dictionary_bytes es ++ rest) ≡ next_in (behind_values s es) rest
+all_values_next : (es : Entries) (s : State) (rest : List ℕ) → AllByRecursion IsPutAgain (map whole es) → AllByRecursion (IsNamed s.picked.seen.named) es → ComeInOrder s.known es → next_in s (flat_map dictionary_bytes (map whole es) ++ rest) ≡ next_in (behind_values s es) rest
 all_values_next [] s rest ok named order = refl
 all_values_next (e ∷ es) s rest ok named order =
-    let behind : List ℕ = flat_map dictionary_bytes es ++ rest in
-    let bytes : flat_map dictionary_bytes (e ∷ es) ++ rest ≡ dictionary_bytes e ++ behind = ap (λ (x : List ℕ). x ++ rest) (flat_map-cons dictionary_bytes e es) ∙ append_assoc (dictionary_bytes e) (flat_map dictionary_bytes es) rest in
-    let reads : ReadsValues false s e = record { named = named.0; inside = order.0; new = not_once e s } in
+    let ps : List Put = map whole es in
+    let behind : List ℕ = flat_map dictionary_bytes ps ++ rest in
+    let bytes : flat_map dictionary_bytes (whole e ∷ ps) ++ rest ≡ dictionary_bytes (whole e) ++ behind =
+    ap (λ (x : List ℕ). x ++ rest) (flat_map-cons dictionary_bytes (whole e) ps) ∙ append_assoc (dictionary_bytes (whole e)) (flat_map dictionary_bytes ps) rest in
+    let reads : ReadsPut false s (whole e) = record { named = named.0; inside = covers_all s.known (own_entries (suc (number_of e.0)) e.1) order.0; comes = refl } in
     ap (next_in s) bytes ∙ values_next e ok.0 s behind reads ∙ all_values_next es (known_more s e) rest ok.1 named.1 order.1
 
 -- a batch that is written is the next one
@@ -245,7 +240,7 @@ batch_next b ok s rest reads =
     let read : message_in s m ≡ Ok (Some (read_arrays s.known b), s) = by_kind s m RecordBatch ok.message.version ok.kind ∙ rw (ok.columns s reads) refl in
     by_message s (batch_bytes b ++ rest) ∙ rw (ok.message.again rest, read) refl
 
-over_each : (es : Entries) → AllByRecursion IsDictionaryAgain es → AllByRecursion (λ e. AreReadOver (e.1 ∷ [])) es
+over_each : (es : Entries) → AllByRecursion IsPutAgain (map whole es) → AllByRecursion (λ e. AreReadOver (e.1 ∷ [])) es
 over_each [] ok = tt
 over_each (e ∷ es) ok = (ok.0.over, over_each es ok.1)
 
@@ -259,18 +254,18 @@ pub record IsBehind (s : State) (sent : Entries) : Type 0 where
 abbrev pub behind_batch : State → Entries → Arrays → State
 behind_batch s sent b = behind_values s (needed_by sent b)
 
-pub part_known : (s : State) (sent : Entries) (b : Arrays) → IsPartAgain sent b → IsBehind s sent → AreAllKnown s.known sent b.columns
+pub part_known : (s : State) (sent : Entries) (b : Arrays) → IsPartAgain (wholes_by sent b) b → IsBehind s sent → AreAllKnown s.known sent b.columns
 part_known s sent b ok behind = columns_known s.known sent b.columns behind.follows (over_each (needed_by sent b) ok.dictionaries)
 
-pub part_named : (s : State) (sent : Entries) (b : Arrays) → IsPartAgain sent b → IsBehind s sent → are_columns (types_of s.picked.schema) b.rows b.columns ≡ true → AreNamed s.picked.schema.fields b.columns
+pub part_named : (s : State) (sent : Entries) (b : Arrays) → IsPartAgain (wholes_by sent b) b → IsBehind s sent → are_columns (types_of s.picked.schema) b.rows b.columns ≡ true → AreNamed s.picked.schema.fields b.columns
 part_named s sent b ok behind columns = are_named s.picked.schema.fields b.columns behind.form (types_are (types_of s.picked.schema) b.rows b.columns columns) ok.fits
 
-pub still_behind : (s : State) (sent : Entries) (b : Arrays) → IsPartAgain sent b → IsBehind s sent → IsBehind (behind_batch s sent b) (sent_behind sent b)
+pub still_behind : (s : State) (sent : Entries) (b : Arrays) → IsPartAgain (wholes_by sent b) b → IsBehind s sent → IsBehind (behind_batch s sent b) (sent_behind sent b)
 still_behind s sent b ok behind = record { whole = record { steps = behind.whole.steps; seen = behind.whole.seen }; form = behind.form; follows = (part_known s sent b ok behind).follows }
 
 -- a batch with what it needs is the next one, and what it needs is known from then on
-pub part_next : (s : State) (sent : Entries) (b : Arrays) (rest : List ℕ) → IsPartAgain sent b → IsBehind s sent → are_columns (types_of s.picked.schema) b.rows b.columns ≡ true
-    → next_in s (part_bytes sent b ++ rest) ≡ Ok ((Some (read_arrays (known_behind s.known sent b) b), behind_batch s sent b), rest)
+pub part_next : (s : State) (sent : Entries) (b : Arrays) (rest : List ℕ) → IsPartAgain (wholes_by sent b) b → IsBehind s sent → are_columns (types_of s.picked.schema) b.rows b.columns ≡ true
+    → next_in s (part_bytes wholes_by sent b ++ rest) ≡ Ok ((Some (read_arrays (known_behind s.known sent b) b), behind_batch s sent b), rest)
 unfolding part_bytes
 part_next s sent b rest ok behind columns =
     let es : Entries = needed_by sent b in
@@ -279,8 +274,8 @@ part_next s sent b rest ok behind columns =
     let each : AllByRecursion (IsNamed (seen_of_fields s.picked.schema.fields).named) es = columns_needed_of (IsNamed (seen_of_fields s.picked.schema.fields).named) sent 0 b.columns named.each in
     let here : AllByRecursion (IsNamed s.picked.seen.named) es = subst (λ (seen : Seen). AllByRecursion (IsNamed seen.named) es) (sym behind.whole.seen) each in
     let next : State = behind_batch s sent b in
-    let reads : ReadsBatch next b = record { whole = record { steps = behind.whole.steps; seen = behind.whole.seen }; columns = columns; named = named; known = all.own } in
-    ap (next_in s) (append_assoc (flat_map dictionary_bytes es) (batch_bytes b) rest)
+    let reads : ReadsBatch next b = record { whole = record { steps = behind.whole.steps; seen = behind.whole.seen }; columns = columns; named = named; known = covers_all next.known (columns_own 0 b.columns) all.own } in
+    ap (next_in s) (append_assoc (flat_map dictionary_bytes (wholes_by sent b)) (batch_bytes b) rest)
     ∙ all_values_next es s (batch_bytes b ++ rest) ok.dictionaries here all.order
     ∙ batch_next b ok.batch next rest reads
 
@@ -298,26 +293,26 @@ pub has_columns : (types : List TypeTree) (sent : Entries) (b : Arrays) → batc
 has_columns types sent b h = columns_if (are_columns types b.rows b.columns) _ h
 
 -- batches are read back in their order, up to the end mark
-pub batches_again : (s : State) (sent : Entries) (bs : List Arrays) (rest : List ℕ) → AreAgain sent bs → IsBehind s sent → batches_refusal (types_of s.picked.schema) sent bs ≡ None
-    → batches_in s (batches_bytes sent bs ++ (end_mark ++ rest)) ≡ Ok (read_batches s.known sent bs, rest)
+pub batches_again : (s : State) (sent : Entries) (bs : List Arrays) (rest : List ℕ) → AreAgain wholes_by sent bs → IsBehind s sent → batches_refusal (types_of s.picked.schema) sent bs ≡ None
+    → batches_in s (batches_bytes wholes_by sent bs ++ (end_mark ++ rest)) ≡ Ok (read_batches s.known sent bs, rest)
 unfolding batches_bytes
 batches_again s sent [] rest ok behind none = rw (one_by_one s (end_mark ++ rest), end_read s rest) refl
 batches_again s sent (b ∷ bs) rest ok behind none =
-    let others : List ℕ = batches_bytes (sent_behind sent b) bs ++ (end_mark ++ rest) in
-    let bytes : (part_bytes sent b ++ batches_bytes (sent_behind sent b) bs) ++ (end_mark ++ rest) ≡ part_bytes sent b ++ others = append_assoc (part_bytes sent b) (batches_bytes (sent_behind sent b) bs) (end_mark ++ rest) in
+    let others : List ℕ = batches_bytes wholes_by (sent_behind sent b) bs ++ (end_mark ++ rest) in
+    let bytes : (part_bytes wholes_by sent b ++ batches_bytes wholes_by (sent_behind sent b) bs) ++ (end_mark ++ rest) ≡ part_bytes wholes_by sent b ++ others = append_assoc (part_bytes wholes_by sent b) (batches_bytes wholes_by (sent_behind sent b) bs) (end_mark ++ rest) in
     let columns = has_columns (types_of s.picked.schema) sent b (first_accepts (batch_refusal (types_of s.picked.schema) sent b) (batches_refusal (types_of s.picked.schema) (sent_behind sent b) bs) none) in
     let more = others_accept (batch_refusal (types_of s.picked.schema) sent b) (batches_refusal (types_of s.picked.schema) (sent_behind sent b) bs) none in
     let next : State = behind_batch s sent b in
     let back = batches_again next (sent_behind sent b) bs rest ok.1 (still_behind s sent b ok.0 behind) more in
-    rw (bytes, one_by_one s (part_bytes sent b ++ others), part_next s sent b others ok.0 behind columns, back) refl
+    rw (bytes, one_by_one s (part_bytes wholes_by sent b ++ others), part_next s sent b others ok.0 behind columns, back) refl
 
 -- with the same rows of the same arrays
-same_batch : (s : State) (sent : Entries) (b : Arrays) → IsPartAgain sent b → IsBehind s sent → IsSameBatch b (read_arrays (known_behind s.known sent b) b)
+same_batch : (s : State) (sent : Entries) (b : Arrays) → IsPartAgain (wholes_by sent b) b → IsBehind s sent → IsSameBatch b (read_arrays (known_behind s.known sent b) b)
 same_batch s sent b ok behind =
-    let back = columns_again (known_behind s.known sent b) b.columns ok.batch.over (part_known s sent b ok behind).own in
+    let back = columns_again (known_behind s.known sent b) b.columns ok.batch.over (covers_all (known_behind s.known sent b) (columns_own 0 b.columns) (part_known s sent b ok behind).own) in
     record { rows = refl; types = back.types; slots = back.slots }
 
-same_each : (s : State) (sent : Entries) (bs : List Arrays) → AreAgain sent bs → IsBehind s sent → AreSameBatches bs (read_batches s.known sent bs)
+same_each : (s : State) (sent : Entries) (bs : List Arrays) → AreAgain wholes_by sent bs → IsBehind s sent → AreSameBatches bs (read_batches s.known sent bs)
 same_each s sent [] ok behind = tt
 same_each s sent (b ∷ bs) ok behind = (same_batch s sent b ok.0 behind, same_each (behind_batch s sent b) (sent_behind sent b) bs ok.1 (still_behind s sent b ok.0 behind))
 
@@ -333,18 +328,18 @@ nothing_follows id c h = cc
 pub starts_behind : (s : SchemaTree) → keyed_form s.fields ≡ Ok tt → IsBehind (written_start s) []
 starts_behind s form = record { whole = record { steps = refl; seen = refl }; form = form; follows = nothing_follows }
 
-pub same_batches : (s : SchemaTree) (bs : List Arrays) → keyed_form s.fields ≡ Ok tt → AreAgain [] bs → AreSameBatches bs (shown_batches bs)
+pub same_batches : (s : SchemaTree) (bs : List Arrays) → keyed_form s.fields ≡ Ok tt → AreAgain wholes_by [] bs → AreSameBatches bs (shown_batches bs)
 same_batches s bs form ok = same_each (written_start s) [] bs ok (starts_behind s form)
 
 -- a schema that is written is read with all of its columns
-whole_schema : (s : SchemaTree) (after : List ℕ) → stream_keyed_schema_at (schema_message s ++ after) ≡ Ok (with_ids s, after) → stream_picked_at all (schema_message s ++ after) ≡ Ok (all_written s, after)
+pub whole_schema : (s : SchemaTree) (after : List ℕ) → stream_keyed_schema_at (schema_message s ++ after) ≡ Ok (with_ids s, after) → stream_picked_at all (schema_message s ++ after) ≡ Ok (all_written s, after)
 whole_schema s after keyed = stream_same (schema_message s ++ after) ∙ ap (λ (r : Result ((SchemaTree × Seen) × List ℕ) Fault). r >>= λ x. Ok (all_picked x.0.0 x.0.1, x.1)) keyed
 
-pub stream_again : (s : SchemaTree) (bs : List Arrays) (rest : List ℕ) → ((after : List ℕ) → stream_keyed_schema_at (schema_message s ++ after) ≡ Ok (with_ids s, after)) → keyed_form s.fields ≡ Ok tt → batches_refusal (types_of s) [] bs ≡ None → AreAgain [] bs
+pub stream_again : (s : SchemaTree) (bs : List Arrays) (rest : List ℕ) → ((after : List ℕ) → stream_keyed_schema_at (schema_message s ++ after) ≡ Ok (with_ids s, after)) → keyed_form s.fields ≡ Ok tt → batches_refusal (types_of s) [] bs ≡ None → AreAgain wholes_by [] bs
     → stream_in (stream_bytes s bs ++ rest) ≡ Ok (shown_stream s bs (length (stream_bytes s bs)))
-unfolding stream_bytes picked_stream_in
+unfolding messages_bytes picked_stream_in
 stream_again s bs rest keyed form none ok =
-    let behind : List ℕ = batches_bytes [] bs ++ (end_mark ++ rest) in
+    let behind : List ℕ = batches_bytes wholes_by [] bs ++ (end_mark ++ rest) in
     let bytes : stream_bytes s bs ++ rest ≡ schema_message s ++ behind = simp append_assoc in
     let size : length (stream_bytes s bs ++ rest) - length rest ≡ length (stream_bytes s bs) = omega (arith, length-append (stream_bytes s bs) rest) in
     let again : length (schema_message s ++ behind) - length rest ≡ length (stream_bytes s bs) = ap (λ (x : List ℕ). length x - length rest) (sym bytes) ∙ size in

@@ -18,9 +18,10 @@ use Rattle.ipc_schema.specs.SchemaBytes.{schema_message}
 use Rattle.ipc_footer.specs.declared.footer.Block.{Block}
 use Rattle.ipc_layout.specs.Written.{columns_body}
 use Rattle.ipc_needed.specs.Entries.{Entries}
+use Rattle.ipc_needed.specs.Puts.{Put}
 use Rattle.ipc.specs.Streams.{Arrays}
-use Rattle.ipc.specs.Written.{batch_tree, batch_head, batch_bytes, dictionary_head, dictionary_bytes, needed_by, sent_behind, part_bytes, batches_bytes, are_columns, else_for, schema_refusal, metadata_refusal, reason_in, arrays_refusal, dictionary_refusal, batch_refusal, each_refusal, refusal_from, batches_refusal, IsRefused, IsPartAgain, AreAgain}
-use Rattle.ipc.specs.WrittenFiles.{block_at, written_block, dictionary_blocks, Blocks, no_blocks, batch_place, blocks_from, long_refusal, dictionary_block_refusal, arrays_block_refusal, replaced_refusal, block_refusal, blocks_refusal}
+use Rattle.ipc.specs.Written.{batch_tree, batch_bytes, dictionary_head, dictionary_bytes, sent_behind, part_bytes, batches_bytes, else_for, schema_refusal, metadata_refusal, reason_in, each_refusal, refusal_from, IsRefused, IsPartAgain, AreAgain}
+use Rattle.ipc.specs.WrittenFiles.{block_at, written_block, dictionary_blocks, Blocks, no_blocks, batch_place, puts_by, blocks_from, long_refusal, after, Filed, filed_behind}
 
 module _ {A B : Type 0} (f : A → B) where
   pub taken : (xs : List A) (i : ℕ) (x : A) → i < length xs → x ≡ get_or xs i x → map f (take (i + 1) xs) ≡ map f (take i xs) ++ f x ∷ []
@@ -93,92 +94,105 @@ flat_push bytes xs x =
 joined : (old out new some more all : List ℕ) → out ≡ old ++ some → new ≡ out ++ more → all ≡ some ++ more → new ≡ old ++ all
 joined old out new some more all so_far is whole = rw (is, so_far, whole) (append_assoc old some more)
 
--- ---- dictionaries, one after another
+-- ---- what is put of dictionaries, one after another
 
-pub dictionaries_push : (old out new : List ℕ) (es more : Entries) (e : ℤ × Layout) → more ≡ es ++ e ∷ [] → out ≡ old ++ flat_map dictionary_bytes es → new ≡ out ++ dictionary_bytes e → new ≡ old ++ flat_map dictionary_bytes more
-dictionaries_push old out new es more e pushed so_far is =
-    joined old out new (flat_map dictionary_bytes es) (dictionary_bytes e) (flat_map dictionary_bytes more) so_far is (ap (flat_map dictionary_bytes) pushed ∙ flat_push dictionary_bytes es e)
+pub dictionaries_push : (old out new : List ℕ) (ps more : List Put) (p : Put) → more ≡ ps ++ p ∷ [] → out ≡ old ++ flat_map dictionary_bytes ps → new ≡ out ++ dictionary_bytes p → new ≡ old ++ flat_map dictionary_bytes more
+dictionaries_push old out new ps more p pushed so_far is =
+    joined old out new (flat_map dictionary_bytes ps) (dictionary_bytes p) (flat_map dictionary_bytes more) so_far is (ap (flat_map dictionary_bytes) pushed ∙ flat_push dictionary_bytes ps p)
 
-abbrev dictionary_block : ℕ → ℤ × Layout → Block
-dictionary_block place e = block_at place (dictionary_head e) (columns_body (e.1 ∷ []))
+abbrev dictionary_block : ℕ → Put → Block
+dictionary_block place p = block_at place (dictionary_head p) (columns_body (p.1.1 ∷ []))
 
-dictionary_blocks_push : (place : ℕ) (es : Entries) (e : ℤ × Layout) → dictionary_blocks place (es ++ e ∷ []) ≡ dictionary_blocks place es ++ dictionary_block (place + length (flat_map dictionary_bytes es)) e ∷ []
+dictionary_blocks_push : (place : ℕ) (ps : List Put) (p : Put) → dictionary_blocks place (ps ++ p ∷ []) ≡ dictionary_blocks place ps ++ dictionary_block (place + length (flat_map dictionary_bytes ps)) p ∷ []
 unfolding dictionary_blocks
-dictionary_blocks_push place [] e =
+dictionary_blocks_push place [] p =
     let start : place + 0 ≡ place = omega arith in
     rw start refl
-dictionary_blocks_push place (d ∷ es) e =
-    let next : ℕ = place + length (dictionary_bytes d) in
-    let all : length (flat_map dictionary_bytes (d ∷ es)) ≡ length (dictionary_bytes d) + length (flat_map dictionary_bytes es) = ap length (flat_map-cons dictionary_bytes d es) ∙ length-append (dictionary_bytes d) (flat_map dictionary_bytes es) in
-    let same : next + length (flat_map dictionary_bytes es) ≡ place + length (flat_map dictionary_bytes (d ∷ es)) = omega (arith, all) in
-    rw (dictionary_blocks_push next es e, same) refl
+dictionary_blocks_push place (q ∷ ps) p =
+    let next : ℕ = place + length (dictionary_bytes q) in
+    let all : length (flat_map dictionary_bytes (q ∷ ps)) ≡ length (dictionary_bytes q) + length (flat_map dictionary_bytes ps) = ap length (flat_map-cons dictionary_bytes q ps) ∙ length-append (dictionary_bytes q) (flat_map dictionary_bytes ps) in
+    let same : next + length (flat_map dictionary_bytes ps) ≡ place + length (flat_map dictionary_bytes (q ∷ ps)) = omega (arith, all) in
+    rw (dictionary_blocks_push next ps p, same) refl
 
-pub dictionary_blocks_more : (place start : ℕ) (es more : Entries) (e : ℤ × Layout) (front old new : List Block) (block : Block) → more ≡ es ++ e ∷ [] → old ≡ front ++ dictionary_blocks place es → new ≡ old ++ block ∷ [] → block ≡ dictionary_block start e
-    → start ≡ place + length (flat_map dictionary_bytes es) → new ≡ front ++ dictionary_blocks place more
-dictionary_blocks_more place start es more e front old new block pushed so_far is there begins =
-    rw (is, so_far, pushed, dictionary_blocks_push place es e, there, begins) (append_assoc front (dictionary_blocks place es) (dictionary_block (place + length (flat_map dictionary_bytes es)) e ∷ []))
+pub dictionary_blocks_more : (place start : ℕ) (ps more : List Put) (p : Put) (front old new : List Block) (block : Block) → more ≡ ps ++ p ∷ [] → old ≡ front ++ dictionary_blocks place ps → new ≡ old ++ block ∷ [] → block ≡ dictionary_block start p
+    → start ≡ place + length (flat_map dictionary_bytes ps) → new ≡ front ++ dictionary_blocks place more
+dictionary_blocks_more place start ps more p front old new block pushed so_far is there begins =
+    rw (is, so_far, pushed, dictionary_blocks_push place ps p, there, begins) (append_assoc front (dictionary_blocks place ps) (dictionary_block (place + length (flat_map dictionary_bytes ps)) p ∷ []))
+
+-- ---- one after another, each where what came before it leads
+
+module _ {S A : Type 0} (next : S → A → S) where
+  pub after_push : (s : S) (xs : List A) (x : A) → after next s (xs ++ x ∷ []) ≡ next (after next s xs) x
+  after_push s [] x = refl
+  after_push s (y ∷ xs) x = after_push (next s y) xs x
+
+  pub after_more : (s old new : S) (xs more : List A) (x : A) → more ≡ xs ++ x ∷ [] → old ≡ after next s xs → new ≡ next old x → new ≡ after next s more
+  after_more s old new xs more x pushed so_far is = rw (is, so_far, pushed) (sym (after_push s xs x))
+
+  module _ (refusal : S → A → Option NoForm) where
+    pub from_push : (s : S) (xs : List A) (x : A) → refusal_from next refusal s xs ≡ None → refusal (after next s xs) x ≡ None → refusal_from next refusal s (xs ++ x ∷ []) ≡ None
+    from_push s [] x none h = rw h refl
+    from_push s (y ∷ xs) x none h =
+        let r : Option NoForm = refusal s y in
+        both_accepted r (refusal_from next refusal (next s y) (xs ++ x ∷ [])) (first_accepts r (refusal_from next refusal (next s y) xs) none) (from_push (next s y) xs x (others_accept r (refusal_from next refusal (next s y) xs) none) h)
+
+    from_fails : (s : S) (front back : List A) (x : A) (why : NoForm) → refusal_from next refusal s front ≡ None → IsRefused (refusal (after next s front) x) why → IsRefused (refusal_from next refusal s (front ++ x ∷ back)) why
+    from_fails s [] back x why none refused = first_refused (refusal s x) (refusal_from next refusal (next s x) back) why refused
+    from_fails s (y ∷ front) back x why none refused =
+        let r : Option NoForm = refusal s y in
+        later_refused r (refusal_from next refusal (next s y) (front ++ x ∷ back)) why (first_accepts r (refusal_from next refusal (next s y) front) none) (from_fails (next s y) front back x why (others_accept r (refusal_from next refusal (next s y) front) none) refused)
+
+    pub from_refused : (s now : S) (xs front back : List A) (x : A) (why : NoForm) → xs ≡ front ++ x ∷ back → now ≡ after next s front → refusal_from next refusal s front ≡ None → IsRefused (refusal now x) why → IsRefused (refusal_from next refusal s xs) why
+    from_refused s now xs front back x why e last none refused =
+        let here : IsRefused (refusal (after next s front) x) why = subst (λ (y : S). IsRefused (refusal y x) why) last refused in
+        subst (λ (ys : List A). IsRefused (refusal_from next refusal s ys) why) (sym e) (from_fails s front back x why none here)
+
+    pub from_more : (s now : S) (xs more : List A) (x : A) → more ≡ xs ++ x ∷ [] → now ≡ after next s xs → refusal_from next refusal s xs ≡ None → refusal now x ≡ None → refusal_from next refusal s more ≡ None
+    from_more s now xs more x e last none h =
+        let here : refusal (after next s xs) x ≡ None = subst (λ (y : S). refusal y x ≡ None) last h in
+        subst (λ (ys : List A). refusal_from next refusal s ys ≡ None) (sym e) (from_push s xs x none here)
 
 -- ---- batches, one after another
 
 -- what was written last behind batches
 abbrev pub sent_after : Entries → List Arrays → Entries
-sent_after sent [] = sent
-sent_after sent (b ∷ bs) = sent_after (sent_behind sent b) bs
+sent_after sent bs = after sent_behind sent bs
 
-pub sent_push : (sent : Entries) (bs : List Arrays) (b : Arrays) → sent_after sent (bs ++ b ∷ []) ≡ sent_behind (sent_after sent bs) b
-sent_push sent [] b = refl
-sent_push sent (c ∷ bs) b = sent_push (sent_behind sent c) bs b
+pub filed_sent : (f : Filed) (bs : List Arrays) → (after filed_behind f bs).sent ≡ sent_after f.sent bs
+filed_sent f [] = refl
+filed_sent f (b ∷ bs) = filed_sent (filed_behind f b) bs
 
-pub sent_more : (sent old new : Entries) (bs more : List Arrays) (b : Arrays) → more ≡ bs ++ b ∷ [] → old ≡ sent_after sent bs → new ≡ sent_behind old b → new ≡ sent_after sent more
-sent_more sent old new bs more b pushed so_far is = rw (is, so_far, pushed) (sym (sent_push sent bs b))
-
-module _ (refusal : Entries → Arrays → Option NoForm) where
-  pub from_push : (sent : Entries) (bs : List Arrays) (b : Arrays) → refusal_from refusal sent bs ≡ None → refusal (sent_after sent bs) b ≡ None → refusal_from refusal sent (bs ++ b ∷ []) ≡ None
-  from_push sent [] b none h = rw h refl
-  from_push sent (c ∷ bs) b none h =
-      let r : Option NoForm = refusal sent c in
+module _ (puts : Entries → Arrays → List Put) where
+  batches_push : (sent : Entries) (bs : List Arrays) (b : Arrays) → batches_bytes puts sent (bs ++ b ∷ []) ≡ batches_bytes puts sent bs ++ part_bytes puts (sent_after sent bs) b
+  unfolding batches_bytes
+  batches_push sent [] b = append-nil (part_bytes puts sent b)
+  batches_push sent (c ∷ bs) b =
       let next : Entries = sent_behind sent c in
-      both_accepted r (refusal_from refusal next (bs ++ b ∷ [])) (first_accepts r (refusal_from refusal next bs) none) (from_push next bs b (others_accept r (refusal_from refusal next bs) none) h)
+      ap (λ (x : List ℕ). part_bytes puts sent c ++ x) (batches_push next bs b) ∙ sym (append_assoc (part_bytes puts sent c) (batches_bytes puts next bs) (part_bytes puts (sent_after next bs) b))
 
-  from_fails : (sent : Entries) (front back : List Arrays) (b : Arrays) (why : NoForm) → refusal_from refusal sent front ≡ None → IsRefused (refusal (sent_after sent front) b) why → IsRefused (refusal_from refusal sent (front ++ b ∷ back)) why
-  from_fails sent [] back b why none refused = first_refused (refusal sent b) (refusal_from refusal (sent_behind sent b) back) why refused
-  from_fails sent (c ∷ front) back b why none refused =
-      let r : Option NoForm = refusal sent c in
-      let next : Entries = sent_behind sent c in
-      later_refused r (refusal_from refusal next (front ++ b ∷ back)) why (first_accepts r (refusal_from refusal next front) none) (from_fails next front back b why (others_accept r (refusal_from refusal next front) none) refused)
+  pub none_written : (sent : Entries) → batches_bytes puts sent [] ≡ []
+  unfolding batches_bytes
+  none_written sent = refl
 
-  pub from_refused : (sent now : Entries) (bs front back : List Arrays) (b : Arrays) (why : NoForm) → bs ≡ front ++ b ∷ back → now ≡ sent_after sent front → refusal_from refusal sent front ≡ None → IsRefused (refusal now b) why → IsRefused (refusal_from refusal sent bs) why
-  from_refused sent now bs front back b why e last none refused =
-      let here : IsRefused (refusal (sent_after sent front) b) why = subst (λ (x : Entries). IsRefused (refusal x b) why) last refused in
-      subst (λ (xs : List Arrays). IsRefused (refusal_from refusal sent xs) why) (sym e) (from_fails sent front back b why none here)
+  pub bytes_push : (old out new : List ℕ) (sent now : Entries) (bs more : List Arrays) (b : Arrays) → more ≡ bs ++ b ∷ [] → now ≡ sent_after sent bs → out ≡ old ++ batches_bytes puts sent bs → new ≡ out ++ part_bytes puts now b → new ≡ old ++ batches_bytes puts sent more
+  bytes_push old out new sent now bs more b pushed last so_far is =
+      let whole : batches_bytes puts sent more ≡ batches_bytes puts sent bs ++ part_bytes puts now b = ap (batches_bytes puts sent) pushed ∙ batches_push sent bs b ∙ ap (λ (x : Entries). batches_bytes puts sent bs ++ part_bytes puts x b) (sym last) in
+      joined old out new (batches_bytes puts sent bs) (part_bytes puts now b) (batches_bytes puts sent more) so_far is whole
 
-  pub from_more : (sent now : Entries) (bs more : List Arrays) (b : Arrays) → more ≡ bs ++ b ∷ [] → now ≡ sent_after sent bs → refusal_from refusal sent bs ≡ None → refusal now b ≡ None → refusal_from refusal sent more ≡ None
-  from_more sent now bs more b e last none h =
-      let here : refusal (sent_after sent bs) b ≡ None = subst (λ (x : Entries). refusal x b ≡ None) last h in
-      subst (λ (xs : List Arrays). refusal_from refusal sent xs ≡ None) (sym e) (from_push sent bs b none here)
+  again_push : (sent : Entries) (bs : List Arrays) (b : Arrays) → AreAgain puts sent bs → IsPartAgain (puts (sent_after sent bs) b) b → AreAgain puts sent (bs ++ b ∷ [])
+  again_push sent [] b ok part = (part, tt)
+  again_push sent (c ∷ bs) b ok part = (ok.0, again_push (sent_behind sent c) bs b ok.1 part)
 
-batches_push : (sent : Entries) (bs : List Arrays) (b : Arrays) → batches_bytes sent (bs ++ b ∷ []) ≡ batches_bytes sent bs ++ part_bytes (sent_after sent bs) b
-unfolding batches_bytes
-batches_push sent [] b = append-nil (part_bytes sent b)
-batches_push sent (c ∷ bs) b =
-    let next : Entries = sent_behind sent c in
-    ap (λ (x : List ℕ). part_bytes sent c ++ x) (batches_push next bs b) ∙ sym (append_assoc (part_bytes sent c) (batches_bytes next bs) (part_bytes (sent_after next bs) b))
+  pub again_more : (sent now : Entries) (bs more : List Arrays) (b : Arrays) → more ≡ bs ++ b ∷ [] → now ≡ sent_after sent bs → AreAgain puts sent bs → IsPartAgain (puts now b) b → AreAgain puts sent more
+  again_more sent now bs more b pushed last ok part = subst (AreAgain puts sent) (sym pushed) (again_push sent bs b ok (subst (λ (x : Entries). IsPartAgain (puts x b) b) last part))
 
-pub none_written : (sent : Entries) → batches_bytes sent [] ≡ []
-unfolding batches_bytes
-none_written sent = refl
+  pub part_long : (sent : Entries) (b : Arrays) → length (part_bytes puts sent b) ≡ length (flat_map dictionary_bytes (puts sent b)) + length (batch_bytes b)
+  unfolding part_bytes
+  part_long sent b = length-append (flat_map dictionary_bytes (puts sent b)) (batch_bytes b)
 
-pub bytes_push : (old out new : List ℕ) (sent now : Entries) (bs more : List Arrays) (b : Arrays) → more ≡ bs ++ b ∷ [] → now ≡ sent_after sent bs → out ≡ old ++ batches_bytes sent bs → new ≡ out ++ part_bytes now b → new ≡ old ++ batches_bytes sent more
-bytes_push old out new sent now bs more b pushed last so_far is =
-    let whole : batches_bytes sent more ≡ batches_bytes sent bs ++ part_bytes now b = ap (batches_bytes sent) pushed ∙ batches_push sent bs b ∙ ap (λ (x : Entries). batches_bytes sent bs ++ part_bytes x b) (sym last) in
-    joined old out new (batches_bytes sent bs) (part_bytes now b) (batches_bytes sent more) so_far is whole
-
-again_push : (sent : Entries) (bs : List Arrays) (b : Arrays) → AreAgain sent bs → IsPartAgain (sent_after sent bs) b → AreAgain sent (bs ++ b ∷ [])
-again_push sent [] b ok part = (part, tt)
-again_push sent (c ∷ bs) b ok part = (ok.0, again_push (sent_behind sent c) bs b ok.1 part)
-
-pub again_more : (sent now : Entries) (bs more : List Arrays) (b : Arrays) → more ≡ bs ++ b ∷ [] → now ≡ sent_after sent bs → AreAgain sent bs → IsPartAgain now b → AreAgain sent more
-again_more sent now bs more b pushed last ok part = subst (AreAgain sent) (sym pushed) (again_push sent bs b ok (subst (λ (x : Entries). IsPartAgain x b) last part))
+  pub batches_long : (sent : Entries) (b : Arrays) (bs : List Arrays) → length (batches_bytes puts sent (b ∷ bs)) ≡ length (part_bytes puts sent b) + length (batches_bytes puts (sent_behind sent b) bs)
+  unfolding batches_bytes
+  batches_long sent b bs = length-append (part_bytes puts sent b) (batches_bytes puts (sent_behind sent b) bs)
 
 -- ---- a schema
 
@@ -214,64 +228,26 @@ short_accepted r head none short =
     let fits : leb (2 ^ 31) (length head) ≡ false = lt-leb _ _ short in
     rw (none, fits) refl
 
--- what is written into a file is written into a stream
-each_accepts : (es : Entries) → each_refusal dictionary_block_refusal es ≡ None → each_refusal dictionary_refusal es ≡ None
-each_accepts [] none = refl
-each_accepts (e ∷ es) none =
-    let first : dictionary_block_refusal e ≡ None = first_accepts (dictionary_block_refusal e) (each_refusal dictionary_block_refusal es) none in
-    let others : each_refusal dictionary_block_refusal es ≡ None = others_accept (dictionary_block_refusal e) (each_refusal dictionary_block_refusal es) none in
-    both_accepted (dictionary_refusal e) (each_refusal dictionary_refusal es) (first_accepts (dictionary_refusal e) (long_refusal (dictionary_head e)) first) (each_accepts es others)
-
-pub part_accepts : (types : List TypeTree) (sent : Entries) (b : Arrays) → block_refusal types sent b ≡ None → batch_refusal types sent b ≡ None
-part_accepts types sent b none = by (are_columns types b.rows b.columns) none
-  where
-    new : Entries
-    new = needed_by sent b
-
-    by : (are : Bool) → (if are then else_for (replaced_refusal sent (needed_by sent b)) (else_for (each_refusal dictionary_block_refusal (needed_by sent b)) (arrays_block_refusal b)) else Some Columns) ≡ None
-        → (if are then else_for (each_refusal dictionary_refusal (needed_by sent b)) (arrays_refusal b) else Some Columns) ≡ None
-    by false h = cc
-    by true h =
-        let each : Option NoForm = each_refusal dictionary_block_refusal (needed_by sent b) in
-        let rest : else_for each (arrays_block_refusal b) ≡ None = others_accept (replaced_refusal sent (needed_by sent b)) (else_for each (arrays_block_refusal b)) h in
-        let last : arrays_block_refusal b ≡ None = others_accept each (arrays_block_refusal b) rest in
-        both_accepted (each_refusal dictionary_refusal (needed_by sent b)) (arrays_refusal b) (each_accepts (needed_by sent b) (first_accepts each (arrays_block_refusal b) rest)) (first_accepts (arrays_refusal b) (long_refusal (batch_head b)) last)
-
-pub stream_accepts : (types : List TypeTree) (sent : Entries) (bs : List Arrays) → blocks_refusal types sent bs ≡ None → batches_refusal types sent bs ≡ None
-stream_accepts types sent [] none = refl
-stream_accepts types sent (b ∷ bs) none =
-    let r : Option NoForm = block_refusal types sent b in
-    let others : Option NoForm = blocks_refusal types (sent_behind sent b) bs in
-    both_accepted (batch_refusal types sent b) (batches_refusal types (sent_behind sent b) bs) (part_accepts types sent b (first_accepts r others none)) (stream_accepts types (sent_behind sent b) bs (others_accept r others none))
-
 -- ---- the blocks of batches
 
 -- blocks behind blocks
 abbrev pub with_part : Blocks → ℕ → Entries → Arrays → Blocks
-with_part blocks place sent b = record { dictionaries = blocks.dictionaries ++ dictionary_blocks place (needed_by sent b); batches = blocks.batches ++ written_block (batch_place place sent b) b ∷ [] }
+with_part blocks place sent b = record { dictionaries = blocks.dictionaries ++ dictionary_blocks place (puts_by sent b); batches = blocks.batches ++ written_block (batch_place place sent b) b ∷ [] }
 
-pub part_long : (sent : Entries) (b : Arrays) → length (part_bytes sent b) ≡ length (flat_map dictionary_bytes (needed_by sent b)) + length (batch_bytes b)
-unfolding part_bytes
-part_long sent b = length-append (flat_map dictionary_bytes (needed_by sent b)) (batch_bytes b)
-
-pub batches_long : (sent : Entries) (b : Arrays) (bs : List Arrays) → length (batches_bytes sent (b ∷ bs)) ≡ length (part_bytes sent b) + length (batches_bytes (sent_behind sent b) bs)
-unfolding batches_bytes
-batches_long sent b bs = length-append (part_bytes sent b) (batches_bytes (sent_behind sent b) bs)
-
-blocks_push : (place : ℕ) (sent : Entries) (bs : List Arrays) (b : Arrays) → blocks_from place sent (bs ++ b ∷ []) ≡ with_part (blocks_from place sent bs) (place + length (batches_bytes sent bs)) (sent_after sent bs) b
+blocks_push : (place : ℕ) (sent : Entries) (bs : List Arrays) (b : Arrays) → blocks_from place sent (bs ++ b ∷ []) ≡ with_part (blocks_from place sent bs) (place + length (batches_bytes puts_by sent bs)) (sent_after sent bs) b
 unfolding blocks_from
 blocks_push place sent [] b =
-    let start : place + length (batches_bytes sent []) ≡ place = omega (arith, ap length (none_written sent)) in
-    let none : dictionary_blocks place (needed_by sent b) ++ [] ≡ dictionary_blocks place (needed_by sent b) = append-nil (dictionary_blocks place (needed_by sent b)) in
+    let start : place + length (batches_bytes puts_by sent []) ≡ place = omega (arith, ap length (none_written puts_by sent)) in
+    let none : dictionary_blocks place (puts_by sent b) ++ [] ≡ dictionary_blocks place (puts_by sent b) = append-nil (dictionary_blocks place (puts_by sent b)) in
     rw (start, none) refl
 blocks_push place sent (c ∷ bs) b =
     let next : Entries = sent_behind sent c in
     let behind : ℕ = batch_place place sent c + length (batch_bytes c) in
-    let same : behind + length (batches_bytes next bs) ≡ place + length (batches_bytes sent (c ∷ bs)) = omega (arith, batches_long sent c bs, part_long sent c) in
-    let new : List Block = dictionary_blocks (behind + length (batches_bytes next bs)) (needed_by (sent_after next bs) b) in
-    rw (sym same, blocks_push behind next bs b, append_assoc (dictionary_blocks place (needed_by sent c)) (blocks_from behind next bs).dictionaries new) refl
+    let same : behind + length (batches_bytes puts_by next bs) ≡ place + length (batches_bytes puts_by sent (c ∷ bs)) = omega (arith, batches_long puts_by sent c bs, part_long puts_by sent c) in
+    let new : List Block = dictionary_blocks (behind + length (batches_bytes puts_by next bs)) (puts_by (sent_after next bs) b) in
+    rw (sym same, blocks_push behind next bs b, append_assoc (dictionary_blocks place (puts_by sent c)) (blocks_from behind next bs).dictionaries new) refl
 
-pub blocks_more : (place start : ℕ) (sent now : Entries) (bs more : List Arrays) (b : Arrays) (old new : Blocks) → more ≡ bs ++ b ∷ [] → now ≡ sent_after sent bs → old ≡ blocks_from place sent bs → new ≡ with_part old start now b → start ≡ place + length (batches_bytes sent bs)
+pub blocks_more : (place start : ℕ) (sent now : Entries) (bs more : List Arrays) (b : Arrays) (old new : Blocks) → more ≡ bs ++ b ∷ [] → now ≡ sent_after sent bs → old ≡ blocks_from place sent bs → new ≡ with_part old start now b → start ≡ place + length (batches_bytes puts_by sent bs)
     → new ≡ blocks_from place sent more
 blocks_more place start sent now bs more b old new pushed last so_far is begins = rw (is, so_far, last, begins, pushed) (sym (blocks_push place sent bs b))
 

@@ -21,7 +21,7 @@ pub use block::{read_batch_block, read_dictionary_block};
 pub use file::{File, FileReader, read_file, read_file_columns};
 pub use reader::StreamReader;
 pub use reading::{next_batch, read_message};
-pub use state::State;
+pub use state::{Dictionaries, State};
 pub use stream::{Stream, read_stream, read_stream_columns};
 pub use writing::{put_batch, put_part, write_stream};
 pub use writing_files::{Blocks, put_part_blocks, write_file};

@@ -1,12 +1,17 @@
 //! What is known of a stream or a file where one of its messages begins.
 ghost use Rattle.std.specs.Prelude.{◌≡◌, IfOk, map, OnOk};
+ghost use Rattle.std.specs.BTreeMap.{insert_entry};
+ghost use Rattle.std.specs.Ordering.{int_cmp};
 ghost use Rattle.nest_array.specs.Seen.{layout_of};
+ghost use Rattle.ipc_model.specs.Reading.{Gives};
 ghost use Rattle.ipc_schema.specs.PickedSchemas.{picked_of};
 ghost use Rattle.ipc_layout.specs.Keys.{dictionary_of};
-ghost use Rattle.ipc.specs.Streams.{start, known_of, values_at, state_of, with_more, with_new};
+ghost use Rattle.ipc.specs.Readers.{state_in};
+ghost use Rattle.ipc.specs.Streams.{start, dictionaries_of, known_of, values_at, state_of, with_more, with_new};
 
 use crate::fresh::fresh_behind;
-use ipc_schema::PickedSchema;
+use ipc_model::Fault;
+use ipc_schema::{Columns, PickedSchema, read_picked_schema};
 use nest_array::any::AnyArray;
 use std::alloc::{AllocError, Global};
 use std::collections::BTreeMap;
@@ -20,6 +25,45 @@ pub struct State {
     pub fresh: Vec<i64>,
 }
 
+/// What a state says of dictionaries: the values that each has, and which are fresh.
+#[derive(Drop)]
+pub struct Dictionaries {
+    known: BTreeMap<i64, AnyArray>,
+    fresh: Vec<i64>,
+}
+
+// An id has a copy of values, which shares their buffers.
+fn insert_copy(
+    alloc: Global,
+    known: &mut BTreeMap<i64, AnyArray>,
+    id: i64,
+    values: &AnyArray,
+) -> Result<(), AllocError>
+    ensures { OnOk result (known_of known.new.entries ≡ insert_entry int_cmp (known_of known.old.entries) id (layout_of values.now)) }
+{
+    match values.clone(alloc) {
+        Err(_) => Err(AllocError),
+        Ok(values) => {
+            known.insert(id, values)?;
+            Ok(())
+        }
+    }
+}
+
+// A copy of the values of each id.
+fn copied(
+    alloc: Global,
+    known: &BTreeMap<i64, AnyArray>,
+) -> Result<BTreeMap<i64, AnyArray>, AllocError>
+    ensures { IfOk result (λ copy. known_of copy.entries ≡ known_of known.now.entries) }
+{
+    let mut copy = BTreeMap::new(alloc);
+    for (id, values) in known.iter() {
+        insert_copy(alloc, &mut copy, *id, values)?;
+    }
+    Ok(copy)
+}
+
 impl State {
     /// Behind a schema, where no dictionary came yet.
     pub fn new(alloc: Global, picked: PickedSchema) -> State
@@ -30,6 +74,33 @@ impl State {
             known: BTreeMap::new(alloc),
             fresh: Vec::new(alloc),
         }
+    }
+
+    /// Behind the message of a schema that bytes begin with, of all its columns.
+    pub fn read(alloc: Global, bytes: &[u8]) -> Result<State, Fault>
+        ensures { Gives state_of result (state_in bytes.now) }
+    {
+        let (picked, _) = read_picked_schema(alloc, Columns::All, bytes)?;
+        Ok(State::new(alloc, picked))
+    }
+
+    /// A copy of what it says of dictionaries, which shares their buffers.
+    pub fn dictionaries(&self, alloc: Global) -> Result<Dictionaries, AllocError>
+        ensures { IfOk result (λ d. dictionaries_of d ≡ ((state_of self.now).known, (state_of self.now).fresh)) }
+    {
+        let known = copied(alloc, &self.known)?;
+        let mut fresh = Vec::new(alloc);
+        fresh.extend_from_slice(&self.fresh)?;
+        Ok(Dictionaries { known, fresh })
+    }
+
+    /// It says this of dictionaries from now on.
+    pub fn restore(&mut self, dictionaries: Dictionaries)
+        ensures { state_of self.new ≡ record { picked = (state_of self.old).picked; known = (dictionaries_of dictionaries).0; fresh = (dictionaries_of dictionaries).1 } }
+    {
+        let Dictionaries { known, fresh } = dictionaries;
+        self.known = known;
+        self.fresh = fresh;
     }
 
     /// New values of an id from now on.

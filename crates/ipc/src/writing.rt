@@ -8,9 +8,10 @@ ghost use Rattle.ipc_model.specs.declared.fault.NoForm.TheVariants.{Memory};
 ghost use Rattle.ipc_schema.specs.Schemas.{schema_of};
 ghost use Rattle.ipc_batch.specs.Batches.{batch_of};
 ghost use Rattle.ipc_layout.specs.Written.{columns_body, no_form, IsUnwritten};
+ghost use Rattle.ipc_needed.specs.Puts.{whole};
 ghost use Rattle.ipc_needed.specs.Sent.{entry_of, entries_of};
 ghost use Rattle.ipc.specs.Streams.{arrays_of, stream_in};
-ghost use Rattle.ipc.specs.Written.{batch_tree, batch_bytes, dictionary_bytes, needed_by, part_bytes, batches_bytes, stream_bytes, sent_behind, is_column as is_column_lem, are_columns as are_columns_lem, arrays_refusal, dictionary_refusal, each_refusal, batch_refusal, batches_refusal, stream_refusal, IsRefused, IsReadAgain, IsDictionaryAgain, IsPartAgain, AreAgain, AreSameBatches, shown_batches, shown_stream};
+ghost use Rattle.ipc.specs.Written.{batch_tree, batch_bytes, dictionary_bytes, needed_by, wholes_by, part_bytes, batches_bytes, stream_bytes, sent_behind, is_column as is_column_lem, are_columns as are_columns_lem, arrays_refusal, dictionary_refusal, each_refusal, batch_refusal, batches_refusal, stream_refusal, IsRefused, IsReadAgain, IsPutAgain, IsPartAgain, AreAgain, AreSameBatches, shown_batches, shown_stream};
 ghost use Rattle.ipc.specs.WrittenLists.{IsMetadata, sent_after};
 
 use crate::batch::Batch;
@@ -65,41 +66,42 @@ fn metadata_of(
     Ok((metadata, placed.length))
 }
 
-// The message of an id's values, and their body, whose length is told.
+// The message of what is put of an id, and its body, whose length is told.
 #[tactic(auto, unfolding(crate::specs::Written::dictionary_bytes))]
 pub(crate) fn put_dictionary(
     alloc: Global,
     out: &mut Vec<u8>,
+    delta: bool,
     id: i64,
     values: &AnyArray,
 ) -> Result<usize, NoForm>
-    ensures bytes { OnOk result (out.new.items ≡ out.old.items ++ dictionary_bytes (id, layout_of values.now)) }
+    ensures bytes { OnOk result (out.new.items ≡ out.old.items ++ dictionary_bytes (delta, (id, layout_of values.now))) }
     ensures body { IfOk result (λ long. long ≡ length (columns_body (layout_of values.now ∷ []))) }
     ensures small { IfOk result (λ long. long < 2 ^ 63) }
-    ensures again { OnOk result (IsDictionaryAgain (id, layout_of values.now)) }
-    ensures form { OnOk result (dictionary_refusal (id, layout_of values.now) ≡ None) }
-    ensures err { IfErr result (IsRefused (dictionary_refusal (id, layout_of values.now))) }
+    ensures again { OnOk result (IsPutAgain (delta, (id, layout_of values.now))) }
+    ensures form { OnOk result (dictionary_refusal (delta, (id, layout_of values.now)) ≡ None) }
+    ensures err { IfErr result (IsRefused (dictionary_refusal (delta, (id, layout_of values.now)))) }
 {
     let columns = std::slice::from_ref(values);
     let (metadata, body_length) = metadata_of(alloc, values.len(), columns)?;
-    write_dictionary(alloc, out, id, &metadata, body_length)?;
+    write_dictionary(alloc, out, delta, id, &metadata, body_length)?;
     put_columns(out, columns)?;
     Ok(body_length)
 }
 
-// The dictionaries that are needed, one after another.
+// The dictionaries that are needed, all values of each, one after another.
 fn put_dictionaries(
     alloc: Global,
     out: &mut Vec<u8>,
     needed: &[(i64, &AnyArray)],
 ) -> Result<(), NoForm>
-    ensures bytes { OnOk result (out.new.items ≡ out.old.items ++ flat_map dictionary_bytes (map entry_of needed.now)) }
-    ensures again { OnOk result (AllByRecursion IsDictionaryAgain (map entry_of needed.now)) }
-    ensures form { OnOk result (each_refusal dictionary_refusal (map entry_of needed.now) ≡ None) }
-    ensures err { IfErr result (IsRefused (each_refusal dictionary_refusal (map entry_of needed.now))) }
+    ensures bytes { OnOk result (out.new.items ≡ out.old.items ++ flat_map dictionary_bytes (map whole (map entry_of needed.now))) }
+    ensures again { OnOk result (AllByRecursion IsPutAgain (map whole (map entry_of needed.now))) }
+    ensures form { OnOk result (each_refusal dictionary_refusal (map whole (map entry_of needed.now)) ≡ None) }
+    ensures err { IfErr result (IsRefused (each_refusal dictionary_refusal (map whole (map entry_of needed.now)))) }
 {
     for (id, values) in needed {
-        put_dictionary(alloc, out, *id, values)?;
+        put_dictionary(alloc, out, false, *id, values)?;
     }
     Ok(())
 }
@@ -140,11 +142,11 @@ pub fn put_part<'a>(
     sent: &BTreeMap<i64, AnyArray>,
     batch: &'a Batch,
 ) -> Result<(usize, Vec<(i64, &'a AnyArray)>), NoForm>
-    ensures bytes { OnOk result (out.new.items ≡ out.old.items ++ part_bytes (entries_of sent.now.entries) (arrays_of batch.now)) }
+    ensures bytes { OnOk result (out.new.items ≡ out.old.items ++ part_bytes wholes_by (entries_of sent.now.entries) (arrays_of batch.now)) }
     ensures needed { IfOk result (λ x. map entry_of x.1.items ≡ needed_by (entries_of sent.now.entries) (arrays_of batch.now)) }
     ensures body { IfOk result (λ x. x.0 ≡ length (columns_body (arrays_of batch.now).columns)) }
     ensures small { IfOk result (λ x. x.0 < 2 ^ 63) }
-    ensures again { OnOk result (IsPartAgain (entries_of sent.now.entries) (arrays_of batch.now)) }
+    ensures again { OnOk result (IsPartAgain (wholes_by (entries_of sent.now.entries) (arrays_of batch.now)) (arrays_of batch.now)) }
     ensures form { OnOk result (batch_refusal (map field_type (map field_of fields.now)) (entries_of sent.now.entries) (arrays_of batch.now) ≡ None) }
     ensures err { IfErr result (IsRefused (batch_refusal (map field_type (map field_of fields.now)) (entries_of sent.now.entries) (arrays_of batch.now))) }
 {
@@ -168,11 +170,11 @@ pub fn put_batch(
     sent: &mut BTreeMap<i64, AnyArray>,
     batch: &Batch,
 ) -> Result<usize, NoForm>
-    ensures bytes { OnOk result (out.new.items ≡ out.old.items ++ part_bytes (entries_of sent.old.entries) (arrays_of batch.now)) }
+    ensures bytes { OnOk result (out.new.items ≡ out.old.items ++ part_bytes wholes_by (entries_of sent.old.entries) (arrays_of batch.now)) }
     ensures sent { OnOk result (entries_of sent.new.entries ≡ sent_behind (entries_of sent.old.entries) (arrays_of batch.now)) }
     ensures body { IfOk result (λ long. long ≡ length (columns_body (arrays_of batch.now).columns)) }
     ensures small { IfOk result (λ long. long < 2 ^ 63) }
-    ensures again { OnOk result (IsPartAgain (entries_of sent.old.entries) (arrays_of batch.now)) }
+    ensures again { OnOk result (IsPartAgain (wholes_by (entries_of sent.old.entries) (arrays_of batch.now)) (arrays_of batch.now)) }
     ensures form { OnOk result (batch_refusal (map field_type (map field_of fields.now)) (entries_of sent.old.entries) (arrays_of batch.now) ≡ None) }
     ensures err { IfErr result (IsRefused (batch_refusal (map field_type (map field_of fields.now)) (entries_of sent.old.entries) (arrays_of batch.now))) }
     ensures kept { IfErr result (λ why. (why ≡ Memory) ⊎ (entries_of sent.new.entries ≡ entries_of sent.old.entries)) }
@@ -189,8 +191,8 @@ fn put_batches(
     sent: &mut BTreeMap<i64, AnyArray>,
     batches: &[Batch],
 ) -> Result<(), NoForm>
-    ensures bytes { OnOk result (out.new.items ≡ out.old.items ++ batches_bytes (entries_of sent.old.entries) (map arrays_of batches.now)) }
-    ensures again { OnOk result (AreAgain (entries_of sent.old.entries) (map arrays_of batches.now)) }
+    ensures bytes { OnOk result (out.new.items ≡ out.old.items ++ batches_bytes wholes_by (entries_of sent.old.entries) (map arrays_of batches.now)) }
+    ensures again { OnOk result (AreAgain wholes_by (entries_of sent.old.entries) (map arrays_of batches.now)) }
     ensures form { OnOk result (batches_refusal (map field_type (map field_of fields.now)) (entries_of sent.old.entries) (map arrays_of batches.now) ≡ None) }
     ensures err { IfErr result (IsRefused (batches_refusal (map field_type (map field_of fields.now)) (entries_of sent.old.entries) (map arrays_of batches.now))) }
 {
@@ -207,7 +209,7 @@ fn put_batches(
 /// # Errors
 /// The first reason in the order of writing: a field of the schema (`Extension`, `Float`, `Type`), its metadata (`Size`); then
 /// batch by batch `Columns`, where they are not those of the schema, and `Size`. `Memory` can stand in the place of any.
-#[tactic(auto, unfolding(crate::specs::Written::stream_bytes))]
+#[tactic(auto, unfolding(crate::specs::Written::messages_bytes))]
 pub fn write_stream(alloc: Global, schema: &Schema, batches: &[Batch]) -> Result<Vec<u8>, NoForm>
     ensures bytes { IfOk result (λ out. out.items ≡ stream_bytes (schema_of schema.now) (map arrays_of batches.now)) }
     ensures again { IfOk result (λ out. (rest : List ℕ) → stream_in (out.items ++ rest) ≡ Ok (shown_stream (schema_of schema.now) (map arrays_of batches.now) (length out.items))) }

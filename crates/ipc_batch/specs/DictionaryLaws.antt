@@ -1,11 +1,11 @@
 -- A dictionary that is written is read back.
-use Rattle.std.proofs.Common.{◌≡◌, ℕ, ◌+◌, ◌-◌, ◌*◌, ◌^◌, ◌<◌, ◌≤◌, List, ◌++◌, length, Some, None, Ok, refl, sym, subst, arith}
-use Rattle.std.specs.Prelude.{ℤ, pos}
+use Rattle.std.proofs.Common.{◌≡◌, ℕ, ◌+◌, ◌-◌, ◌*◌, ◌^◌, ◌<◌, ◌≤◌, List, ◌++◌, length, Some, Ok, refl, sym, subst, arith}
+use Rattle.std.specs.Prelude.{Bool, ℤ, pos}
 use Rattle.std.specs.Int.{w8, w64}
 use Rattle.std.specs.Int.RustNames.{FitsSigned}
 use Rattle.ipc_words.specs.Words.{number_at, signed_at, offset_at, field, field_place, offset_field, visit_table}
 use Rattle.ipc_words.specs.Bytes.{i64_bytes}
-use Rattle.ipc_words.specs.Laws.{From, field_is_past}
+use Rattle.ipc_words.specs.Laws.{From, number_in}
 use Rattle.ipc_words.specs.PartLaws.{From_at, i64_in, offset_in, table_in, visit_in, field_in}
 use Rattle.ipc_words.specs.declared.tables.Table.{Table}
 use Rattle.ipc_message.specs.Messages.{Parts, message_at}
@@ -16,58 +16,61 @@ use Rattle.ipc_message.specs.declared.message.Version.TheVariants.{V5}
 use Rattle.ipc_batch.specs.Batches.{BatchTree, all_within, batch_at}
 use Rattle.ipc_batch.specs.BatchBytes.{batch_bytes}
 use Rattle.ipc_batch.specs.BatchLaws.{BatchFits, batch_long, batch_again}
-use Rattle.ipc_batch.specs.DictionaryBytes.{dictionary_head, dictionary_bytes, dictionary_message}
+use Rattle.ipc_batch.specs.DictionaryBytes.{delta_byte, dictionary_head, dictionary_bytes, dictionary_message}
 
-pub dictionary_long : (id : ℤ) (b : BatchTree) → length (dictionary_bytes id b) ≡ 24 + length (batch_bytes b)
+pub dictionary_long : (delta : Bool) (id : ℤ) (b : BatchTree) → length (dictionary_bytes delta id b) ≡ 32 + length (batch_bytes b)
 unfolding dictionary_bytes dictionary_head i64_bytes
-dictionary_long id b = omega arith
+dictionary_long delta id b = omega arith
 
 -- its metadata holds that of its batch
-pub dictionary_holds : (id : ℤ) (b : BatchTree) (body : ℕ) → length (batch_bytes b) ≤ metadata_size (dictionary_message id b body)
+pub dictionary_holds : (delta : Bool) (id : ℤ) (b : BatchTree) (body : ℕ) → length (batch_bytes b) ≤ metadata_size (dictionary_message delta id b body)
 unfolding dictionary_message
-dictionary_holds id b body =
-    let part : List ℕ = dictionary_bytes id b in
-    let metadata : List ℕ = root_bytes DictionaryBatch body 8 part in
-    let framed : length (message_bytes DictionaryBatch body 8 part) ≡ length (framed_bytes metadata) = unfold message_bytes in refl in
-    omega (arith, framed, framed_long metadata, root_long DictionaryBatch body 8 part, dictionary_long id b)
+dictionary_holds delta id b body =
+    let part : List ℕ = dictionary_bytes delta id b in
+    let metadata : List ℕ = root_bytes DictionaryBatch body 12 part in
+    let framed : length (message_bytes DictionaryBatch body 12 part) ≡ length (framed_bytes metadata) = unfold message_bytes in refl in
+    omega (arith, framed, framed_long metadata, root_long DictionaryBatch body 12 part, dictionary_long delta id b)
 
 -- ---- the fields of its table, wherever its part stands
 
-id_again : (id : ℤ) (b : BatchTree) (whole : List ℕ) (p : ℕ) (after : List ℕ) → FitsSigned w64 id → From whole p (dictionary_bytes id b ++ after) → field (signed_at w64 whole) (pos 0) whole (table_in p 8 8) 0 ≡ Ok id
+id_again : (delta : Bool) (id : ℤ) (b : BatchTree) (whole : List ℕ) (p : ℕ) (after : List ℕ) → FitsSigned w64 id → From whole p (dictionary_bytes delta id b ++ after) → field (signed_at w64 whole) (pos 0) whole (table_in p 12 10) 0 ≡ Ok id
 unfolding dictionary_bytes dictionary_head i64_bytes
-id_again id b whole p after fits h =
-    let part : List ℕ = dictionary_bytes id b ++ after in
-    let place : field_place whole (table_in p 8 8) 0 ≡ Ok (Some (p + 8 + 8)) = field_in whole p part 8 8 0 8 h (omega arith) (omega arith) (omega arith) refl in
-    let number : signed_at w64 whole (p + 8 + 8) ≡ Ok id = i64_in whole p part 16 (p + 8 + 8) id h (omega arith) (omega arith) fits refl in
+id_again delta id b whole p after fits h =
+    let part : List ℕ = dictionary_bytes delta id b ++ after in
+    let place : field_place whole (table_in p 12 10) 0 ≡ Ok (Some (p + 12 + 12)) = field_in whole p part 12 10 0 12 h (omega arith) (omega arith) (omega arith) refl in
+    let number : signed_at w64 whole (p + 12 + 12) ≡ Ok id = i64_in whole p part 24 (p + 12 + 12) id h (omega arith) (omega arith) fits refl in
     rw (place, number) refl
 
-place_again : (id : ℤ) (b : BatchTree) (whole : List ℕ) (p : ℕ) (after : List ℕ) → From whole p (dictionary_bytes id b ++ after) → offset_field whole (table_in p 8 8) 1 ≡ Ok (Some (p + 40))
+place_again : (delta : Bool) (id : ℤ) (b : BatchTree) (whole : List ℕ) (p : ℕ) (after : List ℕ) → From whole p (dictionary_bytes delta id b ++ after) → offset_field whole (table_in p 12 10) 1 ≡ Ok (Some (p + 48))
 unfolding dictionary_bytes dictionary_head i64_bytes
-place_again id b whole p after h =
-    let part : List ℕ = dictionary_bytes id b ++ after in
-    let place : field_place whole (table_in p 8 8) 1 ≡ Ok (Some (p + 8 + 4)) = field_in whole p part 8 8 1 4 h (omega arith) (omega arith) (omega arith) refl in
-    let to : offset_at whole (p + 8 + 4) ≡ Ok (p + 8 + 4 + 28) = offset_in whole p part 12 (p + 8 + 4) 28 h (omega arith) (omega arith) (omega arith) refl in
-    let there : p + 8 + 4 + 28 ≡ p + 40 = omega arith in
+place_again delta id b whole p after h =
+    let part : List ℕ = dictionary_bytes delta id b ++ after in
+    let place : field_place whole (table_in p 12 10) 1 ≡ Ok (Some (p + 12 + 4)) = field_in whole p part 12 10 1 4 h (omega arith) (omega arith) (omega arith) refl in
+    let to : offset_at whole (p + 12 + 4) ≡ Ok (p + 12 + 4 + 32) = offset_in whole p part 16 (p + 12 + 4) 32 h (omega arith) (omega arith) (omega arith) refl in
+    let there : p + 12 + 4 + 32 ≡ p + 48 = omega arith in
     rw (place, to, there) refl
 
-whole_again : (whole : List ℕ) (p : ℕ) → field (number_at w8 whole) 0 whole (table_in p 8 8) 2 ≡ Ok 0
-whole_again whole p =
-    let absent : field_place whole (table_in p 8 8) 2 ≡ Ok None = field_is_past whole (table_in p 8 8) 2 (omega arith) in
-    rw absent refl
-
-visited_again : (id : ℤ) (b : BatchTree) (whole : List ℕ) (p left : ℕ) (after : List ℕ) → From whole p (dictionary_bytes id b ++ after) → 8 ≤ left → visit_table whole (p + 8) left ≡ Ok (table_in p 8 8, left - 8)
+delta_again : (delta : Bool) (id : ℤ) (b : BatchTree) (whole : List ℕ) (p : ℕ) (after : List ℕ) → From whole p (dictionary_bytes delta id b ++ after) → field (number_at w8 whole) 0 whole (table_in p 12 10) 2 ≡ Ok (delta_byte delta)
 unfolding dictionary_bytes dictionary_head i64_bytes
-visited_again id b whole p left after h le = visit_in whole p (dictionary_bytes id b ++ after) 8 8 left h (omega arith) (omega arith) (omega arith) (omega arith) refl refl refl le
+delta_again delta id b whole p after h =
+    let part : List ℕ = dictionary_bytes delta id b ++ after in
+    let place : field_place whole (table_in p 12 10) 2 ≡ Ok (Some (p + 12 + 8)) = field_in whole p part 12 10 2 8 h (omega arith) (omega arith) (omega arith) refl in
+    let flag : number_at w8 whole (p + 12 + 8) ≡ Ok (delta_byte delta) = number_in w8 whole p part 20 (p + 12 + 8) h (omega arith) (omega arith) in
+    rw (place, flag) refl
+
+visited_again : (delta : Bool) (id : ℤ) (b : BatchTree) (whole : List ℕ) (p left : ℕ) (after : List ℕ) → From whole p (dictionary_bytes delta id b ++ after) → 8 ≤ left → visit_table whole (p + 12) left ≡ Ok (table_in p 12 10, left - 8)
+unfolding dictionary_bytes dictionary_head i64_bytes
+visited_again delta id b whole p left after h le = visit_in whole p (dictionary_bytes delta id b ++ after) 12 10 left h (omega arith) (omega arith) (omega arith) (omega arith) refl refl refl le
 
 -- the part of its batch
-behind_head : (id : ℤ) (b : BatchTree) (whole : List ℕ) (p : ℕ) (after : List ℕ) → From whole p (dictionary_bytes id b ++ after) → From whole (p + 24) (batch_bytes b ++ after)
+behind_head : (delta : Bool) (id : ℤ) (b : BatchTree) (whole : List ℕ) (p : ℕ) (after : List ℕ) → From whole p (dictionary_bytes delta id b ++ after) → From whole (p + 32) (batch_bytes b ++ after)
 unfolding dictionary_bytes dictionary_head i64_bytes
-behind_head id b whole p after h = From_at whole p (p + 24) 24 (dictionary_bytes id b ++ after) (batch_bytes b ++ after) h (omega arith) refl refl
+behind_head delta id b whole p after h = From_at whole p (p + 32) 32 (dictionary_bytes delta id b ++ after) (batch_bytes b ++ after) h (omega arith) refl refl
 
 -- ---- the message
 
 -- it is read as a dictionary's, with its body behind it, and what stands behind that is left; then what a reader of dictionaries asks, step by step
-pub record IsDictionaryBack (id : ℤ) (b : BatchTree) (message body : List ℕ) : Type 0 where
+pub record IsDictionaryBack (delta : Bool) (id : ℤ) (b : BatchTree) (message body : List ℕ) : Type 0 where
   pub parts : Parts
   pub table : Table
   pub left : ℕ
@@ -80,44 +83,44 @@ pub record IsDictionaryBack (id : ℤ) (b : BatchTree) (message body : List ℕ)
   pub visited : visit_table parts.metadata parts.root.header parts.root.left ≡ Ok (table, left)
   pub same_id : field (signed_at w64 parts.metadata) (pos 0) parts.metadata table 0 ≡ Ok id
   pub batch_place : offset_field parts.metadata table 1 ≡ Ok (Some place)
-  pub no_delta : field (number_at w8 parts.metadata) 0 parts.metadata table 2 ≡ Ok 0
+  pub same_delta : field (number_at w8 parts.metadata) 0 parts.metadata table 2 ≡ Ok (delta_byte delta)
   pub same_batch : batch_at parts.metadata place left parts.root.body_length ≡ Ok b
 
-pub dictionary_again : (id : ℤ) (b : BatchTree) (body : List ℕ) → FitsSigned w64 id → BatchFits b → length body < 2 ^ 63 → all_within (length body) b.regions ≡ Ok tt → metadata_size (dictionary_message id b (length body)) < 2 ^ 31
-    → IsDictionaryBack id b (dictionary_message id b (length body)) body
+pub dictionary_again : (delta : Bool) (id : ℤ) (b : BatchTree) (body : List ℕ) → FitsSigned w64 id → BatchFits b → length body < 2 ^ 63 → all_within (length body) b.regions ≡ Ok tt → metadata_size (dictionary_message delta id b (length body)) < 2 ^ 31
+    → IsDictionaryBack delta id b (dictionary_message delta id b (length body)) body
 unfolding dictionary_message
-dictionary_again id b body named fits short inside small =
-    let part : List ℕ = dictionary_bytes id b in
-    let metadata : List ℕ = root_bytes DictionaryBatch (length body) 8 part in
+dictionary_again delta id b body named fits short inside small =
+    let part : List ℕ = dictionary_bytes delta id b in
+    let metadata : List ℕ = root_bytes DictionaryBatch (length body) 12 part in
     let whole : List ℕ = padded metadata in
     let after : List ℕ = padding (length metadata) in
     let left : ℕ = 64 * length whole - 8 in
-    let framed : length (message_bytes DictionaryBatch (length body) 8 part) ≡ length (framed_bytes metadata) = unfold message_bytes in refl in
+    let framed : length (message_bytes DictionaryBatch (length body) 12 part) ≡ length (framed_bytes metadata) = unfold message_bytes in refl in
     let few : length whole < 2 ^ 31 = omega (arith, framed, framed_long metadata, padding_long (length metadata), padded_long metadata) in
-    let h : From whole 48 (part ++ after) = written_part DictionaryBatch (length body) 8 part in
-    let enough : 120 + 16 * length b.nodes + 16 * length b.regions ≤ length whole = omega (arith, batch_long b, dictionary_long id b, root_long DictionaryBatch (length body) 8 part, padded_long metadata) in
+    let h : From whole 48 (part ++ after) = written_part DictionaryBatch (length body) 12 part in
+    let enough : 128 + 16 * length b.nodes + 16 * length b.regions ≤ length whole = omega (arith, batch_long b, dictionary_long delta id b, root_long DictionaryBatch (length body) 12 part, padded_long metadata) in
     record {
-      parts = written_parts DictionaryBatch 8 part body;
-      table = table_in 48 8 8;
+      parts = written_parts DictionaryBatch 12 part body;
+      table = table_in 48 12 10;
       left = left - 8;
-      place = 88;
-      again = λ rest. message_again DictionaryBatch 8 part body rest short (omega arith) small;
+      place = 96;
+      again = λ rest. message_again DictionaryBatch 12 part body rest short (omega arith) small;
       kind = refl;
       version = refl;
       long = omega (arith, framed, framed_long metadata, padding_long (length metadata), padded_long metadata);
       same_body = refl;
-      visited = visited_again id b whole 48 left after h (omega arith);
-      same_id = id_again id b whole 48 after named h;
-      batch_place = place_again id b whole 48 after h;
-      no_delta = whole_again whole 48;
-      same_batch = batch_again b whole 72 88 (left - 8) (length body) after fits inside (behind_head id b whole 48 after h) refl (omega arith) (omega arith);
+      visited = visited_again delta id b whole 48 left after h (omega arith);
+      same_id = id_again delta id b whole 48 after named h;
+      batch_place = place_again delta id b whole 48 after h;
+      same_delta = delta_again delta id b whole 48 after h;
+      same_batch = batch_again b whole 80 96 (left - 8) (length body) after fits inside (behind_head delta id b whole 48 after h) refl (omega arith) (omega arith);
     }
 
 -- with every body of so many bytes in which all buffers lie
-abbrev pub IsDictionaryWith : ℤ → BatchTree → ℕ → Type 0
-IsDictionaryWith id b long = (body : List ℕ) → length body ≡ long → all_within long b.regions ≡ Ok tt → metadata_size (dictionary_message id b long) < 2 ^ 31 → IsDictionaryBack id b (dictionary_message id b long) body
+abbrev pub IsDictionaryWith : Bool → ℤ → BatchTree → ℕ → Type 0
+IsDictionaryWith delta id b long = (body : List ℕ) → length body ≡ long → all_within long b.regions ≡ Ok tt → metadata_size (dictionary_message delta id b long) < 2 ^ 31 → IsDictionaryBack delta id b (dictionary_message delta id b long) body
 
-pub dictionary_with : (id : ℤ) (b : BatchTree) (long : ℕ) → FitsSigned w64 id → BatchFits b → long < 2 ^ 63 → IsDictionaryWith id b long
-dictionary_with id b long named fits short = λ body e inside small.
-    subst (λ (n : ℕ). IsDictionaryBack id b (dictionary_message id b n) body) e
-    (dictionary_again id b body named fits (omega (arith, e, short)) (subst (λ (n : ℕ). all_within n b.regions ≡ Ok tt) (sym e) inside) (subst (λ (n : ℕ). metadata_size (dictionary_message id b n) < 2 ^ 31) (sym e) small))
+pub dictionary_with : (delta : Bool) (id : ℤ) (b : BatchTree) (long : ℕ) → FitsSigned w64 id → BatchFits b → long < 2 ^ 63 → IsDictionaryWith delta id b long
+dictionary_with delta id b long named fits short = λ body e inside small.
+    subst (λ (n : ℕ). IsDictionaryBack delta id b (dictionary_message delta id b n) body) e
+    (dictionary_again delta id b body named fits (omega (arith, e, short)) (subst (λ (n : ℕ). all_within n b.regions ≡ Ok tt) (sym e) inside) (subst (λ (n : ℕ). metadata_size (dictionary_message delta id b n) < 2 ^ 31) (sym e) small))

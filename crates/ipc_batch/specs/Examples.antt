@@ -1,7 +1,7 @@
 -- Messages byte by byte: the record batch of another writer, two rows of 32 bits, the second null, with a body of 16 bytes; and what is written of a dictionary.
-use Rattle.std.specs.Prelude.{◌≡◌, ℕ, pos, List, [], ◌∷◌, ◌++◌, Some, None, Ok, refl}
-use Rattle.std.specs.Int.{w64}
-use Rattle.ipc_words.specs.Words.{signed_at, field, offset_field, offset_at, back_from, table_at, field_place, spend, visit_table, visit_vector, structs_at, items_at, vector_at}
+use Rattle.std.specs.Prelude.{◌≡◌, ℕ, pos, true, false, List, [], ◌∷◌, ◌++◌, Some, Ok, refl}
+use Rattle.std.specs.Int.{w8, w64}
+use Rattle.ipc_words.specs.Words.{number_at, signed_at, field, offset_field, offset_at, back_from, table_at, field_place, spend, visit_table, visit_vector, structs_at, items_at, vector_at}
 use Rattle.ipc_words.specs.Bytes.{i64_bytes, u32_bytes, vector_bytes}
 use Rattle.ipc_words.specs.declared.tables.Table.{Table}
 use Rattle.ipc_message.specs.MessageBytes.{root_bytes, framed_bytes, message_bytes}
@@ -46,11 +46,11 @@ pub worked_batch : batch_at worked_metadata 52 8696 16 ≡ Ok worked_tree
 unfolding offset_at back_from table_at field_place spend visit_table visit_vector structs_at items_at vector_at each_within all_within batch_at
 worked_batch = refl
 
--- ---- a dictionary of two values of 32 bits, with a body of 8 bytes, named by 515, whose bytes are 3 and 2
+-- ---- a dictionary of two values of 32 bits, with a body of 8 bytes, named by 515, whose bytes are 3 and 2; flag is its `isDelta`, 0 or 1
 
-abbrev pub values_message : List ℕ
-values_message =
-    255 ∷ 255 ∷ 255 ∷ 255 ∷ 168 ∷ 0 ∷ 0 ∷ 0 ∷ 24 ∷ 0 ∷ 0 ∷ 0 ∷ 0 ∷ 0 ∷ 0 ∷ 0 ∷ 12 ∷ 0 ∷ 24 ∷ 0 ∷ 16 ∷ 0 ∷ 18 ∷ 0 ∷ 4 ∷ 0 ∷ 8 ∷ 0 ∷ 0 ∷ 0 ∷ 0 ∷ 0 ∷ 16 ∷ 0 ∷ 0 ∷ 0 ∷ 28 ∷ 0 ∷ 0 ∷ 0 ∷ 8 ∷ 0 ∷ 0 ∷ 0 ∷ 0 ∷ 0 ∷ 0 ∷ 0 ∷ 4 ∷ 0 ∷ 2 ∷ 0 ∷ 0 ∷ 0 ∷ 0 ∷ 0 ∷ 8 ∷ 0 ∷ 16 ∷ 0 ∷ 8 ∷ 0 ∷ 4 ∷ 0 ∷ 8 ∷ 0 ∷ 0 ∷ 0 ∷ 28 ∷ 0 ∷ 0 ∷ 0 ∷ 3 ∷ 2 ∷ 0 ∷ 0 ∷ 0 ∷ 0 ∷ 0 ∷ 0 ∷ 10 ∷ 0 ∷ 20 ∷ 0 ∷ 8 ∷ 0 ∷ 4 ∷ 0 ∷ 16 ∷ 0 ∷ 0 ∷ 0 ∷ 0 ∷ 0 ∷ 0 ∷ 0 ∷ 16 ∷ 0 ∷ 0 ∷ 0 ∷ 16 ∷ 0 ∷ 0 ∷ 0 ∷ 2 ∷ 0 ∷ 0 ∷ 0 ∷ 0 ∷ 0 ∷ 0 ∷ 0 ∷ 28 ∷ 0 ∷ 0 ∷ 0 ∷ 1 ∷ 0 ∷ 0 ∷ 0 ∷ 2 ∷ 0 ∷ 0 ∷ 0 ∷ 0 ∷ 0 ∷ 0 ∷ 0 ∷ 0 ∷ 0 ∷ 0 ∷ 0 ∷ 0 ∷ 0 ∷ 0 ∷ 0 ∷ 0 ∷ 0 ∷ 0 ∷ 0 ∷ 2 ∷ 0 ∷ 0 ∷ 0 ∷ 0 ∷ 0 ∷ 0 ∷ 0 ∷ 0 ∷ 0 ∷ 0 ∷ 0 ∷ 0 ∷ 0 ∷ 0 ∷ 0 ∷ 0 ∷ 0 ∷ 0 ∷ 0 ∷ 0 ∷ 0 ∷ 0 ∷ 0 ∷ 0 ∷ 0 ∷ 0 ∷ 0 ∷ 8 ∷ 0 ∷ 0 ∷ 0 ∷ 0 ∷ 0 ∷ 0 ∷ 0 ∷ []
+abbrev pub values_message : ℕ → List ℕ
+values_message flag =
+    255 ∷ 255 ∷ 255 ∷ 255 ∷ 176 ∷ 0 ∷ 0 ∷ 0 ∷ 24 ∷ 0 ∷ 0 ∷ 0 ∷ 0 ∷ 0 ∷ 0 ∷ 0 ∷ 12 ∷ 0 ∷ 24 ∷ 0 ∷ 16 ∷ 0 ∷ 18 ∷ 0 ∷ 4 ∷ 0 ∷ 8 ∷ 0 ∷ 0 ∷ 0 ∷ 0 ∷ 0 ∷ 16 ∷ 0 ∷ 0 ∷ 0 ∷ 32 ∷ 0 ∷ 0 ∷ 0 ∷ 8 ∷ 0 ∷ 0 ∷ 0 ∷ 0 ∷ 0 ∷ 0 ∷ 0 ∷ 4 ∷ 0 ∷ 2 ∷ 0 ∷ 0 ∷ 0 ∷ 0 ∷ 0 ∷ 10 ∷ 0 ∷ 20 ∷ 0 ∷ 12 ∷ 0 ∷ 4 ∷ 0 ∷ 8 ∷ 0 ∷ 0 ∷ 0 ∷ 12 ∷ 0 ∷ 0 ∷ 0 ∷ 32 ∷ 0 ∷ 0 ∷ 0 ∷ flag ∷ 0 ∷ 0 ∷ 0 ∷ 3 ∷ 2 ∷ 0 ∷ 0 ∷ 0 ∷ 0 ∷ 0 ∷ 0 ∷ 10 ∷ 0 ∷ 20 ∷ 0 ∷ 8 ∷ 0 ∷ 4 ∷ 0 ∷ 16 ∷ 0 ∷ 0 ∷ 0 ∷ 0 ∷ 0 ∷ 0 ∷ 0 ∷ 16 ∷ 0 ∷ 0 ∷ 0 ∷ 16 ∷ 0 ∷ 0 ∷ 0 ∷ 2 ∷ 0 ∷ 0 ∷ 0 ∷ 0 ∷ 0 ∷ 0 ∷ 0 ∷ 28 ∷ 0 ∷ 0 ∷ 0 ∷ 1 ∷ 0 ∷ 0 ∷ 0 ∷ 2 ∷ 0 ∷ 0 ∷ 0 ∷ 0 ∷ 0 ∷ 0 ∷ 0 ∷ 0 ∷ 0 ∷ 0 ∷ 0 ∷ 0 ∷ 0 ∷ 0 ∷ 0 ∷ 0 ∷ 0 ∷ 0 ∷ 0 ∷ 2 ∷ 0 ∷ 0 ∷ 0 ∷ 0 ∷ 0 ∷ 0 ∷ 0 ∷ 0 ∷ 0 ∷ 0 ∷ 0 ∷ 0 ∷ 0 ∷ 0 ∷ 0 ∷ 0 ∷ 0 ∷ 0 ∷ 0 ∷ 0 ∷ 0 ∷ 0 ∷ 0 ∷ 0 ∷ 0 ∷ 0 ∷ 0 ∷ 8 ∷ 0 ∷ 0 ∷ 0 ∷ 0 ∷ 0 ∷ 0 ∷ 0 ∷ []
 
 abbrev pub values_body : List ℕ
 values_body = 5 ∷ 0 ∷ 0 ∷ 0 ∷ 9 ∷ 0 ∷ 0 ∷ 0 ∷ []
@@ -63,44 +63,61 @@ values_tree = record {
 }
 
 -- its metadata
-abbrev pub values_metadata : List ℕ
-values_metadata =
-    24 ∷ 0 ∷ 0 ∷ 0 ∷ 0 ∷ 0 ∷ 0 ∷ 0 ∷ 12 ∷ 0 ∷ 24 ∷ 0 ∷ 16 ∷ 0 ∷ 18 ∷ 0 ∷ 4 ∷ 0 ∷ 8 ∷ 0 ∷ 0 ∷ 0 ∷ 0 ∷ 0 ∷ 16 ∷ 0 ∷ 0 ∷ 0 ∷ 28 ∷ 0 ∷ 0 ∷ 0 ∷ 8 ∷ 0 ∷ 0 ∷ 0 ∷ 0 ∷ 0 ∷ 0 ∷ 0 ∷ 4 ∷ 0 ∷ 2 ∷ 0 ∷ 0 ∷ 0 ∷ 0 ∷ 0 ∷ 8 ∷ 0 ∷ 16 ∷ 0 ∷ 8 ∷ 0 ∷ 4 ∷ 0 ∷ 8 ∷ 0 ∷ 0 ∷ 0 ∷ 28 ∷ 0 ∷ 0 ∷ 0 ∷ 3 ∷ 2 ∷ 0 ∷ 0 ∷ 0 ∷ 0 ∷ 0 ∷ 0 ∷ 10 ∷ 0 ∷ 20 ∷ 0 ∷ 8 ∷ 0 ∷ 4 ∷ 0 ∷ 16 ∷ 0 ∷ 0 ∷ 0 ∷ 0 ∷ 0 ∷ 0 ∷ 0 ∷ 16 ∷ 0 ∷ 0 ∷ 0 ∷ 16 ∷ 0 ∷ 0 ∷ 0 ∷ 2 ∷ 0 ∷ 0 ∷ 0 ∷ 0 ∷ 0 ∷ 0 ∷ 0 ∷ 28 ∷ 0 ∷ 0 ∷ 0 ∷ 1 ∷ 0 ∷ 0 ∷ 0 ∷ 2 ∷ 0 ∷ 0 ∷ 0 ∷ 0 ∷ 0 ∷ 0 ∷ 0 ∷ 0 ∷ 0 ∷ 0 ∷ 0 ∷ 0 ∷ 0 ∷ 0 ∷ 0 ∷ 0 ∷ 0 ∷ 0 ∷ 0 ∷ 2 ∷ 0 ∷ 0 ∷ 0 ∷ 0 ∷ 0 ∷ 0 ∷ 0 ∷ 0 ∷ 0 ∷ 0 ∷ 0 ∷ 0 ∷ 0 ∷ 0 ∷ 0 ∷ 0 ∷ 0 ∷ 0 ∷ 0 ∷ 0 ∷ 0 ∷ 0 ∷ 0 ∷ 0 ∷ 0 ∷ 0 ∷ 0 ∷ 8 ∷ 0 ∷ 0 ∷ 0 ∷ 0 ∷ 0 ∷ 0 ∷ 0 ∷ []
+abbrev pub values_metadata : ℕ → List ℕ
+values_metadata flag =
+    24 ∷ 0 ∷ 0 ∷ 0 ∷ 0 ∷ 0 ∷ 0 ∷ 0 ∷ 12 ∷ 0 ∷ 24 ∷ 0 ∷ 16 ∷ 0 ∷ 18 ∷ 0 ∷ 4 ∷ 0 ∷ 8 ∷ 0 ∷ 0 ∷ 0 ∷ 0 ∷ 0 ∷ 16 ∷ 0 ∷ 0 ∷ 0 ∷ 32 ∷ 0 ∷ 0 ∷ 0 ∷ 8 ∷ 0 ∷ 0 ∷ 0 ∷ 0 ∷ 0 ∷ 0 ∷ 0 ∷ 4 ∷ 0 ∷ 2 ∷ 0 ∷ 0 ∷ 0 ∷ 0 ∷ 0 ∷ 10 ∷ 0 ∷ 20 ∷ 0 ∷ 12 ∷ 0 ∷ 4 ∷ 0 ∷ 8 ∷ 0 ∷ 0 ∷ 0 ∷ 12 ∷ 0 ∷ 0 ∷ 0 ∷ 32 ∷ 0 ∷ 0 ∷ 0 ∷ flag ∷ 0 ∷ 0 ∷ 0 ∷ 3 ∷ 2 ∷ 0 ∷ 0 ∷ 0 ∷ 0 ∷ 0 ∷ 0 ∷ 10 ∷ 0 ∷ 20 ∷ 0 ∷ 8 ∷ 0 ∷ 4 ∷ 0 ∷ 16 ∷ 0 ∷ 0 ∷ 0 ∷ 0 ∷ 0 ∷ 0 ∷ 0 ∷ 16 ∷ 0 ∷ 0 ∷ 0 ∷ 16 ∷ 0 ∷ 0 ∷ 0 ∷ 2 ∷ 0 ∷ 0 ∷ 0 ∷ 0 ∷ 0 ∷ 0 ∷ 0 ∷ 28 ∷ 0 ∷ 0 ∷ 0 ∷ 1 ∷ 0 ∷ 0 ∷ 0 ∷ 2 ∷ 0 ∷ 0 ∷ 0 ∷ 0 ∷ 0 ∷ 0 ∷ 0 ∷ 0 ∷ 0 ∷ 0 ∷ 0 ∷ 0 ∷ 0 ∷ 0 ∷ 0 ∷ 0 ∷ 0 ∷ 0 ∷ 0 ∷ 2 ∷ 0 ∷ 0 ∷ 0 ∷ 0 ∷ 0 ∷ 0 ∷ 0 ∷ 0 ∷ 0 ∷ 0 ∷ 0 ∷ 0 ∷ 0 ∷ 0 ∷ 0 ∷ 0 ∷ 0 ∷ 0 ∷ 0 ∷ 0 ∷ 0 ∷ 0 ∷ 0 ∷ 0 ∷ 0 ∷ 0 ∷ 0 ∷ 8 ∷ 0 ∷ 0 ∷ 0 ∷ 0 ∷ 0 ∷ 0 ∷ 0 ∷ []
 
 abbrev pub values_root : Root
-values_root = record { version = V5; kind = DictionaryBatch; header = 56; left = 10744; body_length = 8 }
+values_root = record { version = V5; kind = DictionaryBatch; header = 60; left = 11256; body_length = 8 }
 
-abbrev pub values_of : Parts
-values_of = record { root = values_root; metadata = values_metadata; body = values_body }
+abbrev pub values_of : ℕ → Parts
+values_of flag = record { root = values_root; metadata = values_metadata flag; body = values_body }
 
--- of its vtable of 8 bytes none are left for `isDelta`
 abbrev pub values_table : Table
-values_table = record { at = 56; vtable = 48; size = 8 }
+values_table = record { at = 60; vtable = 48; size = 10 }
 
-pub values_written : dictionary_message (pos 515) values_tree 8 ≡ values_message
+pub values_written : dictionary_message false (pos 515) values_tree 8 ≡ values_message 0
 unfolding i64_bytes u32_bytes vector_bytes root_bytes framed_bytes message_bytes node_bytes region_bytes batch_head batch_bytes dictionary_head dictionary_bytes dictionary_message
 values_written = refl
 
-pub values_parts : message_at (values_message ++ values_body) ≡ Ok (Some values_of, [])
+pub values_parts : message_at (values_message 0 ++ values_body) ≡ Ok (Some (values_of 0), [])
 unfolding offset_at back_from table_at field_place spend visit_table root_at front behind_mark parts_at sized_at message_at
 values_parts = refl
 
-pub values_visited : visit_table values_metadata 56 10744 ≡ Ok (values_table, 10736)
+pub values_visited : visit_table (values_metadata 0) 60 11256 ≡ Ok (values_table, 11248)
 unfolding back_from table_at spend visit_table
 values_visited = refl
 
-pub values_id : field (signed_at w64 values_metadata) (pos 0) values_metadata values_table 0 ≡ Ok (pos 515)
+pub values_id : field (signed_at w64 (values_metadata 0)) (pos 0) (values_metadata 0) values_table 0 ≡ Ok (pos 515)
 unfolding field_place
 values_id = refl
 
-pub values_place : offset_field values_metadata values_table 1 ≡ Ok (Some 88)
+pub values_place : offset_field (values_metadata 0) values_table 1 ≡ Ok (Some 96)
 unfolding offset_at field_place
 values_place = refl
 
-pub values_no_delta : field_place values_metadata values_table 2 ≡ Ok None
+pub values_whole : field (number_at w8 (values_metadata 0)) 0 (values_metadata 0) values_table 2 ≡ Ok 0
 unfolding field_place
-values_no_delta = refl
+values_whole = refl
 
-pub values_batch : batch_at values_metadata 88 10736 8 ≡ Ok values_tree
+pub values_batch : batch_at (values_metadata 0) 96 11248 8 ≡ Ok values_tree
 unfolding offset_at back_from table_at field_place spend visit_table visit_vector structs_at items_at vector_at each_within all_within batch_at
 values_batch = refl
+
+-- ---- the same values, as a delta
+
+pub delta_written : dictionary_message true (pos 515) values_tree 8 ≡ values_message 1
+unfolding i64_bytes u32_bytes vector_bytes root_bytes framed_bytes message_bytes node_bytes region_bytes batch_head batch_bytes dictionary_head dictionary_bytes dictionary_message
+delta_written = refl
+
+pub delta_parts : message_at (values_message 1 ++ values_body) ≡ Ok (Some (values_of 1), [])
+unfolding offset_at back_from table_at field_place spend visit_table root_at front behind_mark parts_at sized_at message_at
+delta_parts = refl
+
+pub delta_visited : visit_table (values_metadata 1) 60 11256 ≡ Ok (values_table, 11248)
+unfolding back_from table_at spend visit_table
+delta_visited = refl
+
+pub delta_flag : field (number_at w8 (values_metadata 1)) 0 (values_metadata 1) values_table 2 ≡ Ok 1
+unfolding field_place
+delta_flag = refl

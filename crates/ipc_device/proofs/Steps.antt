@@ -1,21 +1,26 @@
 -- What is read of a message that came is read of all that the device had.
-use Rattle.std.proofs.Common.{◌≡◌, ℕ, List, [], ◌++◌, Option, Some, None, Result, Ok, Err, refl, ◌∙◌, subst, append-nil}
+use Rattle.std.proofs.Common.{◌≡◌, ℕ, List, [], ◌++◌, Option, Some, None, Result, Ok, Err, refl, sym, ◌∙◌, subst, append-nil}
 use Rattle.ipc_model.specs.declared.fault.Fault as faults
 use Rattle.ipc_model.specs.Reading.{◌>>=◌, Fails}
 use Rattle.ipc_message.specs.Messages.{Parts, message_at}
 use Rattle.ipc_schema.specs.declared.picked.PickedSchema.{PickedSchema}
 use Rattle.ipc_schema.specs.declared.schema.Schema.{Schema}
+use Rattle.ipc_schema.specs.SchemaBytes.{schema_message}
 use Rattle.ipc_schema.specs.SchemaLaws.{with_ids}
+use Rattle.ipc_schema.specs.PickedLaws.{all_written}
 use Rattle.ipc_schema.specs.PickedSchemas.{PickedTree, in_any_version, picked_of, picked_schema_at, stream_picked_at}
-use Rattle.ipc_schema.specs.Picks.{Picks}
+use Rattle.ipc_schema.specs.Picks.{Picks, all}
 use Rattle.ipc_schema.specs.Schemas.{SchemaTree, schema_of, schema_parts, stream_keyed_schema_at}
-use Rattle.ipc.specs.Streams.{Arrays, State, Next, message_in, next_in, next_by, or_next}
+use Rattle.ipc.specs.Readers.{state_in}
+use Rattle.ipc.specs.Streams.{Arrays, State, Next, start, message_in, next_in, next_by, or_next}
 use Rattle.ipc.specs.StreamLaws.{by_message}
+use Rattle.ipc.specs.WrittenLaws.{whole_schema}
 use Rattle.ipc_device.specs.declared.device_reader.Found.{Found}
 use Rattle.ipc_device.specs.declared.device_reader.Found.TheVariants as found
 use Rattle.ipc_device.specs.declared.fault.ReadError.TheVariants.{Fault}
 use Rattle.ipc_device.specs.Fetched.{IsFetched, with_behind}
 use Rattle.ipc_device.specs.Readers.{FirstIn, IsSchemaOf, MessageIn, found_of, found_by, found_in}
+use Rattle.ipc_device.specs.Writers.{IsSchemaAgain}
 
 -- ---- messages
 
@@ -95,6 +100,14 @@ first_fails picks (Some xs) None came fault fetched read = absurd fetched
 first_fails picks (Some xs) (Some ys) came fault fetched read = λ known. rw (first_fetched picks xs came ys fetched, read known) refl
 
 -- ---- a schema that was written
+
+-- what a reader knows behind its message
+pub known_first : (t : State) (s : SchemaTree) (bytes : List ℕ) → bytes ≡ schema_message s → IsSchemaAgain s → state_in bytes ≡ Ok t → t ≡ start (all_written s)
+known_first t s bytes is again read =
+    let whole : stream_picked_at all (schema_message s ++ []) ≡ Ok (all_written s, []) = whole_schema s [] (again []) in
+    let picked : stream_picked_at all bytes ≡ Ok (all_written s, []) = subst (λ (x : List ℕ). stream_picked_at all x ≡ Ok (all_written s, [])) (append-nil (schema_message s) ∙ sym is) whole in
+    let here : state_in bytes ≡ Ok (start (all_written s)) = rw picked refl in
+    cc
 
 -- the schema that is read of its message is the one that was written
 pub copied : (schema : Schema) (s : SchemaTree) (bytes : List ℕ) → stream_keyed_schema_at (bytes ++ []) ≡ Ok (with_ids s, []) → IsSchemaOf schema (stream_keyed_schema_at bytes) → schema_of schema ≡ s

@@ -11,17 +11,21 @@ use Rattle.ipc_footer.specs.declared.footer.Block.{Block}
 use Rattle.ipc_footer.specs.Footers.{FooterTree}
 use Rattle.ipc_footer.specs.FooterBytes.{file_head, file_end}
 use Rattle.ipc_needed.specs.Entries.{Entries}
-use Rattle.ipc.specs.Streams.{Arrays}
-use Rattle.ipc.specs.Written.{needed_by, part_bytes, else_for, reason_in, size_if}
-use Rattle.ipc.specs.WrittenFiles.{Blocks, written_block, dictionary_blocks, batch_place, block_refusal, footer_refusal}
+use Rattle.ipc.specs.Readers.{coded_state}
+use Rattle.ipc.specs.Streams.{Arrays, State}
+use Rattle.ipc.specs.Written.{part_bytes, else_for, reason_in, size_if}
+use Rattle.ipc.specs.WrittenFiles.{Blocks, Filed, filed, puts_by, written_block, dictionary_blocks, batch_place, block_refusal, footer_refusal}
 use Rattle.ipc_device.specs.declared.fault.WriteError as errors
+use Rattle.ipc_device.specs.declared.fault.WriteError.TheVariants.{NoForm, Io, Failed}
 use Rattle.ipc_device.specs.Writers.{WriterTree, coded_writer}
 
--- a file that is being written: the stream in it, where the dictionaries and the batches lie that were written, and where the next part is to begin
+-- a file that is being written: the stream in it, where the dictionaries and the batches lie that were written, where the next part is to begin, and what a reader
+-- of the file knows there
 pub record FileWriterTree (W : Type 0) : Type 0 where
   pub stream : WriterTree W
   pub blocks : Blocks
   pub place : ℕ
+  pub known : State
 
 abbrev coded_block : Coded Block
 coded_block = code_by (ℤ × (ℤ × ℤ)) (coded× coded_ℤ (coded× coded_ℤ coded_ℤ)) (λ b. (b.offset, (b.metadata_length, b.body_length))) (λ p. record { offset = p.0; metadata_length = p.1.0; body_length = p.1.1 }) (λ _. refl)
@@ -31,7 +35,12 @@ coded_blocks = code_by (List Block × List Block) (coded× (coded_list coded_blo
 
 abbrev pub coded_file_writer : {W : Type 0} → Coded W → Coded (FileWriterTree W)
 coded_file_writer {W = W} device =
-    code_by (WriterTree W × (Blocks × ℕ)) (coded× (coded_writer device) (coded× coded_blocks coded_ℕ)) (λ w. (w.stream, (w.blocks, w.place))) (λ p. record { stream = p.0; blocks = p.1.0; place = p.1.1 }) (λ _. refl)
+    code_by (WriterTree W × (Blocks × (ℕ × State))) (coded× (coded_writer device) (coded× coded_blocks (coded× coded_ℕ coded_state))) (λ w. (w.stream, (w.blocks, (w.place, w.known))))
+    (λ p. record { stream = p.0; blocks = p.1.0; place = p.1.1.0; known = p.1.1.1 }) (λ _. refl)
+
+-- what was written last of each dictionary, and what a reader knows, where the next part is to begin
+abbrev pub filed_so_far : {W : Type 0} → FileWriterTree W → Filed
+filed_so_far w = filed w.stream.sent w.known
 
 -- ---- bytes
 
@@ -53,9 +62,9 @@ end_bytes f = end_mark ++ file_end f
 
 -- ---- where a part lies
 
--- a batch that begins at a place, behind the dictionaries that it needs
+-- a batch behind what is put before it, which begins at a place
 abbrev pub part_blocks : ℕ → Entries → Arrays → Blocks
-part_blocks place sent b = record { dictionaries = dictionary_blocks place (needed_by sent b); batches = written_block (batch_place place sent b) b ∷ [] }
+part_blocks place sent b = record { dictionaries = dictionary_blocks place (puts_by sent b); batches = written_block (batch_place place sent b) b ∷ [] }
 
 -- a block where so many bytes more stand before it
 abbrev pub moved_block : ℕ → Block → Block
@@ -75,8 +84,8 @@ both_blocks old more = record { dictionaries = old.dictionaries ++ more.dictiona
 -- ---- why no more is written
 
 -- of a batch that is to begin at a place: as in a file in memory, else since there would be no number for the end of it
-abbrev pub placed_refusal : ℕ → List TypeTree → Entries → Arrays → Option reasons.NoForm
-placed_refusal place types sent b = else_for (block_refusal types sent b) (size_if (nat_le (2 ^ 63) (place + length (part_bytes sent b))))
+abbrev pub placed_refusal : ℕ → List TypeTree → Filed → Arrays → Option reasons.NoForm
+placed_refusal place types f b = else_for (block_refusal types f b) (size_if (nat_le (2 ^ 63) (place + length (part_bytes puts_by f.sent b))))
 
 -- of the end: a field of the schema, else the footer passes 2^31 - 1 bytes
 abbrev pub end_refusal : FooterTree → Option reasons.NoForm
@@ -93,3 +102,10 @@ as_stream (Err e) = Err e
 abbrev pub Notes : {W : Type 0} → Blocks → ℕ → FileWriterTree W → FileWriterTree W → Result ⊤ errors.WriteError → Type 0
 Notes blocks long old new (Ok done) = (new.blocks ≡ both_blocks old.blocks blocks) × (new.place ≡ old.place + long)
 Notes blocks long old new (Err e) = (new.blocks ≡ old.blocks) × (new.place ≡ old.place)
+
+-- a reader knows this behind what was written; where nothing was, and the writer goes on or had failed, what it knew
+abbrev pub Knows : {W : Type 0} → State → FileWriterTree W → FileWriterTree W → Result ⊤ errors.WriteError → Type 0
+Knows state old new (Ok done) = new.known ≡ state
+Knows state old new (Err (NoForm why)) = new.known ≡ old.known
+Knows state old new (Err (Io e)) = new.known.picked ≡ old.known.picked
+Knows state old new (Err Failed) = new.known ≡ old.known

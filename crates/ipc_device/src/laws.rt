@@ -8,10 +8,10 @@ ghost use Rattle.ipc_schema.specs.Picks.{Picks};
 ghost use Rattle.ipc_schema.specs.Schemas.{SchemaTree};
 ghost use Rattle.ipc_schema.specs.SchemaBytes.{schema_message};
 ghost use Rattle.ipc_needed.specs.Entries.{Entries};
-ghost use Rattle.ipc.specs.Streams.{Arrays, stream_in};
+ghost use Rattle.ipc.specs.Streams.{Arrays, State, stream_in};
 ghost use Rattle.ipc.specs.Files.{file_in, picked_file_in};
-ghost use Rattle.ipc.specs.Written.{part_bytes, stream_bytes, schema_refusal, shown_batches, shown_stream, AreSameBatches};
-ghost use Rattle.ipc.specs.WrittenFiles.{Blocks, written_footer, file_bytes, footer_refusal, file_refusal, shown_file};
+ghost use Rattle.ipc.specs.Written.{part_bytes, stream_bytes, wholes_by, schema_refusal, shown_batches, shown_stream, AreSameBatches};
+ghost use Rattle.ipc.specs.WrittenFiles.{Blocks, puts_by, written_footer, file_bytes, footer_refusal, file_refusal, shown_file, NothingGrows};
 ghost use Rattle.ipc.specs.Readers.{batches_of_stream};
 ghost use Rattle.ipc_device.specs.declared.fault.ReadError.TheVariants.{Fault};
 ghost use Rattle.ipc_device.specs.declared.fault.WriteError as errors;
@@ -19,7 +19,7 @@ ghost use Rattle.ipc_device.specs.declared.fault.WriteError.TheVariants.{NoForm,
 ghost use Rattle.ipc_device.specs.Devices.{PutsBeginning};
 ghost use Rattle.ipc_device.specs.Writers.{WriterTree, Begins, IsIo, Puts};
 ghost use Rattle.ipc_device.specs.WriterLaws.{IsFinished, Writes};
-ghost use Rattle.ipc_device.specs.FileWriters.{FileWriterTree, footer_of, end_refusal, Notes};
+ghost use Rattle.ipc_device.specs.FileWriters.{FileWriterTree, footer_of, end_refusal, Notes, Knows};
 ghost use Rattle.ipc_device.specs.FileWriterLaws.{IsBegun, IsFinishedFile};
 ghost use Rattle.ipc_device.specs.Readers.{DeviceTree, Opens};
 ghost use Rattle.ipc_device.specs.ReaderLaws.{Reads};
@@ -43,7 +43,7 @@ pub fn what_a_writer_has_put_is_read_back<W: Write>()
 
 /// Where a writer fails in a batch, its device got a beginning of the stream, whatever was to come behind that batch.
 pub fn a_failed_writer_has_put_a_beginning_of_its_stream<W: Write>()
-    ensures { (s : SchemaTree) (bs more : List Arrays) (b : Arrays) (start : W) (first last new : WriterTree W) (reason : Option reasons.NoForm) (sent : Entries) (result : Result ⊤ errors.WriteError) → IsIo result → Begins W.contents (schema_refusal s) (schema_message s) s start (Ok first) → Writes W.contents bs first last → Puts W.contents reason (part_bytes last.sent b) sent last new result → PutsBeginning (W.contents start) (W.contents new.device) (stream_bytes s (bs ++ b ∷ more)) }
+    ensures { (s : SchemaTree) (bs more : List Arrays) (b : Arrays) (start : W) (first last new : WriterTree W) (reason : Option reasons.NoForm) (sent : Entries) (result : Result ⊤ errors.WriteError) → IsIo result → Begins W.contents (schema_refusal s) (schema_message s) s start (Ok first) → Writes W.contents bs first last → Puts W.contents reason (part_bytes wholes_by last.sent b) sent last new result → PutsBeginning (W.contents start) (W.contents new.device) (stream_bytes s (bs ++ b ∷ more)) }
 {}
 
 /// What a device got from a file writer's first call to its last is what `write_file` answers of the batches; where it had nothing
@@ -54,10 +54,11 @@ pub fn a_finished_writer_has_put_its_file<W: Write>()
     ensures form { (s : SchemaTree) (bs : List Arrays) (start end : W) → IsFinishedFile W.contents s bs start end → file_refusal s bs ≡ None }
 {}
 
-/// Reading it gives the schema and the same batches back.
+/// Reading it gives the schema and the same batches back: those that a stream of them gives, where no dictionary grew.
 pub fn what_a_file_writer_has_put_is_read_back<W: Write>()
     ensures read { (s : SchemaTree) (bs : List Arrays) (start end : W) → IsFinishedFile W.contents s bs start end → file_in (file_bytes s bs) ≡ Ok (shown_file s bs) }
-    ensures same { (s : SchemaTree) (bs : List Arrays) (start end : W) → IsFinishedFile W.contents s bs start end → AreSameBatches bs (shown_batches bs) }
+    ensures same { (s : SchemaTree) (bs : List Arrays) (start end : W) → IsFinishedFile W.contents s bs start end → AreSameBatches bs (shown_file s bs).batches }
+    ensures plain { (s : SchemaTree) (bs : List Arrays) (start end : W) → IsFinishedFile W.contents s bs start end → NothingGrows [] bs → (shown_file s bs).batches ≡ shown_batches bs }
 {}
 
 /// Where a file has no end, it is for the size of its footer, or for want of memory: its schema was taken before.
@@ -67,7 +68,7 @@ pub fn a_file_ends_unless_its_footer_is_too_long<W: Write>()
 
 /// Where a writer fails in a batch, its device got a beginning of the file, whatever was to come behind that batch.
 pub fn a_failed_writer_has_put_a_beginning_of_its_file<W: Write>()
-    ensures { (s : SchemaTree) (bs more : List Arrays) (b : Arrays) (start : W) (last : FileWriterTree W) (new : WriterTree W) (reason : Option reasons.NoForm) (sent : Entries) (result : Result ⊤ errors.WriteError) → IsIo result → IsBegun W.contents s bs start last → Puts W.contents reason (part_bytes last.stream.sent b) sent last.stream new result → PutsBeginning (W.contents start) (W.contents new.device) (file_bytes s (bs ++ b ∷ more)) }
+    ensures { (s : SchemaTree) (bs more : List Arrays) (b : Arrays) (start : W) (last : FileWriterTree W) (new : WriterTree W) (reason : Option reasons.NoForm) (sent : Entries) (result : Result ⊤ errors.WriteError) → IsIo result → IsBegun W.contents s bs start last → Puts W.contents reason (part_bytes puts_by last.stream.sent b) sent last.stream new result → PutsBeginning (W.contents start) (W.contents new.device) (file_bytes s (bs ++ b ∷ more)) }
 {}
 
 /// A writer that failed puts nothing more, and says so.
@@ -75,10 +76,11 @@ pub fn behind_a_failure_nothing_is_put<W: Write>()
     ensures { (reason : Option reasons.NoForm) (bytes : List ℕ) (sent : Entries) (old new : WriterTree W) (result : Result ⊤ errors.WriteError) → Puts W.contents reason bytes sent old new result → old.failed ≡ true → (result ≡ Err Failed) × (new ≡ old) }
 {}
 
-/// Where a batch is refused, a writer of a file is as it was, its blocks too; where it failed it is from then on, and says so.
+/// Where a batch is refused, a writer of a file is as it was, its blocks and what a reader knows too; where it failed it is from then
+/// on, and says so.
 pub fn what_is_refused_leaves_a_file_writer_as_it_was<W: Write>()
-    ensures refused { (reason : Option reasons.NoForm) (bytes : List ℕ) (sent : Entries) (blocks : Blocks) (long : ℕ) (old new : FileWriterTree W) (why : reasons.NoForm) → Puts W.contents reason bytes sent old.stream new.stream (Err (NoForm why)) → Notes blocks long old new (Err (NoForm why)) → new ≡ old }
-    ensures failed { (reason : Option reasons.NoForm) (bytes : List ℕ) (sent : Entries) (blocks : Blocks) (long : ℕ) (old new : FileWriterTree W) (result : Result ⊤ errors.WriteError) → Puts W.contents reason bytes sent old.stream new.stream result → Notes blocks long old new result → old.stream.failed ≡ true → (result ≡ Err Failed) × (new ≡ old) }
+    ensures refused { (reason : Option reasons.NoForm) (bytes : List ℕ) (sent : Entries) (blocks : Blocks) (long : ℕ) (state : State) (old new : FileWriterTree W) (why : reasons.NoForm) → Puts W.contents reason bytes sent old.stream new.stream (Err (NoForm why)) → Notes blocks long old new (Err (NoForm why)) → Knows state old new (Err (NoForm why)) → new ≡ old }
+    ensures failed { (reason : Option reasons.NoForm) (bytes : List ℕ) (sent : Entries) (blocks : Blocks) (long : ℕ) (state : State) (old new : FileWriterTree W) (result : Result ⊤ errors.WriteError) → Puts W.contents reason bytes sent old.stream new.stream result → Notes blocks long old new result → Knows state old new result → old.stream.failed ≡ true → (result ≡ Err Failed) × (new ≡ old) }
 {}
 
 /// The batches that come of a device until its end are those of the stream that it has.

@@ -7,7 +7,7 @@ ghost use Rattle.ipc_schema.specs.SchemaBytes.{schema_message};
 ghost use Rattle.ipc_needed.specs.Needed.{with_entries};
 ghost use Rattle.ipc_needed.specs.Sent.{entry_of, entries_of};
 ghost use Rattle.ipc.specs.Streams.{arrays_of, types_of};
-ghost use Rattle.ipc.specs.Written.{part_bytes, sent_behind, batch_refusal, schema_refusal, IsRefused, IsPartAgain};
+ghost use Rattle.ipc.specs.Written.{part_bytes, sent_behind, wholes_by, batch_refusal, schema_refusal, IsRefused, IsPartAgain};
 ghost use Rattle.ipc_device.specs.Readers.{IsSchemaOf};
 ghost use Rattle.ipc_device.specs.Writers.{Begins, Ends, IsSchemaAgain, Puts};
 
@@ -178,8 +178,8 @@ impl<W: Write + Drop> StreamWriter<W> {
     /// fails, or where there is no memory to remember a dictionary that went out: a beginning of the batch may have gone out, and
     /// nothing more is written. `Failed` where a call failed before.
     pub fn write(&mut self, alloc: Global, batch: &Batch) -> Result<(), WriteError>
-        ensures put { Puts W.contents (batch_refusal (types_of self.old.schema) self.old.sent (arrays_of batch.now)) (part_bytes self.old.sent (arrays_of batch.now)) (sent_behind self.old.sent (arrays_of batch.now)) self.old self.new result }
-        ensures again { OnOk result (IsPartAgain self.old.sent (arrays_of batch.now)) }
+        ensures put { Puts W.contents (batch_refusal (types_of self.old.schema) self.old.sent (arrays_of batch.now)) (part_bytes wholes_by self.old.sent (arrays_of batch.now)) (sent_behind self.old.sent (arrays_of batch.now)) self.old self.new result }
+        ensures again { OnOk result (IsPartAgain (wholes_by self.old.sent (arrays_of batch.now)) (arrays_of batch.now)) }
     {
         if self.failed {
             return Err(WriteError::Failed);

@@ -1,7 +1,8 @@
--- Arrays that differ in the values of their dictionaries alone: they are written as the same nodes and buffers, and each is read back over its own values.
-use Rattle.std.proofs.Common.{◌≡◌, ℕ, zero, suc, ◌+◌, ◌-◌, ◌*◌, ◌/◌, ◌%◌, ◌<◌, ◌≤◌, Bool, true, false, List, [], ◌∷◌, ◌++◌, length, get_or, map, Some, None, refl, sym, ap, subst, ◌∙◌, arith}
-use Rattle.std.specs.Prelude.{ℤ, pos, Option, count_by, if◌then◌else◌}
+-- Arrays that differ in the values of their dictionaries alone, of which one has maybe more: they are written as the same nodes and buffers, and each is read back over its own values.
+use Rattle.std.proofs.Common.{◌≡◌, ℕ, zero, suc, ◌+◌, ◌-◌, ◌*◌, ◌/◌, ◌%◌, ◌<◌, ◌≤◌, Bool, true, false, List, [], ◌∷◌, ◌++◌, length, get_or, map, Some, None, refl, sym, ap, subst, ◌∙◌, arith, length-append}
+use Rattle.std.specs.Prelude.{ℤ, pos, negsuc, Option, count_by, if◌then◌else◌}
 use Rattle.std.specs.List.{AllByRecursion, range_with_len}
+use Rattle.std.proofs.lemmas.List.{append-nil, get_or_append_left}
 use Rattle.nest_memory.specs.Rising.{last_of}
 use Rattle.nest_memory.specs.TypeTree.{TypeTree, FieldTrees, no_fields, more_fields, size_of, fields_of, ids_of, value_type, logical_type}
 use Rattle.nest_model.specs.Accessors.{validity_of, key_at}
@@ -12,7 +13,8 @@ use Rattle.nest_model.specs.Layout.{Layout, Layouts, fixed_size_list, list as li
 use Rattle.nest_model.specs.Meaning.{len, first_len, slot, each, picked, run, slots_of}
 use Rattle.nest_model.specs.Nullness.{is_null_at}
 use Rattle.nest_model.specs.Part.{begin, extent, count_rows, valid_at, field_named, place}
-use Rattle.nest_model.specs.Runs.{length-run, get_or-run, product-sum, product-within, run-ext}
+use Rattle.nest_model.specs.Reads.{slots-length, slot-place}
+use Rattle.nest_model.specs.Runs.{product-sum, product-within, run-ext}
 use Rattle.nest_model.specs.Slot as slots
 use Rattle.nest_model.specs.Slot.{Slot, seal}
 use Rattle.nest_array.specs.Seen.{layout_of, layouts_of}
@@ -27,7 +29,16 @@ pub record AreSameValues (c d : Layout) : Type 0 where
   pub logical : logical_type (layout_type d) ≡ logical_type (layout_type c)
   pub slots : slots_of d ≡ slots_of c
 
--- b is a, but for the values of dictionaries, which are the same values
+-- the slots of d begin with those of c, and its type is the same, extensions looked through
+pub record AreGrown (c d : Layout) : Type 0 where
+  pub logical : logical_type (layout_type d) ≡ logical_type (layout_type c)
+  pub more : List Slot
+  pub slots : slots_of d ≡ slots_of c ++ more
+
+pub grown_same : (c d : Layout) → AreSameValues c d → AreGrown c d
+grown_same c d h = record { logical = h.logical; more = []; slots = h.slots ∙ sym (append-nil (slots_of c)) }
+
+-- b is a, but for the values of dictionaries, which begin with the same values
 abbrev mutual
   pub IsAlike : Layout → Layout → Type 0
   IsAlike (fixed_size_list t c va) b = (d : Layout) × (b ≡ fixed_size_list t d va) × IsAlike c d
@@ -35,7 +46,7 @@ abbrev mutual
   IsAlike (map_of t os c va) b = (d : Layout) × (b ≡ map_of t os d va) × IsAlike c d
   IsAlike (struct t cs va) b = (ds : Layouts) × (b ≡ struct t ds va) × EachAlike cs ds
   IsAlike (union t ks cs os start) b = (ds : Layouts) × (b ≡ union t ks ds os start) × EachAlike cs ds
-  IsAlike (dictionary t ks c) b = (d : Layout) × (b ≡ dictionary t ks d) × AreSameValues c d
+  IsAlike (dictionary t ks c) b = (d : Layout) × (b ≡ dictionary t ks d) × AreGrown c d
   IsAlike a b = b ≡ a
 
   pub EachAlike : Layouts → Layouts → Type 0
@@ -58,8 +69,8 @@ pub record AreWrittenAlike (columns others : List Layout) : Type 0 where
 
 -- ---- one level
 
-values_long : (c d : Layout) → AreSameValues c d → len d ≡ len c
-values_long c d h = sym (length-run (slot d) 0 (len d)) ∙ ap length h.slots ∙ length-run (slot c) 0 (len c)
+grown_long : (c d : Layout) → AreGrown c d → len c ≤ len d
+grown_long c d h = omega (arith, slots-length c, slots-length d, ap length h.slots, length-append (slots_of c) h.more)
 
 type_alike : (a b : Layout) → IsAlike a b → layout_type b ≡ layout_type a
 type_alike (fixed_size_list t c va) b h = ap layout_type h.1
@@ -252,6 +263,10 @@ logically_alike : (u : Option TypeTree) (s t : TypeTree) → logical_type t ≡ 
 logically_alike None s t e h = h
 logically_alike (Some u) s t e h = e ∙ h
 
+names_more : (z : ℤ) (m n : ℕ) → m ≤ n → Names z m → Names z n
+names_more (pos k) m n le h = omega (arith, le, h)
+names_more (negsuc k) m n le h = absurd h
+
 fits_alike : (a b : Layout) → IsAlike a b → TopFits a → TopFits b
 fits_alike (fixed_size_list t c va) b h fits =
     let f = fits.1 in
@@ -310,8 +325,9 @@ fits_alike (union t ks cs os start) b h fits =
     )
 fits_alike (dictionary t ks c) b h fits =
     let f = fits.1 in
-    let long : len c ≡ len h.0 = sym (values_long c h.0 h.2) in
-    subst TopFits (sym h.1) (fits.0, (f.0, (f.1.0, (logically_alike (value_type t) (layout_type c) (layout_type h.0) h.2.logical f.1.1.0, subst (λ (m : ℕ). EachValidNames (validity_of ks) ks m) long f.1.1.1))))
+    let long : len c ≤ len h.0 = grown_long c h.0 h.2 in
+    let named : EachValidNames (validity_of ks) ks (len h.0) = λ i lt valid. names_more (key_at ks i) (len c) (len h.0) long (f.1.1.1 i lt valid) in
+    subst TopFits (sym h.1) (fits.0, (f.0, (f.1.0, (logically_alike (value_type t) (layout_type c) (layout_type h.0) h.2.logical f.1.1.0, named))))
 fits_alike a b h fits = subst TopFits (sym h) fits
 
 -- ---- the same slots
@@ -364,11 +380,14 @@ picked_there f (more_layouts c cs) (more_layouts d ds) zero p h all lt =
     λ w. slots.pick f (type_alike c d h.0 w) ((ap (slot d) (sym e) ∙ all.0 d h.0 p lt ∙ ap (slot c) e) w)
 picked_there f (more_layouts c cs) (more_layouts d ds) (suc k) p h all lt = picked_there f cs ds k p h.1 all.1 lt
 
-value_same : (c d : Layout) (p : ℕ) → AreSameValues c d → p < len c → slot d p ≡ slot c p
+value_same : (c d : Layout) (p : ℕ) → AreGrown c d → p < len c → slot d p ≡ slot c p
 value_same c d p h lt =
-    let e : 0 + p ≡ p = omega arith in
-    let there : p < len d = subst (λ (m : ℕ). p < m) (sym (values_long c d h)) lt in
-    ap (slot d) (sym e) ∙ sym (get_or-run (slot d) 0 (len d) p slots.null there) ∙ ap (λ (ss : List Slot). get_or ss p slots.null) h.slots ∙ get_or-run (slot c) 0 (len c) p slots.null lt ∙ ap (slot c) e
+    let inside : p < length (slots_of c) = omega (arith, slots-length c) in
+    let there : p < len d = omega (arith, grown_long c d h) in
+    sym (slot-place d p slots.null there)
+    ∙ ap (λ (ss : List Slot). get_or ss p slots.null) h.slots
+    ∙ get_or_append_left (slots_of c) h.more slots.null p inside
+    ∙ slot-place c p slots.null lt
 
 where_valid : (b : Bool) (x y : Slot) → (b ≡ true → x ≡ y) → (if b then x else slots.null) ≡ (if b then y else slots.null)
 where_valid true x y h = h refl
@@ -410,7 +429,7 @@ slot_alike a b o n i fits le h all lt = ap (λ (x : Layout). slot x (o + i)) h
 
 -- ---- what is read back
 
--- over any values that are the same a window is read back, with the same slots
+-- over any values that begin with the same a window is read back, with the same slots
 pub record IsAgainOver (w : WindowParts) : Type 0 where
   pub read : (b : Layout) → IsAlike w.array b → IsAgain (window_parts b w.offset w.count)
   pub same : HasSameSlots w
@@ -470,7 +489,7 @@ pub record AreReadAs (columns others : List Layout) : Type 0 where
   pub slots : map slots_of others ≡ map slots_of columns
   pub back : AreReadBack others
 
--- columns are read back over any values that are the same as those of their dictionaries
+-- columns are read back over any values that begin with those of their dictionaries
 abbrev pub AreReadOver : List Layout → Type 0
 AreReadOver columns = (others : List Layout) → AreAlike columns others → AreReadAs columns others
 
@@ -479,8 +498,8 @@ read_over xs all = λ others h. record { slots = slots_alike xs others h all; ba
 
 -- ---- each array is its own
 
-values_same : (c : Layout) → AreSameValues c c
-values_same c = record { logical = refl; slots = refl }
+values_same : (c : Layout) → AreGrown c c
+values_same c = grown_same c c (record { logical = refl; slots = refl })
 
 mutual
   pub self_alike : (a : Layout) → IsAlike a a

@@ -7,7 +7,7 @@ use Rattle.nest_memory.specs.TypeTree.{TypeTree, FieldTree, FieldTrees, no_field
 use Rattle.nest_memory.specs.declared.datatypes.IntegerType.TheVariants.{Int8 as Keys8, Int32 as Keys32}
 use Rattle.nest_memory.specs.declared.datatypes.UnionMode.TheVariants.{Dense, Sparse}
 use Rattle.nest_memory.specs.declared.datatypes.physical_type.PrimitiveType.TheVariants.{Int8, Int32}
-use Rattle.std.proofs.Common.{ap, ◌∙◌}
+use Rattle.std.proofs.Common.{ap, sym, subst, ◌∙◌}
 use Rattle.nest_model.specs.Accessors.{child_of}
 use Rattle.nest_model.specs.Cut.{cut_layout}
 use Rattle.nest_model.specs.Layout.{Layout, Layouts, boolean, primitive, text, fixed_size_list, list as list_of, map as map_of, struct, union, dictionary, no_layouts, more_layouts, layout_type}
@@ -18,7 +18,7 @@ use Rattle.ipc_model.specs.declared.batch.Region.{Region}
 use Rattle.ipc_model.specs.declared.batch.Node.{Node}
 use Rattle.ipc_layout.specs.Columns.{next_counts, bytes_of, next_bytes, bits_in, validity_in, node_in, buffer_in, head_in, natives_in, offsets_from, offsets_in, rows_in, keys_by, next_values, known_in, dictionary_in, each_in, columns_in}
 use Rattle.ipc_layout.specs.Keys.{blanked}
-use Rattle.ipc_layout.specs.Rekeyed.{AreSameValues, AreAlike}
+use Rattle.ipc_layout.specs.Rekeyed.{AreGrown, AreAlike}
 use Rattle.ipc_layout.specs.Stored.{values_in, values_bytes}
 use Rattle.ipc_layout.specs.Packed.{number_of, packed}
 use Rattle.ipc_layout.specs.Placed.{padded, body_of, regions_from}
@@ -213,6 +213,10 @@ listed_words = record {
 abbrev moved_words : Layout
 moved_words = text false types.utf8 (2 ∷ 3 ∷ 5 ∷ []) (120 ∷ 120 ∷ 97 ∷ 98 ∷ 99 ∷ []) None
 
+-- the words, and another one behind them
+abbrev more_words : Layout
+more_words = text false types.utf8 (0 ∷ 1 ∷ 3 ∷ 4 ∷ []) (97 ∷ 98 ∷ 99 ∷ 100 ∷ []) None
+
 -- the words in another order
 abbrev turned_words : Layout
 turned_words = text false types.utf8 (0 ∷ 2 ∷ 3 ∷ []) (98 ∷ 99 ∷ 97 ∷ []) None
@@ -220,9 +224,12 @@ turned_words = text false types.utf8 (0 ∷ 2 ∷ 3 ∷ []) (98 ∷ 99 ∷ 97 �
 abbrev over_words : Layout → Layout
 over_words values = list_of false (types.list (types.field [] keyed_type true [])) (1 ∷ 3 ∷ []) (dictionary keyed_type (primitive Int8 types.int8 ((pos 1 ∷ []) ∷ (pos 1 ∷ []) ∷ (pos 0 ∷ []) ∷ []) None) values) None
 
--- lists of words are alike where the words are the same
-abbrev pub AreAlikeWords : Type 0
-AreAlikeWords = AreAlike (over_words words ∷ []) (over_words moved_words ∷ []) × (AreAlike (over_words words ∷ []) (over_words turned_words ∷ []) → ⊥)
+-- lists of words are alike over words that begin with the same
+pub record AreAlikeWords : Type 0 where
+  pub moved : AreAlike (over_words words ∷ []) (over_words moved_words ∷ [])
+  pub more : AreAlike (over_words words ∷ []) (over_words more_words ∷ [])
+  pub fewer : AreAlike (over_words more_words ∷ []) (over_words words ∷ []) → ⊥
+  pub turned : AreAlike (over_words words ∷ []) (over_words turned_words ∷ []) → ⊥
 
 -- a list of records of these fields
 abbrev listed_records : FieldTrees → Layouts → Layout
@@ -286,13 +293,32 @@ pub listed_are : IsKeyedAs listed_words
 unfolding bit bits_from values_in values_bytes number_of packed padded body_of regions_from written buffers_of next_counts bytes_of next_bytes bits_in validity_in node_in buffer_in head_in natives_in are_offsets offsets_from offsets_in rows_in blanked keys_by next_values known_in dictionary_in each_in columns_in
 listed_are = ((refl, refl, refl), refl, refl)
 
+-- the values of others that are alike
+values_there : (a b : Layout) → AreAlike (over_words a ∷ []) (over_words b ∷ []) → AreGrown a b
+values_there a b h =
+    let there : b ≡ h.0.2.0 = ap (λ (c : Layout). child_of (child_of c)) h.0.1 ∙ ap child_of h.0.2.1 in
+    subst (AreGrown a) (sym there) h.0.2.2
+
 turned_unlike : AreAlike (over_words words ∷ []) (over_words turned_words ∷ []) → ⊥
 turned_unlike h =
-    let keyed : turned_words ≡ h.0.2.0 = ap (λ (a : Layout). child_of (child_of a)) h.0.1 ∙ ap child_of h.0.2.1 in
-    let same : (slots.text (98 ∷ 99 ∷ []) ∷ slots.text (97 ∷ []) ∷ []) ≡ (slots.text (97 ∷ []) ∷ slots.text (98 ∷ 99 ∷ []) ∷ []) = ap slots_of keyed ∙ h.0.2.2.slots in
+    let grown : AreGrown words turned_words = values_there words turned_words h in
+    let same : (slots.text (98 ∷ 99 ∷ []) ∷ slots.text (97 ∷ []) ∷ []) ≡ (slots.text (97 ∷ []) ∷ slots.text (98 ∷ 99 ∷ []) ∷ grown.more) = grown.slots in
     cc
+
+fewer_unlike : AreAlike (over_words more_words ∷ []) (over_words words ∷ []) → ⊥
+fewer_unlike h =
+    let grown : AreGrown more_words words = values_there more_words words h in
+    let same : (slots.text (97 ∷ []) ∷ slots.text (98 ∷ 99 ∷ []) ∷ []) ≡ (slots.text (97 ∷ []) ∷ slots.text (98 ∷ 99 ∷ []) ∷ slots.text (100 ∷ []) ∷ grown.more) = grown.slots in
+    cc
+
+alike_over : (a b : Layout) → AreGrown a b → AreAlike (over_words a ∷ []) (over_words b ∷ [])
+alike_over a b grown = ((dictionary keyed_type (primitive Int8 types.int8 ((pos 1 ∷ []) ∷ (pos 1 ∷ []) ∷ (pos 0 ∷ []) ∷ []) None) b, refl, (b, refl, grown)), tt)
 
 pub words_alike : AreAlikeWords
 words_alike =
-    let own : AreSameValues words moved_words = record { logical = refl; slots = refl } in
-    (((dictionary keyed_type (primitive Int8 types.int8 ((pos 1 ∷ []) ∷ (pos 1 ∷ []) ∷ (pos 0 ∷ []) ∷ []) None) moved_words, refl, (moved_words, refl, own)), tt), turned_unlike)
+    record {
+      moved = alike_over words moved_words (record { logical = refl; more = []; slots = refl });
+      more = alike_over words more_words (record { logical = refl; more = slots.text (100 ∷ []) ∷ []; slots = refl });
+      fewer = fewer_unlike;
+      turned = turned_unlike;
+    }

@@ -90,7 +90,8 @@ pub fn what_is_shown_alone_is_written()
     ensures { (one other : List Layout) → map shown one ≡ map shown other → (written one ≡ written other) × (columns_body one ≡ columns_body other) }
 {}
 
-/// The values of dictionaries are written elsewhere: arrays that differ in those alone have equal nodes and buffers.
+/// The values of dictionaries are written elsewhere: arrays that differ in those alone have equal nodes and buffers, also where others stand
+/// behind the values of one.
 pub fn values_are_not_written()
     ensures { (columns others : List Layout) → AreAlike columns others → AreWrittenAlike columns others }
 {}

@@ -63,7 +63,8 @@ pub fn listed_keys_are_written()
     ensures { IsKeyedAs listed_words }
 {}
 
-/// Lists of words by keys are alike over the same words that lie elsewhere, and not over words in another order.
+/// Lists of words by keys are alike over the same words that lie elsewhere, and where more stand behind them, but not over fewer words, nor
+/// over words in another order.
 pub fn lists_of_the_same_words_are_alike()
     ensures { AreAlikeWords }
 {}

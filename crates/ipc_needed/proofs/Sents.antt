@@ -3,7 +3,7 @@ use Rattle.std.proofs.Common.{◌≡◌, ℕ, zero, suc, ◌+◌, ◌<◌, ◌�
 use Rattle.std.specs.Prelude.{ℤ}
 use Rattle.std.specs.Option.{option_map}
 use Rattle.std.specs.Map.{lookup}
-use Rattle.std.specs.BTreeMap.{insert_entry}
+use Rattle.std.specs.BTreeMap.{insert_entry, is_at}
 use Rattle.std.specs.Ordering.{int_cmp, match_ordering}
 use Rattle.std.specs.declared.cmp.Ordering.{Ordering}
 use Rattle.std.specs.declared.cmp.Ordering.TheVariants.{Less, Equal, Greater}
@@ -13,7 +13,8 @@ use Rattle.nest_array.specs.declared.any.AnyArray.{AnyArray}
 use Rattle.nest_model.specs.Array.{IsArray, AreArrays}
 use Rattle.nest_model.specs.Layout.{Layout, Layouts, no_layouts, more_layouts}
 use Rattle.ipc_needed.specs.Entries.{Entries, count_keys}
-use Rattle.ipc_needed.specs.Needed.{with_entries, needed_in, each_needed, columns_needed}
+use Rattle.ipc_needed.specs.Needed.{entry_at, with_entries, needed_in, each_needed, columns_needed}
+use Rattle.ipc_needed.specs.Sent.{entries_of}
 use Rattle.ipc_needed.proofs.Walks.{and_one}
 
 module _ {V W : Type 0} (view : V → W) where
@@ -38,6 +39,11 @@ module _ {V W : Type 0} (view : V → W) where
   viewed_more (e ∷ es) id new =
       match_both (int_cmp id e.0) ((id, new) ∷ e ∷ es) ((e.0, new) ∷ es) (e ∷ insert_entry int_cmp es id new)
       ∙ ap (λ (rest : List (ℤ × W)). match_ordering (int_cmp id e.0) ((id, view new) ∷ viewed (e ∷ es)) ((e.0, view new) ∷ viewed es) ((e.0, view e.1) ∷ rest)) (viewed_more es id new)
+
+-- what was written last of an id
+pub entry_found : (es : List (ℤ × AnyArray)) (key id : ℤ) (last : Option AnyArray) → key ≡ id → lookup (is_at (int_cmp key)) es ≡ last → entry_at (entries_of es) id ≡ option_map layout_of last
+entry_found es key id last same is =
+    viewed_found layout_of (is_at (int_cmp id)) es ∙ ap (option_map layout_of) (ap (λ (k : ℤ). lookup (is_at (int_cmp k)) es) (sym same) ∙ is)
 
 -- ---- one after another
 

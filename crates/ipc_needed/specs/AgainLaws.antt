@@ -12,42 +12,47 @@ use Rattle.nest_model.specs.Slot.{Slot}
 use Rattle.nest_model.specs.SameArray.{IsSameArray}
 use Rattle.ipc_layout.specs.Columns.{columns_in}
 use Rattle.ipc_layout.specs.Placed.{body_of, regions_from}
-use Rattle.ipc_layout.specs.Rekeyed.{AreSameValues, IsAlike, EachAlike, AreAlike, AreWrittenAlike, AreReadAs, AreReadOver, len_alike, written_alike}
+use Rattle.ipc_layout.specs.Rekeyed.{AreGrown, IsAlike, EachAlike, AreAlike, AreWrittenAlike, AreReadAs, AreReadOver, grown_same, len_alike, written_alike}
 use Rattle.ipc_layout.specs.Written.{shown_in, shown, each_shown, all_shown, sparse_begin, column_node, arrays_of, arrays_of_all, own_dictionaries, buffers_of, dictionaries_of, written, columns_body}
 use Rattle.ipc_needed.specs.AgainStored.{logical_twice, read_stored, stored_type, stored_slots}
 use Rattle.ipc_needed.specs.Again.{values_at, written_rest, AreColumnsAgain, AreValuesAgain}
 use Rattle.ipc_needed.specs.Entries.{Entries, count_keys, own_entries, each_own, columns_own}
-use Rattle.ipc_needed.specs.Known.{IsKnown, AreKnown, AreAllKnown, Follows, values_or, over_known, each_over, columns_over}
+use Rattle.ipc_needed.specs.Known.{IsKnown, Covers, CoversColumns, AreAllKnown, Follows, values_or, over_known, each_over, columns_over}
 use Rattle.ipc_needed.specs.KnownLaws.{all_parts, needed_known}
 use Rattle.ipc_needed.specs.Needed.{entry_at, needed}
 
 -- ---- an array over what is known is alike
 
-known_same : (known : Entries) (id : ℕ) (c : Layout) → IsKnown known (pos id, c) → AreSameValues c (values_or (entry_at known (pos id)) c)
-known_same known id c h = subst (λ (o : Option Layout). AreSameValues c (values_or o c)) (sym h.1) h.2
+-- values that have the same slots begin with them
+pub covers_all : (known es : Entries) → AllByRecursion (IsKnown known) es → AllByRecursion (Covers known) es
+covers_all known [] all = tt
+covers_all known (e ∷ es) (one, rest) = ((one.0, one.1, grown_same e.1 one.0 one.2), covers_all known es rest)
+
+known_grown : (known : Entries) (id : ℕ) (c : Layout) → Covers known (pos id, c) → AreGrown c (values_or (entry_at known (pos id)) c)
+known_grown known id c h = subst (λ (o : Option Layout). AreGrown c (values_or o c)) (sym h.1) h.2
 
 mutual
-  pub over_alike : (known : Entries) (id : ℕ) (a : Layout) → AllByRecursion (IsKnown known) (own_entries id a) → IsAlike a (over_known known id a)
+  pub over_alike : (known : Entries) (id : ℕ) (a : Layout) → AllByRecursion (Covers known) (own_entries id a) → IsAlike a (over_known known id a)
   over_alike known id (fixed_size_list t c va) h = (over_known known id c, refl, over_alike known id c h)
   over_alike known id (list_of large t os c va) h = (over_known known id c, refl, over_alike known id c h)
   over_alike known id (map_of t os c va) h = (over_known known id c, refl, over_alike known id c h)
   over_alike known id (struct t cs va) h = (each_over known id cs, refl, each_over_alike known id cs h)
   over_alike known id (union t ks cs os start) h = (each_over known id cs, refl, each_over_alike known id cs h)
-  over_alike known id (dictionary t ks c) h = (values_or (entry_at known (pos id)) c, refl, known_same known id c h.0)
+  over_alike known id (dictionary t ks c) h = (values_or (entry_at known (pos id)) c, refl, known_grown known id c h.0)
   over_alike known id a h = refl
 
-  each_over_alike : (known : Entries) (id : ℕ) (cs : Layouts) → AllByRecursion (IsKnown known) (each_own id cs) → EachAlike cs (each_over known id cs)
+  each_over_alike : (known : Entries) (id : ℕ) (cs : Layouts) → AllByRecursion (Covers known) (each_own id cs) → EachAlike cs (each_over known id cs)
   each_over_alike known id no_layouts h = tt
   each_over_alike known id (more_layouts c cs) h =
       let next : ℕ = id + count_keys c in
-      let parts = all_parts (IsKnown known) (own_entries id c) (each_own next cs) h in
+      let parts = all_parts (Covers known) (own_entries id c) (each_own next cs) h in
       (over_alike known id c parts.0, each_over_alike known next cs parts.1)
 
-pub columns_over_alike : (known : Entries) (id : ℕ) (columns : List Layout) → AllByRecursion (IsKnown known) (columns_own id columns) → AreAlike columns (columns_over known id columns)
+pub columns_over_alike : (known : Entries) (id : ℕ) (columns : List Layout) → AllByRecursion (Covers known) (columns_own id columns) → AreAlike columns (columns_over known id columns)
 columns_over_alike known id [] h = tt
 columns_over_alike known id (a ∷ columns) h =
     let next : ℕ = id + count_keys a in
-    let parts = all_parts (IsKnown known) (own_entries id a) (columns_own next columns) h in
+    let parts = all_parts (Covers known) (own_entries id a) (columns_own next columns) h in
     (over_alike known id a parts.0, columns_over_alike known next columns parts.1)
 
 -- ---- their keys name what is known
@@ -82,11 +87,11 @@ mutual
       ∙ (λ w. shown_names c 0 (len c) w ++ all_names cs w)
       ∙ sym (dictionaries_append (arrays_of c) (arrays_of_all cs))
 
-known_named : (known : Entries) (id : ℕ) (c : Layout) → IsKnown known (pos id, c) → Some (values_or (entry_at known (pos id)) c) ≡ entry_at known (pos id)
+known_named : (known : Entries) (id : ℕ) (c : Layout) → Covers known (pos id, c) → Some (values_or (entry_at known (pos id)) c) ≡ entry_at known (pos id)
 known_named known id c h = subst (λ (o : Option Layout). Some (values_or o c) ≡ o) (sym h.1) refl
 
 mutual
-  over_names : (known : Entries) (id : ℕ) (a : Layout) → AllByRecursion (IsKnown known) (own_entries id a) → dictionaries_of (arrays_of (over_known known id a)) ≡ values_at known (own_entries id a)
+  over_names : (known : Entries) (id : ℕ) (a : Layout) → AllByRecursion (Covers known) (own_entries id a) → dictionaries_of (arrays_of (over_known known id a)) ≡ values_at known (own_entries id a)
   over_names known id (fixed_size_list t c va) h = over_names known id c h
   over_names known id (list_of large t os c va) h = over_names known id c h
   over_names known id (map_of t os c va) h = over_names known id c h
@@ -95,24 +100,24 @@ mutual
   over_names known id (dictionary t ks c) h = ap (λ (o : Option Layout). o ∷ []) (known_named known id c h.0)
   over_names known id a h = refl
 
-  each_over_names : (known : Entries) (id : ℕ) (cs : Layouts) → AllByRecursion (IsKnown known) (each_own id cs) → dictionaries_of (arrays_of_all (each_over known id cs)) ≡ values_at known (each_own id cs)
+  each_over_names : (known : Entries) (id : ℕ) (cs : Layouts) → AllByRecursion (Covers known) (each_own id cs) → dictionaries_of (arrays_of_all (each_over known id cs)) ≡ values_at known (each_own id cs)
   each_over_names known id no_layouts h = refl
   each_over_names known id (more_layouts c cs) h =
       let next : ℕ = id + count_keys c in
-      let parts = all_parts (IsKnown known) (own_entries id c) (each_own next cs) h in
+      let parts = all_parts (Covers known) (own_entries id c) (each_own next cs) h in
       let first = over_names known id c parts.0 in
       let others = each_over_names known next cs parts.1 in
       dictionaries_append (arrays_of (over_known known id c)) (arrays_of_all (each_over known next cs))
       ∙ (λ w. first w ++ others w)
       ∙ sym (map-append (λ e. entry_at known e.0) (own_entries id c) (each_own next cs))
 
-pub own_written : (known : Entries) (id : ℕ) (columns : List Layout) → AllByRecursion (IsKnown known) (columns_own id columns) → dictionaries_of (written (columns_over known id columns)) ≡ values_at known (columns_own id columns)
+pub own_written : (known : Entries) (id : ℕ) (columns : List Layout) → AllByRecursion (Covers known) (columns_own id columns) → dictionaries_of (written (columns_over known id columns)) ≡ values_at known (columns_own id columns)
 unfolding written
 own_written known id [] h = refl
 own_written known id (a ∷ columns) h =
     let next : ℕ = id + count_keys a in
     let b : Layout = over_known known id a in
-    let parts = all_parts (IsKnown known) (own_entries id a) (columns_own next columns) h in
+    let parts = all_parts (Covers known) (own_entries id a) (columns_own next columns) h in
     let first = shown_names b 0 (len b) ∙ over_names known id a parts.0 in
     let others = own_written known next columns parts.1 in
     dictionaries_append (arrays_of (shown b)) (written (columns_over known next columns))
@@ -142,7 +147,7 @@ record AreAgainFrom (known : Entries) (id : ℕ) (columns : List Layout) : Type 
   types : map layout_type (map shown (columns_over known id columns)) ≡ map layout_type columns
   slots : map slots_of (map shown (columns_over known id columns)) ≡ map slots_of columns
 
-again_from : (known : Entries) (id : ℕ) (columns : List Layout) → AreReadOver columns → AllByRecursion (IsKnown known) (columns_own id columns) → AreAgainFrom known id columns
+again_from : (known : Entries) (id : ℕ) (columns : List Layout) → AreReadOver columns → AllByRecursion (Covers known) (columns_own id columns) → AreAgainFrom known id columns
 again_from known id columns over h =
     let others : List Layout = columns_over known id columns in
     let alike : AreAlike columns others = columns_over_alike known id columns h in
@@ -160,17 +165,17 @@ again_from known id columns over h =
       slots = shown_slots others as_read.back.same ∙ as_read.slots;
     }
 
-pub columns_again : (known : Entries) (columns : List Layout) → AreReadOver columns → AreKnown known columns → AreColumnsAgain known columns
+pub columns_again : (known : Entries) (columns : List Layout) → AreReadOver columns → CoversColumns known columns → AreColumnsAgain known columns
 columns_again known columns over h =
     let again = again_from known 0 columns over h in
     record { read = again.read; types = again.types; slots = again.slots }
 
 -- ---- values are read back
 
-pub values_again : (known : Entries) (id : ℕ) (c : Layout) → AreReadOver (c ∷ []) → AllByRecursion (IsKnown known) (own_entries (suc id) c) → AreValuesAgain known id c
+pub values_again : (known : Entries) (id : ℕ) (c : Layout) → AreReadOver (c ∷ []) → AllByRecursion (Covers known) (own_entries (suc id) c) → AreValuesAgain known id c
 values_again known id c over h =
     let own : columns_own (suc id) (c ∷ []) ≡ own_entries (suc id) c = append-nil (own_entries (suc id) c) in
-    let again : AreAgainFrom known (suc id) (c ∷ []) = again_from known (suc id) (c ∷ []) over (subst (AllByRecursion (IsKnown known)) (sym own) h) in
+    let again : AreAgainFrom known (suc id) (c ∷ []) = again_from known (suc id) (c ∷ []) over (subst (AllByRecursion (Covers known)) (sym own) h) in
     let b : Layout = shown (over_known known (suc id) c) in
     let type : layout_type b ≡ layout_type c = ap (λ (ts : List TypeTree). get_or ts 0 (layout_type c)) again.types in
     let rest : written_rest (c ∷ []) (values_at known (own_entries (suc id) c)) ≡ written_rest (c ∷ []) (values_at known (columns_own (suc id) (c ∷ []))) =
@@ -188,4 +193,4 @@ values_again known id c over h =
 
 -- where a reader knows what was written last, it knows behind all that columns need what their keys name
 pub columns_known : (known sent : Entries) (columns : List Layout) → Follows known sent → AllByRecursion (λ e. AreReadOver (e.1 ∷ [])) (needed sent columns) → AreAllKnown known sent columns
-columns_known = needed_known (λ values. AreReadOver (values ∷ [])) (λ known id values over inside. (values_again known id values over inside).same)
+columns_known = needed_known (λ values. AreReadOver (values ∷ [])) (λ known id values over inside. (values_again known id values over (covers_all known (own_entries (suc id) values) inside)).same)

@@ -75,7 +75,7 @@ is_false : (b : Bool) → (b ≡ true → ⊥) → b ≡ false
 is_false true not-true = absurd (not-true refl)
 is_false false not-true = refl
 
-other : (c d : Layout) → (IsSameArray c d → ⊥) → same_array c d ≡ false
+pub other : (c d : Layout) → (IsSameArray c d → ⊥) → same_array c d ≡ false
 other c d differ = is_false (same_array c d) (λ h. differ ((same_array-decides c d).0 h))
 
 pub first_needed : needed [] columns ≡ (pos 1, sevens) ∷ (pos 2, eights) ∷ (pos 0, records sevens eights) ∷ (pos 3, nines) ∷ []

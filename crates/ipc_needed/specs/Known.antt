@@ -6,7 +6,7 @@ use Rattle.std.specs.Ordering.{int_cmp}
 use Rattle.nest_memory.specs.TypeTree.{logical_type}
 use Rattle.nest_model.specs.Accessors.{with_type}
 use Rattle.nest_model.specs.Layout.{Layout, Layouts, fixed_size_list, list as list_of, map as map_of, struct, union, dictionary, no_layouts, more_layouts, layout_type}
-use Rattle.ipc_layout.specs.Rekeyed.{AreSameValues}
+use Rattle.ipc_layout.specs.Rekeyed.{AreSameValues, AreGrown}
 use Rattle.ipc_layout.specs.Written.{shown}
 use Rattle.ipc_needed.specs.Entries.{Entries, count_keys, own_entries, columns_own}
 use Rattle.ipc_needed.specs.Needed.{entry_at, with_entries, needed}
@@ -18,6 +18,14 @@ IsKnown known e = (d : Layout) × (entry_at known e.0 ≡ Some d) × AreSameValu
 -- those that all keys of columns name
 abbrev pub AreKnown : Entries → List Layout → Type 0
 AreKnown known columns = AllByRecursion (IsKnown known) (columns_own 0 columns)
+
+-- of an id values are known that begin with the same slots
+abbrev pub Covers : Entries → ℤ × Layout → Type 0
+Covers known e = (d : Layout) × (entry_at known e.0 ≡ Some d) × AreGrown e.1 d
+
+-- those that all keys of columns name
+abbrev pub CoversColumns : Entries → List Layout → Type 0
+CoversColumns known columns = AllByRecursion (Covers known) (columns_own 0 columns)
 
 -- what was written last is known
 abbrev pub Follows : Entries → Entries → Type 0

@@ -9,6 +9,9 @@ pub mod NamedLaws
 pub mod Again
 pub mod Walked
 pub mod Sent
+pub mod Puts
+pub mod PutsLaws
 pub mod Examples
 pub mod AgainStored
 pub mod AgainLaws
+pub mod PutsExamples

@@ -3,7 +3,7 @@ use Rattle.std.specs.Prelude.{◌≡◌, ◌++◌, ℕ, List, length, Option, Re
 use Rattle.ipc_model.specs.Reading.{Fails}
 use Rattle.ipc_model.specs.declared.fault.Fault as formats
 use Rattle.ipc_model.specs.declared.fault.NoForm.{NoForm}
-use Rattle.ipc.specs.Streams.{stream_in}
+use Rattle.ipc.specs.Streams.{Arrays, stream_in}
 use Rattle.ipc.specs.Files.{file_in}
 use Rattle.ipc.specs.Written.{AreSameBatches, IsRefused, shown_batches, shown_stream, stream_refusal}
 use Rattle.ipc.specs.WrittenFiles.{file_refusal, shown_file}
@@ -19,9 +19,14 @@ abbrev pub IsReadAs : Form → HeldTree → List ℕ → Type 0
 IsReadAs File t bytes = file_in bytes ≡ Ok (shown_file t.schema t.batches)
 IsReadAs Stream t bytes = (rest : List ℕ) → stream_in (bytes ++ rest) ≡ Ok (shown_stream t.schema t.batches (length bytes))
 
+-- its batches as they are read of this form
+abbrev pub shown_as : Form → HeldTree → List Arrays
+shown_as File t = (shown_file t.schema t.batches).batches
+shown_as Stream t = shown_batches t.batches
+
 -- bytes of this form are read back to it: an equal schema, and of each batch the same rows and the same arrays
 abbrev pub IsFormOf : Form → HeldTree → List ℕ → Type 0
-IsFormOf form t bytes = IsReadAs form t bytes × AreSameBatches t.batches (shown_batches t.batches)
+IsFormOf form t bytes = IsReadAs form t bytes × AreSameBatches t.batches (shown_as form t)
 
 -- the first reason why it is not written
 abbrev pub refusal : Form → HeldTree → Option NoForm

@@ -1,2 +1,3 @@
 pub mod Again
+mod Both
 pub mod Over

@@ -1,7 +1,7 @@
 //! Arrow IPC. For every sequence of bytes the readers answer just the stream, or the file, that the bytes spell, or the first fault
 //! in the order of reading, want of memory aside; what is written of a schema and batches, in either form, spells them, so that
 //! reading gives them back; and nothing is written just where there is a reason, of which the first is told. Of columns of every
-//! kind, of all of them or of some, with their dictionaries: what is replaced is read and written too, what is to be joined is refused.
+//! kind, of all of them or of some, with their dictionaries, also those that are replaced in streams, and those that grow.
 #![tactic(auto)]
 
 ghost use Rattle.std.specs.Prelude.{◌≡◌, ◌<◌, ◌⊎◌, ◌++◌, List, ℕ, [], None, Ok, map, length, IfErr, IfOk, OnOk};
@@ -12,7 +12,7 @@ ghost use Rattle.ipc_schema.specs.Schemas.{schema_of};
 ghost use Rattle.ipc.specs.Streams.{arrays_of, picked_stream_in, stream_in, stream_of};
 ghost use Rattle.ipc.specs.Readers.{next_of, reader_in};
 ghost use Rattle.ipc.specs.Files.{batch_of_file, file_in, file_of, file_reader_in, picked_file_in};
-ghost use Rattle.ipc.specs.WrittenFiles.{file_bytes, file_refusal, shown_file};
+ghost use Rattle.ipc.specs.WrittenFiles.{file_bytes, file_refusal, shown_file, NothingGrows};
 ghost use Rattle.ipc.specs.Written.{AreSameBatches, IsRefused, shown_batches, shown_stream, stream_bytes, stream_refusal};
 ghost use Rattle.promises_ipc.specs.Words.{two_of};
 
@@ -176,7 +176,8 @@ pub fn batch_of_file_reader(
 pub fn bytes_of_file(alloc: Global, schema: &Schema, batches: &[Batch]) -> Result<Vec<u8>, NoForm>
     ensures bytes { IfOk result (λ out. out.items ≡ file_bytes (schema_of schema.now) (map arrays_of batches.now)) }
     ensures again { IfOk result (λ out. file_in out.items ≡ Ok (shown_file (schema_of schema.now) (map arrays_of batches.now))) }
-    ensures same { OnOk result (AreSameBatches (map arrays_of batches.now) (shown_batches (map arrays_of batches.now))) }
+    ensures same { OnOk result (AreSameBatches (map arrays_of batches.now) (shown_file (schema_of schema.now) (map arrays_of batches.now)).batches) }
+    ensures plain { OnOk result (NothingGrows [] (map arrays_of batches.now) → (shown_file (schema_of schema.now) (map arrays_of batches.now)).batches ≡ shown_batches (map arrays_of batches.now)) }
     ensures form { OnOk result (file_refusal (schema_of schema.now) (map arrays_of batches.now) ≡ None) }
     ensures err { IfErr result (IsRefused (file_refusal (schema_of schema.now) (map arrays_of batches.now))) }
 {
@@ -190,8 +191,9 @@ pub fn file_written_and_read(
     batches: &[Batch],
 ) -> Result<File, NoForm>
     ensures schema { IfOk result (λ r. schema_of r.schema ≡ schema_of schema.now) }
-    ensures batches { IfOk result (λ r. map arrays_of r.batches.items ≡ shown_batches (map arrays_of batches.now)) }
-    ensures same { OnOk result (AreSameBatches (map arrays_of batches.now) (shown_batches (map arrays_of batches.now))) }
+    ensures batches { IfOk result (λ r. map arrays_of r.batches.items ≡ (shown_file (schema_of schema.now) (map arrays_of batches.now)).batches) }
+    ensures same { OnOk result (AreSameBatches (map arrays_of batches.now) (shown_file (schema_of schema.now) (map arrays_of batches.now)).batches) }
+    ensures plain { OnOk result (NothingGrows [] (map arrays_of batches.now) → (shown_file (schema_of schema.now) (map arrays_of batches.now)).batches ≡ shown_batches (map arrays_of batches.now)) }
     ensures err { IfErr result (IsRefused (file_refusal (schema_of schema.now) (map arrays_of batches.now))) }
 {
     let bytes = write_file(alloc, schema, batches)?;
@@ -201,14 +203,16 @@ pub fn file_written_and_read(
     }
 }
 
-/// The stream and the file of a schema and batches are read as equal schemas, and as the same batches.
+/// The stream and the file of a schema and batches are read as equal schemas, and as the same batches: the same rows of the same
+/// arrays, and where no dictionary grows the same parts.
 pub fn both_forms(
     alloc: Global,
     schema: &Schema,
     batches: &[Batch],
 ) -> Result<(Stream, File), NoForm>
     ensures schema { IfOk result (λ r. schema_of r.0.schema ≡ schema_of r.1.schema) }
-    ensures batches { IfOk result (λ r. map arrays_of r.0.batches.items ≡ map arrays_of r.1.batches.items) }
+    ensures batches { IfOk result (λ r. AreSameBatches (map arrays_of r.0.batches.items) (map arrays_of r.1.batches.items)) }
+    ensures parts { IfOk result (λ r. NothingGrows [] (map arrays_of batches.now) → map arrays_of r.0.batches.items ≡ map arrays_of r.1.batches.items) }
     ensures err { IfErr result (λ why. IsRefused (stream_refusal (schema_of schema.now) (map arrays_of batches.now)) why ⊎ IsRefused (file_refusal (schema_of schema.now) (map arrays_of batches.now)) why) }
 {
     match written_and_read(alloc, schema, batches) {

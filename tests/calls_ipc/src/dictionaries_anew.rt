@@ -1,7 +1,7 @@
-//! Several batches with dictionaries: which dictionaries come again, and which files are refused for it.
+//! Several batches with dictionaries: which dictionaries come again, what a file has of them, and which files are refused.
 use crate::keyed_columns::{batch, by, keyed, keyed_words, record, schema_of, single, words};
-use crate::keyed_model::{Written, is_written, messages_of, model_of, unread, unwritten, written};
-use ipc::{Batch, Blocks, put_batch, put_part, put_part_blocks, write_file, write_stream};
+use crate::keyed_model::{are_written, messages_of, unread, unwritten};
+use ipc::{Batch, Blocks, State, put_batch, put_part, put_part_blocks, write_file, write_stream};
 use ipc_footer::write_footer;
 use ipc_model::NoForm;
 use ipc_needed::remember;
@@ -12,92 +12,81 @@ use nest_memory::error::Error;
 use std::alloc::Global;
 use std::collections::BTreeMap;
 
-// What is written of batches, at least one.
-fn written_of(alloc: Global, batches: &[Batch]) -> Result<Written, Error> {
-    let schema = schema_of(alloc, &batches[0].columns)?;
-    written(alloc, &schema, batches)
-}
-
-// Whether batches are written as these messages, for the model too.
-fn are_written(
+// Whether batches, at least one, are written as these messages of a stream and of a file.
+fn are_batches(
     alloc: Global,
     batches: &[Batch],
-    messages: &str,
-    replaces: bool,
+    stream: &str,
+    file: Option<&str>,
 ) -> Result<bool, Error> {
-    let model = model_of(alloc, batches).map_err(unread)?;
-    let found = written_of(alloc, batches)?;
-    Ok(
-        is_written(&found, messages, replaces)
-            && model.messages.as_str() == messages
-            && model.replaces == replaces,
-    )
+    let schema = schema_of(alloc, &batches[0].columns)?;
+    are_written(alloc, &schema, batches, stream, file)
 }
 
-/// Batches of words by keys: the keys and the words of each.
+/// Batches of words by keys: the keys and the words of each; the messages of the stream, and of the file, if there is one.
 #[derive(Drop)]
 struct Run {
     steps: &'static [(&'static str, &'static str)],
-    messages: &'static str,
-    replaces: bool,
+    stream: &'static str,
+    file: Option<&'static str>,
 }
 
 /// All arrays are made anew, so that equal words are other memory.
 const RUNS: [Run; 11] = [
     Run {
         steps: &[("01", "ab"), ("10-", "ab")],
-        messages: "s d0 b2 b3 ",
-        replaces: false,
+        stream: "s d0 b2 b3 ",
+        file: Some("s d0 b2 b3 "),
     },
     Run {
         steps: &[("01", "ab"), ("", "ab"), ("1", "ab"), ("1111", "ab")],
-        messages: "s d0 b2 b0 b1 b4 ",
-        replaces: false,
+        stream: "s d0 b2 b0 b1 b4 ",
+        file: Some("s d0 b2 b0 b1 b4 "),
     },
     Run {
         steps: &[("01", "ab"), ("012", "abc")],
-        messages: "s d0 b2 d0 b3 ",
-        replaces: true,
+        stream: "s d0 b2 d0 b3 ",
+        file: Some("s d0 b2 D0 b3 "),
     },
     Run {
         steps: &[("012", "abc"), ("01", "ab")],
-        messages: "s d0 b3 d0 b2 ",
-        replaces: true,
+        stream: "s d0 b3 d0 b2 ",
+        file: None,
     },
     Run {
         steps: &[("01", "ab"), ("01", "cd")],
-        messages: "s d0 b2 d0 b2 ",
-        replaces: true,
+        stream: "s d0 b2 d0 b2 ",
+        file: None,
     },
     Run {
         steps: &[("01", "ab"), ("10", "ba")],
-        messages: "s d0 b2 d0 b2 ",
-        replaces: true,
+        stream: "s d0 b2 d0 b2 ",
+        file: None,
     },
     Run {
         steps: &[("01", "ab"), ("01", "cd"), ("1", "cd"), ("01", "ab")],
-        messages: "s d0 b2 d0 b2 b1 d0 b2 ",
-        replaces: true,
+        stream: "s d0 b2 d0 b2 b1 d0 b2 ",
+        file: None,
     },
     Run {
         steps: &[("01", "ab"), ("", "cd")],
-        messages: "s d0 b2 d0 b0 ",
-        replaces: true,
+        stream: "s d0 b2 d0 b0 ",
+        file: None,
     },
     Run {
         steps: &[("", ""), ("--", ""), ("01", "ab")],
-        messages: "s d0 b0 b2 d0 b2 ",
-        replaces: true,
+        stream: "s d0 b0 b2 d0 b2 ",
+        file: Some("s d0 b0 b2 D0 b2 "),
     },
     Run {
         steps: &[("01", "a-"), ("0-", "a-"), ("0", "ab")],
-        messages: "s d0 b2 b2 d0 b1 ",
-        replaces: true,
+        stream: "s d0 b2 b2 d0 b1 ",
+        file: None,
     },
     Run {
         steps: &[],
-        messages: "s ",
-        replaces: false,
+        stream: "s ",
+        file: Some("s "),
     },
 ];
 
@@ -113,13 +102,7 @@ fn is_run(alloc: Global, run: &Run) -> Result<bool, Error> {
     let column = keyed_words(alloc, "0", "a")?;
     let schema = schema_of(alloc, std::slice::from_ref(&column))?;
     let batches = batches_of(alloc, run)?;
-    let model = model_of(alloc, &batches).map_err(unread)?;
-    let found = written(alloc, &schema, &batches)?;
-    Ok(
-        is_written(&found, run.messages, run.replaces)
-            && model.messages.as_str() == run.messages
-            && model.replaces == run.replaces,
-    )
+    are_written(alloc, &schema, &batches, run.stream, run.file)
 }
 
 #[test]
@@ -144,7 +127,8 @@ fn shared(alloc: Global) -> Result<Vec<Batch>, Error> {
 #[test]
 fn what_is_shared_or_equal_comes_once(rt: HostRuntime) {
     let batches = shared(rt.alloc()).expect(&rt, "no batches");
-    let same = are_written(rt.alloc(), &batches, "s d0 b2 b2 b1 b3 ", false);
+    let messages = "s d0 b2 b2 b1 b3 ";
+    let same = are_batches(rt.alloc(), &batches, messages, Some(messages));
     assert!(rt; same == Ok(true));
 }
 
@@ -161,59 +145,60 @@ fn cuts(alloc: Global) -> Result<Vec<Batch>, Error> {
 #[test]
 fn cuts_of_one_column_share_its_values(rt: HostRuntime) {
     let batches = cuts(rt.alloc()).expect(&rt, "no batches");
-    let same = are_written(rt.alloc(), &batches, "s d0 b2 b4 b0 b6 ", false);
+    let messages = "s d0 b2 b4 b0 b6 ";
+    let same = are_batches(rt.alloc(), &batches, messages, Some(messages));
     assert!(rt; same == Ok(true));
 }
 
-/// Batches of records of words, the records by keys too: the words, their keys, the keys of records.
+/// Batches of records of words, the records by keys too: the words, their keys, the keys of records; the messages.
 #[derive(Drop)]
 struct Nest {
     steps: &'static [(&'static str, &'static str, &'static str)],
-    messages: &'static str,
-    replaces: bool,
+    stream: &'static str,
+    file: Option<&'static str>,
 }
 
 const NESTS: [Nest; 7] = [
     Nest {
         steps: &[("ab", "01", "01"), ("ab", "01", "10-"), ("ab", "01", "")],
-        messages: "s d1 d0 b2 b3 b0 ",
-        replaces: false,
+        stream: "s d1 d0 b2 b3 b0 ",
+        file: Some("s d1 d0 b2 b3 b0 "),
     },
     // The records stay the same; what their keys name has more words.
     Nest {
         steps: &[("ab", "01", "01"), ("abc", "01", "01")],
-        messages: "s d1 d0 b2 d1 d0 b2 ",
-        replaces: true,
+        stream: "s d1 d0 b2 d1 d0 b2 ",
+        file: Some("s d1 d0 b2 D1 b2 "),
     },
     // The records stay the same, by other keys of other words.
     Nest {
         steps: &[("ab", "01", "01"), ("ba", "10", "01"), ("ba", "10", "1")],
-        messages: "s d1 d0 b2 d1 d0 b2 b1 ",
-        replaces: true,
+        stream: "s d1 d0 b2 d1 d0 b2 b1 ",
+        file: None,
     },
     // More records of the same words.
     Nest {
         steps: &[("ab", "01", "01"), ("ab", "010", "012")],
-        messages: "s d1 d0 b2 d0 b3 ",
-        replaces: true,
+        stream: "s d1 d0 b2 d0 b3 ",
+        file: Some("s d1 d0 b2 D0 b3 "),
     },
     // And back.
     Nest {
         steps: &[("ab", "01", "01"), ("cb", "01", "01"), ("ab", "01", "01")],
-        messages: "s d1 d0 b2 d1 d0 b2 d1 d0 b2 ",
-        replaces: true,
+        stream: "s d1 d0 b2 d1 d0 b2 d1 d0 b2 ",
+        file: None,
     },
     // First the outer, then the inner one.
     Nest {
         steps: &[("ab", "01", "0"), ("ab", "10", "0"), ("cd", "10", "0")],
-        messages: "s d1 d0 b1 d0 b1 d1 d0 b1 ",
-        replaces: true,
+        stream: "s d1 d0 b1 d0 b1 d1 d0 b1 ",
+        file: None,
     },
     // Nulls are the same by a key and by its value.
     Nest {
         steps: &[("a-", "01", "01"), ("a-", "0-", "01")],
-        messages: "s d1 d0 b2 b2 ",
-        replaces: false,
+        stream: "s d1 d0 b2 b2 ",
+        file: Some("s d1 d0 b2 b2 "),
     },
 ];
 
@@ -236,18 +221,27 @@ fn records_by_keys_in_batches(rt: HostRuntime) {
     for i in 0..NESTS.len() {
         let nest = &NESTS[i];
         let batches = batches_of_nest(alloc, nest).expect(&rt, "no batches");
-        let same = are_written(alloc, &batches, nest.messages, nest.replaces);
+        let same = are_batches(alloc, &batches, nest.stream, nest.file);
         assert!(rt; same == Ok(true), "nest {i}");
     }
 }
 
-/// Two columns of words by keys: the words of each.
-const PAIRS: [(&[(&str, &str)], &str, bool); 4] = [
-    (&[("ab", "ab"), ("ab", "ab")], "s d0 d1 b2 b2 ", false),
-    (&[("ab", "ab"), ("ab", "cd")], "s d0 d1 b2 d1 b2 ", true),
-    (&[("ab", "ab"), ("cd", "ab")], "s d0 d1 b2 d0 b2 ", true),
+/// Two columns of words by keys: the words of each; the messages.
+const PAIRS: [(&[(&str, &str)], &str, Option<&str>); 5] = [
+    (
+        &[("ab", "ab"), ("ab", "ab")],
+        "s d0 d1 b2 b2 ",
+        Some("s d0 d1 b2 b2 "),
+    ),
+    (
+        &[("ab", "ab"), ("ab", "abc"), ("abc", "abcd")],
+        "s d0 d1 b2 d1 b2 d0 d1 b2 ",
+        Some("s d0 d1 b2 D1 b2 D0 D1 b2 "),
+    ),
+    (&[("ab", "ab"), ("ab", "cd")], "s d0 d1 b2 d1 b2 ", None),
+    (&[("ab", "ab"), ("cd", "ab")], "s d0 d1 b2 d0 b2 ", None),
     // The words of one are the other's: each has its own.
-    (&[("ab", "cd"), ("cd", "ab")], "s d0 d1 b2 d0 d1 b2 ", true),
+    (&[("ab", "cd"), ("cd", "ab")], "s d0 d1 b2 d0 d1 b2 ", None),
 ];
 
 fn batches_of_pairs(alloc: Global, steps: &[(&str, &str)]) -> Result<Vec<Batch>, Error> {
@@ -264,9 +258,9 @@ fn batches_of_pairs(alloc: Global, steps: &[(&str, &str)]) -> Result<Vec<Batch>,
 fn two_columns_in_batches(rt: HostRuntime) {
     let alloc = rt.alloc();
     for i in 0..PAIRS.len() {
-        let (steps, messages, replaces) = PAIRS[i];
+        let (steps, stream, file) = PAIRS[i];
         let batches = batches_of_pairs(alloc, steps).expect(&rt, "no batches");
-        let same = are_written(alloc, &batches, messages, replaces);
+        let same = are_batches(alloc, &batches, stream, file);
         assert!(rt; same == Ok(true), "pair {i}");
     }
 }
@@ -298,6 +292,8 @@ fn the_first_reason_in_the_order_of_writing(rt: HostRuntime) {
     assert!(rt; one == Ok((columns, anew)));
     let other = reason(alloc, &[("0", "a"), (".", "c"), ("0", "b")]);
     assert!(rt; other == Ok((columns, columns)));
+    let grown = reason(alloc, &[("0", "a"), ("0", "ab"), (".", "c"), ("0", "b")]);
+    assert!(rt; grown == Ok((columns, columns)));
     let none = reason(alloc, &[("0", "a"), ("0", "b")]);
     assert!(rt; none == Ok((None, anew)));
 }
@@ -329,16 +325,32 @@ fn by_parts(alloc: Global, schema: &Schema, batches: &[Batch]) -> Result<Vec<u8>
 fn file_by_parts(alloc: Global, schema: &Schema, batches: &[Batch]) -> Result<Vec<u8>, NoForm> {
     let mut out = Vec::new(alloc);
     out.extend_from_slice(b"ARROW1\0\0")?;
-    out.extend_from_slice(&write_keyed_schema(alloc, schema)?)?;
+    let message = write_keyed_schema(alloc, schema)?;
+    out.extend_from_slice(&message)?;
     let mut sent = BTreeMap::new(alloc);
+    let mut known = State::read(alloc, &message).map_err(|_| NoForm::Memory)?;
     let mut blocks = Blocks::new(alloc);
     for batch in batches {
         let fields = &schema.fields;
-        let needed = put_part_blocks(alloc, &mut out, &mut blocks, fields, &sent, batch)?;
+        let needed = put_part_blocks(
+            alloc,
+            &mut out,
+            &mut blocks,
+            fields,
+            &sent,
+            &mut known,
+            batch,
+        )?;
         remember(alloc, &mut sent, &needed)?;
     }
     out.extend_from_slice(&[255, 255, 255, 255, 0, 0, 0, 0])?;
-    write_footer(alloc, &mut out, schema, &blocks.dictionaries, &blocks.batches)?;
+    write_footer(
+        alloc,
+        &mut out,
+        schema,
+        &blocks.dictionaries,
+        &blocks.batches,
+    )?;
     Ok(out)
 }
 

@@ -1,7 +1,7 @@
 //! Schemas with dictionaries at any depth that are drawn, and batches of arrays that share, grow or change values: what is written
 //! of them is as the model has it, and is read back.
 use crate::keyed_columns::any_keys;
-use crate::keyed_model::{is_written, model_of, unread, written};
+use crate::keyed_model::{is_written, model_of, written};
 use crate::schemas::{count_dictionaries, count_outer, wanted_of};
 use drawn::laid::lay;
 use drawn::numbers::Draw;
@@ -125,11 +125,11 @@ fn next_column(
     rows: usize,
     last: &AnyArray,
 ) -> Result<AnyArray, Error> {
-    if last.len() < rows || draw.one_in(5) {
+    if last.len() < rows || draw.one_in(8) {
         return new_column(alloc, draw, data_type, rows);
     }
     let o = draw.between(0, last.len() - rows);
-    if draw.one_in(4) {
+    if draw.truth() {
         return Ok(grown(alloc, draw, last)?.sliced(o, rows));
     }
     Ok(last.clone(alloc)?.sliced(o, rows))
@@ -165,11 +165,12 @@ fn draw_batches(alloc: Global, draw: &mut Draw, schema: &Schema) -> Result<Vec<B
     Ok(batches)
 }
 
-/// How many cases had a file of more than one batch, how many were refused, how many had dictionaries inside of another's values;
-/// and a case that was not as the model has it.
+/// How many cases had a file of more than one batch, in how many of them a dictionary grew, how many were refused, how many had
+/// dictionaries inside of another's values; and a case that was not as the model has it.
 #[derive(Clone, Copy, Debug)]
 struct Found {
     filed: usize,
+    grown: usize,
     refused: usize,
     nested: usize,
     wrong: Option<usize>,
@@ -181,17 +182,20 @@ fn note_case(alloc: Global, case: usize, found: &mut Found) -> Result<(), Error>
     let mut draw = Draw::new(START, DRAWN, case);
     let schema = draw_schema(alloc, &mut draw)?;
     let batches = draw_batches(alloc, &mut draw, &schema)?;
-    let model = model_of(alloc, &batches).map_err(unread)?;
+    let model = model_of(alloc, &batches)?;
     let own = written(alloc, &schema, &batches)?;
-    if !is_written(&own, model.messages.as_str(), model.replaces) {
+    if !is_written(&own, model.stream.as_str(), model.file()) {
         found.wrong = Some(case);
     }
     if count_dictionaries(&schema.fields) > count_outer(&schema.fields) {
         found.nested += 1;
     }
-    if model.replaces {
-        found.refused += 1;
-    } else if batches.len() > 1 {
+    match model.file() {
+        None => found.refused += 1,
+        Some(messages) if messages.contains("D") => found.grown += 1,
+        Some(_) => {}
+    }
+    if !model.replaces && batches.len() > 1 {
         found.filed += 1;
     }
     Ok(())
@@ -200,6 +204,7 @@ fn note_case(alloc: Global, case: usize, found: &mut Found) -> Result<(), Error>
 fn cases(alloc: Global, from: usize, to: usize) -> Result<Found, Error> {
     let mut found = Found {
         filed: 0,
+        grown: 0,
         refused: 0,
         nested: 0,
         wrong: None,
@@ -211,7 +216,11 @@ fn cases(alloc: Global, from: usize, to: usize) -> Result<Found, Error> {
 }
 
 fn are_as_the_model(found: &Found) -> bool {
-    found.wrong.is_none() && found.filed > 9 && found.refused > 9 && found.nested > 9
+    found.wrong.is_none()
+        && found.filed > 9
+        && found.grown > 1
+        && found.refused > 9
+        && found.nested > 9
 }
 
 #[test]

@@ -3,7 +3,7 @@
 use crate::keyed_columns::{
     batch, by, keyed, keyed_words, list, map, record, schema_of, single, union, words,
 };
-use crate::keyed_model::{is_written, model_of, unread, unwritten, written};
+use crate::keyed_model::{are_written, is_written, model_of, unread, unwritten, written};
 use crate::samples::Sample;
 use crate::samples_dictionaries::{READ_DICTIONARIES, READ_DICTIONARY_FILES};
 use crate::samples_read::bytes_of;
@@ -31,9 +31,7 @@ const KEYS: [IntegerType; 8] = [
 fn is_batch(alloc: Global, columns: Vec<AnyArray>, messages: &str) -> Result<bool, Error> {
     let schema = schema_of(alloc, &columns)?;
     let batches = [batch(columns)];
-    let found = written(alloc, &schema, &batches)?;
-    let model = model_of(alloc, &batches).map_err(unread)?;
-    Ok(is_written(&found, messages, false) && model.messages.as_str() == messages)
+    are_written(alloc, &schema, &batches, messages, Some(messages))
 }
 
 fn is_column(alloc: Global, column: AnyArray, messages: &str) -> Result<bool, Error> {
@@ -193,11 +191,11 @@ fn is_again(
     schema: &Schema,
     batches: &[Batch],
 ) -> Result<bool, Error> {
-    let model = model_of(alloc, batches).map_err(unread)?;
+    let model = model_of(alloc, batches)?;
     let found = written(alloc, schema, batches)?;
     let stream = write_stream(alloc, schema, batches).map_err(unwritten)?;
     let text = answer(alloc, &stream).map_err(unread)?;
-    if text.as_str() != answers || !is_written(&found, model.messages.as_str(), model.replaces) {
+    if text.as_str() != answers || !is_written(&found, model.stream.as_str(), model.file()) {
         return Ok(false);
     }
     match write_file(alloc, schema, batches) {

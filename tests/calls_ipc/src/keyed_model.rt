@@ -1,15 +1,17 @@
 //! What is written of batches with dictionaries: the messages of it, a plain model of which of them come, and whether it is read
 //! back the same.
 use crate::files::{blocks_of, blocks_of_kind};
-use crate::texts::{is_file_read, is_read, put_rows};
-use ipc::{Batch, read_file, read_stream, write_file, write_stream};
+use crate::texts::{is_file_read, is_read, slot_text};
+use ipc::{Batch, read_file, read_file_columns, read_stream, write_file, write_stream};
 use ipc_batch::read_batch;
+use ipc_device::{FileWriter, WriteError};
 use ipc_footer::read_footer;
 use ipc_message::{Kind, Message, next_message};
 use ipc_model::{Fault, NoForm};
 use ipc_schema::{Columns, Schema};
-use ipc_words::{i64_field, visit_table};
+use ipc_words::{i64_field, u8_field, visit_table};
 use nest_array::any::AnyArray;
+use nest_memory::datatypes::DataType;
 use nest_memory::error::Error;
 use std::alloc::{AllocError, Global};
 use std::collections::BTreeMap;
@@ -28,7 +30,7 @@ pub fn unread(fault: Fault) -> Error {
     }
 }
 
-// A message by a word: `s` a schema, `d0` the values of the id 0, `b4` a batch of four rows.
+// A message by a word: `s` a schema, `d0` all values of the id 0, `D0` more of them, `b4` a batch of four rows.
 fn put_message(text: &mut String, alloc: Global, message: Message<'_>) -> Result<(), Fault> {
     let (root, metadata) = (message.root, message.metadata);
     match root.kind {
@@ -36,7 +38,8 @@ fn put_message(text: &mut String, alloc: Global, message: Message<'_>) -> Result
         Kind::DictionaryBatch => {
             let (table, _) = visit_table(metadata, root.header, root.left)?;
             let id = i64_field(metadata, table, 0, 0)?;
-            write!(text, "d{id} ")?;
+            let is_delta = u8_field(metadata, table, 2)? > 0;
+            write!(text, "{}{id} ", if is_delta { "D" } else { "d" })?;
         }
         Kind::RecordBatch => {
             let batch = read_batch(alloc, metadata, root.header, root.left, root.body_length)?;
@@ -46,7 +49,7 @@ fn put_message(text: &mut String, alloc: Global, message: Message<'_>) -> Result
     Ok(())
 }
 
-/// The messages of a stream, a blank behind each.
+/// The messages of a stream, or of a file behind its mark, a blank behind each.
 pub fn messages_of(alloc: Global, stream: &[u8]) -> Result<String, Fault> {
     let mut text = String::new(alloc);
     let mut rest = stream;
@@ -61,53 +64,105 @@ pub fn messages_of(alloc: Global, stream: &[u8]) -> Result<String, Fault> {
     Ok(text)
 }
 
-fn text_of(alloc: Global, values: &AnyArray) -> Result<String, Fault> {
-    let mut text = String::new(alloc);
-    put_rows(&mut text, values.len(), std::slice::from_ref(values))?;
-    Ok(text)
+/// The values that an id had last: their data type, and the text of each slot.
+#[derive(Drop)]
+struct Last {
+    data_type: DataType,
+    slots: Vec<String>,
 }
 
-/// The model: the text of the values that each id had last, the messages so far, and whether one came in the place of another.
+fn last_of(alloc: Global, values: &AnyArray) -> Result<Last, Error> {
+    let mut slots = Vec::new(alloc);
+    for i in 0..values.len() {
+        slots.push(slot_text(alloc, values, i).map_err(unread)?)?;
+    }
+    let data_type = values.data_type().clone(alloc)?;
+    Ok(Last { data_type, slots })
+}
+
+/// What values are beside those that their id had last.
+#[derive(Clone, Copy, PartialEq, Eq)]
+enum Step {
+    New,
+    Same,
+    Grown,
+    Other,
+}
+
+// Values that begin with the last ones are the same or grown.
+fn step_of(last: &Last, values: &Last) -> Step {
+    let count = last.slots.len();
+    if values.slots.len() < count || last.data_type != values.data_type {
+        return Step::Other;
+    }
+    for i in 0..count {
+        if last.slots[i] != values.slots[i] {
+            return Step::Other;
+        }
+    }
+    if values.slots.len() == count {
+        Step::Same
+    } else {
+        Step::Grown
+    }
+}
+
+/// The model: what each id had last, the messages of the stream and of the file so far, and whether values came in the place of others,
+/// so that there is no file.
 #[derive(Drop)]
 pub struct Model {
-    texts: BTreeMap<i64, String>,
+    last: BTreeMap<i64, Last>,
     next: i64,
-    pub messages: String,
+    pub stream: String,
+    messages: String,
     pub replaces: bool,
 }
 
 impl Model {
-    pub fn new(alloc: Global) -> Result<Model, Fault> {
+    pub fn new(alloc: Global) -> Result<Model, Error> {
         Ok(Model {
-            texts: BTreeMap::new(alloc),
+            last: BTreeMap::new(alloc),
             next: 0,
+            stream: String::from_str(alloc, "s ")?,
             messages: String::from_str(alloc, "s ")?,
             replaces: false,
         })
     }
 
-    // Whether values come anew: where they have another text, or some inside of them do.
-    fn note_values(&mut self, alloc: Global, values: &AnyArray) -> Result<bool, Fault> {
+    /// The messages of the file, if there is one.
+    pub fn file(&self) -> Option<&str> {
+        if self.replaces {
+            None
+        } else {
+            Some(self.messages.as_str())
+        }
+    }
+
+    // Whether values come anew: where they are others, or some inside of them do. A file has what they grew by.
+    fn note_values(&mut self, alloc: Global, values: &AnyArray) -> Result<bool, Error> {
         let id = self.next;
         self.next += 1;
         let inside = self.note(alloc, values)?;
-        let text = text_of(alloc, values)?;
-        let (same, there) = match self.texts.get(&id) {
-            None => (false, false),
-            Some(last) => (*last == text, true),
+        let values = last_of(alloc, values)?;
+        let step = match self.last.get(&id) {
+            None => Step::New,
+            Some(last) => step_of(last, &values),
         };
-        if same && !inside {
+        if step == Step::Same && !inside {
             return Ok(false);
         }
-        if there {
-            self.replaces = true;
+        write!(self.stream, "d{id} ")?;
+        match step {
+            Step::New => write!(self.messages, "d{id} ")?,
+            Step::Grown => write!(self.messages, "D{id} ")?,
+            Step::Same => {}
+            Step::Other => self.replaces = true,
         }
-        write!(self.messages, "d{id} ")?;
-        self.texts.insert(id, text)?;
+        self.last.insert(id, values)?;
         Ok(true)
     }
 
-    fn note(&mut self, alloc: Global, array: &AnyArray) -> Result<bool, Fault> {
+    fn note(&mut self, alloc: Global, array: &AnyArray) -> Result<bool, Error> {
         match array {
             AnyArray::Dictionary(array) => self.note_values(alloc, array.values()),
             AnyArray::List(array) => self.note(alloc, array.values()),
@@ -120,7 +175,7 @@ impl Model {
         }
     }
 
-    fn note_each(&mut self, alloc: Global, arrays: &[AnyArray]) -> Result<bool, Fault> {
+    fn note_each(&mut self, alloc: Global, arrays: &[AnyArray]) -> Result<bool, Error> {
         let mut some = false;
         for array in arrays {
             if self.note(alloc, array)? {
@@ -130,16 +185,17 @@ impl Model {
         Ok(some)
     }
 
-    pub fn note_batch(&mut self, alloc: Global, batch: &Batch) -> Result<(), Fault> {
+    pub fn note_batch(&mut self, alloc: Global, batch: &Batch) -> Result<(), Error> {
         self.next = 0;
         self.note_each(alloc, &batch.columns)?;
+        write!(self.stream, "b{} ", batch.rows)?;
         write!(self.messages, "b{} ", batch.rows)?;
         Ok(())
     }
 }
 
 /// The model behind batches.
-pub fn model_of(alloc: Global, batches: &[Batch]) -> Result<Model, Fault> {
+pub fn model_of(alloc: Global, batches: &[Batch]) -> Result<Model, Error> {
     let mut model = Model::new(alloc)?;
     for batch in batches {
         model.note_batch(alloc, batch)?;
@@ -190,6 +246,23 @@ fn names_all(alloc: Global, bytes: &[u8]) -> Result<bool, Fault> {
     Ok(footer.dictionaries == dictionaries && footer.batches == batches)
 }
 
+/// Whether each column of a file is read by itself.
+fn is_by_columns(alloc: Global, bytes: &[u8], batches: &[Batch]) -> Result<bool, Fault> {
+    let count = match batches.first() {
+        None => 0,
+        Some(batch) => batch.columns.len(),
+    };
+    for i in 0..count {
+        let file = read_file_columns(alloc, bytes, Columns::At(&[i]))?;
+        for k in 0..batches.len() {
+            if file.batches[k].columns[0] != batches[k].columns[i] {
+                return Ok(false);
+            }
+        }
+    }
+    Ok(true)
+}
+
 /// The same of a file.
 fn is_file_of(
     alloc: Global,
@@ -202,42 +275,89 @@ fn is_file_of(
         file.schema.fields == schema.fields
             && are_same(&file.batches, batches)
             && is_file_read(alloc, bytes) == Some(true)
+            && is_by_columns(alloc, bytes, batches)?
             && names_all(alloc, bytes)?,
     )
 }
 
-/// What is written of batches: the messages of the stream, whether it is read back, and the same of the file, or why there is none.
+/// The file of batches that are written one at a time.
+fn file_by_writer(
+    alloc: Global,
+    schema: &Schema,
+    batches: &[Batch],
+) -> Result<Vec<u8>, WriteError> {
+    let mut writer = FileWriter::new(alloc, Vec::new(alloc), schema)?;
+    for batch in batches {
+        writer.write(alloc, batch)?;
+    }
+    writer.finish(alloc)
+}
+
+/// Whether a writer has the same file, or the same reason.
+fn is_by_writer(
+    alloc: Global,
+    schema: &Schema,
+    batches: &[Batch],
+    file: &Result<Vec<u8>, NoForm>,
+) -> bool {
+    match (file_by_writer(alloc, schema, batches), file) {
+        (Ok(one), Ok(other)) => one == *other,
+        (Err(WriteError::NoForm(why)), Err(other)) => why == *other,
+        _ => false,
+    }
+}
+
+/// What is written of batches: the messages of the stream, and of the file, or why there is none; and whether each is read back, and the
+/// file is the same where it is written a batch at a time.
 #[derive(Drop)]
 pub struct Written {
-    pub messages: String,
+    pub stream: String,
     pub is_stream: bool,
-    pub is_file: Result<bool, NoForm>,
+    pub file: Result<String, NoForm>,
+    pub is_file: bool,
 }
 
 pub fn written(alloc: Global, schema: &Schema, batches: &[Batch]) -> Result<Written, Error> {
-    let stream = write_stream(alloc, schema, batches).map_err(unwritten)?;
-    let messages = messages_of(alloc, &stream).map_err(unread)?;
-    let is_stream = is_stream_of(alloc, &stream, schema, batches).map_err(unread)?;
-    let is_file = match write_file(alloc, schema, batches) {
-        Err(why) => Err(why),
-        Ok(file) => {
-            let same = messages_of(alloc, &file[8..]).map_err(unread)? == messages;
-            Ok(is_file_of(alloc, &file, schema, batches).map_err(unread)? && same)
-        }
+    let bytes = write_stream(alloc, schema, batches).map_err(unwritten)?;
+    let stream = messages_of(alloc, &bytes).map_err(unread)?;
+    let is_stream = is_stream_of(alloc, &bytes, schema, batches).map_err(unread)?;
+    let bytes = write_file(alloc, schema, batches);
+    let is_alike = is_by_writer(alloc, schema, batches, &bytes);
+    let (file, is_read) = match bytes {
+        Err(why) => (Err(why), true),
+        Ok(bytes) => (
+            Ok(messages_of(alloc, &bytes[8..]).map_err(unread)?),
+            is_file_of(alloc, &bytes, schema, batches).map_err(unread)?,
+        ),
     };
     Ok(Written {
-        messages,
+        stream,
         is_stream,
-        is_file,
+        file,
+        is_file: is_alike && is_read,
     })
 }
 
-/// What is said of batches that are written just so; a file is refused where one dictionary would replace another.
-pub fn is_written(written: &Written, messages: &str, replaces: bool) -> bool {
-    let want = if replaces {
-        Err(NoForm::Dictionaries)
-    } else {
-        Ok(true)
+/// Whether batches are written as these messages of a stream and of a file; without those the file is refused, since it would have a
+/// dictionary twice.
+pub fn is_written(written: &Written, stream: &str, file: Option<&str>) -> bool {
+    let is_wanted = match (&written.file, file) {
+        (Ok(found), Some(want)) => found.as_str() == want,
+        (Err(why), None) => *why == NoForm::Dictionaries,
+        _ => false,
     };
-    written.messages.as_str() == messages && written.is_stream && written.is_file == want
+    is_wanted && written.is_file && written.is_stream && written.stream.as_str() == stream
+}
+
+/// The same, and the model has these messages too.
+pub fn are_written(
+    alloc: Global,
+    schema: &Schema,
+    batches: &[Batch],
+    stream: &str,
+    file: Option<&str>,
+) -> Result<bool, Error> {
+    let model = model_of(alloc, batches)?;
+    let found = written(alloc, schema, batches)?;
+    Ok(is_written(&found, stream, file) && model.stream.as_str() == stream && model.file() == file)
 }

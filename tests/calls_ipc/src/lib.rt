@@ -20,10 +20,14 @@
 //! | Streams that are written, and read back: windows, nothing, streams of others, rows without columns; each reason not to | `streams_written` |
 //! | Streams and files with dictionaries, of another program: read by every reader alike, or refused; dictionaries that are replaced, shared, nested, missing, passed over, under nulls; each byte of the short ones changed | `dictionaries_read` |
 //! | Columns by dictionaries are written and read back in both forms: keys of each width, nulls, cuts, values that no key names, inside of others and of values, ids in pre-order; streams and files of another program are written again; each beginning of what is written, and each byte changed | `dictionaries_written` |
-//! | Dictionaries of several batches: the same, equal, grown and changed ones, inner and outer; which come again in a stream, and which file is refused; a batch at a time, and behind a refusal | `dictionaries_anew` |
+//! | Dictionaries of several batches: the same, equal, grown and changed ones, inner and outer; which come again in a stream, what a file has of them, and which is refused; a batch at a time, and behind a refusal | `dictionaries_anew` |
 //! | Schemas with dictionaries at any depth, drawn, and batches that share, grow or change values, held against a plain model of which come | `dictionaries_drawn` |
 //! | Dictionaries that grow by deltas, in streams and files: words, records of words, nulls, none, words anew inside of records; each beginning, and each byte changed | `deltas` |
 //! | Dictionaries of any values, drawn, in three parts with batches between them, read whole, batch by batch and by columns, and from files | `deltas_drawn` |
+//! | Files whose dictionaries grow: values of each kind by one, by many, by none in other memory; shorter and changed ones are refused; inside of others and of values, the inner, the outer, both; windows, extensions, two in a record; keys that joined values would pass | `files_grown` |
+//! | A file whose words grow: other blocks named, a delta without its flag, each beginning, and each byte changed | `files_grown_changed` |
+//! | Columns of any type, drawn, whose dictionaries grow in two or three steps, inside of values too, held against the same model as stream and as file | `files_grown_drawn` |
+//! | What a state says of dictionaries, kept behind each batch and put back | `states` |
 //! | Each fault once | `faults` |
 //! | Files of another program, streams of others as files, blocks in another order, batches in any order, and files that are written | `files` |
 //! | Each fault of files once; each beginning of a file, and each of its bytes changed, is answered, by `read_file` and by a reader alike | `file_faults` |
@@ -60,6 +64,12 @@ mod file_samples;
 #[cfg(test)]
 mod files;
 #[cfg(test)]
+mod files_grown;
+#[cfg(test)]
+mod files_grown_changed;
+#[cfg(test)]
+mod files_grown_drawn;
+#[cfg(test)]
 mod flat_read;
 #[cfg(test)]
 mod flat_written;
@@ -95,6 +105,8 @@ mod samples_read;
 mod schema_samples;
 #[cfg(test)]
 mod schemas;
+#[cfg(test)]
+mod states;
 #[cfg(test)]
 mod streams;
 #[cfg(test)]

@@ -22,7 +22,11 @@ fn put_value(text: &mut String, value: AnyNative) -> Result<(), Fault> {
         AnyNative::UInt32(number) => write!(text, " {number}")?,
         AnyNative::UInt64(number) => write!(text, " {number}")?,
         AnyNative::DaysMs(span) => write!(text, " {}:{}", span.days, span.milliseconds)?,
-        AnyNative::MonthDayNano(span) => write!(text, " {}:{}:{}", span.months, span.days, span.ns)?,
+        AnyNative::MonthDayNano(span) => write!(
+            text,
+            " {}:{}:{}",
+            span.months, span.days, span.ns
+        )?,
     }
     Ok(())
 }
@@ -112,6 +116,13 @@ fn put_slot(text: &mut String, column: &AnyArray, i: usize) -> Result<(), Fault>
         return Ok(());
     }
     put_there(text, column, i)
+}
+
+/// The text of a slot.
+pub fn slot_text(alloc: Global, column: &AnyArray, i: usize) -> Result<String, Fault> {
+    let mut text = String::new(alloc);
+    put_slot(&mut text, column, i)?;
+    Ok(text)
 }
 
 /// More rows are not looked at: a batch without columns may say any number.

@@ -131,23 +131,27 @@ fn a_batch(rt: HostRuntime) {
 fn a_dictionary(rt: HostRuntime) {
     let alloc = rt.alloc();
     let batch = three_rows(alloc).expect(&rt, "no rows");
-    let mut bytes = Vec::new(alloc);
-    assert!(rt; write_dictionary(alloc, &mut bytes, 515, &batch, 16).is_ok());
-    assert!(rt; bytes.len() % 8 == 0);
-    assert!(rt; bytes.extend_from_slice(&[7; 16]).is_ok());
-    let (message, rest) = next_message(&bytes).expect(&rt, "no message");
-    let message = message.expect(&rt, "the end");
-    assert!(rt; rest.is_empty());
-    let root = message.root;
-    assert!(rt; root.kind == Kind::DictionaryBatch);
-    let metadata = message.metadata;
-    let (table, left) = visit_table(metadata, root.header, root.left).expect(&rt, "no table");
-    assert!(rt; i64_field(metadata, table, 0, 0) == Ok(515));
-    assert!(rt; u8_field(metadata, table, 2) == Ok(0));
-    let to = offset_field(metadata, table, 1).expect(&rt, "no field");
-    let place = to.expect(&rt, "no place");
-    let read = read_batch(alloc, metadata, place, left, root.body_length).expect(&rt, "no batch");
-    assert!(rt; read.rows == 3);
-    assert!(rt; read.nodes == batch.nodes);
-    assert!(rt; read.regions == batch.regions);
+    for delta in [false, true] {
+        let mut bytes = Vec::new(alloc);
+        assert!(rt; write_dictionary(alloc, &mut bytes, delta, 515, &batch, 16).is_ok());
+        assert!(rt; bytes.len() % 8 == 0);
+        assert!(rt; bytes.extend_from_slice(&[7; 16]).is_ok());
+        let (message, rest) = next_message(&bytes).expect(&rt, "no message");
+        let message = message.expect(&rt, "the end");
+        assert!(rt; rest.is_empty());
+        let root = message.root;
+        assert!(rt; root.kind == Kind::DictionaryBatch);
+        let metadata = message.metadata;
+        let (table, left) = visit_table(metadata, root.header, root.left).expect(&rt, "no table");
+        assert!(rt; i64_field(metadata, table, 0, 0) == Ok(515));
+        assert!(rt; u8_field(metadata, table, 2) == Ok(delta as u8));
+        let to = offset_field(metadata, table, 1).expect(&rt, "no field");
+        let place = to.expect(&rt, "no place");
+        let read = read_batch(alloc, metadata, place, left, root.body_length).expect(
+            &rt, "no batch",
+        );
+        assert!(rt; read.rows == 3);
+        assert!(rt; read.nodes == batch.nodes);
+        assert!(rt; read.regions == batch.regions);
+    }
 }

@@ -1,13 +1,14 @@
 use mir.Syntax.{w64}
 use mir.Val.{to_z, of_z, SFits}
-use Rattle.std.proofs.Common.{rules, ◌≡◌, ◌+◌, None, map, take, drop, sym, subst}
+use Rattle.std.proofs.Common.{rules, ◌≡◌, ◌+◌, None, List, map, take, drop, sym, subst}
 use Rattle.std.specs.List.{AllByRecursion}
 use Rattle.std.proofs.lemmas.Int.{to_z-of_z}
 use Rattle.std.proofs.lemmas.Result.{err_from_is_err_and}
-use Rattle.ipc_needed.specs.Entries.{Entries}
+use Rattle.ipc_needed.specs.Puts.{Put, whole}
 use Rattle.ipc_needed.specs.Sent.{entry_of}
-use Rattle.ipc.specs.Written.{dictionary_refusal, each_refusal, IsDictionaryAgain}
-use Rattle.ipc.specs.WrittenLists.{taken, split, each_refused, each_push, all_push, dictionaries_push}
+use Rattle.ipc.specs.Written.{dictionary_refusal, each_refusal, IsPutAgain}
+use Rattle.ipc.specs.WrittenLists.{each_refused, each_push, all_push, dictionaries_push}
+use Rattle.ipc.proofs.Entries.{whole_split, whole_taken}
 use Rattle.ipc.proofs.writing.put_dictionaries.Goals as goal
 
 pub returns-in_err-put_dictionary-clause-err : goal.returns-in_err-put_dictionary-clause-err
@@ -18,8 +19,8 @@ returns-in_err-put_dictionary-clause-err c =
     let fits : SFits w64 x.0 = search rules in
     let id : to_z w64 (of_z w64 x.0) ≡ x.0 = to_z-of_z w64 x.0 fits in
     let p = err_from_is_err_and c.from_residual.result c.from_residual.ensures.1 in
-    rw (p.1, p.2) (each_refused dictionary_refusal (map entry_of needed) (map entry_of (take i needed)) (map entry_of (drop (i + 1) needed)) (entry_of x) _
-    (split entry_of needed i x c.loop-id-test.true c.loop-id-item.is) c.loop-id.invariant.form (rw id at c.in_err-put_dictionary.ensures.err))
+    rw (p.1, p.2) (each_refused dictionary_refusal (map whole (map entry_of needed)) (map whole (map entry_of (take i needed))) (map whole (map entry_of (drop (i + 1) needed))) (whole (entry_of x)) _
+    (whole_split needed i x c.loop-id-test.true c.loop-id-item.is) c.loop-id.invariant.form (rw id at c.in_err-put_dictionary.ensures.err))
 
 pub loop-id-preserved : goal.loop-id-preserved
 loop-id-preserved c =
@@ -28,11 +29,11 @@ loop-id-preserved c =
     let needed = c.args.needed.now in
     let fits : SFits w64 x.0 = search rules in
     let id : to_z w64 (of_z w64 x.0) ≡ x.0 = to_z-of_z w64 x.0 fits in
-    let before = map entry_of (take i needed) in
-    let after = map entry_of (take (i + 1) needed) in
-    let more = taken entry_of needed i x c.loop-id-test.true c.loop-id-item.is in
+    let before = map whole (map entry_of (take i needed)) in
+    let after = map whole (map entry_of (take (i + 1) needed)) in
+    let more = whole_taken needed i x c.loop-id-test.true c.loop-id-item.is in
     record {
-      written = dictionaries_push c.args.out.now.items c.loop-id.out.items c.put_dictionary.new.out.items before after (entry_of x) more c.loop-id.invariant.written (rw id at c.in_ok-put_dictionary.ensures.bytes);
-      again = subst (AllByRecursion IsDictionaryAgain) (sym more) (all_push IsDictionaryAgain before (entry_of x) c.loop-id.invariant.again (rw id at c.in_ok-put_dictionary.ensures.again));
-      form = subst (λ (es : Entries). each_refusal dictionary_refusal es ≡ None) (sym more) (each_push dictionary_refusal before (entry_of x) c.loop-id.invariant.form (rw id at c.in_ok-put_dictionary.ensures.form));
+      written = dictionaries_push c.args.out.now.items c.loop-id.out.items c.put_dictionary.new.out.items before after (whole (entry_of x)) more c.loop-id.invariant.written (rw id at c.in_ok-put_dictionary.ensures.bytes);
+      again = subst (AllByRecursion IsPutAgain) (sym more) (all_push IsPutAgain before (whole (entry_of x)) c.loop-id.invariant.again (rw id at c.in_ok-put_dictionary.ensures.again));
+      form = subst (λ (ps : List Put). each_refusal dictionary_refusal ps ≡ None) (sym more) (each_push dictionary_refusal before (whole (entry_of x)) c.loop-id.invariant.form (rw id at c.in_ok-put_dictionary.ensures.form));
     }

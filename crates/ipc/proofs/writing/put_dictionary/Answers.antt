@@ -10,6 +10,7 @@ use Rattle.ipc_batch.specs.Batches.{batch_of}
 use Rattle.ipc_batch.specs.DictionaryBytes.{dictionary_message}
 use Rattle.ipc_batch.specs.DictionaryLaws.{IsDictionaryBack}
 use Rattle.ipc_layout.specs.Rekeyed.{AreReadOver}
+use Rattle.ipc_needed.specs.Puts.{Put}
 use Rattle.ipc.specs.Streams.{Arrays}
 use Rattle.ipc.specs.Written.{one_column, dictionary_head, dictionary_bytes, dictionary_refusal}
 use Rattle.ipc.specs.WrittenLists.{IsMetadata}
@@ -20,48 +21,48 @@ use Rattle.ipc.proofs.writing.put_dictionary.Goals as goal
 pub returns-in_err-metadata-clause-err : goal.returns-in_err-metadata-clause-err
 unfolding dictionary_refusal
 returns-in_err-metadata-clause-err c =
-    let e : ℤ × Layout = (c.args.id, layout_of c.args.values.now) in
-    let b : Arrays = one_column e.1 in
-    let p = err_from_is_err_and c.from_residual.result c.from_residual.ensures.1 in
-    rw (p.1, p.2) (columns_refused b.columns b.rows (dictionary_head e) _ (rw c.from_ref-columns.ensures.value at c.in_err-metadata.ensures.err))
+    let p : Put = (c.args.delta, (c.args.id, layout_of c.args.values.now)) in
+    let b : Arrays = one_column p.1.1 in
+    let q = err_from_is_err_and c.from_residual.result c.from_residual.ensures.1 in
+    rw (q.1, q.2) (columns_refused b.columns b.rows (dictionary_head p) _ (rw c.from_ref-columns.ensures.value at c.in_err-metadata.ensures.err))
 
 pub returns-in_err-write_dictionary-clause-err : goal.returns-in_err-write_dictionary-clause-err
 unfolding dictionary_refusal
 returns-in_err-write_dictionary-clause-err c =
-    let e : ℤ × Layout = (c.args.id, layout_of c.args.values.now) in
-    let b : Arrays = one_column e.1 in
+    let p : Put = (c.args.delta, (c.args.id, layout_of c.args.values.now)) in
+    let b : Arrays = one_column p.1.1 in
     let said = c.in_ok-metadata in
-    let id : to_z w64 (of_z w64 e.0) ≡ e.0 = to_z-of_z w64 e.0 c.ranges.id in
+    let id : to_z w64 (of_z w64 p.1.0) ≡ p.1.0 = to_z-of_z w64 p.1.0 c.ranges.id in
     let metadata : IsMetadata b (batch_of said.metadata) said.body_length = rw (c.len.ensures, c.from_ref-columns.ensures.value) at said.ensures.metadata in
-    let p = err_from_is_err_and c.from_residual-in_err-write_dictionary.result c.from_residual-in_err-write_dictionary.ensures.1 in
-    rw (p.1, p.2) (head_refused (dictionary_message e.0) b (batch_of said.metadata) said.body_length metadata _ (rw c.from_ref-columns.ensures.value at said.ensures.form) (rw id at c.in_err-write_dictionary.ensures.err))
+    let q = err_from_is_err_and c.from_residual-in_err-write_dictionary.result c.from_residual-in_err-write_dictionary.ensures.1 in
+    rw (q.1, q.2) (head_refused (dictionary_message p.0 p.1.0) b (batch_of said.metadata) said.body_length metadata _ (rw c.from_ref-columns.ensures.value at said.ensures.form) (rw id at c.in_err-write_dictionary.ensures.err))
 
 pub returns-clause-again : goal.returns-clause-again
 returns-clause-again c =
-    let e : ℤ × Layout = (c.args.id, layout_of c.args.values.now) in
-    let b : Arrays = one_column e.1 in
+    let p : Put = (c.args.delta, (c.args.id, layout_of c.args.values.now)) in
+    let b : Arrays = one_column p.1.1 in
     let said = c.in_ok-metadata in
-    let id : to_z w64 (of_z w64 e.0) ≡ e.0 = to_z-of_z w64 e.0 c.ranges.id in
+    let id : to_z w64 (of_z w64 p.1.0) ≡ p.1.0 = to_z-of_z w64 p.1.0 c.ranges.id in
     let metadata : IsMetadata b (batch_of said.metadata) said.body_length = rw (c.len.ensures, c.from_ref-columns.ensures.value) at said.ensures.metadata in
-    let over : AreReadOver (e.1 ∷ []) = rw c.from_ref-columns.ensures.value at c.in_ok-put_columns.ensures.over in
-    dictionary_again e (head_again (dictionary_message e.0) b (batch_of said.metadata) said.body_length metadata (IsDictionaryBack e.0) (rw id at c.in_ok-write_dictionary.ensures.again) (rw id at c.in_ok-write_dictionary.ensures.form.1)) over
+    let over : AreReadOver (p.1.1 ∷ []) = rw c.from_ref-columns.ensures.value at c.in_ok-put_columns.ensures.over in
+    dictionary_again p (head_again (dictionary_message p.0 p.1.0) b (batch_of said.metadata) said.body_length metadata (IsDictionaryBack p.0 p.1.0) (rw id at c.in_ok-write_dictionary.ensures.again) (rw id at c.in_ok-write_dictionary.ensures.form.1)) over
 
 pub returns-clause-form : goal.returns-clause-form
 unfolding dictionary_refusal
 returns-clause-form c =
-    let e : ℤ × Layout = (c.args.id, layout_of c.args.values.now) in
-    let b : Arrays = one_column e.1 in
+    let p : Put = (c.args.delta, (c.args.id, layout_of c.args.values.now)) in
+    let b : Arrays = one_column p.1.1 in
     let said = c.in_ok-metadata in
-    let id : to_z w64 (of_z w64 e.0) ≡ e.0 = to_z-of_z w64 e.0 c.ranges.id in
+    let id : to_z w64 (of_z w64 p.1.0) ≡ p.1.0 = to_z-of_z w64 p.1.0 c.ranges.id in
     let metadata : IsMetadata b (batch_of said.metadata) said.body_length = rw (c.len.ensures, c.from_ref-columns.ensures.value) at said.ensures.metadata in
-    head_accepted (dictionary_message e.0) b (batch_of said.metadata) said.body_length metadata (rw c.from_ref-columns.ensures.value at said.ensures.form) c.in_ok-write_dictionary.ensures.form.0 (rw id at c.in_ok-write_dictionary.ensures.form.1)
+    head_accepted (dictionary_message p.0 p.1.0) b (batch_of said.metadata) said.body_length metadata (rw c.from_ref-columns.ensures.value at said.ensures.form) c.in_ok-write_dictionary.ensures.form.0 (rw id at c.in_ok-write_dictionary.ensures.form.1)
 
 pub returns-clause-bytes : goal.returns-clause-bytes
 unfolding dictionary_bytes
 returns-clause-bytes c =
-    let e : ℤ × Layout = (c.args.id, layout_of c.args.values.now) in
+    let p : Put = (c.args.delta, (c.args.id, layout_of c.args.values.now)) in
     let said = c.in_ok-metadata in
-    let id : to_z w64 (of_z w64 e.0) ≡ e.0 = to_z-of_z w64 e.0 c.ranges.id in
-    let metadata : IsMetadata (one_column e.1) (batch_of said.metadata) said.body_length = rw (c.len.ensures, c.from_ref-columns.ensures.value) at said.ensures.metadata in
-    head_written (dictionary_message e.0) (one_column e.1) (batch_of said.metadata) said.body_length metadata c.args.out.now.items c.write_dictionary.new.out.items c.put_columns.new.out.items
+    let id : to_z w64 (of_z w64 p.1.0) ≡ p.1.0 = to_z-of_z w64 p.1.0 c.ranges.id in
+    let metadata : IsMetadata (one_column p.1.1) (batch_of said.metadata) said.body_length = rw (c.len.ensures, c.from_ref-columns.ensures.value) at said.ensures.metadata in
+    head_written (dictionary_message p.0 p.1.0) (one_column p.1.1) (batch_of said.metadata) said.body_length metadata c.args.out.now.items c.write_dictionary.new.out.items c.put_columns.new.out.items
     (rw id at c.in_ok-write_dictionary.ensures.bytes) (rw c.from_ref-columns.ensures.value at c.in_ok-put_columns.ensures.ok)

@@ -1,60 +1,88 @@
 use mir.Syntax.{w64}
-use mir.Val.{to_z, of_z}
-use Rattle.std.proofs.Common.{◌≡◌, ◌-◌, [], ◌∷◌, length, refl, arith}
+use mir.Val.{to_z, of_z, SFits}
+use Rattle.std.proofs.Common.{rules, ◌≡◌, ◌-◌, ◌<◌, ◌^◌, [], ◌∷◌, None, Ok, List, ℕ, length, take, drop, refl, ap, subst, ◌∙◌, arith}
 use Rattle.std.specs.Prelude.{ℤ}
-use Rattle.std.proofs.lemmas.Result.{IfOk-weaker, IfErr-weaker, on_ok_weaker}
 use Rattle.std.proofs.lemmas.Int.{to_z-of_z}
-use Rattle.nest_model.specs.Layout.{Layout}
-use Rattle.nest_array.specs.Seen.{layout_of}
+use Rattle.std.proofs.lemmas.Result.{err_from_is_err_and}
 use Rattle.ipc_layout.specs.Written.{columns_body}
-use Rattle.ipc.specs.Written.{dictionary_head, dictionary_bytes, dictionary_refusal}
-use Rattle.ipc.specs.WrittenFiles.{block_at}
-use Rattle.ipc.specs.WrittenLists.{long_refused, short_accepted}
-use Rattle.ipc.proofs.Places.{IsPut, put_within, put_head, put_block}
+use Rattle.ipc_needed.specs.Puts.{Put, put_in}
+use Rattle.ipc.specs.Streams.{State, state_of}
+use Rattle.ipc.specs.Written.{dictionary_head, dictionary_bytes, dictionary_refusal, IsRefused}
+use Rattle.ipc.specs.WrittenFiles.{state_by, state_put, unread_refusal, dictionary_block_refusal}
+use Rattle.ipc.specs.WrittenLists.{long_refused, short_accepted, first_refused, later_refused, both_accepted}
+use Rattle.ipc.proofs.Places.{IsPut, put_within, put_head, put_block, put_behind}
 use Rattle.ipc.proofs.writing_files.put_dictionary_block.Goals as goal
 
 pub block_between-requires-clause-within : goal.block_between-requires-clause-within
 unfolding dictionary_bytes
 block_between-requires-clause-within c =
-    let e : ℤ × Layout = (c.args.id, layout_of c.args.values.now) in
-    let id : to_z w64 (of_z w64 e.0) ≡ e.0 = to_z-of_z w64 e.0 c.ranges.id in
+    let p : Put = put_in c.args.put.now in
+    let fits : SFits w64 p.1.0 = search rules in
+    let id : to_z w64 (of_z w64 p.1.0) ≡ p.1.0 = to_z-of_z w64 p.1.0 fits in
     let old = c.args.out.now.items in
     let new = c.put_dictionary.new.out.items in
-    let put : IsPut old new (dictionary_bytes e) (dictionary_head e) (columns_body (e.1 ∷ [])) c.len-start.result c.len.result c.in_ok-body_length.body_length =
+    let put : IsPut old new (dictionary_bytes p) (dictionary_head p) (columns_body (p.1.1 ∷ [])) c.len-start.result c.len.result c.in_ok-body_length.body_length =
     record { written = (rw id at c.in_ok-body_length.ensures.bytes); whole = refl; begins = omega (arith, c.len-start.ensures, c.args.out.now.ok); ends = omega (arith, c.len.ensures, c.put_dictionary.new.out.ok); long = c.in_ok-body_length.ensures.body } in
-    put_within old new (dictionary_bytes e) (dictionary_head e) (columns_body (e.1 ∷ [])) c.len-start.result c.len.result c.in_ok-body_length.body_length put
+    put_within old new (dictionary_bytes p) (dictionary_head p) (columns_body (p.1.1 ∷ [])) c.len-start.result c.len.result c.in_ok-body_length.body_length put
 
 pub returns-clause-block : goal.returns-clause-block
 unfolding dictionary_bytes
 returns-clause-block c =
-    let e : ℤ × Layout = (c.args.id, layout_of c.args.values.now) in
-    let id : to_z w64 (of_z w64 e.0) ≡ e.0 = to_z-of_z w64 e.0 c.ranges.id in
+    let p : Put = put_in c.args.put.now in
+    let fits : SFits w64 p.1.0 = search rules in
+    let id : to_z w64 (of_z w64 p.1.0) ≡ p.1.0 = to_z-of_z w64 p.1.0 fits in
     let old = c.args.out.now.items in
     let new = c.put_dictionary.new.out.items in
-    let put : IsPut old new (dictionary_bytes e) (dictionary_head e) (columns_body (e.1 ∷ [])) c.len-start.result c.len.result c.in_ok-body_length.body_length =
+    let put : IsPut old new (dictionary_bytes p) (dictionary_head p) (columns_body (p.1.1 ∷ [])) c.len-start.result c.len.result c.in_ok-body_length.body_length =
     record { written = (rw id at c.in_ok-body_length.ensures.bytes); whole = refl; begins = omega (arith, c.len-start.ensures, c.args.out.now.ok); ends = omega (arith, c.len.ensures, c.put_dictionary.new.out.ok); long = c.in_ok-body_length.ensures.body } in
-    IfOk-weaker c.block_between.result _ (λ block. block ≡ block_at (length old) (dictionary_head e) (columns_body (e.1 ∷ []))) (λ block same. put_block old new (dictionary_bytes e) (dictionary_head e) (columns_body (e.1 ∷ [])) c.len-start.result c.len.result c.in_ok-body_length.body_length put block same) c.block_between.ensures.block
+    put_block old new (dictionary_bytes p) (dictionary_head p) (columns_body (p.1.1 ∷ [])) c.len-start.result c.len.result c.in_ok-body_length.body_length put c.in_ok-block.block c.in_ok-block.ensures.block
+
+pub returns-in_err-block-clause-err : goal.returns-in_err-block-clause-err
+unfolding dictionary_bytes
+returns-in_err-block-clause-err c =
+    let p : Put = put_in c.args.put.now in
+    let s : State = state_of c.args.known.now in
+    let fits : SFits w64 p.1.0 = search rules in
+    let id : to_z w64 (of_z w64 p.1.0) ≡ p.1.0 = to_z-of_z w64 p.1.0 fits in
+    let old = c.args.out.now.items in
+    let new = c.put_dictionary.new.out.items in
+    let put : IsPut old new (dictionary_bytes p) (dictionary_head p) (columns_body (p.1.1 ∷ [])) c.len-start.result c.len.result c.in_ok-body_length.body_length =
+    record { written = (rw id at c.in_ok-body_length.ensures.bytes); whole = refl; begins = omega (arith, c.len-start.ensures, c.args.out.now.ok); ends = omega (arith, c.len.ensures, c.put_dictionary.new.out.ok); long = c.in_ok-body_length.ensures.body } in
+    let long : c.len.result - c.len-start.result - c.in_ok-body_length.body_length ≡ length (dictionary_head p) = put_head old new (dictionary_bytes p) (dictionary_head p) (columns_body (p.1.1 ∷ [])) c.len-start.result c.len.result c.in_ok-body_length.body_length put in
+    let past = c.in_err-block.ensures.err in
+    let e = err_from_is_err_and c.from_residual-in_err-block.result c.from_residual-in_err-block.ensures.1 in
+    rw (e.1, e.2) (first_refused (dictionary_block_refusal p) (unread_refusal (state_put s p)) _ (long_refused (dictionary_refusal p) (dictionary_head p) _ (rw id at c.in_ok-body_length.ensures.form) past.0 (omega (arith, long, past.1))))
+
+pub returns-in_err-know-clause-err : goal.returns-in_err-know-clause-err
+unfolding dictionary_bytes
+returns-in_err-know-clause-err c =
+    let p : Put = put_in c.args.put.now in
+    let s : State = state_of c.args.known.now in
+    let fits : SFits w64 p.1.0 = search rules in
+    let id : to_z w64 (of_z w64 p.1.0) ≡ p.1.0 = to_z-of_z w64 p.1.0 fits in
+    let old = c.args.out.now.items in
+    let new = c.put_dictionary.new.out.items in
+    let put : IsPut old new (dictionary_bytes p) (dictionary_head p) (columns_body (p.1.1 ∷ [])) c.len-start.result c.len.result c.in_ok-body_length.body_length =
+    record { written = (rw id at c.in_ok-body_length.ensures.bytes); whole = refl; begins = omega (arith, c.len-start.ensures, c.args.out.now.ok); ends = omega (arith, c.len.ensures, c.put_dictionary.new.out.ok); long = c.in_ok-body_length.ensures.body } in
+    let long : c.len.result - c.len-start.result - c.in_ok-body_length.body_length ≡ length (dictionary_head p) = put_head old new (dictionary_bytes p) (dictionary_head p) (columns_body (p.1.1 ∷ [])) c.len-start.result c.len.result c.in_ok-body_length.body_length put in
+    let short : dictionary_block_refusal p ≡ None = short_accepted (dictionary_refusal p) (dictionary_head p) (rw id at c.in_ok-body_length.ensures.form) (omega (arith, long, c.in_ok-block.ensures.short)) in
+    let behind : take (length c.deref.result.now - c.len-start.result) (drop c.len-start.result c.deref.result.now) ≡ dictionary_bytes p = put_behind old c.deref.result.now (dictionary_bytes p) c.len-start.result (c.deref.ensures.value ∙ put.written) put.begins in
+    let e = err_from_is_err_and c.from_residual-in_err-know.result c.from_residual-in_err-know.ensures.1 in
+    rw (e.1, e.2) (later_refused (dictionary_block_refusal p) (unread_refusal (state_put s p)) _ short (subst (λ (bytes : List ℕ). IsRefused (unread_refusal (state_by s bytes)) c.in_err-know.field-0.0) behind c.in_err-know.ensures.err))
 
 pub returns-clause-form : goal.returns-clause-form
 unfolding dictionary_bytes
 returns-clause-form c =
-    let e : ℤ × Layout = (c.args.id, layout_of c.args.values.now) in
-    let id : to_z w64 (of_z w64 e.0) ≡ e.0 = to_z-of_z w64 e.0 c.ranges.id in
+    let p : Put = put_in c.args.put.now in
+    let s : State = state_of c.args.known.now in
+    let fits : SFits w64 p.1.0 = search rules in
+    let id : to_z w64 (of_z w64 p.1.0) ≡ p.1.0 = to_z-of_z w64 p.1.0 fits in
     let old = c.args.out.now.items in
     let new = c.put_dictionary.new.out.items in
-    let put : IsPut old new (dictionary_bytes e) (dictionary_head e) (columns_body (e.1 ∷ [])) c.len-start.result c.len.result c.in_ok-body_length.body_length =
+    let put : IsPut old new (dictionary_bytes p) (dictionary_head p) (columns_body (p.1.1 ∷ [])) c.len-start.result c.len.result c.in_ok-body_length.body_length =
     record { written = (rw id at c.in_ok-body_length.ensures.bytes); whole = refl; begins = omega (arith, c.len-start.ensures, c.args.out.now.ok); ends = omega (arith, c.len.ensures, c.put_dictionary.new.out.ok); long = c.in_ok-body_length.ensures.body } in
-    let long : c.len.result - c.len-start.result - c.in_ok-body_length.body_length ≡ length (dictionary_head e) = put_head old new (dictionary_bytes e) (dictionary_head e) (columns_body (e.1 ∷ [])) c.len-start.result c.len.result c.in_ok-body_length.body_length put in
-    on_ok_weaker c.block_between.result (λ short. short_accepted (dictionary_refusal e) (dictionary_head e) (rw id at c.in_ok-body_length.ensures.form) (omega (arith, long, short))) c.block_between.ensures.short
-
-pub returns-clause-err : goal.returns-clause-err
-unfolding dictionary_bytes
-returns-clause-err c =
-    let e : ℤ × Layout = (c.args.id, layout_of c.args.values.now) in
-    let id : to_z w64 (of_z w64 e.0) ≡ e.0 = to_z-of_z w64 e.0 c.ranges.id in
-    let old = c.args.out.now.items in
-    let new = c.put_dictionary.new.out.items in
-    let put : IsPut old new (dictionary_bytes e) (dictionary_head e) (columns_body (e.1 ∷ [])) c.len-start.result c.len.result c.in_ok-body_length.body_length =
-    record { written = (rw id at c.in_ok-body_length.ensures.bytes); whole = refl; begins = omega (arith, c.len-start.ensures, c.args.out.now.ok); ends = omega (arith, c.len.ensures, c.put_dictionary.new.out.ok); long = c.in_ok-body_length.ensures.body } in
-    let long : c.len.result - c.len-start.result - c.in_ok-body_length.body_length ≡ length (dictionary_head e) = put_head old new (dictionary_bytes e) (dictionary_head e) (columns_body (e.1 ∷ [])) c.len-start.result c.len.result c.in_ok-body_length.body_length put in
-    IfErr-weaker c.block_between.result _ _ (λ why past. long_refused (dictionary_refusal e) (dictionary_head e) why (rw id at c.in_ok-body_length.ensures.form) past.0 (omega (arith, long, past.1))) c.block_between.ensures.err
+    let long : c.len.result - c.len-start.result - c.in_ok-body_length.body_length ≡ length (dictionary_head p) = put_head old new (dictionary_bytes p) (dictionary_head p) (columns_body (p.1.1 ∷ [])) c.len-start.result c.len.result c.in_ok-body_length.body_length put in
+    let short : dictionary_block_refusal p ≡ None = short_accepted (dictionary_refusal p) (dictionary_head p) (rw id at c.in_ok-body_length.ensures.form) (omega (arith, long, c.in_ok-block.ensures.short)) in
+    let behind : take (length c.deref.result.now - c.len-start.result) (drop c.len-start.result c.deref.result.now) ≡ dictionary_bytes p = put_behind old c.deref.result.now (dictionary_bytes p) c.len-start.result (c.deref.ensures.value ∙ put.written) put.begins in
+    let known : state_put s p ≡ Ok (state_of c.know.new.known) = subst (λ (bytes : List ℕ). state_by s bytes ≡ Ok (state_of c.know.new.known)) behind c.in_ok-know.ensures.known in
+    both_accepted (dictionary_block_refusal p) (unread_refusal (state_put s p)) short (ap unread_refusal known)

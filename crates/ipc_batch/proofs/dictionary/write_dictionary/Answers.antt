@@ -13,7 +13,7 @@ returns-in_err-are_few-clause-err c =
     let p = err_from_is_err_and c.from_residual.result c.from_residual.ensures.1 in
     let b : BatchTree = batch_of c.args.metadata.now in
     let long : ℕ = c.args.body_length in
-    rw (p.1, p.2) (unwritten_more b _ (length (batch_bytes b)) (metadata_size (dictionary_message c.args.id b long)) (dictionary_holds c.args.id b long) c.in_err-are_few.ensures.size)
+    rw (p.1, p.2) (unwritten_more b _ (length (batch_bytes b)) (metadata_size (dictionary_message c.args.delta c.args.id b long)) (dictionary_holds c.args.delta c.args.id b long) c.in_err-are_few.ensures.size)
 
 pub returns-clause-again : goal.returns-clause-again
-returns-clause-again c = on_ok_weaker c.put_message.result (λ h. dictionary_with c.args.id (batch_of c.args.metadata.now) c.args.body_length c.ranges.id c.in_ok-put_batch.ensures.fits c.requires) c.put_message.ensures.ok
+returns-clause-again c = on_ok_weaker c.put_message.result (λ h. dictionary_with c.args.delta c.args.id (batch_of c.args.metadata.now) c.args.body_length c.ranges.id c.in_ok-put_batch.ensures.fits c.requires) c.put_message.ensures.ok

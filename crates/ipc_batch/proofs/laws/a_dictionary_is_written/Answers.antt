@@ -1,4 +1,4 @@
-use Rattle.ipc_batch.specs.Examples.{values_written, values_parts, values_visited, values_id, values_place, values_no_delta, values_batch}
+use Rattle.ipc_batch.specs.Examples.{values_written, values_parts, values_visited, values_id, values_place, values_whole, values_batch}
 use Rattle.ipc_batch.proofs.laws.a_dictionary_is_written.Goals as goal
 
 pub returns-clause-written : goal.returns-clause-written
@@ -17,7 +17,7 @@ pub returns-clause-place : goal.returns-clause-place
 returns-clause-place c = values_place
 
 pub returns-clause-no_delta : goal.returns-clause-no_delta
-returns-clause-no_delta c = values_no_delta
+returns-clause-no_delta c = values_whole
 
 pub returns-clause-batch : goal.returns-clause-batch
 returns-clause-batch c = values_batch

@@ -2,4 +2,4 @@ use Rattle.ipc_batch.specs.DictionaryLaws.{dictionary_again}
 use Rattle.ipc_batch.proofs.laws.dictionaries_are_read_back.Goals as goal
 
 pub returns : goal.returns
-returns c = λ id b body named fits short inside small. dictionary_again id b body named fits short inside small
+returns c = λ delta id b body named fits short inside small. dictionary_again delta id b body named fits short inside small

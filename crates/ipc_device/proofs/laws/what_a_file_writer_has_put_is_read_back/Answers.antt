@@ -1,4 +1,4 @@
-use Rattle.ipc_device.specs.FileWriterLaws.{file_read, file_same}
+use Rattle.ipc_device.specs.FileWriterLaws.{file_read, file_same, file_plain}
 use Rattle.ipc_device.proofs.laws.what_a_file_writer_has_put_is_read_back.Goals as goal
 
 pub returns-clause-read : goal.returns-clause-read
@@ -6,3 +6,6 @@ returns-clause-read g c = file_read g.W.Write.contents
 
 pub returns-clause-same : goal.returns-clause-same
 returns-clause-same g c = file_same g.W.Write.contents
+
+pub returns-clause-plain : goal.returns-clause-plain
+returns-clause-plain g c = file_plain g.W.Write.contents
