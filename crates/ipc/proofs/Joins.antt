@@ -18,6 +18,7 @@ use Rattle.nest_concat.specs.Laid.{joined_layout, joins_past}
 use Rattle.ipc_model.specs.Reading.{◌>>=◌, check, Fails}
 use Rattle.ipc_model.specs.declared.fault.Fault.{Fault}
 use Rattle.ipc_model.specs.declared.fault.Fault.TheVariants.{Delta}
+use Rattle.ipc.specs.Dense.{dense_past}
 use Rattle.ipc.specs.Streams.{State, known_of, known_at, is_among, joined_values, fault_of, with_more, with_values}
 use Rattle.ipc.proofs.Entries.{viewed_found}
 
@@ -44,14 +45,15 @@ abbrev past : Layout → Layout → Bool
 past a b = joins_past (a ∷ b ∷ [])
 
 -- what is joined
-pub joins : (a b c : Layout) → ((AreOfOneType (a ∷ b ∷ []) → ⊥) → ⊥) → joins_past (a ∷ b ∷ []) ≡ false → c ≡ joined_layout (a ∷ b ∷ []) → joined_values (Some a) b ≡ Ok c
-joins a b c one room laid =
-    ap (λ (x : Bool). if_fits (x && not (past a b)) (both a b)) (same_by a b (same a b) refl one)
-    ∙ ap (λ (x : Bool). if_fits (not x) (both a b)) room
+pub joins : (a b c : Layout) → dense_past a b ≡ false → ((AreOfOneType (a ∷ b ∷ []) → ⊥) → ⊥) → joins_past (a ∷ b ∷ []) ≡ false → c ≡ joined_layout (a ∷ b ∷ []) → joined_values (Some a) b ≡ Ok c
+joins a b c fits one room laid =
+    ap (λ (x : Bool). if_fits (x && (not (past a b) && not (dense_past a b))) (both a b)) (same_by a b (same a b) refl one)
+    ∙ ap (λ (x : Bool). if_fits (not x && not (dense_past a b)) (both a b)) room
+    ∙ ap (λ (x : Bool). if_fits (not x) (both a b)) fits
     ∙ ap (λ (x : Layout). if_fits true x) (sym laid)
 
 differs : (a b : Layout) → (AreOfOneType (a ∷ b ∷ []) → ⊥) → joined_values (Some a) b ≡ Err Delta
-differs a b apart = ap (λ (x : Bool). if_fits (x && not (past a b)) (both a b)) (differ_by a b (same a b) refl apart)
+differs a b apart = ap (λ (x : Bool). if_fits (x && (not (past a b) && not (dense_past a b))) (both a b)) (differ_by a b (same a b) refl apart)
 
 and_false : (s : Bool) → (s && false) ≡ false
 and_false true = refl
@@ -59,8 +61,18 @@ and_false false = refl
 
 passes : (a b : Layout) → joins_past (a ∷ b ∷ []) ≡ true → joined_values (Some a) b ≡ Err Delta
 passes a b over =
-    ap (λ (x : Bool). if_fits (same a b && not x) (both a b)) over
+    ap (λ (x : Bool). if_fits (same a b && (not x && not (dense_past a b))) (both a b)) over
     ∙ ap (λ (x : Bool). if_fits x (both a b)) (and_false (same a b))
+
+neither : (s t : Bool) → (s && (t && false)) ≡ false
+neither true t = and_false t
+neither false t = refl
+
+-- nor is what an offset of a dense union passes
+pub passes_dense : (a b : Layout) → dense_past a b ≡ true → joined_values (Some a) b ≡ Err Delta
+passes_dense a b over =
+    ap (λ (x : Bool). if_fits (same a b && (not (past a b) && not x)) (both a b)) over
+    ∙ ap (λ (x : Bool). if_fits x (both a b)) (neither (same a b) (not (past a b)))
 
 abbrev fails_with : Fault → Result Layout Fault
 fails_with f = Err f

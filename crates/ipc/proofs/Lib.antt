@@ -6,3 +6,4 @@ pub mod Places
 pub mod FileLoops
 pub mod Freshness
 pub mod Joins
+pub mod DensePast

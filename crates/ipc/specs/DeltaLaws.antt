@@ -15,7 +15,8 @@ use Rattle.ipc_words.specs.declared.tables.Table.{Table}
 use Rattle.ipc_message.specs.Messages.{Parts}
 use Rattle.ipc_schema.specs.Dictionaries.{Values}
 use Rattle.ipc_needed.specs.KnownLaws.{entry_put}
-use Rattle.ipc.specs.Streams.{State, data_place, may_come, data_in, found_in, found_values, new_values_in, named_in, known_at, is_among, joined_values, with_more, with_values, dictionary_in}
+use Rattle.ipc.specs.Dense.{dense_past}
+use Rattle.ipc.specs.Streams.{State, data_place, may_come, data_in, found_in, found_values, new_values_in, named_in, known_at, is_among, can_join, joined_values, with_more, with_values, dictionary_in}
 
 first_is : (a b : Bool) → (a && b) ≡ true → a ≡ true
 first_is true b h = refl
@@ -87,7 +88,7 @@ module _ (s t : State) (id : ℤ) (old more : Layout) (there : known_at s.known 
   both = joined_layout (old ∷ more ∷ [])
 
   abbrev fits : Bool
-  fits = same_type (layout_type old) (layout_type more) && not (joins_past (old ∷ more ∷ []))
+  fits = can_join old more
 
   opened : then_more s id (is_among s.fresh id) (check fits Delta >>= λ all. Ok both) ≡ Ok t
   opened = ap (λ (o : Option Layout). then_more s id (is_among s.fresh id) (joined_values o more)) (sym there) ∙ read
@@ -98,7 +99,7 @@ module _ (s t : State) (id : ℤ) (old more : Layout) (there : known_at s.known 
 
   -- which are of one type
   pub delta_type : layout_type more ≡ layout_type old
-  delta_type = sym ((same_type-decides (layout_type old) (layout_type more)).0 (first_is (same_type (layout_type old) (layout_type more)) (not (joins_past (old ∷ more ∷ []))) (fits_by s t id both (is_among s.fresh id) fits opened)))
+  delta_type = sym ((same_type-decides (layout_type old) (layout_type more)).0 (first_is (same_type (layout_type old) (layout_type more)) (not (joins_past (old ∷ more ∷ [])) && not (dense_past old more)) (fits_by s t id both (is_among s.fresh id) fits opened)))
 
   pub delta_known : known_at t.known id ≡ Some both
   delta_known = ap (λ (x : State). known_at x.known id) delta_joins ∙ entry_put s.known id both

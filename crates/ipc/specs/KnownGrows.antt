@@ -34,6 +34,7 @@ use Rattle.nest_concat.proofs.LaidWholes.{two-joined, two-slots}
 use Rattle.ipc.specs.Grown.{IsGrown, AllGrown, IsOver, HoldsArray, AreAllArrays, AreSameArrays, ReadTogether, Grows, HasArrays, IsLater, IsBatchAgain}
 use Rattle.ipc.specs.GrownColumns.{read_too, AreReadAlike, column_fits, grown_self, picked_next}
 use Rattle.ipc.specs.GrownReads.{Anything, any_read, then_read, then_same}
+use Rattle.ipc.specs.Dense.{dense_past}
 use Rattle.ipc.specs.Streams.{Known, State, Arrays, known_at, values_at, rest_at, types_of, more_in, record_batch_in, named_in, data_place, may_come, only_column, with_values, column_in_batch, data_in, new_values_in, found_values, found_in, with_found, dictionary_in, is_among, with_more, joined_values}
 use Rattle.ipc.specs.Written.{IsSameBatch}
 
@@ -224,8 +225,9 @@ module _ (s : State) (id : ℤ) (more : Layout) (fits : IsArray more) (all : Has
   more_later None there is = tt
   more_later (Some c) there is =
       let typed : Bool = same_type (layout_type c) (layout_type more) in
-      fits_later (typed && not (joins_past (c ∷ more ∷ []))) (joined_layout (c ∷ more ∷ []))
-      (λ e. joined_later c there is (sym ((same_type-decides (layout_type c) (layout_type more)).0 (and_parts typed (not (joins_past (c ∷ more ∷ []))) e).0)))
+      let fits : Bool = not (joins_past (c ∷ more ∷ [])) && not (dense_past c more) in
+      fits_later (typed && fits) (joined_layout (c ∷ more ∷ []))
+      (λ e. joined_later c there is (sym ((same_type-decides (layout_type c) (layout_type more)).0 (and_parts typed fits e).0)))
 
 -- values that are new, or more of them
 values_later : (delta : Bool) (s : State) (id : ℤ) (values : Layout) → (delta ≡ false → known_at s.known id ≡ None) → IsArray values → HasArrays s.known → IfOk (with_values delta s id values) (IsLater s)

@@ -1,4 +1,5 @@
 -- What contracts cite.
+pub mod Dense
 pub mod Streams
 pub mod Readers
 pub mod StreamLaws
@@ -7,6 +8,7 @@ pub mod Examples
 pub mod DictionaryExamples
 pub mod DeltaLaws
 pub mod DeltaExamples
+pub mod DenseExamples
 pub mod Written
 pub mod WrittenLaws
 pub mod Files

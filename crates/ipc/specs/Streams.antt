@@ -34,6 +34,7 @@ use Rattle.ipc_batch.specs.MoreBuffers.{more_buffers_at}
 use Rattle.ipc_layout.specs.Columns.{Rest, column_in, none_left}
 use Rattle.ipc_layout.specs.Picked.{picked_in}
 use Rattle.ipc_layout.specs.declared.parts.Wanted.TheVariants.{Rows}
+use Rattle.ipc.specs.Dense.{dense_past}
 use Rattle.ipc.specs.declared.batch.Batch.{Batch}
 use Rattle.ipc.specs.declared.state.Dictionaries.{Dictionaries}
 use Rattle.ipc.specs.declared.state.State as declared
@@ -145,10 +146,14 @@ with_new s id values = record { picked = s.picked; known = insert_entry int_cmp 
 abbrev pub with_more : State → ℤ → Layout → State
 with_more s id values = record { picked = s.picked; known = insert_entry int_cmp s.known id values; fresh = s.fresh }
 
--- values of one type behind others, where nothing passes its type
+-- values of one type stand behind others where nothing passes its type: neither in the array that they are joined to, nor an offset behind all slots of a field
+abbrev pub can_join : Layout → Layout → Bool
+can_join values more = same_type (layout_type values) (layout_type more) && (not (joins_past (values ∷ more ∷ [])) && not (dense_past values more))
+
+-- values behind others
 abbrev pub joined_values : Option Layout → Layout → Result Layout Fault
 joined_values None more = Err Delta
-joined_values (Some values) more = check (same_type (layout_type values) (layout_type more) && not (joins_past (values ∷ more ∷ []))) Delta >>= λ fits. Ok (joined_layout (values ∷ more ∷ []))
+joined_values (Some values) more = check (can_join values more) Delta >>= λ fits. Ok (joined_layout (values ∷ more ∷ []))
 
 -- The dictionary of an id from now on: new values, or a delta, whose values stand behind those that are there. Where a dictionary
 -- inside was written anew since, the keys of those would name other values.

@@ -5,6 +5,7 @@ ghost use Rattle.ipc_model.specs.Reading.{Gives};
 ghost use Rattle.nest_array.specs.Seen.{layout_of};
 ghost use Rattle.ipc.specs.Streams.{fault_of as fault_of_lem, joined_values as joined_values_lem, with_values, state_of};
 
+use crate::dense::dense_past;
 use crate::fresh::is_among;
 use crate::state::State;
 use ipc_model::Fault;
@@ -26,10 +27,13 @@ fn fault_of(error: Error) -> Fault
     }
 }
 
-// Values of one type, one array after another.
+// Values of one type, one array after another, where no offset of a dense union would pass its type.
 fn joined(alloc: Global, values: AnyArray, more: AnyArray) -> Result<AnyArray, Fault>
     ensures { Gives layout_of result (joined_values_lem (Some (layout_of values)) (layout_of more)) }
 {
+    if dense_past(&values, &more) {
+        return Err(Fault::Delta);
+    }
     let arrays = [values, more];
     match concatenate(alloc, &arrays) {
         Err(error) => Err(fault_of(error)),

@@ -12,6 +12,7 @@ ghost use Rattle.ipc.specs.Streams.{Arrays};
 ghost use Rattle.ipc.specs.Examples.{worked_stream, worked_tree};
 ghost use Rattle.ipc.specs.DeltaExamples.{AreDeltas};
 ghost use Rattle.ipc.specs.DeltaLaws.{HasSlots};
+ghost use Rattle.ipc.specs.DenseExamples.{AreDense};
 ghost use Rattle.ipc.specs.DictionaryExamples.{AreDictionaries};
 ghost use Rattle.ipc.specs.Files.{FileReaderTree, batch_of_file, batches_of_file, file_in};
 ghost use Rattle.ipc.specs.FileLaws.{no_arrays};
@@ -74,4 +75,10 @@ pub fn deltas_are_joined()
 /// that were written anew.
 pub fn deltas_are_read()
     ensures { AreDeltas }
+{}
+
+/// Offsets of dense unions behind other values: the largest that fits, one more, of the field that a type means, and inside of other
+/// values, but not of those that keys name.
+pub fn offsets_of_dense_unions_are_counted()
+    ensures { AreDense }
 {}

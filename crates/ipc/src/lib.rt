@@ -4,6 +4,7 @@
 mod batch;
 mod block;
 mod deltas;
+mod dense;
 mod dictionary;
 mod file;
 pub mod file_laws;

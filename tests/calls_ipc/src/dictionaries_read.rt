@@ -3,8 +3,7 @@
 use crate::files::{blocks_of, blocks_of_kind, file_with};
 use crate::samples::Sample;
 use crate::samples_dictionaries::{
-    DENSE_DELTA, READ_DICTIONARIES, READ_DICTIONARY_FILES, REFUSED_DICTIONARIES,
-    REFUSED_DICTIONARY_FILES,
+    READ_DICTIONARIES, READ_DICTIONARY_FILES, REFUSED_DICTIONARIES, REFUSED_DICTIONARY_FILES,
 };
 use crate::samples_read::bytes_of;
 use crate::texts::{answer, file_answer, is_file_read, is_read, put_batch};
@@ -58,15 +57,6 @@ fn each_that_is_refused(rt: HostRuntime) {
         assert!(rt; text.as_str() == sample.answer, "{}: {text}", sample.name);
         assert!(rt; read == Some(false), "{}", sample.name);
     }
-}
-
-#[test]
-fn slots_that_are_picked_are_joined(rt: HostRuntime) {
-    let (text, read) = answered(rt.alloc(), &DENSE_DELTA).expect(&rt, "no text");
-    assert!(rt;
-        text.as_str() == DENSE_DELTA.answer && read == Some(true),
-        "{text}"
-    );
 }
 
 // The bytes of a sample that is read.

@@ -635,16 +635,9 @@ pub const READ_DICTIONARY_FILES: [Sample; 5] = [
     },
 ];
 
-/// A delta to a dense union of one slot, which picks the last of 2^31 - 1 nulls. A reader that puts the delta's child behind all of
-/// these refuses it, since an offset would be 2^31; here slots of a child are joined that are picked, so it is read.
-pub const DENSE_DELTA: Sample = Sample {
-    name: "bad_delta_past_dense_offsets",
-    digits: BAD_DELTA_PAST_DENSE_OFFSETS,
-    answer: "metadata 0\nfield .a 1 0 G i4 0 Y d - 1 .i 1 0 n\n",
-};
-
-/// Streams that are refused.
-pub const REFUSED_DICTIONARIES: [Sample; 10] = [
+/// Streams that are refused. The dense union of the delta past dense offsets has one slot, and stands behind one that picks the last
+/// of 2^31 - 1 nulls.
+pub const REFUSED_DICTIONARIES: [Sample; 11] = [
     Sample {
         name: "bad_delta_first",
         digits: BAD_DELTA_FIRST,
@@ -653,6 +646,11 @@ pub const REFUSED_DICTIONARIES: [Sample; 10] = [
     Sample {
         name: "bad_delta_over_replaced",
         digits: BAD_DELTA_OVER_REPLACED,
+        answer: "fault Delta\n",
+    },
+    Sample {
+        name: "bad_delta_past_dense_offsets",
+        digits: BAD_DELTA_PAST_DENSE_OFFSETS,
         answer: "fault Delta\n",
     },
     Sample {
