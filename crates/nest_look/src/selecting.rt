@@ -23,6 +23,7 @@ ghost use Rattle.nest_look.specs.Words.{arrays_of, held_in, held_of, picks_of};
 use crate::comparing::row_arrays;
 use crate::converting::write_held;
 use crate::fault::Fault;
+use crate::gathering::gathered;
 use crate::holding::{Held, read_held};
 use ipc::Batch;
 use ipc_schema::{Columns, Schema};
@@ -110,7 +111,7 @@ fn batch_of(alloc: Global, fields: &[Field], array: AnyArray) -> Batch
 }
 
 /// Appends rows as a batch, if there are any.
-fn push_rows(
+pub(crate) fn push_rows(
     alloc: Global,
     fields: &[Field],
     batches: &mut Vec<Batch>,
@@ -154,7 +155,7 @@ fn push_window(
 }
 
 /// The rows of windows, each window as a batch.
-fn window_batches(
+pub(crate) fn window_batches(
     alloc: Global,
     fields: &[Field],
     windows: &[Window<'_>],
@@ -229,7 +230,10 @@ fn chosen_batches(
     }
     match choose(alloc, choice, arrays)? {
         None => Err(Fault::Place),
-        Some(windows) => window_batches(alloc, fields, &windows),
+        Some(windows) => match choice {
+            Choice::Places(_) => gathered(alloc, fields, &windows),
+            _ => window_batches(alloc, fields, &windows),
+        },
     }
 }
 
@@ -284,7 +288,7 @@ fn select_held(alloc: Global, choice: &Choice, held: Held) -> Result<Held, Fault
 }
 
 /// The rows that are chosen of the file or the stream that bytes hold, as one of this form: bytes that are read back to the same columns and
-/// to these rows, in their order. A batch whose rows are next to one another is cut in place.
+/// to these rows, in their order. A batch whose rows are next to one another is cut in place; rows at places are gathered as one batch.
 ///
 /// # Errors
 /// `Format` with the first fault of the bytes in the order of reading. Then, of rows at which a column is true, `NoColumn` where there is

@@ -9,7 +9,8 @@ use nest_lines::{column_lines, row_lines};
 use nest_memory::datatypes::{DataType, Field};
 use nest_memory::error::Error;
 use nest_words::{
-    Choice, Form, Options, Request, form_of, parse_choice, parse_names, parse_options, parse_request,
+    Choice, Form, Options, Request, form_of, parse_choice, parse_names, parse_options,
+    parse_request,
 };
 use std::alloc::{AllocError, Global};
 use std::test::*;

@@ -14,6 +14,7 @@
 //! | Streams and files, each as either form | `looks::forms_are_converted` |
 //! | Where two of them differ first, and the line that says it; which of both has a fault | `looks::samples_differ`, `looks::differences_are_lines` |
 //! | Several of them as one; which of them has a fault or another schema | `looks::samples_are_joined` |
+//! | The rows that are chosen, as either form, and in which batches they lie | `looks::rows_are_selected`, `looks::selected_rows_lie_in_batches` |
 //! | Some columns of them, by name | `looks::some_columns_are_shown` |
 //! | Words with options, and names with commas | `answers::words_have_options` |
 #![tactic(auto)]

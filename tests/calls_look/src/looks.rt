@@ -332,12 +332,7 @@ fn together(alloc: Global, samples: &[&str]) -> Result<Vec<u8>, Unjoined> {
 fn samples_are_joined(rt: HostRuntime) -> Result<(), Fail> {
     let one = said(rt.alloc(), &["rows"], STREAM)?;
     let both = together(rt.alloc(), &[STREAM, FILE])?;
-    let text = answer(
-        rt.alloc(),
-        Columns::All,
-        &Request::Rows(Choice::All),
-        &both,
-    )?;
+    let text = answer(rt.alloc(), Columns::All, &Request::Rows(Choice::All), &both)?;
     let rest = text.as_bytes();
     assert!(rt; rest.starts_with(one.as_bytes()), "{text}");
     assert!(rt; &rest[one.len()..] == one.as_bytes(), "{text}");
@@ -384,9 +379,26 @@ fn rows_are_selected(rt: HostRuntime) -> Result<(), Fail> {
             assert!(rt; text.as_str() == want.as_str(), "{text}");
         }
     }
-    let two = selected(rt.alloc(), Form::File, &["cut", "1", "9"], BARE)?;
-    let held = read_held(rt.alloc(), Columns::All, &two)?;
-    assert!(rt; held.batches.len() == 1 && held.batches[0].rows == 2);
+    Ok(())
+}
+
+/// Rows next to one another are cut in place, batch by batch; rows at places are one batch.
+#[test]
+fn selected_rows_lie_in_batches(rt: HostRuntime) -> Result<(), Fail> {
+    for (digits, words, want) in [
+        (BARE, ["cut", "1", "9"].as_slice(), [2].as_slice()),
+        (FILE, ["take", "2", "0", "2", "1"].as_slice(), &[4]),
+        (STREAM, ["take", "0"].as_slice(), &[1]),
+        (STREAM, ["take"].as_slice(), &[]),
+        (BARE, ["take", "0", "0", "1"].as_slice(), &[3]),
+    ] {
+        let bytes = selected(rt.alloc(), Form::File, words, digits)?;
+        let held = read_held(rt.alloc(), Columns::All, &bytes)?;
+        assert!(rt; held.batches.len() == want.len());
+        for i in 0..want.len() {
+            assert!(rt; held.batches[i].rows == want[i]);
+        }
+    }
     Ok(())
 }
 
