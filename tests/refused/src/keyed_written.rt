@@ -1,5 +1,5 @@
 //! Records of words by keys, the records by keys too, in two batches: a stream in which the words of the second change, and a file in
-//! which they stay; a file of the first is refused.
+//! which they stay; a file of the first is refused. And a file in which both grow.
 
 use crate::parts::{buffer, field, offsets};
 use crate::streams::{refused, unwritten};
@@ -16,25 +16,27 @@ use nest_memory::error::Error;
 use std::alloc::Global;
 use std::collections::BTreeMap;
 
-/// Two words of a letter each.
+/// Words of a letter each, three at most.
 fn words(alloc: Global, letters: &[u8]) -> Result<AnyArray, Error> {
-    let ends = offsets(alloc, &[0i32, 1, 2])?;
+    let ends = offsets(alloc, &[0i32, 1, 2, 3][..letters.len() + 1])?;
     Ok(AnyArray::Utf8(Utf8Array::try_new(DataType::Utf8, ends, buffer(alloc, letters)?, None)?))
 }
 
-/// Two values by keys of 8 bits, the second first.
-fn keyed(alloc: Global, values: AnyArray) -> Result<AnyArray, Error> {
-    let keys = PrimitiveArray::try_new(DataType::Int8, buffer(alloc, &[1i8, 0])?, None)?;
+/// Values by keys of 8 bits.
+fn keyed(alloc: Global, keys: &[i8], values: AnyArray) -> Result<AnyArray, Error> {
+    let keys = PrimitiveArray::try_new(DataType::Int8, buffer(alloc, keys)?, None)?;
     Ok(DictionaryArray::try_from_keys(alloc, AnyKeys::Int8(keys), values)?.boxed())
 }
 
+/// The last and the first of the records of words.
 fn column(alloc: Global, letters: &[u8]) -> Result<AnyArray, Error> {
-    let inner = keyed(alloc, words(alloc, letters)?)?;
+    let last = letters.len() as i8 - 1;
+    let inner = keyed(alloc, &[1, 0, 2][..letters.len()], words(alloc, letters)?)?;
     let mut fields = Vec::with_capacity(alloc, 1)?;
     fields.push(field(alloc, inner.data_type().clone(alloc)?)?)?;
     let children = vec![in alloc; inner]?;
     let records = StructArray::try_new(DataType::Struct(fields), children, None)?;
-    keyed(alloc, records.boxed())
+    keyed(alloc, &[last, 0], records.boxed())
 }
 
 /// Two batches, and their schema.
@@ -66,9 +68,9 @@ fn stream(alloc: Global) -> Result<bool, Error> {
     Ok(are_same(&stream.batches, &batches))
 }
 
-/// Whether a file is read back whose words stay, and its second batch by itself.
-fn file(alloc: Global) -> Result<bool, Error> {
-    let (schema, batches) = batches(alloc, [b"ab", b"ab"])?;
+/// Whether a file is read back whose words stay or grow, and its second batch by itself.
+fn file(alloc: Global, letters: [&[u8]; 2]) -> Result<bool, Error> {
+    let (schema, batches) = batches(alloc, letters)?;
     let bytes = write_file(alloc, &schema, &batches).map_err(unwritten)?;
     let file = read_file(alloc, &bytes).map_err(refused)?;
     let reader = FileReader::new(alloc, &bytes).map_err(refused)?;
@@ -91,9 +93,15 @@ pub fn streams(trial: &mut Trial, alloc: Global) -> Result<(), Wrong> {
 }
 
 pub fn files(trial: &mut Trial, alloc: Global) -> Result<(), Wrong> {
-    expect(trial.again(|| file(alloc))?, "another file")?;
+    let same = trial.again(|| file(alloc, [b"ab", b"ab"]))?;
+    expect(same, "another file")?;
     expect(
         trial.again(|| is_refused(alloc))?,
         "a file of two dictionaries of one id",
     )
+}
+
+pub fn grown(trial: &mut Trial, alloc: Global) -> Result<(), Wrong> {
+    let same = trial.again(|| file(alloc, [b"ab", b"abc"]))?;
+    expect(same, "another file")
 }

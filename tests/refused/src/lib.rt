@@ -9,6 +9,8 @@
 mod any_kind;
 mod arrays;
 mod builders;
+mod device_files;
+mod grown_files;
 mod iterators;
 mod keyed;
 mod keyed_written;

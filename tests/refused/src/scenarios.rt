@@ -2,7 +2,8 @@
 
 use crate::trial::Trial;
 use crate::{
-    arrays, builders, keyed, keyed_written, looked, nested, parsed, program, schemas, streams, typed,
+    arrays, builders, device_files, grown_files, keyed, keyed_written, looked, nested, parsed,
+    program, schemas, streams, typed,
 };
 use drawn_builders::wrong::Wrong;
 use std::alloc::Global;
@@ -33,6 +34,9 @@ pub enum Scenario {
     GrownStreams,
     WrittenDictionaries,
     FiledDictionaries,
+    GrownRecords,
+    DeviceFiles,
+    GrownFiles,
     Looked,
 }
 
@@ -63,6 +67,9 @@ impl Scenario {
             Scenario::GrownStreams => keyed::grown(trial, alloc),
             Scenario::WrittenDictionaries => keyed_written::streams(trial, alloc),
             Scenario::FiledDictionaries => keyed_written::files(trial, alloc),
+            Scenario::GrownRecords => keyed_written::grown(trial, alloc),
+            Scenario::DeviceFiles => device_files::read(trial, alloc),
+            Scenario::GrownFiles => grown_files::written(trial, alloc),
             Scenario::Looked => looked::calls(trial, alloc),
         }
     }
