@@ -2,7 +2,7 @@
 //! short.
 use ipc::Batch;
 use ipc_schema::Schema;
-use nest_array::{AnyArray, ListArray, StructArray};
+use nest_array::{AnyArray, AnyKeys, DictionaryArray, ListArray, StructArray};
 use nest_flat::any_primitive::AnyPrimitive;
 use nest_flat::primitive::PrimitiveArray;
 use nest_flat::utf8::Utf8Array;
@@ -132,5 +132,26 @@ pub fn records(alloc: Global, n: usize) -> Result<AnyArray, Error> {
             drop(fields);
             Err(error)
         }
+    }
+}
+
+fn keys(alloc: Global, n: usize) -> Result<AnyKeys, Error> {
+    let mut keys = Vec::with_capacity(alloc, n)?;
+    for i in 0..n {
+        keys.push(i as i32)?;
+    }
+    let keys = PrimitiveArray::try_new(DataType::Int32, Buffer::from_vec(alloc, keys)?, None)?;
+    Ok(AnyKeys::Int32(keys))
+}
+
+/// Texts of eight bytes by keys of 32 bits, one for each key.
+pub fn keyed(alloc: Global, n: usize) -> Result<AnyArray, Error> {
+    let keys = keys(alloc, n)?;
+    match texts(alloc, n) {
+        Ok(texts) => {
+            let array = DictionaryArray::try_from_keys(alloc, keys, texts)?;
+            Ok(AnyArray::Dictionary(array))
+        }
+        Err(error) => Err(error),
     }
 }

@@ -1,4 +1,4 @@
-//! What streams of a column cost to write and to read, in nanoseconds for each thousand bytes of the stream:
+//! What streams of a column cost to write and to read, and files to write, in nanoseconds for each thousand bytes of them:
 //! `bench_ipc run`. Beside them stands a plain copy of the stream's bytes. Each is done once before it is measured, so that none
 //! pays for memory that the system gives for the first time. Without that word the same is done with a few rows, and only how
 //! many bytes or rows there are is printed.
@@ -8,7 +8,7 @@ mod batches;
 
 use anyhow::Result;
 use bench_tools::{begin, is_measured, tell};
-use ipc::{Batch, read_stream, write_stream};
+use ipc::{Batch, read_stream, write_file, write_stream};
 use ipc_schema::Schema;
 use nest_array::AnyArray;
 use nest_memory::error::Error;
@@ -55,6 +55,21 @@ fn run_written<R: Clock + Print + AllocGlobal>(
     Ok(bytes)
 }
 
+/// As a file, whose dictionaries are read back as they are written.
+fn run_filed<R: Clock + Print + AllocGlobal>(
+    rt: &R,
+    schema: &Schema,
+    batches: &[Batch],
+    measured: bool,
+) -> Result<()> {
+    drop(write_file(rt.alloc(), schema, batches)?);
+    let begun = begin(rt, measured)?;
+    let bytes = write_file(rt.alloc(), schema, batches)?;
+    let thousands = bytes.len() / THOUSAND;
+    tell(rt, "  the file, written", bytes.len(), begun, thousands)?;
+    Ok(())
+}
+
 fn run_read<R: Clock + Print + AllocGlobal>(rt: &R, bytes: &[u8], measured: bool) -> Result<()> {
     drop(read_stream(rt.alloc(), bytes)?);
     let begun = begin(rt, measured)?;
@@ -79,6 +94,7 @@ fn run_stream<R: Clock + Print + AllocGlobal>(
     let mut batches = Vec::with_capacity(rt.alloc(), 1)?;
     batches.push(batches::batch(rt.alloc(), column)?)?;
     let bytes = run_written(rt, &schema, &batches, measured)?;
+    run_filed(rt, &schema, &batches, measured)?;
     run_read(rt, &bytes, measured)?;
     run_copy(rt, &bytes, measured)
 }
@@ -105,5 +121,12 @@ fn main(rt: HostRuntime) -> Result<()> {
     let column = batches::lists(alloc, rows(measured, 1_470_000));
     run_stream(&rt, "lists of 8 numbers", column, measured)?;
     let column = batches::records(alloc, rows(measured, 5_000_000));
-    run_stream(&rt, "records of a number and a text", column, measured)
+    run_stream(&rt, "records of a number and a text", column, measured)?;
+    let column = batches::keyed(alloc, rows(measured, 6_200_000));
+    run_stream(
+        &rt,
+        "texts of 8 bytes by keys, each its own",
+        column,
+        measured,
+    )
 }
