@@ -138,7 +138,7 @@ pub fn records(alloc: Global, n: usize) -> Result<AnyArray, Error> {
 fn keys(alloc: Global, n: usize) -> Result<AnyKeys, Error> {
     let mut keys = Vec::with_capacity(alloc, n)?;
     for i in 0..n {
-        keys.push(i as i32)?;
+        keys.push((i % (1 << 31)) as i32)?;
     }
     let keys = PrimitiveArray::try_new(DataType::Int32, Buffer::from_vec(alloc, keys)?, None)?;
     Ok(AnyKeys::Int32(keys))
