@@ -13,7 +13,10 @@ use nest_words::Form;
 use std::alloc::Global;
 
 /// In this form: bytes that are read back to the same columns and batches.
-pub(crate) fn write_held(alloc: Global, form: Form, held: &Held) -> Result<Vec<u8>, NoForm>
+///
+/// # Errors
+/// The first reason not to write them, or `Memory`.
+pub fn write_held(alloc: Global, form: Form, held: &Held) -> Result<Vec<u8>, NoForm>
     ensures bytes { IfOk result (λ out. IsFormOf form (held_of held.now) out.items) }
     ensures err { IfErr result (IsRefused (refusal form (held_of held.now))) }
 {

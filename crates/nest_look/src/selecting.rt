@@ -110,8 +110,11 @@ fn batch_of(alloc: Global, fields: &[Field], array: AnyArray) -> Batch
     }
 }
 
-/// Appends rows as a batch, if there are any.
-pub(crate) fn push_rows(
+/// Appends rows as a batch, if there are any: records of these fields by their columns.
+///
+/// # Errors
+/// `Memory`.
+pub fn push_rows(
     alloc: Global,
     fields: &[Field],
     batches: &mut Vec<Batch>,
