@@ -2,7 +2,7 @@
 use Rattle.std.specs.Prelude.{◌≡◌, ◌⊎◌, ◌<◌, ◌≤◌, ℕ, suc, Bool, true, false, IsTrue, List as Seq, [], Option, None, Some}
 use Rattle.nest_memory.specs.TypeTree.{TypeTree, count_fields, fields_of, item_type, key_type, size_of, value_type}
 use Rattle.nest_memory.specs.declared.datatypes.IntegerType.{IntegerType}
-use Rattle.nest_memory.specs.Physical.{physical_type}
+use Rattle.nest_memory.specs.Physical.{list_of_width, physical_type}
 use Rattle.nest_memory.specs.declared.datatypes.physical_type.PhysicalType.{PhysicalType}
 use Rattle.nest_memory.specs.declared.datatypes.physical_type.PhysicalType.TheVariants as physical
 use Rattle.nest_memory.specs.declared.error.Argument.TheVariants.{ChildNotEmpty}
@@ -15,13 +15,21 @@ use Rattle.nest_model.specs.Layout.{Layouts, no_layouts, more_layouts, layout_ty
 use Rattle.nest_model.specs.Meaning.{slots_of}
 use Rattle.nest_model.specs.BuilderFreeze.{SpellsBits}
 use Rattle.nest_model.specs.BuilderLevels.{own_slots}
-use Rattle.nest_model.specs.BuilderTree.{BuilderTree, BuilderTrees, list, fixed_size_list, dictionary, struct, no_builders, more_builders, builder_len, builder_type, builder_types}
+use Rattle.nest_model.specs.BuilderTree.{BuilderTree, BuilderTrees, flat, list, fixed_size_list, dictionary, struct, no_builders, more_builders, builder_len, builder_type, builder_types}
 use Rattle.nest_model.specs.BuilderWhole.{IsWhole}
 use Rattle.nest_model.specs.BuilderTold.{HaveRows}
 
 -- a physical type of lists
 abbrev pub IsOfLists : PhysicalType → Type 0
 IsOfLists p = (p ≡ physical.List) ⊎ ((p ≡ physical.LargeList) ⊎ (p ≡ physical.FixedSizeList))
+
+-- a builder of lists, of the kind that its data type is
+abbrev pub IsListBuilder : BuilderTree → Type 0
+IsListBuilder (flat t xs) = ⊥
+IsListBuilder (list large t rows c) = physical_type t ≡ list_of_width large
+IsListBuilder (fixed_size_list t bits c) = physical_type t ≡ physical.FixedSizeList
+IsListBuilder (dictionary k t keys c) = ⊥
+IsListBuilder (struct t bits cs) = ⊥
 
 -- a physical type of values without children, but for nulls
 abbrev pub is_flat : PhysicalType → Bool

@@ -1,6 +1,6 @@
 -- The words of this crate's contracts, by one name.
 pub use Rattle.nest_array.specs.Seen.{layout_of, layouts_of}
-pub use Rattle.nest_any.specs.Refusals.{AreEachLong, AreFlat, AreFrozen, IsFrozenAs, IsOfLists, count_builders, empty_lists, first_rows, is_flat, keyed_checks, lists_checks, nested_checks, nested_over, struct_bits, struct_checks, struct_children}
+pub use Rattle.nest_any.specs.Refusals.{AreEachLong, AreFlat, AreFrozen, IsFrozenAs, IsListBuilder, IsOfLists, count_builders, empty_lists, first_rows, is_flat, keyed_checks, lists_checks, nested_checks, nested_over, struct_bits, struct_checks, struct_children}
 pub use Rattle.nest_any.specs.TypedRows.{Fitting, HasItems, HasSize, child_nulls, items_needed, lists_over, rows_len}
 pub use Rattle.nest_build.specs.Children.{list_child}
 pub use Rattle.nest_build.specs.Rows.{bits_told}

@@ -3,7 +3,7 @@ ghost use Rattle.std.specs.Prelude.{◌≡◌, ◌≢◌, ◌≤◌, ◌<◌, �
 ghost use Rattle.nest_model.specs.Slot as slots;
 ghost use Rattle.nest_any.specs.Trees.{tree_of};
 ghost use Rattle.nest_model.specs.BuilderItem.{PlainValue, takes};
-ghost use Rattle.nest_any.specs.Words.{FailFirst, HasWholeChildren, IsOfLists, IsWhole, Memory, Overflow, Pass, TellsNulls, Told, builder_len, builder_type, cut_builder, emptied, layout_of, layout_type, list_child, lists_over, nulls_appended, nulls_pass, own_slot, own_slots, physical_type, reserve_passes, row_checks, slots_of, type_of};
+ghost use Rattle.nest_any.specs.Words.{FailFirst, HasWholeChildren, IsListBuilder, IsOfLists, IsWhole, Memory, Overflow, Pass, TellsNulls, Told, builder_len, builder_type, cut_builder, emptied, layout_of, layout_type, list_child, lists_over, nulls_appended, nulls_pass, own_slot, own_slots, physical_type, reserve_passes, row_checks, slots_of, type_of};
 
 use crate::any::AnyMutableArray;
 use crate::children::add_nulls;
@@ -85,6 +85,7 @@ impl ListBuilder {
     /// may be told.
     pub fn known(&self)
         ensures takes { (v : PlainValue) → takes self.now v ≡ false }
+        ensures kind { IsListBuilder self.now }
         ensures lists { IsOfLists (physical_type (builder_type self.now)) }
         ensures tells { IsWhole (list_child self.now) → HasWholeChildren self.now }
     {

@@ -2,7 +2,7 @@
 ghost use Rattle.std.specs.Prelude.{◌≡◌, ◌≢◌, ◌≤◌, ◌<◌, ◌↔◌, ◌⊎◌, IsNone, IsTrue, OnOk, OnErr, IfOk, IfErr, IsOkUnless, MatchOption, Some, None, true, false, ◌+◌, ◌++◌, ◌∷◌, [], option_map, alloc_error};
 ghost use Rattle.nest_model.specs.BuilderTree as builders;
 ghost use Rattle.nest_model.specs.Slot as slots;
-ghost use Rattle.nest_any.specs.Words.{BuilderTree, FailFirst, Fitting, HasItems, HasSize, HasWholeChildren, IsOfLists, IsWhole, Memory, Overflow, Pass, TellsNulls, told, builder_len, builder_type, child_nulls, cut_builder, emptied, empty_lists, item_type, items_needed, largest_length, layout_of, layout_type, lists_checks, lists_over, nulls_appended, own_slot, own_slots, physical_type, reserve_passes, row_checks, rows_len, slots_of, type_of};
+ghost use Rattle.nest_any.specs.Words.{BuilderTree, FailFirst, Fitting, HasItems, HasSize, HasWholeChildren, IsListBuilder, IsOfLists, IsWhole, Memory, Overflow, Pass, TellsNulls, told, builder_len, builder_type, child_nulls, cut_builder, emptied, empty_lists, item_type, items_needed, largest_length, layout_of, layout_type, lists_checks, lists_over, nulls_appended, own_slot, own_slots, physical_type, reserve_passes, row_checks, rows_len, slots_of, type_of};
 
 use nest_array::AnyArray;
 use nest_array::array::Variant;
@@ -88,6 +88,7 @@ impl TypedRows {
     /// What holds of all such rows: offsets never fall, and the data type is one of lists.
     pub(crate) fn known(&self)
         ensures rising { (c : BuilderTree) → IsWhole c → HasWholeChildren (lists_over self.now c) }
+        ensures kind { (c : BuilderTree) → IsListBuilder (lists_over self.now c) }
         ensures lists { (c : BuilderTree) → IsOfLists (physical_type (builder_type (lists_over self.now c))) }
     {
         match self {

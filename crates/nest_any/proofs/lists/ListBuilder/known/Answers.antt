@@ -5,7 +5,7 @@ use Rattle.nest_model.specs.BuilderTree.{builder_type}
 use Rattle.nest_model.specs.BuilderTold.{HasWholeChildren}
 use Rattle.nest_model.specs.BuilderWhole.{IsWhole}
 use Rattle.nest_build.specs.Children.{list_child}
-use Rattle.nest_any.specs.Refusals.{IsOfLists}
+use Rattle.nest_any.specs.Refusals.{IsListBuilder, IsOfLists}
 use Rattle.nest_any.specs.Trees.{tree_of}
 use Rattle.nest_any.proofs.TellLaws.{child-over, takes-none}
 use Rattle.nest_any.proofs.lists.ListBuilder.known.Goals as goal
@@ -20,3 +20,6 @@ pub returns-clause-tells : goal.returns-clause-tells
 returns-clause-tells c =
     let b = tree_of c.self.inside.values.value in
     subst (λ t. IsWhole (list_child t) → HasWholeChildren t) c.self.view_is (λ w. c.known.ensures.rising b (subst IsWhole (child-over c.self.inside.rows b) w))
+
+pub returns-clause-kind : goal.returns-clause-kind
+returns-clause-kind c = subst IsListBuilder c.self.view_is (c.known.ensures.kind (tree_of c.self.inside.values.value))
