@@ -36,7 +36,10 @@ use nest_words::{Choice, Form};
 use std::alloc::Global;
 
 /// Equal fields of their own.
-fn copy_fields(alloc: Global, fields: &[Field]) -> Result<Vec<Field>, Fault>
+///
+/// # Errors
+/// `Memory`.
+pub fn copy_fields(alloc: Global, fields: &[Field]) -> Result<Vec<Field>, Fault>
     ensures fields { IfOk result (λ v. map field_of v.items ≡ map field_of fields.now) }
     ensures fault { IsOkUnless result Memory }
 {
