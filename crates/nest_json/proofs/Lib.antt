@@ -1,0 +1,19 @@
+pub mod ChildLaws
+mod Completing
+pub mod EmptyLaws
+mod Feeding
+pub mod Feeds
+mod Leaves
+pub mod LineLaws
+pub mod MoreLines
+mod Named
+mod Pushed
+mod ReadBack
+mod RoundTrip
+pub mod RowLaws
+mod Stepping
+mod ToldLists
+pub mod Twins
+pub mod TypeLaws
+mod TypeParts
+pub mod Wholes
