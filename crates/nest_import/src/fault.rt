@@ -1,0 +1,38 @@
+//! Why lines are no file or stream.
+ghost use Rattle.std.specs.Prelude.{◌≡◌};
+ghost use Rattle.nest_import.specs.declared.fault.Unimported.TheVariants.{Memory};
+
+use ipc_model::NoForm;
+use nest_json::{LineReason, Unread};
+use std::alloc::{AllocError, AllocFailed};
+
+/// Why lines of JSON are not written as Arrow.
+#[derive(Clone, Copy, Debug, PartialEq, Eq)]
+pub enum Unimported {
+    /// Records of these fields are not read, for the first reason, a type before its children, these from the left.
+    Type(Unread),
+    /// The first line that is no row, counted from 0, and why.
+    Line(usize, LineReason),
+    /// The lines of a batch are more than one array holds.
+    Overflow,
+    /// The rows are not written in the form that is asked for.
+    Form(NoForm),
+    /// A request for memory was refused.
+    Memory,
+}
+
+impl From<AllocError> for Unimported {
+    ghost from_gives = { λ _ e. e ≡ Memory };
+
+    fn from(_e: AllocError) -> Unimported {
+        Unimported::Memory
+    }
+}
+
+impl<T: Drop> From<AllocFailed<T>> for Unimported {
+    ghost from_gives = { λ _ e. e ≡ Memory };
+
+    fn from(_e: AllocFailed<T>) -> Unimported {
+        Unimported::Memory
+    }
+}
