@@ -1,6 +1,9 @@
 //! `nest COMMAND FILE ..` looks into Arrow files and streams.
 #![tactic(auto)]
 
+mod importing;
+
+use importing::from_json;
 use ipc_schema::Columns;
 use nest_look::answering::answer;
 use nest_look::comparing::{Difference, Uncompared, compare, difference_line};
@@ -9,7 +12,7 @@ use nest_look::joining::{self, Unjoined};
 use nest_look::running::{read_input, write_bytes};
 use nest_look::{converting, selecting};
 use nest_words::{
-    Choice, Request, form_of, parse_choice, parse_names, parse_options, parse_request,
+    Choice, Request, form_of, parse_choice, parse_import, parse_names, parse_options, parse_request,
 };
 use std::io::ErrorKind;
 use std::process::ExitCode;
@@ -25,6 +28,7 @@ nest where FILE COLUMN [-o OUT]     rows at which a column of booleans is true; 
 nest equal FILE FILE                nothing where schema and rows are equal, else what differs first: `schema`, or `row` and its place
 nest concat FILE .. -o OUT          all FILES, whose schemas are equal, one after another as one
 nest convert FILE OUT               FILE as OUT
+nest from-json TYPE LINES OUT       lines of JSON as OUT, each a record of TYPE, `struct<id: int64, tags: list<item: string>>` say
 OUT is a stream where its name ends in .arrows, else a file.
 --columns NAME,NAME                 of each FILE these columns alone; a name that no column has picks none
 FILE is an Arrow file or stream; - is standard input, and as OUT standard output. Places count from 0.
@@ -304,6 +308,9 @@ fn nest(rt: &HostRuntime, words: Vec<String>) -> ExitCode {
     let Some(options) = parse_options(words) else {
         return misplaced(rt);
     };
+    if let Some(asked) = parse_import(&options) {
+        return from_json(rt, &asked);
+    }
     let out = options.out.as_ref();
     let Some(text) = &options.columns else {
         return run_words(rt, Columns::All, out, &options.words);
