@@ -1,0 +1,235 @@
+//! Lines of JSON as arrays.
+use nest_array::AnyArray;
+use nest_build::array::MutableArray;
+use nest_json::{TextFault, builder_of, read_rows, rows_of_text};
+use nest_parse::parse_type;
+use nest_show::Json;
+use std::alloc::Global;
+use std::process::Abort;
+use std::test::*;
+
+/// The text of the rows, or of the fault.
+fn said(alloc: Global, row_type: &str, text: &[u8]) -> Result<String, Fail> {
+    let data_type = parse_type(alloc, row_type)?;
+    let read = rows_of_text(alloc, &data_type, text);
+    drop(data_type);
+    match read {
+        Ok(array) => Ok(shown(alloc, &array)?),
+        Err(fault) => Ok(format!(in alloc; "{fault}")?),
+    }
+}
+
+fn shown(alloc: Global, array: &AnyArray) -> Result<String, Fail> {
+    Ok(format!(in alloc; "{}", Json::of(array))?)
+}
+
+/// Each type with its lines is said so.
+fn check(rt: &(impl Abort + AllocGlobal), rows: &[(&str, &str, &str)]) -> Result<(), Fail> {
+    for (row_type, text, want) in rows {
+        let found = said(rt.alloc(), *row_type, text.as_bytes())?;
+        assert!(rt; found.as_str() == *want, "{row_type} of {text}: {found}");
+    }
+    Ok(())
+}
+
+#[test]
+fn values_are_read(rt: HostRuntime) -> Result<(), Fail> {
+    check(
+        &rt,
+        &[
+            ("null", "null\nnull\n", "[null,null]"),
+            ("bool", "true\nfalse\nnull\n", "[true,false,null]"),
+            ("int32", "1\n -2 \nnull\n", "[1,-2,null]"),
+            ("uint64", "18446744073709551615\n0\n", "[18446744073709551615,0]"),
+            ("date32[day]", "19000\n", "[19000]"),
+            ("timestamp[us, tz=UTC]", "-1\n", "[-1]"),
+            ("decimal128(38, 2)", "-170141183460469231731687303715884105728\n", "[-170141183460469231731687303715884105728]"),
+            ("string", "\"a\"\n\"\\u00e9\\n\"\n\"\"\n", "[\"a\",\"\u{e9}\\n\",\"\"]"),
+            ("large_string", "\"b\"\n", "[\"b\"]"),
+            ("binary", "\"00fF\"\n\"\"\nnull\n", "[\"00ff\",\"\",null]"),
+            ("large_binary", "\"0a\"\n", "[\"0a\"]"),
+            ("fixed_size_binary[2]", "\"0102\"\nnull\n", "[\"0102\",null]"),
+            ("month_day_nano_interval", "[1,-2,3]\nnull\n", "[[1,-2,3],null]"),
+            ("day_time_interval", "[4,5]\n", "[[4,5]]"),
+            ("dictionary<values=string, indices=int8, ordered=0>", "\"a\"\n\"b\"\n\"a\"\nnull\n", "[\"a\",\"b\",\"a\",null]"),
+            ("int8", "", "[]"),
+        ],
+    )
+}
+
+#[test]
+fn numbers_end_where_their_types_do(rt: HostRuntime) -> Result<(), Fail> {
+    for (row_type, least, below, greatest, above) in [
+        ("int8", "-128", "-129", "127", "128"),
+        ("int16", "-32768", "-32769", "32767", "32768"),
+        ("int32", "-2147483648", "-2147483649", "2147483647", "2147483648"),
+        ("int64", "-9223372036854775808", "-9223372036854775809", "9223372036854775807", "9223372036854775808"),
+        ("uint8", "0", "-1", "255", "256"),
+        ("uint16", "0", "-1", "65535", "65536"),
+        ("uint32", "0", "-1", "4294967295", "4294967296"),
+        ("uint64", "0", "-1", "18446744073709551615", "18446744073709551616"),
+    ] {
+        let both = format!(in rt.alloc(); "{least}\n{greatest}\n")?;
+        let found = said(rt.alloc(), row_type, both.as_bytes())?;
+        assert!(&rt; found == format!(in rt.alloc(); "[{least},{greatest}]")?, "{row_type}: {found}");
+        for out in [below, above] {
+            let found = said(rt.alloc(), row_type, out.as_bytes())?;
+            assert!(&rt; found.as_str() == "line 0, counted from 0: a number past its type", "{row_type} of {out}: {found}");
+        }
+    }
+    Ok(())
+}
+
+const RECORD: &str = "struct<id: int64, tags: list<item: string>, at: struct<x: int8, y: int8>>";
+
+#[test]
+fn nested_rows_are_read(rt: HostRuntime) -> Result<(), Fail> {
+    check(
+        &rt,
+        &[
+            ("list<item: int8>", "[1,null,2]\n[]\nnull\n", "[[1,null,2],[],null]"),
+            ("large_list<item: list<item: bool>>", "[[true],null,[]]\n", "[[[true],null,[]]]"),
+            ("fixed_size_list<item: int8>[2]", "[1,2]\nnull\n[null,3]\n", "[[1,2],null,[null,3]]"),
+            (
+                RECORD,
+                "{\"id\":1,\"tags\":[\"a\"],\"at\":{\"x\":2,\"y\":3}}\n{\"at\":{\"y\":4},\"id\":null}\n{}\n",
+                "[{\"id\":1,\"tags\":[\"a\"],\"at\":{\"x\":2,\"y\":3}},{\"id\":null,\"tags\":null,\"at\":{\"x\":null,\"y\":4}},{\"id\":null,\"tags\":null,\"at\":null}]",
+            ),
+            (
+                "list<item: struct<a: list<item: int8>, b: fixed_size_list<item: bool>[1]>>",
+                "[{\"b\":[true],\"a\":[1]},null,{}]\n",
+                "[[{\"a\":[1],\"b\":[true]},null,{\"a\":null,\"b\":null}]]",
+            ),
+        ],
+    )
+}
+
+#[test]
+fn lines_are_refused(rt: HostRuntime) -> Result<(), Fail> {
+    check(
+        &rt,
+        &[
+            ("int8", "1\n\"1\"\n", "line 1, counted from 0: a value of another kind than its type's"),
+            ("bool", "0", "line 0, counted from 0: a value of another kind than its type's"),
+            ("null", "null\n1\n", "line 1, counted from 0: a value of another kind than its type's"),
+            ("int8", "1.0", "line 0, counted from 0: a number that is not whole"),
+            ("int8", "1e2\nx\n", "line 0, counted from 0: a number that is not whole"),
+            ("decimal128(38, 0)", "170141183460469231731687303715884105728", "line 0, counted from 0: a number past its type"),
+            ("binary", "\"0\"", "line 0, counted from 0: a text of bytes without pairs of hexadecimal digits"),
+            ("binary", "\"0g\"", "line 0, counted from 0: a text of bytes without pairs of hexadecimal digits"),
+            ("fixed_size_binary[2]", "\"01\"", "line 0, counted from 0: another number of items or bytes than its type's"),
+            ("fixed_size_list<item: int8>[2]", "[1,2]\n[1]\n", "line 1, counted from 0: another number of items or bytes than its type's"),
+            ("fixed_size_list<item: int8>[2]", "[1,2,true]", "line 0, counted from 0: a value of another kind than its type's"),
+            ("day_time_interval", "[1,2,3]", "line 0, counted from 0: another number of items or bytes than its type's"),
+            ("day_time_interval", "1", "line 0, counted from 0: a value of another kind than its type's"),
+            (RECORD, "{\"id\":1}\n{\"no\":1}\n", "line 1, counted from 0: a member that is no field of the type"),
+            (RECORD, "{\"id\":1,\"id\":2}", "line 0, counted from 0: a member of a name that stands twice"),
+            (RECORD, "{\"id\":1,\"no\":2,\"id\":true}", "line 0, counted from 0: a member that is no field of the type"),
+            (RECORD, "{\"at\":{\"x\":1,\"x\":1}}", "line 0, counted from 0: a member of a name that stands twice"),
+            (RECORD, "{}\nnull\n", "line 1, counted from 0: a value of another kind than its type's"),
+            (RECORD, "[]", "line 0, counted from 0: a value of another kind than its type's"),
+            ("list<item: int8>", "{}", "line 0, counted from 0: a value of another kind than its type's"),
+            ("string", "[]", "line 0, counted from 0: a value of another kind than its type's"),
+        ],
+    )
+}
+
+#[test]
+fn types_are_refused(rt: HostRuntime) -> Result<(), Fail> {
+    check(
+        &rt,
+        &[
+            ("float", "", "a type of floating point is not read from JSON"),
+            ("list<item: double>", "", "a type of floating point is not read from JSON"),
+            ("map<string, int8>", "", "a map is not read from JSON"),
+            ("dense_union<a: int8=0>", "", "a union is not read from JSON"),
+            ("struct<a: int8, b: int8, a: bool>", "", "a struct with two fields of one name is not read from JSON"),
+            ("struct<>", "", "a struct without a field is not read from JSON"),
+            ("fixed_size_list<item: int8>[0]", "", "a fixed size of 0 is not read from JSON"),
+        ],
+    )
+}
+
+#[test]
+fn text_is_cut_into_lines(rt: HostRuntime) -> Result<(), Fail> {
+    let alloc = rt.alloc();
+    for (text, want) in [
+        (b"1\n2".as_slice(), "[1,2]"),
+        (b"1\r\n2\r\n".as_slice(), "[1,2]"),
+        (b"1\n\n2\n".as_slice(), "line 1, counted from 0: not one value of JSON"),
+        (b"\n".as_slice(), "line 0, counted from 0: not one value of JSON"),
+        (b"1 2\n".as_slice(), "line 0, counted from 0: not one value of JSON"),
+        (b"1\n\xff\n".as_slice(), "line 1, counted from 0: not one value of JSON"),
+        (b"\0".as_slice(), "line 0, counted from 0: not one value of JSON"),
+    ] {
+        let found = said(alloc, "int8", text)?;
+        assert!(&rt; found.as_str() == want, "{found}");
+    }
+    Ok(())
+}
+
+#[test]
+fn first_lines_are_read(rt: HostRuntime) -> Result<(), Fail> {
+    let alloc = rt.alloc();
+    let data_type = parse_type(alloc, "int8")?;
+    let text = b"1\n22\n3";
+    let mut at = 0;
+    for (limit, used, lines, want) in [(2, 5, 2, "[1,22]"), (0, 0, 0, "[]"), (9, 1, 1, "[3]"), (9, 0, 0, "[]")] {
+        match read_rows(alloc, &data_type, &text[at..], limit) {
+            Ok(rows) => {
+                assert!(&rt; rows.used == used && rows.lines == lines);
+                assert!(&rt; shown(alloc, &rows.array)?.as_str() == want);
+                at += rows.used;
+            }
+            Err(fault) => assert!(&rt; false, "{fault}"),
+        }
+    }
+    let bad = read_rows(alloc, &data_type, b"1\n2\nx\n", 2);
+    assert!(&rt; bad.is_ok());
+    Ok(())
+}
+
+#[test]
+fn builders_are_made(rt: HostRuntime) -> Result<(), Fail> {
+    let alloc = rt.alloc();
+    for row_type in ["null", "bool", "int8", "string", "binary", "list<item: int8>", RECORD] {
+        let data_type = parse_type(alloc, row_type)?;
+        match builder_of(alloc, &data_type) {
+            Ok(mut builder) => {
+                assert!(&rt; builder.is_empty() && builder.is_whole() && *builder.data_type() == data_type);
+                builder.push_null()?;
+                assert!(&rt; builder.len() == 1);
+            }
+            Err(fault) => assert!(&rt; false, "{fault}"),
+        }
+    }
+    Ok(())
+}
+
+/// Whether a text is rows or a fault of its one line: nothing else comes of it.
+fn is_settled(alloc: Global, text: &[u8]) -> Result<bool, Fail> {
+    let data_type = parse_type(alloc, RECORD)?;
+    match rows_of_text(alloc, &data_type, text) {
+        Ok(array) => Ok(array.len() <= 1 + text.len() / 3),
+        Err(TextFault::Line { line, reason: _ }) => Ok(line <= text.len()),
+        Err(_) => Ok(false),
+    }
+}
+
+#[test]
+fn hostile_lines_are_rows_or_faults(rt: HostRuntime) -> Result<(), Fail> {
+    let alloc = rt.alloc();
+    let line = b"{\"id\":-12,\"tags\":[\"a\\u0041\",null],\"at\":{\"x\":1,\"y\":[]}}\n";
+    for end in 0..line.len() {
+        assert!(&rt; is_settled(alloc, &line[..end])?, "{end}");
+    }
+    for i in 0..line.len() {
+        for byte in [0u8, b'"', b'\\', b'[', b'}', b',', b'\n', b'9', 0x80, 0xff] {
+            let mut changed = Vec::new(alloc);
+            changed.extend_from_slice(line.as_slice())?;
+            changed[i] = byte;
+            assert!(&rt; is_settled(alloc, &changed)?, "{i}: {byte}");
+        }
+    }
+    Ok(())
+}
