@@ -1,0 +1,42 @@
+#!/usr/bin/env bash
+# Times the built program on records of five columns: rows as text beside a plain program that writes the same text from vectors, lines
+# of JSON as a file, two equal files beside `cmp`, and the most memory that each has.
+# Usage, at the top of the repository and after the gate or `(cd crates/nest && rt run -- --help)`; rustc builds the plain program:
+#     bash scripts/bench_nest.sh [ROWS [COPIES]]
+# ROWS is 1000000 if left out; COPIES of their file, 8 if left out, make the two that are compared.
+set -eu
+rows=${1:-1000000}
+copies=${2:-8}
+program=crates/nest/out/nest
+work=$(mktemp -d)
+trap 'rm -rf "$work"' EXIT
+type='struct<id: int64, name: string, ok: bool, tags: list<item: string>, at: int64>'
+
+# NAME BYTES WORD.. : what the words print goes to $work/out; says how long they took for so many bytes, and the most memory they had
+timed() {
+    local name=$1 bytes=$2 seconds memory
+    shift 2
+    /usr/bin/time -o "$work/figures" -f '%e %M' "$@" >"$work/out"
+    read -r seconds memory <"$work/figures"
+    awk -v n="$name" -v b="$bytes" -v s="$seconds" -v m="$memory" 'BEGIN {
+        printf "%-24s %6.2f s for %.1f MB, %.0f MB of memory\n", n, s, b / 1e6, m / 1024
+    }'
+}
+
+size() {
+    stat -c %s "$1"
+}
+
+rustc -O -o "$work/plain" scripts/plain_rows.rs
+"$work/plain" "$rows" >"$work/text" 2>"$work/seconds"
+printf '%-24s %6.2f s for %.1f MB\n' 'plain program, writing' "$(cat "$work/seconds")" "$(awk -v b="$(size "$work/text")" 'BEGIN { print b / 1e6 }')"
+timed 'nest from-json' "$(size "$work/text")" "$program" from-json "$type" "$work/text" "$work/file"
+timed 'nest rows' "$(size "$work/text")" "$program" rows "$work/file"
+cmp "$work/text" "$work/out"
+timed 'nest rows, ten of them' "$(size "$work/file")" "$program" rows "$work/file" 0 10
+files=$(for ((i = 0; i < copies; i++)); do echo "$work/file"; done)
+"$program" concat $files -o "$work/one"
+cp "$work/one" "$work/other"
+timed 'cmp' "$(size "$work/one")" cmp "$work/one" "$work/other"
+timed 'nest equal' "$(size "$work/one")" "$program" equal "$work/one" "$work/other"
+timed 'nest rows of all' "$(size "$work/one")" "$program" rows "$work/one"
