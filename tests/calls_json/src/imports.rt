@@ -1,10 +1,12 @@
 //! Lines of JSON as files and streams.
-use ipc_schema::Columns;
+use ipc_schema::{Columns, Schema};
 use nest_import::{Unimported, import};
-use nest_json::{LineReason, Reason, Unread};
+use nest_json::{LineReason, Reason, Unread, rows_of_text};
 use nest_look::answering::answer;
-use nest_look::holding::read_held;
-use nest_memory::datatypes::{DataType, Field};
+use nest_look::converting::write_held;
+use nest_look::holding::{Held, read_held};
+use nest_look::selecting::{copy_fields, push_rows};
+use nest_memory::datatypes::{DataType, Field, Metadata};
 use nest_parse::parse_type;
 use nest_words::{Choice, Form, Request};
 use std::alloc::Global;
@@ -74,6 +76,29 @@ fn lines_are_not_written(rt: HostRuntime) -> Result<(), Fail> {
     ] {
         let why = import(alloc, fields_of(alloc, row_type)?, Form::File, text.as_bytes()).err();
         assert!(&rt; why == Some(want), "{row_type}: {why:?}");
+    }
+    Ok(())
+}
+
+#[test]
+fn rows_are_written_as_batches(rt: HostRuntime) -> Result<(), Fail> {
+    let alloc = rt.alloc();
+    let text = "{\"a\":1}\n{\"a\":null}\n";
+    let fields = fields_of(alloc, "struct<a: int8>")?;
+    let data_type = DataType::Struct(copy_fields(alloc, &fields)?);
+    let mut batches = Vec::new(alloc);
+    push_rows(alloc, &fields, &mut batches, rows_of_text(alloc, &data_type, text.as_bytes())?)?;
+    let metadata = Metadata::new(alloc);
+    let held = Held {
+        schema: Schema { fields, metadata },
+        batches,
+    };
+    match write_held(alloc, Form::Stream, &held) {
+        Ok(bytes) => {
+            let found = answer(alloc, Columns::All, &Request::Rows(Choice::All), &bytes)?;
+            assert!(&rt; found.as_str() == text, "{found}");
+        }
+        Err(why) => assert!(&rt; false, "{why}"),
     }
     Ok(())
 }

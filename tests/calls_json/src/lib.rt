@@ -11,6 +11,7 @@
 //! | The first lines alone, and where the others begin | `lines::first_lines_are_read` |
 //! | Builders of a type, without a row | `lines::builders_are_made` |
 //! | Lines as a file and as a stream, in batches, read back as the same text | `imports::lines_are_read_back`, `imports::batches_have_their_rows` |
+//! | Rows as a batch, and batches as a stream | `imports::rows_are_written_as_batches` |
 //! | Each fault of lines that are to be written | `imports::lines_are_not_written` |
 #![tactic(auto)]
 
