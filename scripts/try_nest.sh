@@ -66,12 +66,24 @@ expect 0 '{"a":true,"b":false}\n{"a":true,"b":true}\n{"a":true,"b":false}\n{"a":
 expect 1 '' "nest: $room/packed: the body is compressed" convert "$room/packed" "$room/as"
 expect 0 "$all" '' rows "$room/as"
 expect 1 '' "nest: $room/file: output cannot be written" convert "$room/file" "$room/none/as"
-expect 1 '' "nest: $room/packed: the body is compressed" rows "$room/packed"
+expect 1 '' "nest: $room/packed: batch 0: the body is compressed" rows "$room/packed"
+expect 0 '' '' rows "$room/packed" 0 0
 expect 1 '' "nest: $room/csv: a message does not begin with FF FF FF FF" rows "$room/csv"
 expect 1 '' "nest: $room/cut: the file does not begin and end with ARROW1" schema "$room/cut"
-expect 1 '' "nest: $room/bare: a batch has no columns of the schema" rows "$room/bare"
+expect 1 '' "nest: $room/bare: batch 0: a batch has no columns of the schema" rows "$room/bare"
 expect 0 '' '' schema "$room/bare"
 expect 1 '' "nest: $room/none: input cannot be read" rows "$room/none"
+# The second batch ends early, the third has no mark: rows before stand; a file that is no seekable input.
+two='{"a":1,"b":"a"}\n{"a":null,"b":"b"}\n'
+head -c 500 "$room/stream" >"$room/early"
+{ head -c 632 "$room/stream"; printf '\0'; tail -c +634 "$room/stream"; } >"$room/unmarked"
+expect 0 "$two" '' rows "$room/early" 0 2
+expect 0 '' '' cut "$room/early" 0 0
+expect 1 "$two" "nest: $room/unmarked: batch 2: a message does not begin with FF FF FF FF" rows "$room/unmarked"
+expect 0 "$two" '' rows "$room/unmarked" 0 2
+expect 1 '' "nest: $room/unmarked: a message does not begin with FF FF FF FF" take "$room/unmarked" 0
+[ "$("$program" rows - <"$room/file")" = "$("$program" rows "$room/file")" ] || { echo 'nest rows: a file as standard input'; failed=1; }
+[ "$(cat "$room/file" | "$program" cut /dev/stdin 1 1)" = '{"a":null,"b":"b"}' ] || { echo 'nest cut: a pipe'; failed=1; }
 # Equal rows in other batches and forms; another schema, another row, rows that one lacks; tables without a column.
 "$program" convert "$room/stream" "$room/other.arrows"
 for other in "$room/stream" "$room/file" "$room/other.arrows" -; do
@@ -95,7 +107,7 @@ for file in "$room/stream" "$room/file" -; do
     expect 0 '{"b":"a"}\n{"b":"b"}\n{"b":null}\n' '' rows --columns b "$file"
     expect 0 '{"a":3}\n' '' take "$file" --columns a 2
     expect 0 '' '' schema "$file" --columns c
-    expect 1 '' "nest: $file: a batch has no columns of the schema" rows "$file" --columns c
+    expect 1 '' "nest: $file: batch 0: a batch has no columns of the schema" rows "$file" --columns c
     expect 1 '' "nest: $file: there is no column of that name" where "$file" a --columns b
     expect 0 '' '' convert "$file" "$room/b" --columns b
     expect 0 '{"b":"a"}\n{"b":"b"}\n{"b":null}\n' '' rows "$room/b"
@@ -199,6 +211,29 @@ expect 2 '' "$unknown" where "$room/file"
 expect 2 '' "$unknown" where "$room/truths" a b
 expect 2 '' "$unknown" take "$room/file" 01
 expect 2 '' "$unknown" take "$room/file" 18446744073709551616
+
+# Lines of JSON: members in any order and missing ones, in either form, from standard input; the first line that is no row, and types that are none.
+rows='struct<a: int32, b: string, c: list<item: int8>>'
+printf '{"b":"x","a":1}\n{"c":[1,null]}\n' >"$room/lines"
+laid='{"a":1,"b":"x","c":null}\n{"a":null,"b":null,"c":[1,null]}\n'
+for out in "$room/made" "$room/made.arrows"; do
+    expect 0 '' '' from-json "$rows" "$room/lines" "$out"
+    expect 0 "$laid" '' rows "$out"
+    expect 0 'a: int32\nb: string\nc: list<item: int8>\n' '' schema "$out"
+done
+"$program" rows "$room/made" | "$program" from-json "$rows" - - | cmp -s - "$room/made" || { echo 'nest from-json: its own lines'; failed=1; }
+printf '{"a":1}\n{"a":2147483648}\n' >"$room/past"
+expect 1 '' "nest: $room/past: line 2: a number past its type" from-json "$rows" "$room/past" "$room/as"
+printf '{"a":1}\n\n' >"$room/past"
+expect 1 '' "nest: $room/past: line 2: not one value of JSON" from-json "$rows" "$room/past" "$room/as"
+printf '{"d":1}' >"$room/past"
+expect 1 '' "nest: $room/past: line 1: a member that is no field of the type" from-json "$rows" "$room/past" "$room/as"
+expect 1 '' "nest: struct<a: double>: a type of floating point is not read from JSON" from-json 'struct<a: double>' "$room/lines" "$room/as"
+expect 1 '' "nest: $room/none: input cannot be read" from-json "$rows" "$room/none" "$room/as"
+expect 1 '' "nest: $room/none/as: output cannot be written" from-json "$rows" "$room/lines" "$room/none/as"
+expect 2 '' 'nest: int8: a row is a record, so its type is a struct' from-json int8 "$room/lines" "$room/as"
+expect 2 '' "nest: struct: no data type's text goes on as this one does from byte 6 on" from-json struct "$room/lines" "$room/as"
+expect 2 '' 'nest: unknown words; try --help' from-json "$rows" "$room/lines"
 
 said=$("$program" --help | head -1)
 [ "${said%% FILE*}" = 'nest schema' ] || { echo "nest --help: $said"; failed=1; }

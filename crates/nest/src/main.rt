@@ -5,6 +5,9 @@ mod importing;
 
 use importing::from_json;
 use ipc_schema::Columns;
+use nest_batches::{
+    Asked, Stop, answer_file, answer_stream, in_order, is_file, read_beginning, request_of,
+};
 use nest_look::answering::answer;
 use nest_look::comparing::{Difference, Uncompared, compare, difference_line};
 use nest_look::fault::Fault;
@@ -14,7 +17,8 @@ use nest_look::{converting, selecting};
 use nest_words::{
     Choice, Request, form_of, parse_choice, parse_import, parse_names, parse_options, parse_request,
 };
-use std::io::ErrorKind;
+use std::fs::File;
+use std::io::{Cursor, ErrorKind, Read, Seek, SeekFrom};
 use std::process::ExitCode;
 use std::rt::{Env, Files};
 use std::{env, fs, io};
@@ -63,17 +67,95 @@ fn input(rt: &(impl AllocGlobal + Files + Input), file: &String) -> Result<Vec<u
     }
 }
 
-/// Answers a request about a file, or about standard input.
-fn look(
-    rt: &(impl AllocGlobal + Files + Input + Print),
+/// Answers a request of bytes that were read whole.
+fn answer_bytes(
+    rt: &(impl AllocGlobal + Print),
     columns: Columns<'_>,
-    file: &String,
     request: &Request,
+    bytes: Vec<u8>,
 ) -> Result<(), Fault> {
-    let bytes = input(rt, file)?;
     let text = answer(rt.alloc(), columns, request, &bytes)?;
     drop(bytes);
     write_bytes(&mut io::writer(rt), text.as_bytes())
+}
+
+/// Before any batch.
+fn before(fault: Fault) -> Stop {
+    Stop { batch: None, fault }
+}
+
+/// Answers what is asked of a device that is read once, behind these first bytes of it: a stream goes batch by batch, a file is read whole.
+fn look_once<R: Read + Drop>(
+    rt: &(impl AllocGlobal + Print),
+    columns: Columns<'_>,
+    asked: Asked,
+    head: Vec<u8>,
+    rest: R,
+) -> Result<(), Stop> {
+    let is_whole = is_file(&head);
+    let mut device = Cursor::new(head).chain(rest);
+    if !is_whole {
+        return answer_stream(rt.alloc(), columns, asked, device, &mut io::writer(rt));
+    }
+    match read_input(rt.alloc(), &mut device) {
+        Err(fault) => Err(before(fault)),
+        Ok(bytes) => answer_bytes(rt, columns, &request_of(asked), bytes).map_err(before),
+    }
+}
+
+/// Answers what is asked of a file that was opened, batch by batch.
+fn look_opened(
+    rt: &(impl AllocGlobal + Print),
+    columns: Columns<'_>,
+    asked: Asked,
+    mut opened: File,
+) -> Result<(), Stop> {
+    match read_beginning(rt.alloc(), &mut opened) {
+        Err(fault) => Err(before(fault)),
+        Ok(head) => {
+            if is_file(&head) && opened.seek(SeekFrom::Start(0)).is_ok() {
+                return answer_file(rt.alloc(), columns, asked, opened, &mut io::writer(rt));
+            }
+            look_once(rt, columns, asked, head, opened)
+        }
+    }
+}
+
+/// Answers what is asked of a file, or of standard input, batch by batch.
+fn look_in_order(
+    rt: &HostRuntime,
+    columns: Columns<'_>,
+    file: &String,
+    asked: Asked,
+) -> Result<(), Stop> {
+    if !is(file, "-") {
+        return match fs::open(rt, file.as_str()) {
+            Ok(opened) => look_opened(rt, columns, asked, opened),
+            Err(_) => Err(before(Fault::Input)),
+        };
+    }
+    let mut reader = rt.reader();
+    match read_beginning(rt.alloc(), &mut reader) {
+        Err(fault) => Err(before(fault)),
+        Ok(head) => look_once(rt, columns, asked, head, reader),
+    }
+}
+
+/// Answers a request about a file, or about standard input. Rows at places are found once all is read.
+fn look(rt: &HostRuntime, columns: Columns<'_>, file: &String, request: Request) -> ExitCode {
+    match in_order(request) {
+        Ok(asked) => match look_in_order(rt, columns, file, asked) {
+            Ok(()) => ExitCode::SUCCESS,
+            Err(stop) => {
+                let _ = eprintln!(rt; "nest: {file}: {stop}");
+                ExitCode::FAILURE
+            }
+        },
+        Err(request) => match input(rt, file) {
+            Ok(bytes) => status(rt, file, answer_bytes(rt, columns, &request, bytes)),
+            Err(fault) => status(rt, file, Err(fault)),
+        },
+    }
 }
 
 /// Writes a file, or standard output.
@@ -264,7 +346,7 @@ fn run(
     match parse_request(rt.alloc(), command, rest) {
         Err(_) => status(rt, file, Err(Fault::Memory)),
         Ok(None) => unknown(rt),
-        Ok(Some(request)) => status(rt, file, look(rt, columns, file, &request)),
+        Ok(Some(request)) => look(rt, columns, file, request),
     }
 }
 

@@ -1,4 +1,4 @@
-//! Tests of `nest_words`, `nest_choose`, `nest_lines`, `nest_answer` and `nest_look`: their public calls, as a crate above sees them.
+//! Tests of `nest_words`, `nest_choose`, `nest_lines`, `nest_answer`, `nest_look` and `nest_batches`: their public calls, as a crate above sees them.
 //! They are run, not proved.
 //!
 //! | What the row shows | Test |
@@ -16,11 +16,17 @@
 //! | Several of them as one; which of them has a fault or another schema | `looks::samples_are_joined` |
 //! | The rows that are chosen, as either form, and in which batches they lie | `looks::rows_are_selected`, `looks::selected_rows_lie_in_batches` |
 //! | Some columns of them, by name | `looks::some_columns_are_shown` |
+//! | The same answers batch by batch, from devices that give and take few bytes at a time | `batches::samples_come_batch_by_batch` |
+//! | A fault in a batch, a device and an output that fail: whole rows of the batches before are out, or a beginning | `batches::faults_stand_behind_whole_batches`, `batches::devices_fail_between_batches` |
+//! | What is not asked for is not read: a stream without its end, a body that is compressed | `batches::what_is_not_asked_for_is_not_read`, `batches::bodies_are_not_looked_at_for_columns` |
+//! | First bytes that tell a file | `batches::beginnings_tell_files` |
 //! | Words with options, and names with commas | `answers::words_have_options` |
 #![tactic(auto)]
 
 #[cfg(test)]
 mod answers;
+#[cfg(test)]
+mod batches;
 #[cfg(test)]
 mod looks;
 #[cfg(test)]

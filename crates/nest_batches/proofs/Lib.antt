@@ -1,0 +1,5 @@
+mod Rows
+mod Steps
+mod StreamWalk
+mod FileWalk
+mod FirstLaws
