@@ -241,5 +241,5 @@ said=$("$program" --help | head -1)
 said=$("$program" rows - 2>&1 <&-)
 [ "$? $said" = '1 nest: -: input cannot be read' ] || { echo "nest with no input: $said"; failed=1; }
 said=$("$program" rows "$room/file" 2>&1 >/dev/full)
-[ "$? $said" = "1 nest: $room/file: output cannot be written" ] || { echo "nest to a full device: $said"; failed=1; }
+[ "$? $said" = "1 nest: $room/file: batch 0: output cannot be written" ] || { echo "nest to a full device: $said"; failed=1; }
 exit $failed
