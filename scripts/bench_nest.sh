@@ -14,12 +14,12 @@ type='struct<id: int64, name: string, ok: bool, tags: list<item: string>, at: in
 
 # NAME BYTES WORD.. : what the words print goes to $work/out; says how long they took for so many bytes, and the most memory they had
 timed() {
-    local name=$1 bytes=$2 seconds memory
+    local name=$1 bytes=$2 seconds user system memory
     shift 2
-    /usr/bin/time -o "$work/figures" -f '%e %M' "$@" >"$work/out"
-    read -r seconds memory <"$work/figures"
-    awk -v n="$name" -v b="$bytes" -v s="$seconds" -v m="$memory" 'BEGIN {
-        printf "%-24s %6.2f s for %.1f MB, %.0f MB of memory\n", n, s, b / 1e6, m / 1024
+    /usr/bin/time -o "$work/figures" -f '%e %U %S %M' "$@" >"$work/out"
+    read -r seconds user system memory <"$work/figures"
+    awk -v n="$name" -v b="$bytes" -v s="$seconds" -v u="$user" -v y="$system" -v m="$memory" 'BEGIN {
+        printf "%-24s %6.2f s (%.2f of them in the program, %.2f in the system) for %.1f MB, %.0f MB of memory\n", n, s, u, y, b / 1e6, m / 1024
     }'
 }
 

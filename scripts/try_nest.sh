@@ -232,7 +232,7 @@ expect 1 '' "nest: struct<a: double>: a type of floating point is not read from 
 expect 1 '' "nest: $room/none: input cannot be read" from-json "$rows" "$room/none" "$room/as"
 expect 1 '' "nest: $room/none/as: output cannot be written" from-json "$rows" "$room/lines" "$room/none/as"
 expect 2 '' 'nest: int8: a row is a record, so its type is a struct' from-json int8 "$room/lines" "$room/as"
-expect 2 '' "nest: struct: no data type's text goes on as this one does from byte 6 on" from-json struct "$room/lines" "$room/as"
+expect 2 '' "nest: struct: no data type's text goes on as this one does from byte 0 on" from-json struct "$room/lines" "$room/as"
 expect 2 '' 'nest: unknown words; try --help' from-json "$rows" "$room/lines"
 
 said=$("$program" --help | head -1)
