@@ -97,7 +97,12 @@ expect 0 '' '' equal "$room/file" "$room/parts"
 expect 1 'row 2\n' '' equal "$room/file" "$room/shorter"
 expect 1 'row 2\n' '' equal "$room/shorter" "$room/parts"
 expect 1 'row 2\n' '' equal "$room/parts" "$room/unlike"
-expect 1 '' "nest: $room/packed: the body is compressed" equal "$room/packed" "$room/csv"
+# A fault is told with its batch, where the rows before it are those that the other begins with; a difference before it is told instead.
+expect 1 '' "nest: $room/packed: batch 0: the body is compressed" equal "$room/packed" "$room/file"
+expect 1 '' "nest: $room/packed: batch 0: the body is compressed" equal "$room/file" "$room/packed"
+expect 1 '' "nest: $room/csv: a message does not begin with FF FF FF FF" equal "$room/packed" "$room/csv"
+expect 1 '' "nest: $room/unmarked: batch 2: a message does not begin with FF FF FF FF" equal "$room/file" "$room/unmarked"
+[ "$(cat "$room/stream" | "$program" equal /dev/stdin "$room/unlike")" = 'row 2' ] || { echo 'nest equal: a pipe'; failed=1; }
 expect 1 '' "nest: $room/csv: a message does not begin with FF FF FF FF" equal "$room/file" "$room/csv"
 expect 1 '' "nest: $room/none: input cannot be read" equal "$room/file" "$room/none"
 # Some columns, in the order of the schema, of streams and files, before and behind the other words; a name that no column has.

@@ -8,8 +8,9 @@ use ipc_schema::Columns;
 use nest_batches::{
     Asked, Stop, answer_file, answer_stream, in_order, is_file, read_beginning, request_of,
 };
+use nest_compare::{Input as Compared, Uncompared, compare};
 use nest_look::answering::answer;
-use nest_look::comparing::{Difference, Uncompared, compare, difference_line};
+use nest_look::comparing::{Difference, difference_line};
 use nest_look::fault::Fault;
 use nest_look::joining::{self, Unjoined};
 use nest_look::running::{read_input, write_bytes};
@@ -146,10 +147,7 @@ fn look(rt: &HostRuntime, columns: Columns<'_>, file: &String, request: Request)
     match in_order(request) {
         Ok(asked) => match look_in_order(rt, columns, file, asked) {
             Ok(()) => ExitCode::SUCCESS,
-            Err(stop) => {
-                let _ = eprintln!(rt; "nest: {file}: {stop}");
-                ExitCode::FAILURE
-            }
+            Err(stop) => stopped(rt, file, stop),
         },
         Err(request) => match input(rt, file) {
             Ok(bytes) => status(rt, file, answer_bytes(rt, columns, &request, bytes)),
@@ -215,19 +213,66 @@ fn differ(rt: &HostRuntime, file: &String, difference: Difference) -> ExitCode {
     }
 }
 
-/// Compares two files that were read.
-fn compare_bytes(
+/// What is compared: a file, batch by batch, or bytes that came from where nothing seeks.
+#[derive(Drop)]
+enum Opened {
+    Device(Compared<File>),
+    Whole(Compared<Cursor<Vec<u8>>>),
+}
+
+/// A device as a file or as a stream, by the first bytes of it.
+fn compared<R>(head: &[u8], device: R) -> Compared<R> {
+    if is_file(head) {
+        Compared::File(device)
+    } else {
+        Compared::Stream(device)
+    }
+}
+
+/// Bytes, as a file or as a stream.
+fn compared_bytes(bytes: Vec<u8>) -> Opened {
+    if is_file(&bytes) {
+        return Opened::Whole(Compared::File(Cursor::new(bytes)));
+    }
+    Opened::Whole(Compared::Stream(Cursor::new(bytes)))
+}
+
+/// A file that was opened, from its first byte on.
+fn open_device(rt: &impl AllocGlobal, mut opened: File) -> Result<Opened, Fault> {
+    match read_beginning(rt.alloc(), &mut opened) {
+        Err(fault) => Err(fault),
+        Ok(head) => {
+            if opened.seek(SeekFrom::Start(0)).is_ok() {
+                return Ok(Opened::Device(compared(&head, opened)));
+            }
+            let mut device = Cursor::new(head).chain(opened);
+            Ok(compared_bytes(read_input(rt.alloc(), &mut device)?))
+        }
+    }
+}
+
+/// A file, or standard input, which is read whole.
+fn open_compared(rt: &HostRuntime, file: &String) -> Result<Opened, Fault> {
+    if is(file, "-") {
+        return Ok(compared_bytes(read_input(rt.alloc(), &mut rt.reader())?));
+    }
+    match fs::open(rt, file.as_str()) {
+        Ok(opened) => open_device(rt, opened),
+        Err(_) => Err(Fault::Input),
+    }
+}
+
+/// Says what was found of two files.
+fn tell(
     rt: &HostRuntime,
-    columns: Columns<'_>,
     files: (&String, &String),
-    left: &[u8],
-    right: &[u8],
+    found: Result<Option<Difference>, Uncompared>,
 ) -> ExitCode {
-    match compare(rt.alloc(), columns, left, right) {
+    match found {
         Ok(None) => ExitCode::SUCCESS,
         Ok(Some(difference)) => differ(rt, files.0, difference),
-        Err(Uncompared::First(fault)) => status(rt, files.0, Err(fault)),
-        Err(Uncompared::Second(fault)) => status(rt, files.1, Err(fault)),
+        Err(Uncompared::First(stop)) => stopped(rt, files.0, stop),
+        Err(Uncompared::Second(stop)) => stopped(rt, files.1, stop),
         Err(Uncompared::TooManyRows) => {
             let file = files.0;
             let _ = eprintln!(rt; "nest: {file}: more rows are equal than are counted");
@@ -236,13 +281,31 @@ fn compare_bytes(
     }
 }
 
+/// Compares two that were opened.
+fn compare_opened(
+    rt: &HostRuntime,
+    columns: Columns<'_>,
+    left: Opened,
+    right: Opened,
+) -> Result<Option<Difference>, Uncompared> {
+    match (left, right) {
+        (Opened::Device(x), Opened::Device(y)) => compare(rt.alloc(), columns, x, y),
+        (Opened::Device(x), Opened::Whole(y)) => compare(rt.alloc(), columns, x, y),
+        (Opened::Whole(x), Opened::Device(y)) => compare(rt.alloc(), columns, x, y),
+        (Opened::Whole(x), Opened::Whole(y)) => compare(rt.alloc(), columns, x, y),
+    }
+}
+
 /// Compares two files, one of which may be standard input.
 fn equal(rt: &HostRuntime, columns: Columns<'_>, file: &String, other: &String) -> ExitCode {
-    match input(rt, file) {
+    match open_compared(rt, file) {
         Err(fault) => status(rt, file, Err(fault)),
-        Ok(left) => match input(rt, other) {
-            Err(fault) => status(rt, other, Err(fault)),
-            Ok(right) => compare_bytes(rt, columns, (file, other), &left, &right),
+        Ok(left) => match open_compared(rt, other) {
+            Err(fault) => {
+                drop(left);
+                status(rt, other, Err(fault))
+            }
+            Ok(right) => tell(rt, (file, other), compare_opened(rt, columns, left, right)),
         },
     }
 }
@@ -321,6 +384,12 @@ fn status(rt: &HostRuntime, file: &String, done: Result<(), Fault>) -> ExitCode 
             ExitCode::FAILURE
         }
     }
+}
+
+/// Says where reading a file stopped, and the status of it.
+fn stopped(rt: &HostRuntime, file: &String, stop: Stop) -> ExitCode {
+    let _ = eprintln!(rt; "nest: {file}: {stop}");
+    ExitCode::FAILURE
 }
 
 /// Does what a command asks of a file, of the columns that are read.

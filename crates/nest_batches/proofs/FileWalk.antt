@@ -165,7 +165,7 @@ spelled_by read = record {
   whole = read >>= λ r. held_with r.state.picked.schema (batches_of_file r);
 }
 
-spelled-is : (picks : Picks) (bytes : List ℕ) (r : FileReaderTree) → file_reader_in picks bytes ≡ Ok r → spelled_in_file picks bytes ≡ under_file r
+pub spelled-is : (picks : Picks) (bytes : List ℕ) (r : FileReaderTree) → file_reader_in picks bytes ≡ Ok r → spelled_in_file picks bytes ≡ under_file r
 spelled-is picks bytes r e =
     ap (λ (w : Result HeldTree formats.Fault). record { first = (spelled_in_file picks bytes).first; whole = w }) (file-whole picks bytes)
     ∙ ap spelled_by e

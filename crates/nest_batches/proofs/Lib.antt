@@ -1,5 +1,5 @@
 mod Rows
 mod Steps
-mod StreamWalk
-mod FileWalk
-mod FirstLaws
+pub mod StreamWalk
+pub mod FileWalk
+pub mod FirstLaws

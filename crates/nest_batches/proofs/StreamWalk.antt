@@ -50,18 +50,18 @@ behind-none t = record {
   whole = none-before (batches_of t);
 }
 
-first-step : (m : ℕ) (u v : ReaderTree) (next : Option Arrays) → next_of u ≡ Ok (next, v) → first_of (suc m) u ≡ before next (first_of m v)
+pub first-step : (m : ℕ) (u v : ReaderTree) (next : Option Arrays) → next_of u ≡ Ok (next, v) → first_of (suc m) u ≡ before next (first_of m v)
 unfolding first_of
 first-step m u v next is = rw is refl
 
-whole-step : (u v : ReaderTree) (next : Option Arrays) → next_of u ≡ Ok (next, v) → batches_of u ≡ before next (batches_of v)
+pub whole-step : (u v : ReaderTree) (next : Option Arrays) → next_of u ≡ Ok (next, v) → batches_of u ≡ before next (batches_of v)
 whole-step u v next is = reader_step u ∙ ap (λ (x : Result (Option Arrays × ReaderTree) formats.Fault). x >>= λ y. before y.0 (batches_of y.1)) is
 
-first-fails : (m : ℕ) (u : ReaderTree) (fault : formats.Fault) → next_of u ≡ Err fault → first_of (suc m) u ≡ Err fault
+pub first-fails : (m : ℕ) (u : ReaderTree) (fault : formats.Fault) → next_of u ≡ Err fault → first_of (suc m) u ≡ Err fault
 unfolding first_of
 first-fails m u fault is = rw is refl
 
-first-zero : (u : ReaderTree) → first_of 0 u ≡ Ok []
+pub first-zero : (u : ReaderTree) → first_of 0 u ≡ Ok []
 unfolding first_of
 first-zero u = refl
 
@@ -174,7 +174,7 @@ walk-uncounted q left s k (Some t) (Some u) old new (bs, at, going) e = stopped 
 
 -- ---- the first call
 
-state-of : (s : State) (left : Option (List ℕ)) (t : ReaderTree) → with_left s left ≡ Some t → s ≡ t.state
+pub state-of : (s : State) (left : Option (List ℕ)) (t : ReaderTree) → with_left s left ≡ Some t → s ≡ t.state
 state-of s None t e = absurd cc
 state-of s (Some xs) t e = let is : record { state = s; left = xs } ≡ t = grind (arith, e) in ap (λ (x : ReaderTree). x.state) is
 
@@ -184,7 +184,7 @@ spelled_by read = record {
   whole = read >>= λ r. held_with r.state.picked.schema (batches_of r);
 }
 
-spelled-is : (picks : Picks) (bytes : List ℕ) (t : ReaderTree) → reader_in picks bytes ≡ Ok t → spelled_in_stream picks bytes ≡ under t.state.picked.schema t
+pub spelled-is : (picks : Picks) (bytes : List ℕ) (t : ReaderTree) → reader_in picks bytes ≡ Ok t → spelled_in_stream picks bytes ≡ under t.state.picked.schema t
 spelled-is picks bytes t e =
     ap (λ (w : Result HeldTree formats.Fault). record { first = (spelled_in_stream picks bytes).first; whole = w }) (stream-whole picks bytes)
     ∙ ap spelled_by e

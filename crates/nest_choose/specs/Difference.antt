@@ -1,7 +1,6 @@
 -- Where two lists differ first.
-use Rattle.std.specs.Prelude.{◌≡◌, ◌≤◌, ◌^◌, ℕ, List, take, length, Option, Some, None, Result, Ok, Err}
+use Rattle.std.specs.Prelude.{◌≡◌, ◌≤◌, ℕ, List, take, length, Option, Some, None}
 use Rattle.nest_memory.specs.Cut.{cut}
-use Rattle.nest_choose.specs.declared.differing.TooManyRows.{TooManyRows}
 
 -- they are equal; or up to this place, where they have other items, or one has none
 abbrev pub IsDifference : {A : Type 0} → List A → List A → Option ℕ → Type 0
@@ -11,8 +10,3 @@ IsDifference xs ys (Some k) = (take k xs ≡ take k ys) × (cut xs k 1 ≡ cut y
 -- both have so many items, and the same ones
 abbrev pub AreEqualFor : {A : Type 0} → ℕ → List A → List A → Type 0
 AreEqualFor n xs ys = (n ≤ length xs) × (n ≤ length ys) × (take n xs ≡ take n ys)
-
--- that is answered; or they are equal in so many items that a number of 64 bits does not count them
-abbrev pub TellsDifference : {A : Type 0} → List A → List A → Result (Option ℕ) TooManyRows → Type 0
-TellsDifference xs ys (Ok place) = IsDifference xs ys place
-TellsDifference xs ys (Err e) = AreEqualFor (2 ^ 64) xs ys

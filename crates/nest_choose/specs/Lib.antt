@@ -4,7 +4,6 @@ pub mod Truths
 pub mod Choice
 pub mod Located
 pub mod Difference
-pub mod Walk
 pub mod Examples
 pub mod Lists
 -- Laws, for proofs.

@@ -1,5 +1,5 @@
 -- Rows of arrays one after another, and cuts of them.
-use Rattle.std.proofs.Common.{◌≡◌, ℕ, zero, suc, ◌+◌, ◌-◌, ◌<◌, ◌≤◌, min, List, [], ◌∷◌, ◌++◌, length, take, drop, get_or, map, refl, sym, ap, ◌∙◌, arith, append_assoc, append-nil, length-append, length-drop, nat_lt, true, false, lt-ltb}
+use Rattle.std.proofs.Common.{◌≡◌, ℕ, zero, suc, ◌+◌, ◌-◌, ◌<◌, ◌≤◌, min, List, [], ◌∷◌, ◌++◌, length, take, drop, get_or, map, refl, sym, ap, ◌∙◌, arith, append_assoc, append-nil, length-drop}
 use Rattle.std.specs.List.{flat_map}
 use Rattle.std.proofs.lemmas.List.{length-map, drop_all, drop_more, drop_min, flat_map_more, take_all, take_min, take_more, take-map}
 use Rattle.std.proofs.lemmas.List.Folds.{flat_map-map}
@@ -140,29 +140,3 @@ whole-rows a w e = ap rows_in e ∙ window-rows a 0 (len a) ∙ take_all (len a)
 
 pub all-behind : (xs : List AnyArray) (i : ℕ) → length xs ≤ i → flat_map (λ a. rows_of (layout_of a)) (take i xs) ≡ flat_map rows_of (map layout_of xs)
 all-behind xs i h = ap (flat_map (λ a. rows_of (layout_of a))) (take_all i xs h) ∙ sym (flat_map-map rows_of layout_of xs)
-
--- ---- the row at a place
-
--- a place lies behind some arrays: so many of their rows are before it
-pub row-found : (xs : List AnyArray) (i : ℕ) (x : AnyArray) (place left : ℕ) → i < length xs → x ≡ get_or xs i x → left + length (rows_behind xs 0) ≡ place + length (rows_behind xs i) → left < len (layout_of x)
-    → nat_lt place (length (rows_behind xs 0)) ≡ true
-row-found xs i x place left h e so_far found =
-    let more = ap length (behind-more xs i x h e) ∙ length-append (rows_of (layout_of x)) (rows_behind xs (i + 1)) in
-    let l = rows-length (layout_of x) in
-    lt-ltb place (length (rows_behind xs 0)) (omega arith)
-
-pub row-behind : (xs : List AnyArray) (i : ℕ) (x : AnyArray) (place left : ℕ) → i < length xs → x ≡ get_or xs i x → left + length (rows_behind xs 0) ≡ place + length (rows_behind xs i) → len (layout_of x) ≤ left
-    → left - len (layout_of x) + length (rows_behind xs 0) ≡ place + length (rows_behind xs (i + 1))
-row-behind xs i x place left h e so_far past =
-    let more = ap length (behind-more xs i x h e) ∙ length-append (rows_of (layout_of x)) (rows_behind xs (i + 1)) in
-    let l = rows-length (layout_of x) in
-    omega arith
-
-pub row-missing : (xs : List AnyArray) (i : ℕ) (place left : ℕ) → length xs ≤ i → left + length (rows_behind xs 0) ≡ place + length (rows_behind xs i)
-    → nat_lt place (length (rows_behind xs 0)) ≡ false
-row-missing xs i place left h so_far =
-    let none = ap length (behind-none xs i h) in
-    not-lt place (length (rows_behind xs 0)) (omega arith)
-  where
-    not-lt : (m n : ℕ) → n ≤ m → nat_lt m n ≡ false
-    not-lt m n k = grind arith

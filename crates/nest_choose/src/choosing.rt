@@ -1,5 +1,5 @@
 //! The rows that are asked for, as windows over arrays.
-ghost use Rattle.std.specs.Prelude.{◌≡◌, ◌<◌, ◌++◌, IfOk, OnOk, length, map, nat_lt, option_map, string_bytes};
+ghost use Rattle.std.specs.Prelude.{◌≡◌, ◌<◌, ◌++◌, IfOk, OnOk, map, option_map, string_bytes};
 ghost use Rattle.std.specs.List.{filter, flat_map};
 ghost use Rattle.nest_memory.specs.Cut.{cut};
 ghost use Rattle.nest_model.specs.Meaning.{len};
@@ -62,21 +62,6 @@ fn rows_from(
     let mut windows = Vec::new(alloc);
     push_cut(&mut windows, arrays, o, n)?;
     Ok(windows)
-}
-
-/// Whether there is a row at a place.
-pub(crate) fn has_row(arrays: &[AnyArray], place: usize) -> bool
-    ensures { result ≡ nat_lt place (length (flat_map rows_of (map layout_of arrays.now))) }
-{
-    let mut left = place;
-    for array in arrays {
-        let len = array.len();
-        if left < len {
-            return true;
-        }
-        left -= len;
-    }
-    false
 }
 
 /// The row of a slot.

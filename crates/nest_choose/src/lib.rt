@@ -10,5 +10,5 @@ mod locating;
 mod truths;
 
 pub use choosing::choose;
-pub use differing::{TooManyRows, first_difference};
+pub use differing::window_difference;
 pub use truths::{boolean_column, is_named};

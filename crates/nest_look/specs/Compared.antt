@@ -1,5 +1,5 @@
 -- How what two inputs hold differs.
-use Rattle.std.specs.Prelude.{◌≡◌, ◌^◌, ◌++◌, ℕ, List, [], ◌∷◌, map, codes, Option, Some, None, Result, Ok, Err}
+use Rattle.std.specs.Prelude.{◌≡◌, ◌++◌, ℕ, List, [], ◌∷◌, map, codes, Option, Some, None, Result, Ok, Err}
 use Rattle.std.specs.Fmt.{decimal}
 use Rattle.std.specs.List.{AllByRecursion, flat_map}
 use Rattle.nest_memory.specs.TypeTree as types
@@ -11,14 +11,12 @@ use Rattle.ipc_model.specs.Reading.{Fails}
 use Rattle.ipc_model.specs.declared.fault.Fault as formats
 use Rattle.ipc.specs.Streams.{Arrays}
 use Rattle.nest_choose.specs.Rows.{Row, rows_of}
-use Rattle.nest_choose.specs.Difference.{AreEqualFor, IsDifference}
+use Rattle.nest_choose.specs.Difference.{IsDifference}
 use Rattle.nest_answer.specs.Tables.{record_type, records}
 use Rattle.nest_answer.specs.declared.refusal.Refusal.{Refusal}
 use Rattle.nest_answer.specs.declared.refusal.Refusal.TheVariants as refusals
 use Rattle.nest_look.specs.declared.comparing.Difference.{Difference}
 use Rattle.nest_look.specs.declared.comparing.Difference.TheVariants.{Schema, Row as ARow}
-use Rattle.nest_look.specs.declared.comparing.Uncompared.{Uncompared}
-use Rattle.nest_look.specs.declared.comparing.Uncompared.TheVariants.{First, Second, TooManyRows}
 use Rattle.nest_look.specs.declared.fault.Fault.{Fault}
 use Rattle.nest_look.specs.declared.fault.Fault.TheVariants.{Input, Format, Form, Columns, Place, NoColumn, NotBoolean, Output, Memory}
 use Rattle.nest_look.specs.Holding.{HeldTree}
@@ -51,15 +49,6 @@ abbrev pub line_of : Difference → List ℕ
 line_of Schema = codes "schema" ++ 10 ∷ []
 line_of (ARow k) = codes "row " ++ (decimal k ++ 10 ∷ [])
 
--- rows are equal, or up to this place; or as far as a number of 64 bits counts them
-abbrev pub TellsRow : List Row → List Row → Result (Option Difference) Uncompared → Type 0
-TellsRow xs ys (Ok None) = xs ≡ ys
-TellsRow xs ys (Ok (Some (ARow k))) = IsDifference xs ys (Some k)
-TellsRow xs ys (Ok (Some Schema)) = ⊥
-TellsRow xs ys (Err TooManyRows) = AreEqualFor (2 ^ 64) xs ys
-TellsRow xs ys (Err (First fault)) = ⊥
-TellsRow xs ys (Err (Second fault)) = ⊥
-
 -- of two inputs that were read
 abbrev pub Compares : Result HeldTree formats.Fault → Result HeldTree formats.Fault → Option Difference → Type 0
 Compares left right difference = HasHeld left (λ s. HasHeld right (λ t. IsFirstDifference s t difference))
@@ -86,9 +75,3 @@ fault_of refusals.Place = Memory
 fault_of refusals.NoColumn = Memory
 fault_of refusals.NotBoolean = Memory
 fault_of refusals.Memory = Memory
-
--- a fault of either; or their rows are equal as far as a number of 64 bits counts them
-abbrev pub IsUncompared : Uncompared → Result HeldTree formats.Fault → Result HeldTree formats.Fault → Type 0
-IsUncompared (First fault) left right = IsUnread fault left
-IsUncompared (Second fault) left right = IsUnread fault right
-IsUncompared TooManyRows left right = HasHeld left (λ s. HasHeld right (λ t. AreEqualFor (2 ^ 64) (held_rows s) (held_rows t)))

@@ -1,20 +1,18 @@
-//! Bytes of two inputs in, where they differ first out.
+//! Schemas that are compared, batches as arrays of their rows, and the line that tells a difference.
 ghost use Rattle.std.specs.Prelude.{◌≡◌, ◌↔◌, ◌<◌, [], IfErr, IfOk, IsTrue, Ok, length, map, string_bytes};
 ghost use Rattle.nest_memory.specs.TypeOf.{entries_of, field_of};
 ghost use Rattle.nest_array.specs.Seen.{layout_of};
 ghost use Rattle.ipc_schema.specs.Schemas.{schema_of};
-ghost use Rattle.nest_choose.specs.Walk.{all_rows};
-ghost use Rattle.nest_look.specs.Compared.{Compares, IsFirstDifference, IsUncompared, IsUnread, TellsRow, batch_array, batch_arrays, fault_of, line_of};
-ghost use Rattle.nest_look.specs.Words.{arrays_of, held_in, held_of, picks_of};
+ghost use Rattle.nest_look.specs.Compared.{IsUnread, batch_array, batch_arrays, fault_of, line_of};
+ghost use Rattle.nest_look.specs.Words.{arrays_of, held_of};
 
 use crate::answering::table;
 use crate::fault::Fault;
-use crate::holding::{Held, read_held};
+use crate::holding::Held;
 use ipc::Batch;
-use ipc_schema::{Columns, Schema};
+use ipc_schema::Schema;
 use nest_answer::{Refusal, records};
 use nest_array::{AnyArray, NullArray};
-use nest_choose::first_difference;
 use nest_memory::datatypes::{DataType, Field, Metadata};
 use std::alloc::{AllocError, Global};
 
@@ -25,17 +23,6 @@ pub enum Difference {
     Schema,
     /// Their rows at this place, or one has none there.
     Row(usize),
-}
-
-/// Why two inputs are not compared.
-#[derive(Clone, Copy, Debug, PartialEq, Eq)]
-pub enum Uncompared {
-    /// A fault of the first.
-    First(Fault),
-    /// A fault of the second.
-    Second(Fault),
-    /// Their rows are equal as far as a number of 64 bits counts them.
-    TooManyRows,
 }
 
 fn same_fields(a: &[Field], b: &[Field]) -> bool
@@ -51,7 +38,7 @@ fn same_metadata(a: &Metadata, b: &Metadata) -> bool
 }
 
 /// Whether two schemas are equal, with what users attach.
-pub(crate) fn same_schema(a: &Schema, b: &Schema) -> bool
+pub fn same_schema(a: &Schema, b: &Schema) -> bool
     ensures { IsTrue result ↔ (schema_of a.now ≡ schema_of b.now) }
 {
     if !same_fields(&a.fields, &b.fields) {
@@ -111,73 +98,6 @@ pub(crate) fn row_arrays(alloc: Global, held: Held) -> Result<Vec<AnyArray>, Fau
     let arrays = bare_arrays(alloc, &held.batches);
     drop(held);
     Ok(arrays?)
-}
-
-/// The first row at which arrays differ from others.
-fn compare_rows(xs: &[AnyArray], ys: &[AnyArray]) -> Result<Option<Difference>, Uncompared>
-    ensures { TellsRow (all_rows xs.now) (all_rows ys.now) result }
-{
-    match first_difference(xs, ys) {
-        Ok(None) => Ok(None),
-        Ok(Some(place)) => Ok(Some(Difference::Row(place))),
-        Err(_) => Err(Uncompared::TooManyRows),
-    }
-}
-
-fn compare_held(alloc: Global, left: Held, right: Held) -> Result<Option<Difference>, Uncompared>
-    ensures difference { IfOk result (λ d. IsFirstDifference (held_of left) (held_of right) d) }
-    ensures fault { IfErr result (λ e. IsUncompared e (Ok (held_of left)) (Ok (held_of right))) }
-{
-    if !same_schema(&left.schema, &right.schema) {
-        drop(left);
-        drop(right);
-        return Ok(Some(Difference::Schema));
-    }
-    match row_arrays(alloc, left) {
-        Err(fault) => {
-            drop(right);
-            Err(Uncompared::First(fault))
-        }
-        Ok(xs) => match row_arrays(alloc, right) {
-            Err(fault) => {
-                drop(xs);
-                Err(Uncompared::Second(fault))
-            }
-            Ok(ys) => {
-                let found = compare_rows(&xs, &ys);
-                drop(xs);
-                drop(ys);
-                found
-            }
-        },
-    }
-}
-
-/// Where the files or streams that bytes hold differ first, however their rows lie in batches. Their schemas are compared with what users
-/// attach; then their rows, and of tables without a column how many there are.
-///
-/// # Errors
-/// `First` and `Second` with the first fault of the bytes in the order of reading; then, where the schemas are equal, with `Columns` where
-/// the columns of a batch are not those of the schema, side by side. `TooManyRows`. `Memory` of either may come in the place of any.
-pub fn compare(
-    alloc: Global,
-    columns: Columns<'_>,
-    left: &[u8],
-    right: &[u8],
-) -> Result<Option<Difference>, Uncompared>
-    ensures difference { IfOk result (λ d. Compares (held_in (picks_of columns.entry) left.now) (held_in (picks_of columns.entry) right.now) d) }
-    ensures fault { IfErr result (λ e. IsUncompared e (held_in (picks_of columns.entry) left.now) (held_in (picks_of columns.entry) right.now)) }
-{
-    match read_held(alloc, columns, left) {
-        Err(fault) => Err(Uncompared::First(Fault::Format(fault))),
-        Ok(held) => match read_held(alloc, columns, right) {
-            Err(fault) => {
-                drop(held);
-                Err(Uncompared::Second(Fault::Format(fault)))
-            }
-            Ok(other) => compare_held(alloc, held, other),
-        },
-    }
 }
 
 /// The line that tells a difference: `schema`, or `row` and its place.

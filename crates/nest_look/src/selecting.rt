@@ -53,8 +53,11 @@ pub fn copy_fields(alloc: Global, fields: &[Field]) -> Result<Vec<Field>, Fault>
     Ok(copies)
 }
 
-/// Each batch as one array of its rows. The schema stays.
-fn rows_of_batches(
+/// Each batch as one array of its rows: of records; without a column, of as many nulls as it has rows. The schema stays.
+///
+/// # Errors
+/// `Columns` where the columns of a batch are not those of the schema, side by side. `Memory`.
+pub fn rows_of_batches(
     alloc: Global,
     schema: &Schema,
     batches: Vec<Batch>,

@@ -15,7 +15,7 @@ use std::test::*;
 
 /// Has bytes at any place: gives five a turn at most, and fails in the call of a number.
 #[derive(Drop)]
-struct Device {
+pub struct Device {
     bytes: Vec<u8>,
     at: usize,
     calls: usize,
@@ -23,7 +23,7 @@ struct Device {
 }
 
 impl Device {
-    fn new(bytes: Vec<u8>, fails_at: usize) -> Device {
+    pub fn new(bytes: Vec<u8>, fails_at: usize) -> Device {
         Device {
             bytes,
             at: 0,
@@ -126,7 +126,7 @@ fn told(
     Ok((done, sink.bytes))
 }
 
-const NEVER: usize = usize::MAX;
+pub const NEVER: usize = usize::MAX;
 
 /// The words of each test.
 const WORDS: [&[&str]; 12] = [

@@ -1,4 +1,4 @@
-//! Tests of `nest_words`, `nest_choose`, `nest_lines`, `nest_answer`, `nest_look` and `nest_batches`: their public calls, as a crate above sees them.
+//! Tests of `nest_words`, `nest_choose`, `nest_lines`, `nest_answer`, `nest_look`, `nest_batches` and `nest_compare`: their public calls, as a crate above sees them.
 //! They are run, not proved.
 //!
 //! | What the row shows | Test |
@@ -12,7 +12,6 @@
 //! | The columns and the rows of streams and files of another program, whole, cut, and at places; each fault of them, and its line | `looks` |
 //! | Rows at which a column is true, of nulls, trues and falses | `looks::true_rows_are_shown` |
 //! | Streams and files, each as either form | `looks::forms_are_converted` |
-//! | Where two of them differ first, and the line that says it; which of both has a fault | `looks::samples_differ`, `looks::differences_are_lines` |
 //! | Several of them as one; which of them has a fault or another schema | `looks::samples_are_joined` |
 //! | The rows that are chosen, as either form, and in which batches they lie | `looks::rows_are_selected`, `looks::selected_rows_lie_in_batches` |
 //! | Some columns of them, by name | `looks::some_columns_are_shown` |
@@ -20,6 +19,9 @@
 //! | A fault in a batch, a device and an output that fail: whole rows of the batches before are out, or a beginning | `batches::faults_stand_behind_whole_batches`, `batches::devices_fail_between_batches` |
 //! | What is not asked for is not read: a stream without its end, a body that is compressed | `batches::what_is_not_asked_for_is_not_read`, `batches::bodies_are_not_looked_at_for_columns` |
 //! | First bytes that tell a file | `batches::beginnings_tell_files` |
+//! | Where two inputs differ first, cut into batches in many ways, beside a plain model; the line that says it | `comparisons::samples_differ`, `comparisons::batches_differ`, `comparisons::differences_are_lines` |
+//! | Batches as arrays of their rows, the first row at which windows differ, schemas that are equal with what users attach | `comparisons::batches_are_rows`, `comparisons::schemas_are_compared` |
+//! | Which of both has a fault, in which batch, and that a difference before it is told instead; devices that fail at each call | `comparisons::a_fault_is_told_where_nothing_differs_before`, `comparisons::devices_fail_at_any_call` |
 //! | Words with options, and names with commas | `answers::words_have_options` |
 #![tactic(auto)]
 
@@ -27,6 +29,8 @@
 mod answers;
 #[cfg(test)]
 mod batches;
+#[cfg(test)]
+mod comparisons;
 #[cfg(test)]
 mod looks;
 #[cfg(test)]

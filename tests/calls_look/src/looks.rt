@@ -2,7 +2,6 @@
 use crate::samples::{BARE, EMPTY, FILE, PACKED, STREAM, TRUTHS};
 use ipc_schema::Columns;
 use nest_look::answering::answer;
-use nest_look::comparing::{Difference, Uncompared, compare, difference_line};
 use nest_look::converting::convert;
 use nest_look::fault::Fault;
 use nest_look::holding::read_held;
@@ -228,57 +227,6 @@ fn forms_are_converted(rt: HostRuntime) -> Result<(), Fail> {
     let packed = bytes_of(rt.alloc(), PACKED)?;
     let fault = convert(rt.alloc(), Columns::All, Form::File, &packed).err();
     assert!(rt; fault == Some(Fault::Format(ipc_model::Fault::Compressed)));
-    Ok(())
-}
-
-/// What two samples differ in first.
-fn differ(
-    alloc: Global,
-    columns: Columns<'_>,
-    left: &str,
-    right: &str,
-) -> Result<Option<Difference>, Uncompared> {
-    match (bytes_of(alloc, left), bytes_of(alloc, right)) {
-        (Ok(left), Ok(right)) => compare(alloc, columns, &left, &right),
-        _ => Err(Uncompared::First(Fault::Memory)),
-    }
-}
-
-#[test]
-fn samples_differ(rt: HostRuntime) -> Result<(), Fail> {
-    for digits in [STREAM, FILE, TRUTHS, BARE, EMPTY] {
-        let same = differ(rt.alloc(), Columns::All, digits, digits);
-        assert!(rt; same == Ok(None));
-    }
-    let same = differ(rt.alloc(), Columns::All, STREAM, FILE);
-    assert!(rt; same == Ok(None));
-    let schema = differ(rt.alloc(), Columns::All, TRUTHS, BARE);
-    assert!(rt; schema == Ok(Some(Difference::Schema)));
-    let rows = differ(rt.alloc(), Columns::Named(&["a"]), EMPTY, FILE);
-    assert!(rt; rows == Ok(Some(Difference::Row(0))));
-    let rows = differ(rt.alloc(), Columns::Named(&["a"]), FILE, EMPTY);
-    assert!(rt; rows == Ok(Some(Difference::Row(0))));
-    let packed = Fault::Format(ipc_model::Fault::Compressed);
-    let fault = differ(rt.alloc(), Columns::All, PACKED, STREAM);
-    assert!(rt; fault == Err(Uncompared::First(packed)));
-    let fault = differ(rt.alloc(), Columns::All, STREAM, PACKED);
-    assert!(rt; fault == Err(Uncompared::Second(packed)));
-    Ok(())
-}
-
-#[test]
-fn differences_are_lines(rt: HostRuntime) -> Result<(), Fail> {
-    for (difference, want) in [
-        (Difference::Schema, "schema\n"),
-        (Difference::Row(0), "row 0\n"),
-        (
-            Difference::Row(18446744073709551615),
-            "row 18446744073709551615\n",
-        ),
-    ] {
-        let line = difference_line(rt.alloc(), difference)?;
-        assert!(rt; line.as_str() == want, "{line}");
-    }
     Ok(())
 }
 

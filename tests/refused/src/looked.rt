@@ -5,8 +5,8 @@ use crate::streams::{STREAM, refused, unwritten};
 use crate::trial::Trial;
 use drawn_builders::wrong::{Wrong, expect};
 use ipc_schema::Columns;
+use nest_compare::{Input, Uncompared, compare};
 use nest_look::answering::answer;
-use nest_look::comparing::{Uncompared, compare};
 use nest_look::converting::convert;
 use nest_look::fault::Fault;
 use nest_look::joining::{Unjoined, concat};
@@ -14,6 +14,7 @@ use nest_look::selecting::select;
 use nest_memory::error::Error;
 use nest_words::{Choice, Form, Request};
 use std::alloc::{AllocError, Global};
+use std::io::Cursor;
 
 fn looked(fault: Fault) -> Error {
     match fault {
@@ -47,9 +48,11 @@ fn converted(alloc: Global) -> Result<usize, Error> {
 
 /// Whether the stream is equal to itself.
 fn compared(alloc: Global) -> Result<bool, Error> {
-    match compare(alloc, Columns::All, &STREAM, &STREAM) {
+    let left = Input::Stream(Cursor::new(STREAM.as_slice()));
+    let right = Input::Stream(Cursor::new(STREAM.as_slice()));
+    match compare(alloc, Columns::All, left, right) {
         Ok(difference) => Ok(difference.is_none()),
-        Err(Uncompared::First(fault) | Uncompared::Second(fault)) => Err(looked(fault)),
+        Err(Uncompared::First(stop) | Uncompared::Second(stop)) => Err(looked(stop.fault)),
         Err(Uncompared::TooManyRows) => Err(Error::NotYetImplemented),
     }
 }

@@ -1,0 +1,5 @@
+mod Lists
+mod Walk
+mod Sources
+mod Looks
+mod Whole

@@ -1,0 +1,14 @@
+-- Inputs whose batches are known, whole or with a fault behind them.
+use Rattle.std.specs.Prelude.{ℕ, nat_lt, length, take, Ok, Err, if◌then◌else◌}
+use Rattle.ipc_model.specs.declared.fault.Fault.{Fault}
+use Rattle.nest_batches.specs.Firsts.{Spelled}
+use Rattle.nest_look.specs.Holding.{HeldTree}
+
+abbrev pub first_batches : HeldTree → ℕ → HeldTree
+first_batches h k = record { schema = h.schema; batches = take k h.batches }
+
+abbrev pub whole_of : HeldTree → Spelled
+whole_of h = record { first = λ k. Ok (first_batches h k); whole = Ok h }
+
+abbrev pub broken : HeldTree → Fault → Spelled
+broken h fault = record { first = λ k. if nat_lt (length h.batches) k then Err fault else Ok (first_batches h k); whole = Err fault }

@@ -1,0 +1,165 @@
+//! Rows that are read and not yet compared.
+ghost use Rattle.std.specs.Prelude.{◌≡◌, ◌≤◌, List, [], ◌∷◌, IfErr, IfOk, Ok, Option, Some, false, length, option_map, take};
+ghost use Rattle.nest_model.specs.Meaning.{len};
+ghost use Rattle.nest_array.specs.Seen.{layout_of};
+ghost use Rattle.ipc.specs.Streams.{arrays_of};
+ghost use Rattle.ipc_schema.specs.Schemas.{schema_of};
+ghost use Rattle.nest_choose.specs.Rows.{Row, rows_in};
+ghost use Rattle.nest_look.specs.Compared.{IsUnread, batch_array};
+ghost use Rattle.nest_compare.specs.Left.{Left};
+ghost use Rattle.nest_compare.specs.Pending.{FailsRows, GivesRows, HasRoom, IsPending, IsSettled, IsStopped, passed, rows_left};
+ghost use Rattle.nest_compare.specs.Sources.{left_of, schema_in};
+
+use crate::source::Source;
+use ipc::Batch;
+use ipc_device::SeekRead;
+use ipc_schema::Schema;
+use nest_array::{AnyArray, NullArray, Window};
+use nest_batches::Stop;
+use nest_look::fault::Fault;
+use nest_look::selecting::rows_of_batches;
+use nest_memory::datatypes::DataType;
+use std::alloc::Global;
+use std::mem;
+
+/// One side: its reader, how many batches came, whether there are no more, and the rows of the last that came, of which those from a place
+/// on are still to be compared.
+#[derive(Drop)]
+pub(crate) struct Pending<R> {
+    source: Source<R>,
+    read: usize,
+    is_over: bool,
+    rows: AnyArray,
+    from: usize,
+}
+
+/// An array without a row.
+fn no_rows() -> AnyArray
+    ensures { len (layout_of result) ≡ 0 }
+{
+    AnyArray::Null(NullArray::new(DataType::Null, 0))
+}
+
+/// A batch as one array of its rows.
+fn row_array(alloc: Global, schema: &Schema, batch: Batch) -> Result<AnyArray, Fault>
+    ensures rows { IfOk result (λ a. layout_of a ≡ batch_array (schema_of schema.now).fields (arrays_of batch)) }
+    ensures fault { IfErr result (λ e. IsUnread e (Ok (record { schema = schema_of schema.now; batches = arrays_of batch ∷ [] }))) }
+{
+    let mut batches = Vec::new(alloc);
+    batches.push(batch)?;
+    let mut arrays = rows_of_batches(alloc, schema, batches)?;
+    match arrays.pop() {
+        Some(array) => Ok(array),
+        None => Err(Fault::Memory),
+    }
+}
+
+/// The rows of the next batch, or none at the end.
+fn next_rows<R: SeekRead + Drop>(
+    alloc: Global,
+    source: &mut Source<R>,
+) -> Result<Option<AnyArray>, Fault>
+    ensures rows { IfOk result (λ r. GivesRows (schema_in source.old) (left_of R.remaining R.stream_position R.stream_bytes source.old) (left_of R.remaining R.stream_position R.stream_bytes source.new) (option_map layout_of r)) }
+    ensures fault { IfErr result (λ e. FailsRows (schema_in source.old) e (left_of R.remaining R.stream_position R.stream_bytes source.old)) }
+    ensures schema { schema_in source.new ≡ schema_in source.old }
+{
+    match source.next_batch(alloc) {
+        Err(fault) => Err(fault),
+        Ok(None) => Ok(None),
+        Ok(Some(batch)) => match row_array(alloc, source.schema(), batch) {
+            Ok(rows) => Ok(Some(rows)),
+            Err(fault) => Err(fault),
+        },
+    }
+}
+
+impl<R> Pending<R> {
+    /// Before any batch.
+    pub(crate) fn new(source: Source<R>) -> Pending<R>
+        ensures source { result.source ≡ source }
+        ensures read { result.read ≡ 0 }
+        ensures over { result.is_over ≡ false }
+        ensures rows { rows_left result ≡ [] }
+        ensures room { HasRoom result }
+    {
+        Pending {
+            source,
+            read: 0,
+            is_over: false,
+            rows: no_rows(),
+            from: 0,
+        }
+    }
+
+    /// How many rows are to be compared.
+    pub(crate) fn len(&self) -> usize
+        requires { HasRoom self.now }
+        ensures { result ≡ length (rows_left self.now) }
+    {
+        self.rows.len() - self.from
+    }
+
+    /// The first of them.
+    pub(crate) fn window(&self, n: usize) -> Window<'_>
+        requires room { HasRoom self.now }
+        requires within { n ≤ length (rows_left self.now) }
+        ensures rows { rows_in result ≡ take n (rows_left self.now) }
+        ensures count { result.count ≡ n }
+    {
+        Window::new(&self.rows, self.from, n)
+    }
+
+    /// So many were compared.
+    pub(crate) fn pass(&mut self, n: usize)
+        requires room { HasRoom self.old }
+        requires within { n ≤ length (rows_left self.old) }
+        ensures { self.new ≡ passed self.old n }
+    {
+        let _len = self.rows.len();
+        self.from += n;
+    }
+
+    fn stop(&self, fault: Fault) -> Stop
+        ensures { result ≡ record { batch = Some self.now.read; fault = fault } }
+    {
+        Stop {
+            batch: Some(self.read),
+            fault,
+        }
+    }
+}
+
+impl<R: SeekRead + Drop> Pending<R> {
+    /// Reads the next batch where no row is left and there may be one; whether it looked for one.
+    pub(crate) fn read_on(&mut self, alloc: Global) -> Result<bool, Stop>
+        requires { HasRoom self.old }
+        ensures on { IfOk result (λ moved. (t : Option Left) (done : List Row) → IsPending t (schema_in self.old.source) done (left_of R.remaining R.stream_position R.stream_bytes self.old.source) self.old → IsPending t (schema_in self.old.source) done (left_of R.remaining R.stream_position R.stream_bytes self.new.source) self.new) }
+        ensures still { IfOk result (λ moved. moved ≡ false → IsSettled self.new) }
+        ensures stop { IfErr result (λ stop. (t : Option Left) (done : List Row) → IsPending t (schema_in self.old.source) done (left_of R.remaining R.stream_position R.stream_bytes self.old.source) self.old → IsStopped t (schema_in self.old.source) done stop) }
+        ensures room { HasRoom self.new }
+        ensures schema { schema_in self.new.source ≡ schema_in self.old.source }
+    {
+        if self.is_over {
+            return Ok(false);
+        }
+        if self.from < self.rows.len() {
+            return Ok(false);
+        }
+        let Some(read) = self.read.checked_add(1) else {
+            return Err(self.stop(Fault::Input));
+        };
+        match next_rows(alloc, &mut self.source) {
+            Err(fault) => Err(self.stop(fault)),
+            Ok(None) => {
+                self.is_over = true;
+                Ok(true)
+            }
+            Ok(Some(rows)) => {
+                drop(mem::replace(&mut self.rows, rows));
+                self.from = 0;
+                self.read = read;
+                Ok(true)
+            }
+        }
+    }
+}
