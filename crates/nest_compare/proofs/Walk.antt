@@ -11,7 +11,7 @@ use Rattle.nest_memory.specs.TypeTree.{FieldTree}
 use Rattle.nest_model.specs.Fits.{Fits}
 use Rattle.nest_model.specs.Layout.{Layout}
 use Rattle.nest_array.specs.Seen.{layout_of}
-use Rattle.nest_batches.specs.Firsts.{held_with}
+use Rattle.nest_batches.specs.Firsts.{Spelled, held_with}
 use Rattle.nest_choose.specs.Difference.{AreEqualFor, IsDifference}
 use Rattle.nest_choose.specs.Rows.{Row, rows_of}
 use Rattle.nest_look.specs.Compared.{IsUnread, batch_array, batch_arrays, held_rows}
@@ -21,13 +21,13 @@ use Rattle.nest_look.specs.declared.comparing.Difference.TheVariants as differen
 use Rattle.nest_look.specs.declared.fault.Fault.{Fault}
 use Rattle.nest_look.specs.declared.fault.Fault.TheVariants.{Input, Format, Form, Columns, Place, NoColumn, NotBoolean, Output, Memory}
 use Rattle.nest_batches.specs.declared.stop.Stop.{Stop}
-use Rattle.nest_compare.specs.Left.{GivesNext, IsFresh, Left, Steps, under}
+use Rattle.nest_compare.specs.Left.{FailsToOpen, GivesNext, IsFresh, IsOpened, IsWhy, Left, Steps, under}
 use Rattle.nest_compare.specs.Pending.{FailsRows, GivesRows, IsAt, IsBehind, IsPendingAt, IsPending, IsPlace, IsReached, IsStopped, LooksAs, Pends, StopsBehind, Turns, of_batches, passed, prefix, rows_left}
 use Rattle.nest_compare.specs.declared.comparing.Look.TheVariants as Look
 use Rattle.nest_compare.specs.declared.comparing.Turn.{Turn}
 use Rattle.nest_compare.specs.declared.comparing.Uncompared.{Uncompared}
 use Rattle.nest_compare.specs.declared.pending.Pending.{Pending}
-use Rattle.nest_compare.specs.Told.{Answers, AreUncounted, Begins, IsEnough, IsFault, StopsIn, Tells}
+use Rattle.nest_compare.specs.Told.{Answers, AreUncounted, Begins, IsEnough, IsFault, StopsIn, StopsInSecond, Tells}
 use Rattle.nest_compare.specs.declared.comparing.Uncompared.TheVariants.{First, Second, TooManyRows}
 use Rattle.nest_compare.proofs.Lists.{differ-behind, equal-behind}
 
@@ -290,10 +290,14 @@ stop-first None u s done more j ys w stop h q = tt
 stop-first (Some t) None s done more j ys w stop h q = tt
 stop-first (Some t) (Some u) s done more j ys w stop h q = stops-at t u s done more j ys w stop.batch stop.fault h q
 
+stops-second : (t u : Left) (s : SchemaTree) (done : List Row) (over : Bool) (i : ℕ) (xs : List Row) (v : Option Left) (batch : Option ℕ) (fault : Fault) → StopsBehind u s done batch fault → IsPendingAt t s done over i xs v → StopsInSecond batch fault (under s t) (under s u)
+stops-second t u s done over i xs v None fault h p = absurd h
+stops-second t u s done over i xs v (Some k) fault h p = stops-at u t s done over i xs v (Some k) fault h p
+
 pub stop-second : (t u : Option Left) (s : SchemaTree) (done : List Row) (over : Bool) (i : ℕ) (xs : List Row) (v : Option Left) (stop : Stop) → Pends t s done over i xs v → IsStopped u s done stop → Answers (option_map (under s) t) (option_map (under s) u) (Err (Second stop))
 stop-second None u s done over i xs v stop p h = tt
 stop-second (Some t) None s done over i xs v stop p h = tt
-stop-second (Some t) (Some u) s done over i xs v stop p h = stops-at u t s done over i xs v stop.batch stop.fault h p
+stop-second (Some t) (Some u) s done over i xs v stop p h = stops-second t u s done over i xs v stop.batch stop.fault h p
 
 -- ---- other schemas
 
@@ -348,3 +352,26 @@ pub came-as : (t : Option Left) (s : SchemaTree) (done : List Row) (over : Bool)
 came-as t s done over k j rows u v a b is next same p none gave =
     subst (λ (x : Bool). Pends t s done x j (rows_of b) v) (sym is)
     (subst (λ (n : ℕ). Pends t s done false n (rows_of b) v) (sym next) (subst (λ (l : Layout). Pends t s done false (k + 1) (rows_of l) v) (sym same) (came t s done k rows u v a (not-over t s done over k rows u is p) none gave)))
+
+-- ---- before any batch
+
+why-fault : (fault : Fault) (read : Result HeldTree formats.Fault) → IsWhy fault read → IsFault fault read
+why-fault Input read h = tt
+why-fault (Format fault) read h = h
+why-fault (Form why) read h = h
+why-fault Columns read h = absurd h
+why-fault Place read h = h
+why-fault NoColumn read h = h
+why-fault NotBoolean read h = h
+why-fault Output read h = h
+why-fault Memory read h = tt
+
+-- the first was opened, and the second was not
+pub second-unopened : (x y : Option Spelled) (s : SchemaTree) (l : Option Left) (fault : Fault) → IsOpened x s l → IsFresh l → FailsToOpen fault y → Answers x y (Err (Second (record { batch = None; fault = fault })))
+second-unopened None y s l fault o f e = tt
+second-unopened (Some x) None s l fault o f e = tt
+second-unopened (Some x) (Some y) s None fault o f e = absurd o
+second-unopened (Some x) (Some y) s (Some l) fault o f e = (
+  subst (λ (z : Spelled). HasHeld (z.first 0) (λ h. Unit {0})) (sym o) (held-at s [] (l.first 0) (λ h. Unit {0}) f tt),
+  why-fault fault (y.first 0) e,
+)

@@ -12,3 +12,7 @@ whole_of h = record { first = λ k. Ok (first_batches h k); whole = Ok h }
 
 abbrev pub broken : HeldTree → Fault → Spelled
 broken h fault = record { first = λ k. if nat_lt (length h.batches) k then Err fault else Ok (first_batches h k); whole = Err fault }
+
+-- one whose schema is not read
+abbrev pub unopened : Fault → Spelled
+unopened fault = record { first = λ k. Err fault; whole = Err fault }

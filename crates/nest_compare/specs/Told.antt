@@ -24,7 +24,7 @@ IsEnough (Some (ARow row)) s k = (s.first k ≡ s.whole) ⊎ HasHeld (s.first k)
 abbrev pub Tells : Spelled → Spelled → Option Difference → Type 0
 Tells s t difference = (i j : ℕ) × Compares (s.first i) (t.first j) difference × IsEnough difference s i × IsEnough difference t j
 
--- one reader is at its end for this: its device failed; or it is the first fault of what was read, or memory was wanting
+-- what stops a reader: its device failed; or it is the first fault of what was read, its rows are none, or memory was wanting
 abbrev pub IsFault : Fault → Result HeldTree formats.Fault → Type 0
 IsFault Input read = Unit {0}
 IsFault fault read = IsUnread fault read
@@ -46,6 +46,11 @@ abbrev pub StopsIn : Option ℕ → Fault → Spelled → Spelled → Type 0
 StopsIn None fault s t = IsFault fault (s.first 0)
 StopsIn (Some k) fault s t = IsFault fault (s.first (k + 1)) × (IsDevice fault ⊎ ((j : ℕ) × Begins (s.first k) (t.first j)))
 
+-- reading the second stopped; before any batch it is told of only where the first was opened
+abbrev pub StopsInSecond : Option ℕ → Fault → Spelled → Spelled → Type 0
+StopsInSecond None fault s t = HasHeld (s.first 0) (λ h. Unit {0}) × StopsIn None fault t s
+StopsInSecond (Some k) fault s t = StopsIn (Some k) fault t s
+
 -- they are equal in so many rows that a number of 64 bits does not count them
 abbrev pub AreUncounted : Spelled → Spelled → Type 0
 AreUncounted s t = (i j : ℕ) × HasHeld (s.first i) (λ h. HasHeld (t.first j) (λ g. (h.schema ≡ g.schema) × AreEqualFor (2 ^ 64) (held_rows h) (held_rows g)))
@@ -56,5 +61,5 @@ Answers None t result = Unit {0}
 Answers (Some s) None result = Unit {0}
 Answers (Some s) (Some t) (Ok difference) = Tells s t difference
 Answers (Some s) (Some t) (Err (First stop)) = StopsIn stop.batch stop.fault s t
-Answers (Some s) (Some t) (Err (Second stop)) = StopsIn stop.batch stop.fault t s
+Answers (Some s) (Some t) (Err (Second stop)) = StopsInSecond stop.batch stop.fault s t
 Answers (Some s) (Some t) (Err TooManyRows) = AreUncounted s t

@@ -172,9 +172,10 @@ fn compare_sources<R: SeekRead + Drop, S: SeekRead + Drop>(
 /// that differs. The columns alone are read, as by `nest_look::answering::answer`.
 ///
 /// # Errors
-/// `First` and `Second`: where reading stopped, and why. Before any batch: `Format` with the first fault of the bytes in the order of
-/// reading. In a batch, where the rows of the batches before begin the other input: `Format` with its first fault, `Columns` where its
-/// columns are not those of the schema, side by side. `Input` where the device fails; `Memory`, also within `Format`. `TooManyRows`.
+/// `First` and `Second`: where reading stopped, and why. Before any batch, of the second only where the first was opened: `Format` with the
+/// first fault of the bytes in the order of reading. In a batch, where the rows of the batches before begin the other input: `Format` with
+/// its first fault, `Columns` where its columns are not those of the schema, side by side. `Input` where the device fails; `Memory`, also
+/// within `Format`. `TooManyRows`.
 pub fn compare<R: SeekRead + Drop, S: SeekRead + Drop>(
     alloc: Global,
     columns: Columns<'_>,

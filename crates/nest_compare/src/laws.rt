@@ -9,9 +9,9 @@ ghost use Rattle.nest_look.specs.Holding.{HeldTree};
 ghost use Rattle.nest_look.specs.declared.comparing.Difference.{Difference};
 ghost use Rattle.nest_look.specs.declared.comparing.Difference.TheVariants.{Row, Schema};
 ghost use Rattle.nest_look.specs.declared.fault.Fault.TheVariants.{Format};
-ghost use Rattle.nest_compare.specs.Examples.{broken, whole_of};
+ghost use Rattle.nest_compare.specs.Examples.{broken, unopened, whole_of};
 ghost use Rattle.nest_compare.specs.Inputs.{Spells};
-ghost use Rattle.nest_compare.specs.Told.{StopsIn, Tells};
+ghost use Rattle.nest_compare.specs.Told.{StopsIn, StopsInSecond, Tells};
 
 /// Where both inputs are read without a fault, what is told is how all of them differs first.
 pub fn what_is_told_is_the_first_difference()
@@ -33,9 +33,12 @@ pub fn what_was_not_read_is_not_told()
     ensures row { Tells (broken (truths ((true ∷ []) ∷ [])) Truncated) (whole_of (truths ((true ∷ false ∷ []) ∷ []))) (Some (Row 1)) → ⊥ }
 {}
 
-/// Reading stops behind a row that begins the other input; neither before its fault, nor where the rows before differ.
+/// Reading stops behind a row that begins the other input; neither before its fault, nor where the rows before differ. Before any batch the
+/// second is told of only where the first was opened.
 pub fn reading_stops_behind_equal_rows()
     ensures behind { StopsIn (Some 1) (Format Truncated) (broken (truths ((true ∷ []) ∷ [])) Truncated) (whole_of (truths ((true ∷ false ∷ []) ∷ []))) }
     ensures early { StopsIn (Some 0) (Format Truncated) (broken (truths ((true ∷ []) ∷ [])) Truncated) (whole_of (truths ((true ∷ false ∷ []) ∷ []))) → ⊥ }
     ensures other { StopsIn (Some 1) (Format Truncated) (broken (truths ((false ∷ []) ∷ [])) Truncated) (whole_of (truths ((true ∷ false ∷ []) ∷ []))) → ⊥ }
+    ensures opened { StopsInSecond None (Format Truncated) (whole_of (truths [])) (unopened Truncated) }
+    ensures unopened { StopsInSecond None (Format Truncated) (unopened Truncated) (unopened Truncated) → ⊥ }
 {}
