@@ -35,13 +35,23 @@ fn bits(alloc: Global, n: usize) -> Result<Bitmap, Error> {
     grown.freeze()
 }
 
-/// How many bits from place 3 on are 0.
-fn unset_after_three(bitmap: Bitmap) -> usize {
+/// How many bits from the middle on are 0.
+fn unset_from_middle(bitmap: Bitmap) -> usize {
     let len = bitmap.len();
-    if len < 3 {
-        return 0;
+    let middle = len / 2;
+    bitmap.sliced(middle, len - middle).unset_bits()
+}
+
+/// The unset bits of so many cuts added up, each of which leaves out up to 63 of the first bits.
+fn unset_of_cuts(bitmap: &Bitmap, n: usize) -> Result<usize, Error> {
+    let mut total = 0usize;
+    for i in 0..n {
+        let mut cut = bitmap.clone()?;
+        let place = (i % 64).min(cut.len());
+        cut.slice(place, cut.len() - place);
+        total = total.wrapping_add(cut.unset_bits());
     }
-    bitmap.sliced(3, len - 3).unset_bits()
+    Ok(total)
 }
 
 /// The unset bits of these bitmaps added up, asked of one after another so many times.
@@ -160,6 +170,16 @@ fn run_questions<R: Clock + Print + AllocGlobal>(
     Ok(())
 }
 
+/// Cuts of a thousand bits that leave out few.
+fn run_cuts_of_bits<R: Clock + Print + AllocGlobal>(rt: &R, measured: bool) -> Result<()> {
+    let n = if measured { CUTS } else { FEW };
+    let bitmap = bits(rt.alloc(), FEW)?;
+    let begun = begin(rt, measured)?;
+    let total = unset_of_cuts(&bitmap, n)?;
+    tell(rt, "unset bits of cuts, added up", total, begun, n)?;
+    Ok(())
+}
+
 fn run_bits<R: Clock + Print + AllocGlobal>(rt: &R, measured: bool) -> Result<()> {
     let n = if measured { BITS } else { FEW };
     let begun = begin(rt, measured)?;
@@ -167,9 +187,9 @@ fn run_bits<R: Clock + Print + AllocGlobal>(rt: &R, measured: bool) -> Result<()
     tell(rt, "bits pushed and frozen", bitmap.len(), begun, n)?;
     run_questions(rt, &bitmap, measured)?;
     let begun = begin(rt, measured)?;
-    let unset = unset_after_three(bitmap);
-    tell(rt, "unset bits counted from place 3", unset, begun, n)?;
-    Ok(())
+    let unset = unset_from_middle(bitmap);
+    tell(rt, "unset bits counted from the middle", unset, begun, n / 2)?;
+    run_cuts_of_bits(rt, measured)
 }
 
 fn run_offsets<R: Clock + Print + AllocGlobal>(rt: &R, measured: bool) -> Result<()> {

@@ -1,15 +1,15 @@
 -- Unset bits, counted by whole bytes.
 use Rattle.std.proofs.Common.{◌≡◌, ℕ, zero, suc, ◌+◌, ◌-◌, ◌*◌, ◌/◌, ◌%◌, ◌^◌, ◌≤◌, ◌<◌, Bool, true, false, not, cond, List, [], ◌∷◌, ◌++◌, map, arith, ap, sym, ◌∙◌, refl, nat_eq, get_or, count_by, take, replicate, IsTrue, ◌⊎◌, inl, inr}
-use Rattle.std.specs.Prelude.{Option, None, Some, IfSome}
 use Rattle.std.specs.List.{range_with_len}
 use Rattle.std.specs.Int.{bit_at, w8, count_zeros}
 use lib.Count.{ones, ones_step, ones-le}
 use Rattle.std.proofs.lemmas.List.Sums.{sum_by-cons, sum_by-append, count_by-le-length}
 use Rattle.std.proofs.lemmas.Nat.Bits.{bit_at-suc, bit_at_not, bit_at-lt}
 use Rattle.nest_memory.specs.Bits.{bit, bits_from}
+use Rattle.nest_memory.specs.Cut.{cut}
 use Rattle.std.proofs.lemmas.List.{get_or-take}
 use Rattle.std.proofs.lemmas.Bool.{eqb-true}
-use Rattle.nest_memory.proofs.BitLists.{bits_len, bits_same, bits_none}
+use Rattle.nest_memory.proofs.BitLists.{bits_cut, bits_len, bits_same, bits_none}
 
 -- a digit as a truth and back
 digit_cond : (b : ℕ) → b < 2 → cond (nat_eq b 1) 1 0 ≡ b
@@ -92,27 +92,30 @@ unset_more_no bytes o n e =
     let d : cond (not (bit bytes (o + n))) 1 0 ≡ zero = ap (λ b. cond b 1 0) e in
     omega (arith, unset_append bytes o n 1, unset_one bytes (o + n), d)
 
--- Of a part: all of a window has the window's unset bits, and a part has none where the window has none.
-unset_whole : (bytes : List ℕ) (o n a m : ℕ) → a + m ≤ n → m ≡ n → count_by not (bits_from bytes (o + a) m) ≡ count_by not (bits_from bytes o n)
-unset_whole bytes o n a m h e =
-    let s : o + a ≡ o = omega arith in
-    λ i. count_by not (bits_from bytes (s i) (e i))
-
-unset_within : (bytes : List ℕ) (o n a m : ℕ) → a + m ≤ n → count_by not (bits_from bytes (o + a) m) ≤ count_by not (bits_from bytes o n)
-unset_within bytes o n a m h =
-    let e : n ≡ a + (m + (n - a - m)) = omega arith in
+-- of a part, and of what is before it and behind it
+unset_around : (bytes : List ℕ) (o n a m : ℕ) → a + m ≤ n → count_by not (bits_from bytes o n) ≡ count_by not (bits_from bytes o a) + count_by not (bits_from bytes (o + a) m) + count_by not (bits_from bytes (o + (a + m)) (n - (a + m)))
+unset_around bytes o n a m h =
+    let e : n ≡ a + (m + (n - (a + m))) = omega arith in
     let t = ap (λ k. count_by not (bits_from bytes o k)) e in
-    omega (arith, t, unset_append bytes o a (m + (n - a - m)), unset_append bytes (o + a) m (n - a - m))
+    let s : o + a + m ≡ o + (a + m) = omega arith in
+    let u = ap (λ k. count_by not (bits_from bytes k (n - (a + m)))) s in
+    omega (arith, t, u, unset_append bytes o a (m + (n - (a + m))), unset_append bytes (o + a) m (n - (a + m)))
 
-pub unset_of_part : (bytes : List ℕ) (o n a m : ℕ) (was is : Option ℕ) (whole : Type 0) → a + m ≤ n → (whole → m ≡ n) → IfSome was (λ k. k ≡ count_by not (bits_from bytes o n)) → IfSome is (λ k. (was ≡ Some k) × (whole ⊎ (k ≡ 0))) → IfSome is (λ k. k ≡ count_by not (bits_from bytes (o + a) m))
-unset_of_part bytes o n a m was None whole h all kept known = tt
-unset_of_part bytes o n a m None (Some k) whole h all kept known = absurd cc
-unset_of_part bytes o n a m (Some j) (Some k) whole h all kept known =
-    let e : j ≡ k = cc in
-    elim known.1 [
-      | inl w ↦ sym e ∙ kept ∙ sym (unset_whole bytes o n a m h (all w))
-      | inr z ↦ omega (arith, e, z, kept, unset_within bytes o n a m h)
-    ]
+unset_cut : (bytes : List ℕ) (bits : List Bool) (o n a m : ℕ) → bits_from bytes o n ≡ bits → a + m ≤ n → count_by not (cut bits a m) ≡ count_by not (bits_from bytes (o + a) m)
+unset_cut bytes bits o n a m e h = ap (λ xs. count_by not (cut xs a m)) (sym e) ∙ ap (count_by not) (bits_cut bytes o n a m h)
+
+-- known of the whole, it is known of a part that is all of it, or where it is none
+pub unset_kept : (bytes : List ℕ) (bits : List Bool) (o n a m k : ℕ) → bits_from bytes o n ≡ bits → a + m ≤ n → (k ≡ 0) ⊎ (m ≡ n) → k ≡ count_by not (bits_from bytes o n) → k ≡ count_by not (cut bits a m)
+unset_kept bytes bits o n a m k e h (inl z) c = omega (arith, unset_cut bytes bits o n a m e h, unset_around bytes o n a m h)
+unset_kept bytes bits o n a m k e h (inr w) c =
+    omega (arith, unset_cut bytes bits o n a m e h, unset_around bytes o n a m h, unset_le bytes o a, unset_le bytes (o + (a + m)) (n - (a + m)))
+
+-- and of any part, where what is around it was counted
+pub unset_between : (bytes : List ℕ) (bits : List Bool) (o n a m k before after : ℕ) → bits_from bytes o n ≡ bits → a + m ≤ n → k ≡ count_by not (bits_from bytes o n) → before ≡ count_by not (bits_from bytes o a) → after ≡ count_by not (bits_from bytes (o + (a + m)) (n - (a + m))) → (before + after ≤ k) × (k - before - after ≡ count_by not (cut bits a m))
+unset_between bytes bits o n a m k before after e h c p q =
+    let x = unset_cut bytes bits o n a m e h in
+    let y = unset_around bytes o n a m h in
+    (omega arith, omega arith)
 
 -- one byte more
 pub unset_byte_more : (bytes : List ℕ) (first i b : ℕ) → get_or bytes (first + i) 0 ≡ b → b < 256 → count_by not (bits_from bytes (8 * first) (8 * (i + 1))) ≡ count_by not (bits_from bytes (8 * first) (8 * i)) + count_zeros w8 b

@@ -36,15 +36,8 @@ impl Model for Bitmap {
     ghost invariant = { λ b. (b.offset + b.len ≤ 8 * length b.bytes.value.items) × ((b.offset + b.len < 2 ^ 64) × IfSome b.unset (λ n. n ≡ count_by not (bits_from b.bytes.value.items b.offset b.len))) };
 }
 
-// What is known of a part's unset bits, from those of the whole: the same of all of it, none where there was none.
-fn unset_of_part(unset: Option<usize>, is_whole: bool) -> Option<usize>
-    ensures { IfSome result (λ n. (unset ≡ Some n) × (IsTrue is_whole ⊎ (n ≡ 0))) }
-{
-    match unset {
-        Some(n) if is_whole || n == 0 => unset,
-        _ => None,
-    }
-}
+// So many bits that are cut off are counted at once, so that the unset bits of what is left stay known.
+const FEW: usize = 64;
 
 #[tactic(auto, using(crate::proofs::BitLists::bit_lists))]
 impl Bitmap {
@@ -113,8 +106,8 @@ impl Bitmap {
         bits::get_bit(self.bytes.as_slice(), self.offset + i)
     }
 
-    /// How many bits are 0. That is known of a bitmap that was never cut to a part of itself, and of cuts of one
-    /// where none is 0; else they are counted at each call, by whole bytes.
+    /// How many bits are 0. That is known of a bitmap that was never cut to a part of itself, of cuts of one where
+    /// none is 0, and of cuts that left out at most 64 bits; else they are counted at each call, by whole bytes.
     pub fn unset_bits(&self) -> usize
         ensures { result ≡ count_by not self.now }
     {
@@ -124,12 +117,31 @@ impl Bitmap {
         }
     }
 
-    /// Keeps the `len` bits from place `offset`; no bit moves, and none is counted.
+    // How many bits of a part are 0, where that is known at once.
+    fn unset_of_part(&self, offset: usize, len: usize) -> Option<usize>
+        requires { offset + len ≤ length self.now }
+        ensures { IfSome result (λ n. n ≡ count_by not (cut self.now offset len)) }
+    {
+        let unset = self.unset?;
+        if unset == 0 || len == self.len {
+            return Some(unset);
+        }
+        if self.len - len > FEW {
+            return None;
+        }
+        let bytes = self.bytes.as_slice();
+        let before = bits::unset_bits(bytes, self.offset, offset);
+        let behind = offset + len;
+        let after = bits::unset_bits(bytes, self.offset + behind, self.len - behind);
+        Some(unset - before - after)
+    }
+
+    /// Keeps the `len` bits from place `offset`; no bit moves. Where at most 64 are left out, these are counted.
     pub fn slice(&mut self, offset: usize, len: usize)
         requires { offset + len ≤ length self.old }
         ensures { self.new ≡ cut self.old offset len }
     {
-        self.unset = unset_of_part(self.unset, len == self.len);
+        self.unset = self.unset_of_part(offset, len);
         self.offset += offset;
         self.len = len;
     }

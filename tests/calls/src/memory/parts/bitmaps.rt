@@ -35,6 +35,48 @@ fn cuts_of_shared_bits(rt: HostRuntime) {
     assert!(rt; shared.unset_bits() == 13);
 }
 
+/// The bit i of many.
+fn is_set(i: usize) -> bool {
+    i % 3 != 0
+}
+
+fn many_bits(alloc: Global, n: usize) -> Result<Bitmap, Error> {
+    let mut bits = MutableBitmap::new(alloc);
+    for i in 0..n {
+        bits.push(is_set(i))?;
+    }
+    bits.freeze()
+}
+
+#[test]
+fn unset_bits_of_cuts(rt: HostRuntime) {
+    let cuts = [
+        (0, 1000),
+        (1, 999),
+        (0, 936),
+        (0, 935),
+        (64, 936),
+        (65, 935),
+        (31, 937),
+        (500, 1),
+        (3, 0),
+        (1000, 0),
+    ];
+    for (offset, len) in cuts {
+        let mut cut = many_bits(rt.alloc(), 1000).expect(&rt, "1000 bits");
+        cut.slice(offset, len);
+        let unset = (offset..offset + len).filter(|i| !is_set(*i)).count();
+        assert!(rt; cut.unset_bits() == unset);
+        if len > 7 {
+            cut.slice(5, len - 7);
+            let unset = (offset + 5..offset + len - 2)
+                .filter(|i| !is_set(*i))
+                .count();
+            assert!(rt; cut.unset_bits() == unset);
+        }
+    }
+}
+
 #[test]
 fn short_bitmap(rt: HostRuntime) {
     let refused = bitmap_of(rt.alloc(), &[1], 9).err();
