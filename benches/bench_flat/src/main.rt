@@ -8,6 +8,7 @@ use nest_flat::primitive::PrimitiveArray;
 use nest_flat::primitive::mutable::MutablePrimitiveArray;
 use nest_flat::utf8::Utf8Array;
 use nest_flat::utf8::mutable::MutableUtf8Array;
+use nest_memory::datatypes::DataType;
 use nest_memory::error::Error;
 use std::alloc::Global;
 use std::io;
@@ -163,15 +164,79 @@ fn run_numbers<R: Clock + Print + AllocGlobal>(
     done
 }
 
-/// Pushes texts.
+/// The bytes of the raw values, by their iterator.
+fn bytes_of_values(array: &Utf8Array<i32>) -> usize {
+    let mut bytes = 0usize;
+    for text in array.values_iter() {
+        bytes = bytes.wrapping_add(text.len());
+    }
+    bytes
+}
+
+/// The bytes of the slots that are not null, by their iterator.
+fn bytes_of_slots(array: &Utf8Array<i32>) -> usize {
+    let mut bytes = 0usize;
+    for item in array.iter() {
+        if let Some(text) = item {
+            bytes = bytes.wrapping_add(text.len());
+        }
+    }
+    bytes
+}
+
+/// The bytes of the values by their places.
+fn bytes_of_places(array: &Utf8Array<i32>) -> usize {
+    let mut bytes = 0usize;
+    for i in 0..array.len() {
+        bytes = bytes.wrapping_add(array.value(i).len());
+    }
+    bytes
+}
+
+/// Texts of the same parts, which are tested.
+fn made_again(alloc: Global, array: &Utf8Array<i32>) -> Result<Utf8Array<i32>, Error> {
+    let offsets = array.offsets().clone()?;
+    let values = array.values().clone()?;
+    Utf8Array::try_new(DataType::Utf8, offsets, values, None)
+}
+
+/// Walks an array of texts in three ways, and makes one of its parts.
+fn walk_texts<R: Clock + Print + AllocGlobal>(
+    rt: &R,
+    array: &Utf8Array<i32>,
+    measured: bool,
+) -> Result<()> {
+    let n = array.len();
+    let begun = begin(rt, measured)?;
+    let bytes = bytes_of_values(array);
+    tell(rt, "  bytes of the raw values", bytes, begun, n)?;
+    let begun = begin(rt, measured)?;
+    let bytes = bytes_of_slots(array);
+    tell(rt, "  bytes of the slots", bytes, begun, n)?;
+    let begun = begin(rt, measured)?;
+    let bytes = bytes_of_places(array);
+    tell(rt, "  bytes of the values by their places", bytes, begun, n)?;
+    let begun = begin(rt, measured)?;
+    let other = made_again(rt.alloc(), array)?;
+    let count = other.len();
+    drop(other);
+    tell(rt, "  texts of the same parts", count, begun, n)?;
+    Ok(())
+}
+
+/// Pushes texts, and walks them.
 fn run_texts<R: Clock + Print + AllocGlobal>(rt: &R, measured: bool) -> Result<()> {
     let n = if measured { TEXTS } else { FEW };
     let begun = begin(rt, measured)?;
     let array = texts(rt.alloc(), n)?;
     let bytes = array.values().len();
+    let told = tell(rt, "texts pushed and frozen, their bytes", bytes, begun, n);
+    let done = match told {
+        Ok(()) => walk_texts(rt, &array, measured),
+        Err(error) => Err(error.into()),
+    };
     drop(array);
-    tell(rt, "texts pushed and frozen, their bytes", bytes, begun, n)?;
-    Ok(())
+    done
 }
 
 fn run<R: Clock + Print + AllocGlobal>(rt: &R, measured: bool) -> Result<()> {

@@ -8,3 +8,4 @@ pub mod RawValues
 pub mod Slices
 pub mod SlotRuns
 pub mod TextParts
+pub mod Texts

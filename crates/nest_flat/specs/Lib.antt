@@ -13,3 +13,4 @@ pub mod SameFlat
 pub mod SameRuns
 pub mod Slices
 pub mod Words
+pub mod Texts

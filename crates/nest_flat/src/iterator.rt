@@ -24,6 +24,15 @@ pub trait SlotItems: Copy {
     fn item(&self, i: usize) -> Self::Item
         requires { i < len (array self.now) }
         ensures { slot_of_item result ≡ slot (array self.now) i };
+
+    /// The same items, prepared to be asked for slot i and those near it.
+    fn prepared(self, i: usize) -> Self
+        requires { i < len (array self) }
+        ensures { array result ≡ array self }
+    {
+        let _ = i;
+        self
+    }
 }
 
 /// The items of the slots that are still to come, from both ends; contracts see the list of these slots.
@@ -79,6 +88,7 @@ impl<S: SlotItems> Iterator for SlotsIter<S> {
         if self.front == self.back {
             return None;
         }
+        self.source = self.source.prepared(self.front);
         let item = self.source.item(self.front);
         self.front += 1;
         Some(item)
@@ -104,6 +114,7 @@ impl<S: SlotItems> DoubleEndedIterator for SlotsIter<S> {
         if self.front == self.back {
             return None;
         }
+        self.source = self.source.prepared(self.back - 1);
         let item = self.source.item(self.back - 1);
         self.back -= 1;
         Some(item)

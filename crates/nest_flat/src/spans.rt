@@ -1,11 +1,14 @@
 //! Offsets over bytes: what arrays of bytes and of texts share.
 ghost use Rattle.std.specs.Prelude.{◌≡◌, ◌+◌, ◌↔◌, ◌≤◌, ◌<◌, ◌^◌, [], IfOk, IsOkUnless, IsTrue, IsUtf8, alloc_error, length, replicate, suc};
+ghost use Rattle.nest_model.specs.Fits.{covered as covered_lem};
+ghost use Rattle.nest_flat.specs.Texts.{AreEdges};
 ghost use Rattle.nest_flat.specs.Words.{AreOffsets, EachText, Memory, begin, cut, extent, last_of, count_rows};
 
 use nest_memory::buffer::Buffer;
 use nest_memory::error::Error;
 use nest_memory::offset::Offset;
 use nest_memory::offsets::{Offsets, OffsetsBuffer};
+use simdutf8::compat::from_utf8;
 use std::alloc::Global;
 use std::str;
 
@@ -33,14 +36,7 @@ pub(crate) fn span<'a, O: Offset>(
     &bytes.as_slice()[start..end]
 }
 
-/// Whether bytes are UTF-8.
-fn is_text(bytes: &[u8]) -> bool
-    ensures { IsTrue result ↔ IsUtf8 bytes.now }
-{
-    str::from_utf8(bytes).is_ok()
-}
-
-/// The text that UTF-8 bytes are.
+/// The text that UTF-8 bytes are: those of one slot, which are few.
 pub(crate) fn text_of(bytes: &[u8]) -> &str
     requires { IsUtf8 bytes.now }
     ensures { result.now ≡ bytes.now }
@@ -51,18 +47,54 @@ pub(crate) fn text_of(bytes: &[u8]) -> &str
     }
 }
 
-/// Whether the bytes of each slot are UTF-8.
-pub(crate) fn are_texts<O: Offset>(offsets: &OffsetsBuffer<O>, bytes: &Buffer<u8>) -> bool
-    requires { last_of offsets.now ≤ length bytes.now }
-    ensures { IsTrue result ↔ EachText offsets.now bytes.now }
+/// The text that UTF-8 bytes are: those of many slots.
+pub(crate) fn long_text_of(bytes: &[u8]) -> &str
+    requires { IsUtf8 bytes.now }
+    ensures { result.now ≡ bytes.now }
 {
+    match from_utf8(bytes) {
+        Ok(text) => text,
+        Err(_) => unreachable!(),
+    }
+}
+
+/// The bytes that the offsets cover, from the first to the last.
+fn covered<'a, O: Offset>(offsets: &OffsetsBuffer<O>, bytes: &'a Buffer<u8>) -> &'a [u8]
+    requires { last_of offsets.now ≤ length bytes.now }
+    ensures { result.now ≡ covered_lem offsets.now bytes.now }
+{
+    offsets.known();
+    let first = offsets.first();
+    let last = offsets.last();
+    &bytes.as_slice()[first..last]
+}
+
+/// Whether no offset lies inside a character of the text that the offsets cover.
+fn are_edges<O: Offset>(offsets: &OffsetsBuffer<O>, text: &str) -> bool
+    ensures { IsTrue result ↔ AreEdges offsets.now text.now }
+{
+    offsets.known();
+    let first = offsets.first();
     for i in 0..offsets.len_proxy() {
-        let text = is_text(span(offsets, bytes, i));
-        if !text {
+        let (_, end) = offsets.start_end(i);
+        if !text.is_char_boundary(end - first) {
             return false;
         }
     }
     true
+}
+
+/// Whether the bytes of each slot are UTF-8: all that the offsets cover are tested as one text, of which no offset may
+/// lie inside a character.
+pub(crate) fn are_texts<O: Offset>(offsets: &OffsetsBuffer<O>, bytes: &Buffer<u8>) -> bool
+    requires { last_of offsets.now ≤ length bytes.now }
+    ensures { IsTrue result ↔ EachText offsets.now bytes.now }
+{
+    offsets.known();
+    match from_utf8(covered(offsets, bytes)) {
+        Ok(text) => are_edges(offsets, text),
+        Err(_) => false,
+    }
 }
 
 /// The offsets and the bytes of `length` slots that have none.

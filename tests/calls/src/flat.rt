@@ -6,6 +6,7 @@
 //! | Days are numbers of 32 bits, 64-bit numbers are not; a validity that is too long comes first | `arrays::refusals::natives_of_their_data_type` |
 //! | hello, null, null, world, null, null is not hello, foo, null, world, null, null; each is equal to itself | `arrays::same::a_null_is_no_value` |
 //! | Slots, and what lies under a null, of each kind | `arrays::kinds::slots_of_numbers`, `arrays::kinds::slots_of_truths`, `arrays::kinds::slots_of_bytes`, `arrays::kinds::slots_of_texts` |
+//! | Texts of many slots, of one to three bytes a character, from both ends and of cuts | `arrays::iterators::many_texts_from_both_ends`, `arrays::iterators::many_texts_of_cuts` |
 //! | Nulls of each kind over zeros, false, no byte; none of each kind; refused types and lengths | `arrays::nulls` |
 //! | Raw values in blocks: of 0, 1, 16 and 17 values, at other places, under nulls | `arrays::blocks` |
 //! | A native value of each kind is of that kind alone, and comes back | `natives` |

@@ -1,13 +1,15 @@
 //! The slots and the raw values of an array of texts, from both ends.
-ghost use Rattle.std.specs.Prelude.{◌≡◌, None};
+ghost use Rattle.std.specs.Prelude.{◌≡◌, ◌<◌, None, ⊤};
 ghost use Rattle.nest_model.specs.Slot as slots;
-ghost use Rattle.nest_flat.specs.Words.{optional, slots_of, with_validity};
+ghost use Rattle.nest_flat.specs.Texts.{IsTextOf};
+ghost use Rattle.nest_flat.specs.Words.{len, optional, slots_of, with_validity};
 
 use crate::flat_array::{FlatArray, Slots, Values};
 use crate::iterator::{SlotItems, SlotsIter};
 use crate::utf8::Utf8Array;
 use nest_memory::datatypes::DataType;
 use nest_memory::offset::Offset;
+use std::alloc::AllocError;
 
 /// The items of an array's slots, `None` where one is null.
 pub type Utf8Iter<'a, O> = SlotsIter<Utf8Slots<'a, O>>;
@@ -51,45 +53,117 @@ impl<'a, O: Offset> FlatArray for &'a Utf8Array<O> {
     }
 }
 
-// Types of their own, since no proof covers an iterator over `Slots` whose values are references.
+/// How many slots have their texts tested together.
+const BLOCK: usize = 64;
 
-/// The slots of an array of texts, `None` where one is null.
-#[derive(Clone, Copy)]
-pub struct Utf8Slots<'a, O: Offset>(pub &'a Utf8Array<O>);
+/// The raw values of an array of texts, also those under nulls. Those of slots next to one another are tested as one text, of which each is a part.
+pub struct Utf8Values<'a, O: Offset> {
+    array: &'a Utf8Array<O>,
+    // the text of the slots from `first` on, before `end`
+    text: &'a str,
+    first: usize,
+    end: usize,
+    ghost block: { first < end → IsTextOf array.now first end text.now },
+}
 
-impl<'a, O: Offset> SlotItems for Utf8Slots<'a, O> {
-    type Item = Option<&'a str>;
+impl<'a, O: Offset> Copy for Utf8Values<'a, O> {}
 
-    ghost array = { λ s. s.0.now };
+impl<'a, O: Offset> Clone for Utf8Values<'a, O> {
+    ghost is_clone = { λ x y. y ≡ x };
 
-    ghost slot_of_item = { optional (λ x. slots.text x.now) };
+    ghost is_infallible = { λ _. ⊤ };
 
-    fn count(&self) -> usize {
-        Slots(self.0).count()
-    }
-
-    fn item(&self, i: usize) -> Option<&'a str> {
-        Slots(self.0).item(i)
+    fn clone(&self) -> Result<Utf8Values<'a, O>, AllocError> {
+        Ok(*self)
     }
 }
 
-/// The raw values of an array of texts, also those under nulls.
-#[derive(Clone, Copy)]
-pub struct Utf8Values<'a, O: Offset>(pub &'a Utf8Array<O>);
+impl<'a, O: Offset> Utf8Values<'a, O> {
+    /// Before any text was tested.
+    fn new(array: &'a Utf8Array<O>) -> Utf8Values<'a, O>
+        ensures { result.array.now ≡ array.now }
+    {
+        Utf8Values {
+            array,
+            text: "",
+            first: 0,
+            end: 0,
+        }
+    }
 
+    /// With the texts of slot i and of those near it tested.
+    fn near(self, i: usize) -> Utf8Values<'a, O>
+        requires { i < len self.array.now }
+        ensures { result.array.now ≡ self.entry.array.now }
+    {
+        if self.first <= i && i < self.end {
+            return self;
+        }
+        let array = self.array;
+        let first = i - i % BLOCK;
+        let end = first + BLOCK.min(array.len() - first);
+        Utf8Values {
+            array,
+            text: array.text_between(first, end),
+            first,
+            end,
+        }
+    }
+}
+
+#[tactic(auto, using(crate::specs::BareSlots::len_bare))]
 impl<'a, O: Offset> SlotItems for Utf8Values<'a, O> {
     type Item = &'a str;
 
-    ghost array = { λ s. with_validity s.0.now None };
+    ghost array = { λ s. with_validity s.array.now None };
 
     ghost slot_of_item = { λ x. slots.text x.now };
 
     fn count(&self) -> usize {
-        Values(self.0).count()
+        Values(self.array).count()
     }
 
     fn item(&self, i: usize) -> &'a str {
-        Values(self.0).item(i)
+        if self.first <= i && i < self.end {
+            return self.array.value_in(self.text, self.first, self.end, i);
+        }
+        Values(self.array).item(i)
+    }
+
+    fn prepared(self, i: usize) -> Utf8Values<'a, O> {
+        self.near(i)
+    }
+}
+
+/// The slots of an array of texts, `None` where one is null.
+#[derive(Clone, Copy)]
+pub struct Utf8Slots<'a, O: Offset> {
+    values: Utf8Values<'a, O>,
+}
+
+#[tactic(auto, using(crate::specs::BareSlots::len_bare))]
+impl<'a, O: Offset> SlotItems for Utf8Slots<'a, O> {
+    type Item = Option<&'a str>;
+
+    ghost array = { λ s. s.values.array.now };
+
+    ghost slot_of_item = { optional (λ x. slots.text x.now) };
+
+    fn count(&self) -> usize {
+        Slots(self.values.array).count()
+    }
+
+    fn item(&self, i: usize) -> Option<&'a str> {
+        if self.values.array.is_null(i) {
+            return None;
+        }
+        Some(self.values.item(i))
+    }
+
+    fn prepared(self, i: usize) -> Utf8Slots<'a, O> {
+        Utf8Slots {
+            values: self.values.near(i),
+        }
     }
 }
 
@@ -98,13 +172,15 @@ impl<O: Offset> Utf8Array<O> {
     pub fn iter(&self) -> Utf8Iter<'_, O>
         ensures { result ≡ slots_of self.now }
     {
-        SlotsIter::new(Utf8Slots(self))
+        SlotsIter::new(Utf8Slots {
+            values: Utf8Values::new(self),
+        })
     }
 
     /// Its raw values, from both ends.
     pub fn values_iter(&self) -> Utf8ValuesIter<'_, O>
         ensures { result ≡ slots_of (with_validity self.now None) }
     {
-        SlotsIter::new(Utf8Values(self))
+        SlotsIter::new(Utf8Values::new(self))
     }
 }

@@ -6,6 +6,7 @@ mod nulls;
 ghost use Rattle.std.specs.Prelude.{◌≡◌, ◌+◌, ◌≤◌, ◌<◌, ◌↔◌, IsTrue, IfOk, IsOkUnless, MatchResult, MatchOption, None, option_map, alloc_error};
 ghost use Rattle.nest_model.specs.Layout as layouts;
 ghost use Rattle.nest_model.specs.Slot as slots;
+ghost use Rattle.nest_flat.specs.Texts.{IsTextOf};
 ghost use Rattle.nest_flat.specs.Words.{FirstFault, Fits, HasValidity, IsCut, Memory, RefusesValidity, TopFits, begin, bytes_of, cut, cut_layout, extent, is_null_at, layout_type, len, null_count, offsets_of, optional, slot, text_of_width, type_of, valid_at, validity_of, where_valid, with_validity};
 
 use crate::{spans, validity};
@@ -205,6 +206,31 @@ impl<O: Offset> Utf8Array<O> {
         ensures unmasked { slot (with_validity self.now None) i ≡ slots.text result.now }
     {
         spans::text_of(spans::span(&self.offsets, &self.values, i))
+    }
+
+    // The text of the slots from one place to another, tested as one.
+    pub(crate) fn text_between(&self, first: usize, end: usize) -> &str
+        requires some { first < end }
+        requires within { end ≤ len self.now }
+        ensures { IsTextOf self.now first end result.now }
+    {
+        let (start, _) = self.offsets.start_end(first);
+        let (_, stop) = self.offsets.start_end(end - 1);
+        self.offsets.known();
+        spans::long_text_of(&self.values.as_slice()[start..stop])
+    }
+
+    // The raw value of slot i, of the text of the slots from one place to another.
+    pub(crate) fn value_in<'a>(&self, text: &'a str, first: usize, end: usize, i: usize) -> &'a str
+        requires block { IsTextOf self.now first end text.now }
+        requires first { first ≤ i }
+        requires end { i < end }
+        ensures { slot (with_validity self.now None) i ≡ slots.text result.now }
+    {
+        let (start, _) = self.offsets.start_end(first);
+        let (from, to) = self.offsets.start_end(i);
+        self.offsets.known();
+        &text[from - start..to - start]
     }
 
     // The bytes of slot i.

@@ -1,13 +1,15 @@
-use Rattle.std.specs.Prelude.{◌<◌}
-use Rattle.std.proofs.Common.{arith, below_more, sym, ◌∙◌, subst}
+use Rattle.std.specs.Prelude.{false, List}
 use Rattle.std.specs.Str.{IsUtf8}
-use Rattle.nest_model.specs.Part.{count_rows}
+use Rattle.std.proofs.Common.{ℕ, ◌∙◌, subst, refl}
+use Rattle.nest_flat.proofs.Texts.{no-texts, texts-by-edges}
 use Rattle.nest_flat.proofs.spans.are_texts.Goals as goal
 
-pub loop-i-preserved : goal.loop-i-preserved
-loop-i-preserved g c = below_more _ _ c.loop-i.invariant (subst IsUtf8 c.span.ensures (c.is_text-text.ensures.0 c.if-not-text.false))
+pub returns-in-Ok : goal.returns-in-Ok
+returns-in-Ok g c =
+    texts-by-edges c.args.offsets.now c.args.bytes.now c.in-Ok.text.now c.are_edges.result (c.known.ensures.some, c.known.ensures.rising) c.requires
+    (c.in-Ok.ensures.cases.0 ∙ c.covered.ensures) (subst (λ (x : List ℕ). IsUtf8 x) c.covered.ensures c.in-Ok.ensures.cases.1) c.are_edges.ensures
 
-pub returns-then-not-text : goal.returns-then-not-text
-returns-then-not-text g c =
-    let h : c.loop-i.i < count_rows c.args.offsets.now = omega (arith, c.loop-i-test.true, c.len_proxy-i-end.ensures) in
-    (λ f. cc, λ e. sym c.if-not-text.true ∙ c.is_text-text.ensures.1 (subst IsUtf8 (sym c.span.ensures) (e c.loop-i.i h)))
+pub returns-in-Err : goal.returns-in-Err
+returns-in-Err g c =
+    no-texts c.args.offsets.now c.args.bytes.now false (c.known.ensures.some, c.known.ensures.rising) c.requires
+    (subst (λ (x : List ℕ). ¬ (IsUtf8 x)) c.covered.ensures c.in-Err.ensures.cases.0) refl

@@ -1,6 +1,10 @@
 //! Slots and raw values from both ends, and how many are left.
 use super::{binaries, numbers, texts, truths};
+use nest_flat::utf8::Utf8Array;
+use nest_flat::utf8::mutable::MutableUtf8Array;
 use nest_memory::datatypes::DataType;
+use nest_memory::error::Error;
+use std::alloc::Global;
 
 #[test]
 fn numbers_from_both_ends(rt: HostRuntime) {
@@ -69,4 +73,50 @@ fn texts_from_both_ends(rt: HostRuntime) {
     assert!(rt; slots.len() == 0);
     assert!(rt; slots.next_back().is_none());
     assert!(rt; array.values_iter().next() == Some("one"));
+}
+
+const WORDS: [&str; 4] = ["", "é", "日本", "text"];
+
+/// The slot i of many.
+fn word(i: usize) -> Option<&'static str> {
+    if i % 10 == 9 { None } else { Some(WORDS[i % 4]) }
+}
+
+fn many_texts(alloc: Global, n: usize) -> Result<Utf8Array<i32>, Error> {
+    let mut builder = MutableUtf8Array::new(alloc)?;
+    for i in 0..n {
+        builder.try_push(word(i))?;
+    }
+    builder.freeze()
+}
+
+#[test]
+fn many_texts_from_both_ends(rt: HostRuntime) {
+    let array = many_texts(rt.alloc(), 200).expect(&rt, "200 slots");
+    let mut slots = array.iter();
+    for i in 0..100 {
+        assert!(rt; slots.next() == Some(word(i)));
+        assert!(rt; slots.next_back() == Some(word(199 - i)));
+    }
+    assert!(rt; slots.next().is_none());
+    assert!(rt; slots.next_back().is_none());
+}
+
+#[test]
+fn many_texts_of_cuts(rt: HostRuntime) {
+    for (o, n) in [(0, 64), (1, 64), (63, 2), (37, 130), (199, 1), (200, 0)] {
+        let array = many_texts(rt.alloc(), 200).expect(&rt, "200 slots");
+        let cut = array.sliced(o, n);
+        let mut count = 0;
+        for item in cut.iter() {
+            assert!(rt; item == word(o + count));
+            count += 1;
+        }
+        assert!(rt; count == n);
+        let mut values = cut.values_iter();
+        for k in 0..n {
+            assert!(rt; values.next_back() == Some(word(o + n - 1 - k).unwrap_or("")));
+        }
+        assert!(rt; values.next_back().is_none());
+    }
 }

@@ -5,8 +5,9 @@ use Rattle.nest_flat.proofs.iterator.SlotsIterIterator.next.Goals as goal
 
 pub returns-clause-steps : goal.returns-clause-steps
 returns-clause-steps g c =
-    let f = slot (g.S.SlotItems.array c.self.inside.source) in
+    let f = slot (g.S.SlotItems.array c.prepared-self-inside.result) in
     let more : c.self.inside.front < c.self.inside.back = omega (arith, c.self.invariant.0, c.if-self.false) in
     sym c.self.view_is
+    ∙ ap (λ a. run (slot a) c.self.inside.front (c.self.inside.back - c.self.inside.front)) (sym c.prepared-self-inside.ensures)
     ∙ run-first f c.self.inside.front c.self.inside.back more
     ∙ ap (λ s. s ∷ run f (c.self.inside.front + 1) (c.self.inside.back - (c.self.inside.front + 1))) (sym c.item-item.ensures)
