@@ -1,5 +1,5 @@
 mod Lists
-mod Walk
-mod Sources
+pub mod Walk
+pub mod Sources
 mod Looks
 mod Whole

@@ -44,14 +44,14 @@ one-before : (bs : List Arrays) (b : Arrays) (others : Some_) → prefix bs (bef
 one-before bs b (Ok more) = ap (λ (l : List Arrays). Ok l) (sym (append_assoc bs (b ∷ []) more))
 one-before bs b (Err fault) = refl
 
-behind-none : (t : Left) → t.first 0 ≡ Ok [] → IsBehind t 0 [] t
+pub behind-none : (t : Left) → t.first 0 ≡ Ok [] → IsBehind t 0 [] t
 behind-none t none = record {
   first = λ m. let e : 0 + m ≡ m = omega arith in ap t.first e ∙ none-before (t.first m);
   whole = none-before t.whole;
   none = none;
 }
 
-behind-more : (t u v : Left) (k : ℕ) (bs : List Arrays) (b : Arrays) → IsBehind t k bs u → Steps u v (Some b) → IsBehind t (k + 1) (bs ++ b ∷ []) v
+pub behind-more : (t u v : Left) (k : ℕ) (bs : List Arrays) (b : Arrays) → IsBehind t k bs u → Steps u v (Some b) → IsBehind t (k + 1) (bs ++ b ∷ []) v
 behind-more t u v k bs b h step = record {
   first = λ m.
       let e : k + 1 + m ≡ k + (m + 1) = omega arith in
@@ -60,12 +60,12 @@ behind-more t u v k bs b h step = record {
   none = step.0;
 }
 
-behind-first : (t u : Left) (k : ℕ) (bs : List Arrays) → IsBehind t k bs u → t.first k ≡ Ok bs
+pub behind-first : (t u : Left) (k : ℕ) (bs : List Arrays) → IsBehind t k bs u → t.first k ≡ Ok bs
 behind-first t u k bs h =
     let e : k ≡ k + 0 = omega arith in
     ap t.first e ∙ h.first 0 ∙ ap (prefix bs) h.none ∙ ap (λ (l : List Arrays). Ok l) (append-nil bs)
 
-behind-whole : (t u v : Left) (k : ℕ) (bs : List Arrays) → IsBehind t k bs u → Steps u v None → t.whole ≡ Ok bs
+pub behind-whole : (t u v : Left) (k : ℕ) (bs : List Arrays) → IsBehind t k bs u → Steps u v None → t.whole ≡ Ok bs
 behind-whole t u v k bs h end = h.whole ∙ ap (prefix bs) end ∙ ap (λ (l : List Arrays). Ok l) (append-nil bs)
 
 -- ---- rows of batches
@@ -76,7 +76,7 @@ rows-more s (a ∷ bs) b =
     ap (λ rs. rows_of (batch_array s.fields a) ++ rs) (rows-more s bs b)
     ∙ sym (append_assoc (rows_of (batch_array s.fields a)) (held_rows (of_batches s bs)) (rows_of (batch_array s.fields b)))
 
-fits-last : (fs : List FieldTree) (bs cs : List Arrays) → AllByRecursion Fits (map (batch_array fs) (bs ++ cs)) → AllByRecursion Fits (map (batch_array fs) cs)
+pub fits-last : (fs : List FieldTree) (bs cs : List Arrays) → AllByRecursion Fits (map (batch_array fs) (bs ++ cs)) → AllByRecursion Fits (map (batch_array fs) cs)
 fits-last fs [] cs h = h
 fits-last fs (b ∷ bs) cs h = fits-last fs bs cs h.1
 
@@ -86,7 +86,7 @@ of-held : (s : SchemaTree) (fault : formats.Fault) (read : Some_) → held_with 
 of-held s fault (Ok bs) e = absurd cc
 of-held s fault (Err other) e = grind (arith, e)
 
-unfit : (s : SchemaTree) (bs : List Arrays) (read : Some_) → HasHeld (held_with s read) (λ h. AllByRecursion Fits (batch_arrays h) → ⊥) → HasHeld (held_with s (prefix bs read)) (λ h. AllByRecursion Fits (batch_arrays h) → ⊥)
+pub unfit : (s : SchemaTree) (bs : List Arrays) (read : Some_) → HasHeld (held_with s read) (λ h. AllByRecursion Fits (batch_arrays h) → ⊥) → HasHeld (held_with s (prefix bs read)) (λ h. AllByRecursion Fits (batch_arrays h) → ⊥)
 unfit s bs (Ok cs) h = λ all. h (fits-last s.fields bs cs all)
 unfit s bs (Err fault) h = absurd h
 
@@ -101,7 +101,7 @@ failed NotBoolean s bs read h = h
 failed Output s bs read h = h
 failed Memory s bs read h = tt
 
-behind-fault : (fault : Fault) (s : SchemaTree) (t u : Left) (k : ℕ) (bs : List Arrays) → IsBehind t k bs u → IsFault fault (held_with s (u.first 1)) → IsFault fault (held_with s (t.first (k + 1)))
+pub behind-fault : (fault : Fault) (s : SchemaTree) (t u : Left) (k : ℕ) (bs : List Arrays) → IsBehind t k bs u → IsFault fault (held_with s (u.first 1)) → IsFault fault (held_with s (t.first (k + 1)))
 behind-fault fault s t u k bs h f = subst (λ (r : Some_). IsFault fault (held_with s r)) (sym (h.first 1)) (failed fault s bs (u.first 1) f)
 
 is-fault : (fault : Fault) (read : Result HeldTree formats.Fault) → IsUnread fault read → IsFault fault read
@@ -159,7 +159,7 @@ came (Some t) s done k rows (Some u) (Some v) a p e g = record {
       ∙ ap (λ (l : Layout). done ++ rows_of l) (sym g.1);
 }
 
-held-at : (s : SchemaTree) (bs : List Arrays) (read : Some_) (P : HeldTree → Type 0) → read ≡ Ok bs → P (of_batches s bs) → HasHeld (held_with s read) P
+pub held-at : (s : SchemaTree) (bs : List Arrays) (read : Some_) (P : HeldTree → Type 0) → read ≡ Ok bs → P (of_batches s bs) → HasHeld (held_with s read) P
 held-at s bs read P e p = subst (λ (r : Some_). HasHeld (held_with s r) P) (sym e) p
 
 pub stopped : (t : Option Left) (s : SchemaTree) (done : List Row) (k : ℕ) (rows : List Row) (u : Option Left) (fault : Fault) → Pends t s done false k rows u → rows ≡ [] → FailsRows s fault u

@@ -5,7 +5,7 @@
 mod comparing;
 pub mod laws;
 mod pending;
-mod source;
+pub mod source;
 
 pub use comparing::{Uncompared, compare};
 pub use source::Input;

@@ -28,8 +28,10 @@ pub enum Input<R> {
 
 /// A reader of either, and which batch of a file is next.
 #[derive(Drop)]
-pub(crate) enum Source<R> {
+pub enum Source<R> {
+    /// A stream.
     Stream(DeviceReader<R>),
+    /// A file, and the number of its next batch.
     File(DeviceFileReader<R>, usize),
 }
 
@@ -44,7 +46,10 @@ fn told(e: ReadError) -> Fault
 }
 
 /// The reader of an input, of the columns alone.
-pub(crate) fn open<R: SeekRead + Drop>(
+///
+/// # Errors
+/// `Format` with the first fault of the bytes in the order of reading, which may be `Memory`; `Input` where the device fails.
+pub fn open<R: SeekRead + Drop>(
     alloc: Global,
     columns: Columns<'_>,
     input: Input<R>,
@@ -104,7 +109,7 @@ fn next_of_file<R: SeekRead + Drop>(
 
 impl<R> Source<R> {
     /// The columns of all batches.
-    pub(crate) fn schema(&self) -> &Schema
+    pub fn schema(&self) -> &Schema
         ensures { schema_of result.now ≡ schema_in self.now }
     {
         match self {
@@ -116,7 +121,10 @@ impl<R> Source<R> {
 
 impl<R: SeekRead + Drop> Source<R> {
     /// The next batch, or none at the end.
-    pub(crate) fn next_batch(&mut self, alloc: Global) -> Result<Option<Batch>, Fault>
+    ///
+    /// # Errors
+    /// Those of [`open`].
+    pub fn next_batch(&mut self, alloc: Global) -> Result<Option<Batch>, Fault>
         ensures next { IfOk result (λ n. GivesNext (left_of R.remaining R.stream_position R.stream_bytes self.old) (left_of R.remaining R.stream_position R.stream_bytes self.new) (option_map arrays_of n)) }
         ensures fault { IfErr result (λ e. FailsNext e (left_of R.remaining R.stream_position R.stream_bytes self.old)) }
         ensures schema { schema_in self.new ≡ schema_in self.old }

@@ -246,7 +246,8 @@ fn chosen_batches(
     }
 }
 
-fn fault_of(refusal: Refusal) -> Fault
+/// The fault that tells of a refusal.
+pub fn fault_of(refusal: Refusal) -> Fault
     ensures { result ≡ fault_for refusal }
 {
     match refusal {
@@ -285,7 +286,10 @@ fn chosen_rows(alloc: Global, choice: &Choice, held: Held) -> Result<Held, Fault
 }
 
 /// The rows that are chosen of what was read, under its schema.
-fn select_held(alloc: Global, choice: &Choice, held: Held) -> Result<Held, Fault>
+///
+/// # Errors
+/// Those of [`select`] before `Form`.
+pub fn select_held(alloc: Global, choice: &Choice, held: Held) -> Result<Held, Fault>
     ensures rows { IfOk result (λ chosen. IsChosen (seen_choice choice.now) (held_of held) (held_of chosen)) }
     ensures fault { IfErr result (λ e. IsUnchosen e (seen_choice choice.now) (held_of held)) }
 {
