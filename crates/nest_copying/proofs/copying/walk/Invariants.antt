@@ -1,0 +1,18 @@
+use Rattle.std.proofs.Common.{◌≡◌, Option}
+use Rattle.ipc_schema.specs.Schemas.{SchemaTree}
+use Rattle.nest_compare.specs.Left.{Left}
+use Rattle.nest_compare.specs.Sources.{left_of, schema_in}
+use Rattle.nest_words.specs.Asked.{Chosen}
+use Rattle.nest_words.specs.Seen.{seen_choice}
+use Rattle.nest_words.specs.declared.form.Form as forms
+use Rattle.nest_copying.specs.Walks.{Copying}
+use Rattle.nest_copying.proofs.copying.walk.Given as goal
+
+abbrev pub invariant-loop-k : goal.invariant-loop-k
+invariant-loop-k g l =
+    let of_ = left_of g.R.Read.remaining g.R.Seek.stream_position g.R.Seek.stream_bytes in
+    record {
+      schema : schema_in l.source ≡ schema_in l.fn.source;
+      on : (form : forms.Form) (c : Chosen) (s : SchemaTree) (t : Option Left) (start : _) → schema_in l.fn.source ≡ s → Copying g.W.Write.contents form c s t start 0 (seen_choice l.fn.left) (of_ l.fn.source) l.fn.sink
+          → Copying g.W.Write.contents form c s t start l.k (seen_choice l.left) (of_ l.source) l.sink;
+    }

@@ -1,0 +1,80 @@
+-- How far batches were copied.
+use Rattle.std.specs.Prelude.{◌≡◌, ◌⊎◌, ◌+◌, ℕ, List, [], ◌∷◌, ◌++◌, length, Option, Some, None, Result, Ok, Err}
+use Rattle.nest_memory.specs.TypeTree.{FieldTree}
+use Rattle.ipc_schema.specs.Schemas.{SchemaTree}
+use Rattle.ipc.specs.Streams.{Arrays}
+use Rattle.nest_answer.specs.Named.{column_fault}
+use Rattle.nest_batches.specs.Firsts.{held_with}
+use Rattle.nest_batches.specs.declared.stop.Stop.{Stop}
+use Rattle.nest_compare.specs.Left.{Left}
+use Rattle.nest_compare.specs.Pending.{IsBehind, of_batches}
+use Rattle.nest_look.specs.Outcome.{HasHeld}
+use Rattle.nest_look.specs.Selected.{batch_rows}
+use Rattle.nest_look.specs.declared.fault.Fault.{Fault}
+use Rattle.nest_words.specs.Asked.{Chosen}
+use Rattle.nest_words.specs.declared.form.Form as forms
+use Rattle.nest_copying.specs.Asking.{AreCopied, FailsBatch, IsInOrder, behind}
+use Rattle.nest_copying.specs.Copied.{IsEnough, IsUnwritten, StopsFor}
+use Rattle.nest_copying.specs.Sinks.{FailsWrite, HasPut}
+use Rattle.nest_copying.specs.declared.sink.Sink.{Sink}
+
+-- one of these batches was not written
+abbrev pub FailsPart : Fault → forms.Form → SchemaTree → List Arrays → Type 0
+FailsPart fault form s bs = FailsWrite fault (λ why. IsUnwritten form (of_batches s bs) why)
+
+module _ {W : Type 0} (contents : W → Option (List ℕ)) where
+  -- what is chosen of a batch was put behind the others
+  abbrev pub Writes : Chosen → List FieldTree → Arrays → Sink W → Sink W → Type 0
+  Writes c fs b old new = (form : forms.Form) (start : W) (s : SchemaTree) (went : List Arrays) → HasPut contents form start s went old → (more : List Arrays) × AreCopied c fs (b ∷ []) more × HasPut contents form start s (went ++ more) new
+
+  -- nothing is chosen of it, or what is was not written
+  abbrev pub FailsWrites : Fault → Chosen → List FieldTree → Arrays → Sink W → Type 0
+  FailsWrites fault c fs b old =
+      FailsBatch fault c fs (b ∷ []) ⊎ ((form : forms.Form) (start : W) (s : SchemaTree) (went : List Arrays) → HasPut contents form start s went old → (more : List Arrays) × AreCopied c fs (b ∷ []) more × FailsPart fault form s (went ++ more))
+
+  -- so many batches came, and what is chosen of them went; this is chosen of what is left
+  pub record IsCopying (form : forms.Form) (c : Chosen) (s : SchemaTree) (t : Left) (start : W) (k : ℕ) (now : Chosen) (u : Left) (sink : Sink W) : Type 0 where
+    pub came : List Arrays
+    pub went : List Arrays
+    pub at : IsBehind t k came u
+    pub are : AreCopied c s.fields came went
+    pub rest : now ≡ behind c (length (batch_rows s.fields came))
+    pub in_order : IsInOrder c
+    pub has_column : column_fault c s.fields ≡ None
+    pub put : HasPut contents form start s went sink
+
+  abbrev pub Copying : forms.Form → Chosen → SchemaTree → Option Left → W → ℕ → Chosen → Option Left → Sink W → Type 0
+  Copying form c s None start k now u sink = Unit {0}
+  Copying form c s (Some t) start k now None sink = ⊥
+  Copying form c s (Some t) start k now (Some u) sink = IsCopying form c s t start k now u sink
+
+  -- they are all that are asked for
+  pub record IsCopied (form : forms.Form) (c : Chosen) (s : SchemaTree) (t : Left) (start : W) (k : ℕ) (sink : Sink W) : Type 0 where
+    pub came : List Arrays
+    pub went : List Arrays
+    pub at : t.first k ≡ Ok came
+    pub are_all : (t.first k ≡ t.whole) ⊎ IsEnough c (of_batches s came)
+    pub are : AreCopied c s.fields came went
+    pub has_column : column_fault c s.fields ≡ None
+    pub put : HasPut contents form start s went sink
+
+  abbrev pub Copied : forms.Form → Chosen → SchemaTree → Option Left → W → ℕ → Sink W → Type 0
+  Copied form c s None start k sink = Unit {0}
+  Copied form c s (Some t) start k sink = IsCopied form c s t start k sink
+
+-- a turn goes on, or it was the last
+abbrev pub Turned : Option ℕ → Type 0 → Type 0 → Type 0
+Turned (Some rows) Next End = Next
+Turned None Next End = End
+
+-- the batch behind so many, which were not all that are asked for, was not copied
+abbrev pub FailsTurn : Fault → forms.Form → Chosen → SchemaTree → Option Left → ℕ → Type 0
+FailsTurn fault form c s None k = Unit {0}
+FailsTurn fault form c s (Some t) k = StopsFor fault c form (held_with s (t.first (k + 1))) × (HasHeld (held_with s (t.first k)) (IsEnough c) → ⊥)
+
+abbrev pub StopsBehind : Option ℕ → Fault → forms.Form → Chosen → SchemaTree → Option Left → Type 0
+StopsBehind None fault form c s t = ⊥
+StopsBehind (Some k) fault form c s t = FailsTurn fault form c s t k
+
+abbrev pub StopsWalk : Stop → forms.Form → Chosen → SchemaTree → Option Left → Type 0
+StopsWalk stop form c s t = StopsBehind stop.batch stop.fault form c s t

@@ -1,0 +1,36 @@
+//! What a copy is, when it has enough and where it stops, as functions with empty bodies: each contract is an example.
+ghost use Rattle.std.specs.Prelude.{[], ◌∷◌, true, false, None, Some, codes};
+ghost use Rattle.ipc_model.specs.declared.fault.Fault.TheVariants.{Truncated};
+ghost use Rattle.nest_compare.specs.Examples.{broken, whole_of};
+ghost use Rattle.nest_look.specs.Examples.{three_truths, truths};
+ghost use Rattle.nest_look.specs.declared.fault.Fault.TheVariants.{Format, NoColumn};
+ghost use Rattle.nest_words.specs.Asked.{all, from, true_in};
+ghost use Rattle.nest_words.specs.declared.form.Form.TheVariants.{Stream};
+ghost use Rattle.nest_copying.specs.Copied.{AreAll, IsCopy, StopsAt};
+
+/// Of true and false in one batch and true in the next: all as they are, the second, those that are true; not all in one batch, nor a row
+/// fewer.
+pub fn batches_are_copied()
+    ensures whole { IsCopy all three_truths three_truths }
+    ensures cut { IsCopy (from 1 1) three_truths (truths ((false ∷ []) ∷ [])) }
+    ensures column { IsCopy (true_in (codes "ok")) three_truths (truths ((true ∷ []) ∷ (true ∷ []) ∷ [])) }
+    ensures other { IsCopy all three_truths (truths ((true ∷ false ∷ true ∷ []) ∷ [])) → ⊥ }
+    ensures fewer { IsCopy (from 1 2) three_truths (truths ((false ∷ []) ∷ [])) → ⊥ }
+{}
+
+/// A batch of two rows has the first two, whatever stands behind it, and not the third; where nothing does, it is all.
+pub fn first_batches_are_enough()
+    ensures first { AreAll (from 0 2) (broken (truths ((true ∷ false ∷ []) ∷ [])) Truncated) 1 }
+    ensures third { AreAll (from 1 2) (broken (truths ((true ∷ false ∷ []) ∷ [])) Truncated) 1 → ⊥ }
+    ensures whole { AreAll all (whole_of (truths ((true ∷ false ∷ []) ∷ []))) 1 }
+    ensures part { AreAll all (broken (truths ((true ∷ false ∷ []) ∷ [])) Truncated) 1 → ⊥ }
+{}
+
+/// Copying stops in the batch with a fault, and in none before; not where the rows before it are all that is asked for. It does not begin
+/// where there is no column of the name.
+pub fn copying_stops_at_a_fault()
+    ensures behind { StopsAt all Stream (broken (truths ((true ∷ []) ∷ [])) Truncated) (Some 1) (Format Truncated) }
+    ensures early { StopsAt all Stream (broken (truths ((true ∷ []) ∷ [])) Truncated) (Some 0) (Format Truncated) → ⊥ }
+    ensures enough { StopsAt (from 0 1) Stream (broken (truths ((true ∷ []) ∷ [])) Truncated) (Some 1) (Format Truncated) → ⊥ }
+    ensures column { StopsAt (true_in (codes "o")) Stream (whole_of three_truths) None NoColumn }
+{}
