@@ -74,9 +74,18 @@ impl SeekRead for Device {
 
 /// Takes seven bytes a turn at most, and fails once it has so many.
 #[derive(Drop)]
-struct Sink {
-    bytes: Vec<u8>,
+pub struct Sink {
+    pub bytes: Vec<u8>,
     fails_at: usize,
+}
+
+impl Sink {
+    pub fn new(alloc: Global, fails_at: usize) -> Sink {
+        Sink {
+            bytes: Vec::new(alloc),
+            fails_at,
+        }
+    }
 }
 
 impl Write for Sink {
@@ -113,10 +122,7 @@ fn told(
     let mut own = Vec::new(alloc);
     own.extend_from_slice(bytes)?;
     let device = Device::new(own, fails_at);
-    let mut sink = Sink {
-        bytes: Vec::new(alloc),
-        fails_at: full_at,
-    };
+    let mut sink = Sink::new(alloc, full_at);
     let asked = asked(alloc, words)?;
     let done = if is_file(bytes) {
         answer_file(alloc, Columns::All, asked, device, &mut sink)

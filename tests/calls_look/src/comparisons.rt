@@ -19,7 +19,7 @@ use std::alloc::Global;
 use std::test::*;
 
 /// A device as what it begins as.
-fn input<R>(bytes: &[u8], device: R) -> Input<R> {
+pub fn input<R>(bytes: &[u8], device: R) -> Input<R> {
     if is_file(bytes) {
         Input::File(device)
     } else {
@@ -58,7 +58,7 @@ fn differ(
     }
 }
 
-fn stopped(batch: Option<usize>, fault: ipc_model::Fault) -> Stop {
+pub fn stopped(batch: Option<usize>, fault: ipc_model::Fault) -> Stop {
     Stop {
         batch,
         fault: Fault::Format(fault),
@@ -128,7 +128,7 @@ fn batch(alloc: Global, rows: &[bool]) -> Result<Batch, NoForm> {
 }
 
 /// Truths in batches, as bytes of either form.
-fn bytes_in(alloc: Global, form: Form, batches: &[&[bool]]) -> Result<Vec<u8>, NoForm> {
+pub fn bytes_in(alloc: Global, form: Form, batches: &[&[bool]]) -> Result<Vec<u8>, NoForm> {
     let mut all = Vec::new(alloc);
     for rows in batches {
         all.push(batch(alloc, rows)?)?;

@@ -1,4 +1,4 @@
-//! Tests of `nest_words`, `nest_choose`, `nest_lines`, `nest_answer`, `nest_look`, `nest_batches` and `nest_compare`: their public calls, as a crate above sees them.
+//! Tests of `nest_words`, `nest_choose`, `nest_lines`, `nest_answer`, `nest_look`, `nest_batches`, `nest_compare` and `nest_copying`: their public calls, as a crate above sees them.
 //! They are run, not proved.
 //!
 //! | What the row shows | Test |
@@ -22,6 +22,9 @@
 //! | Where two inputs differ first, cut into batches in many ways, beside a plain model; the line that says it | `comparisons::samples_differ`, `comparisons::batches_differ`, `comparisons::differences_are_lines` |
 //! | Batches as arrays of their rows, the first row at which windows differ, schemas that are equal with what users attach | `comparisons::batches_are_rows`, `comparisons::schemas_are_compared` |
 //! | Which of both has a fault, in which batch, and that a difference before it is told instead; devices that fail at each call | `comparisons::a_fault_is_told_where_nothing_differs_before`, `comparisons::devices_fail_at_any_call` |
+//! | What is copied batch by batch, as either form, beside what is made of all bytes; cuts that end within a batch, and read no further | `copies::samples_are_copied`, `copies::rows_are_cut`, `copies::true_rows_are_copied`, `copies::batches_are_cut` |
+//! | Batches as a reader of either form gives them, and the rows that are chosen of all | `copies::batches_come_and_are_selected` |
+//! | Why a copy stops, and in which batch; devices that fail at each call, outputs that are full at each byte | `copies::faults_stop_a_copy`, `copies::devices_and_outputs_fail` |
 //! | Words with options, and names with commas | `answers::words_have_options` |
 #![tactic(auto)]
 
@@ -31,6 +34,8 @@ mod answers;
 mod batches;
 #[cfg(test)]
 mod comparisons;
+#[cfg(test)]
+mod copies;
 #[cfg(test)]
 mod looks;
 #[cfg(test)]
