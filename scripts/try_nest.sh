@@ -179,11 +179,46 @@ expect 0 '' '' equal "$room/two" "$room/other"
 expect 1 'row 2\n' '' equal "$room/two" "$room/bare"
 expect 1 '' "nest: $room/bare: there is no row at a place" take "$room/bare" 3 -o "$room/none"
 expect 1 '' "nest: $room/bare: there is no column of that name" where "$room/bare" a -o "$room/none"
-expect 1 '' "nest: $room/packed: the body is compressed" cut "$room/packed" 0 1 -o "$room/none"
+expect 1 '' "nest: $room/packed: batch 0: the body is compressed" cut "$room/packed" 0 1 -o "$room/none"
 expect 1 '' "nest: $room/csv: a message does not begin with FF FF FF FF" take "$room/csv" 0 -o "$room/none"
 expect 1 '' "nest: $room/absent: input cannot be read" where "$room/absent" a -o "$room/none"
 expect 1 '' "nest: $room/no/out: output cannot be written" cut "$room/file" 0 1 -o "$room/no/out"
 [ ! -e "$room/none" ] || { echo 'nest: an output of a fault'; failed=1; }
+# Batch by batch into a new file: a fault in a batch, or of the columns, leaves none; rows before a batch with a fault are cut without it; an output that is there
+# stays as it was, and one that is the input is written from all of it.
+for out in "$room/new.arrows" "$room/new"; do
+    for file in "$room/stream" "$room/file" "$room/truths" "$room/bare" -; do
+        rm -f "$out"
+        expect 0 '' '' convert "$file" "$out"
+        expect 0 '' '' equal "$file" "$out"
+        cp "$out" "$room/first"
+        expect 0 '' '' convert "$file" "$out"
+        cmp -s "$out" "$room/first" || { echo "nest convert $file $out: other bytes"; failed=1; }
+    done
+    for words in '0 0' '1 1' '1 2' '0 9'; do
+        rm -f "$out"
+        expect 0 '' '' cut "$room/file" $words -o "$out"
+        cp "$out" "$room/first"
+        expect 0 '' '' cut "$room/file" $words -o "$out"
+        cmp -s "$out" "$room/first" || { echo "nest cut $words -o $out: other bytes"; failed=1; }
+    done
+    rm -f "$out"
+    expect 1 '' "nest: $room/unmarked: batch 2: a message does not begin with FF FF FF FF" convert "$room/unmarked" "$out"
+    expect 1 '' "nest: $room/unmarked: batch 2: a message does not begin with FF FF FF FF" cut "$room/unmarked" 1 2 -o "$out"
+    expect 1 '' "nest: $room/csv: a message does not begin with FF FF FF FF" convert "$room/csv" "$out"
+    expect 1 '' "nest: $room/absent: input cannot be read" convert "$room/absent" "$out"
+    expect 1 '' "nest: $room/truths: there is no column of that name" where "$room/truths" c -o "$out"
+    [ ! -e "$out" ] || { echo 'nest: a new output of a fault'; failed=1; }
+    expect 0 '' '' cut "$room/unmarked" 1 1 -o "$out"
+    expect 0 '{"a":null,"b":"b"}\n' '' rows "$out"
+    expect 1 '' "nest: $room/unmarked: a message does not begin with FF FF FF FF" convert "$room/unmarked" "$out"
+    expect 0 '{"a":null,"b":"b"}\n' '' rows "$out"
+    rm -f "$out"
+    expect 0 '' '' convert "$room/file" "$out"
+    expect 0 '' '' cut "$out" 1 1 -o "$out"
+    expect 0 '{"a":null,"b":"b"}\n' '' rows "$out"
+done
+[ "$("$program" convert "$room/stream" - | "$program" rows -)" = "$("$program" rows "$room/stream")" ] || { echo 'nest convert: standard output'; failed=1; }
 misplaced='nest: --columns and -o each stand once, with a word behind; try --help'
 expect 2 '' "$misplaced" cut "$room/file" 0 1 -o
 expect 2 '' "$misplaced" take "$room/file" 0 -o "$room/none" -o "$room/none"

@@ -1,14 +1,17 @@
 //! `nest COMMAND FILE ..` looks into Arrow files and streams.
 #![tactic(auto)]
 
+mod copying;
 mod importing;
 
+use copying::{copy_chosen, copy_file};
 use importing::from_json;
 use ipc_schema::Columns;
 use nest_batches::{
     Asked, Stop, answer_file, answer_stream, in_order, is_file, read_beginning, request_of,
 };
 use nest_compare::{Input as Compared, Uncompared, compare};
+use nest_copying::Taken;
 use nest_look::answering::answer;
 use nest_look::comparing::{Difference, difference_line};
 use nest_look::fault::Fault;
@@ -213,7 +216,7 @@ fn differ(rt: &HostRuntime, file: &String, difference: Difference) -> ExitCode {
     }
 }
 
-/// What is compared: a file, batch by batch, or bytes that came from where nothing seeks.
+/// What is read batch by batch: a file, or bytes that came from where nothing seeks.
 #[derive(Drop)]
 enum Opened {
     Device(Compared<File>),
@@ -252,7 +255,7 @@ fn open_device(rt: &impl AllocGlobal, mut opened: File) -> Result<Opened, Fault>
 }
 
 /// A file, or standard input, which is read whole.
-fn open_compared(rt: &HostRuntime, file: &String) -> Result<Opened, Fault> {
+fn open_input(rt: &HostRuntime, file: &String) -> Result<Opened, Fault> {
     if is(file, "-") {
         return Ok(compared_bytes(read_input(rt.alloc(), &mut rt.reader())?));
     }
@@ -298,9 +301,9 @@ fn compare_opened(
 
 /// Compares two files, one of which may be standard input.
 fn equal(rt: &HostRuntime, columns: Columns<'_>, file: &String, other: &String) -> ExitCode {
-    match open_compared(rt, file) {
+    match open_input(rt, file) {
         Err(fault) => status(rt, file, Err(fault)),
-        Ok(left) => match open_compared(rt, other) {
+        Ok(left) => match open_input(rt, other) {
             Err(fault) => {
                 drop(left);
                 status(rt, other, Err(fault))
@@ -402,7 +405,7 @@ fn run(
 ) -> ExitCode {
     if is(command, "convert") {
         return match rest {
-            [out] => status(rt, file, convert(rt, columns, file, out)),
+            [out] => copy_file(rt, columns, file, Taken::All, out),
             _ => unknown(rt),
         };
     }
@@ -431,7 +434,7 @@ fn run_choice(
     match parse_choice(rt.alloc(), command, rest) {
         Err(_) => status(rt, file, Err(Fault::Memory)),
         Ok(None) => unknown(rt),
-        Ok(Some(choice)) => select(rt, columns, file, &choice, out),
+        Ok(Some(choice)) => copy_chosen(rt, columns, file, choice, out),
     }
 }
 

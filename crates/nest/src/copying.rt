@@ -1,0 +1,200 @@
+//! One file or stream as another, batch by batch where the output cannot be the input.
+use crate::{Opened, convert, is, open_input, select, status, stopped};
+use ipc_schema::Columns;
+use nest_batches::Stop;
+use nest_copying::{Progress, Taken, copy, in_order};
+use nest_look::fault::Fault;
+use nest_words::{Choice, form_of};
+use std::fs::File;
+use std::io::{IsTerminal, Write};
+use std::process::ExitCode;
+use std::{fs, io};
+
+/// After so many batches the line is written anew.
+const BATCHES: usize = 16;
+
+/// A line on standard error that counts rows, where it is a terminal.
+#[derive(Drop)]
+struct Line<'a> {
+    rt: &'a HostRuntime,
+    rows: usize,
+    batches: usize,
+    is_shown: bool,
+}
+
+impl<'a> Line<'a> {
+    fn new(rt: &'a HostRuntime, is_shown: bool) -> Line<'a> {
+        Line {
+            rt,
+            rows: 0,
+            batches: 0,
+            is_shown,
+        }
+    }
+
+    /// Takes the line away.
+    fn clear(&self) {
+        if self.is_shown {
+            let _ = eprint!(self.rt; "\r\x1b[K");
+        }
+    }
+}
+
+impl Progress for Line<'_> {
+    fn went(&mut self, rows: usize) {
+        self.rows = self.rows.saturating_add(rows);
+        self.batches = self.batches.wrapping_add(1);
+        if self.is_shown && self.batches % BATCHES == 0 {
+            let rows = self.rows;
+            let _ = eprint!(self.rt; "\r{rows} rows");
+        }
+    }
+}
+
+/// Where a copy goes.
+#[derive(Drop)]
+struct Output<'a, W> {
+    name: &'a String,
+    device: W,
+    is_counted: bool,
+}
+
+/// Copies what was opened.
+fn copy_opened<W: Write + Drop>(
+    rt: &HostRuntime,
+    columns: Columns<'_>,
+    taken: Taken,
+    opened: Opened,
+    out: Output<'_, W>,
+) -> Result<(), Stop> {
+    let form = form_of(out.name);
+    let mut line = Line::new(rt, out.is_counted);
+    let done = match opened {
+        Opened::Device(x) => copy(rt.alloc(), columns, form, taken, x, out.device, &mut line),
+        Opened::Whole(x) => copy(rt.alloc(), columns, form, taken, x, out.device, &mut line),
+    };
+    line.clear();
+    match done {
+        Ok(device) => {
+            drop(device);
+            Ok(())
+        }
+        Err(stop) => Err(stop),
+    }
+}
+
+/// Copies a file, or standard input.
+fn copy_from<W: Write + Drop>(
+    rt: &HostRuntime,
+    columns: Columns<'_>,
+    file: &String,
+    taken: Taken,
+    out: Output<'_, W>,
+) -> Result<(), Stop> {
+    match open_input(rt, file) {
+        Ok(opened) => copy_opened(rt, columns, taken, opened, out),
+        Err(fault) => {
+            drop(taken);
+            drop(out);
+            Err(Stop { batch: None, fault })
+        }
+    }
+}
+
+/// Copies to a file that was made for it, and is removed again where not all of the copy is there.
+fn copy_created(
+    rt: &HostRuntime,
+    columns: Columns<'_>,
+    file: &String,
+    taken: Taken,
+    out: Output<'_, File>,
+) -> Result<(), Stop> {
+    let name = out.name;
+    let done = copy_from(rt, columns, file, taken, out);
+    if done.is_err() {
+        let _ = fs::remove_file(rt, name.as_str());
+    }
+    done
+}
+
+/// Says why there is no copy, and the status of it.
+fn told(rt: &HostRuntime, file: &String, out: &String, done: Result<(), Stop>) -> ExitCode {
+    match done {
+        Ok(()) => ExitCode::SUCCESS,
+        Err(stop) => {
+            if stop.fault == Fault::Output {
+                return status(rt, out, Err(Fault::Output));
+            }
+            stopped(rt, file, stop)
+        }
+    }
+}
+
+/// Copies to a file that is there, or cannot be made: it is touched once all bytes are there, since it may be the input.
+fn copy_whole(
+    rt: &HostRuntime,
+    columns: Columns<'_>,
+    file: &String,
+    taken: Taken,
+    out: &String,
+) -> ExitCode {
+    match taken {
+        Taken::All => status(rt, file, convert(rt, columns, file, out)),
+        Taken::Cut(start, count) => {
+            let choice = Choice::Cut(start, count);
+            select(rt, columns, file, &choice, out)
+        }
+        Taken::True(name) => {
+            let choice = Choice::True(name);
+            select(rt, columns, file, &choice, out)
+        }
+    }
+}
+
+/// Writes what is taken of a file, or of standard input.
+pub fn copy_file(
+    rt: &HostRuntime,
+    columns: Columns<'_>,
+    file: &String,
+    taken: Taken,
+    out: &String,
+) -> ExitCode {
+    if is(out, "-") {
+        let output = Output {
+            name: out,
+            device: io::writer(rt),
+            is_counted: false,
+        };
+        return told(rt, file, out, copy_from(rt, columns, file, taken, output));
+    }
+    if !is(file, "-") && fs::open(rt, file.as_str()).is_err() {
+        drop(taken);
+        return status(rt, file, Err(Fault::Input));
+    }
+    match File::create_new(rt, out.as_str()) {
+        Err(_) => copy_whole(rt, columns, file, taken, out),
+        Ok(created) => {
+            let output = Output {
+                name: out,
+                device: created,
+                is_counted: rt.stderr().is_terminal(),
+            };
+            let done = copy_created(rt, columns, file, taken, output);
+            told(rt, file, out, done)
+        }
+    }
+}
+
+/// Writes the rows that are chosen of a file, or of standard input. Rows at places are found once all is read.
+pub fn copy_chosen(
+    rt: &HostRuntime,
+    columns: Columns<'_>,
+    file: &String,
+    choice: Choice,
+    out: &String,
+) -> ExitCode {
+    match in_order(choice) {
+        Ok(taken) => copy_file(rt, columns, file, taken, out),
+        Err(choice) => select(rt, columns, file, &choice, out),
+    }
+}
