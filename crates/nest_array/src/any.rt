@@ -281,6 +281,73 @@ impl AnyArray {
             AnyArray::Dictionary(array) => return array.to_boxed(alloc),
         }
     }
+
+    /// The n slots from place o, on shared memory.
+    // Kinds without children are cut before they stand in their variant.
+    pub(crate) fn part(&self, alloc: Global, o: usize, n: usize) -> Result<AnyArray, Error>
+        requires { o + n ≤ len (layout_of self.now) }
+        ensures ok { IfOk result (λ a. IsCut (layout_of self.now) o n (layout_of a)) }
+        ensures err { IsOkUnless result (Memory alloc_error) }
+    {
+        match self {
+            AnyArray::Primitive(AnyPrimitive::Int8(array)) => return Array::sliced(
+                array, alloc, o, n,
+            ),
+            AnyArray::Primitive(AnyPrimitive::Int16(array)) => return Array::sliced(
+                array, alloc, o, n,
+            ),
+            AnyArray::Primitive(AnyPrimitive::Int32(array)) => return Array::sliced(
+                array, alloc, o, n,
+            ),
+            AnyArray::Primitive(AnyPrimitive::Int64(array)) => return Array::sliced(
+                array, alloc, o, n,
+            ),
+            AnyArray::Primitive(AnyPrimitive::Int128(array)) => return Array::sliced(
+                array, alloc, o, n,
+            ),
+            AnyArray::Primitive(AnyPrimitive::Int256(array)) => return Array::sliced(
+                array, alloc, o, n,
+            ),
+            AnyArray::Primitive(AnyPrimitive::UInt8(array)) => return Array::sliced(
+                array, alloc, o, n,
+            ),
+            AnyArray::Primitive(AnyPrimitive::UInt16(array)) => return Array::sliced(
+                array, alloc, o, n,
+            ),
+            AnyArray::Primitive(AnyPrimitive::UInt32(array)) => return Array::sliced(
+                array, alloc, o, n,
+            ),
+            AnyArray::Primitive(AnyPrimitive::UInt64(array)) => return Array::sliced(
+                array, alloc, o, n,
+            ),
+            AnyArray::Primitive(AnyPrimitive::DaysMs(array)) => return Array::sliced(
+                array, alloc, o, n,
+            ),
+            AnyArray::Primitive(AnyPrimitive::MonthDayNano(array)) => return Array::sliced(
+                array, alloc, o, n,
+            ),
+            AnyArray::Boolean(array) => return Array::sliced(array, alloc, o, n),
+            AnyArray::Binary(array) => return Array::sliced(array, alloc, o, n),
+            AnyArray::LargeBinary(array) => return Array::sliced(array, alloc, o, n),
+            AnyArray::Utf8(array) => return Array::sliced(array, alloc, o, n),
+            AnyArray::LargeUtf8(array) => return Array::sliced(array, alloc, o, n),
+            _ => return copied_part(alloc, self, o, n),
+        }
+    }
+}
+
+// Out of line, as the room for its copy would be cleared for each other kind.
+#[inline(never)]
+fn copied_part(alloc: Global, array: &AnyArray, o: usize, n: usize) -> Result<AnyArray, Error>
+    requires { o + n ≤ len (layout_of array.now) }
+    ensures ok { IfOk result (λ a. IsCut (layout_of array.now) o n (layout_of a)) }
+    ensures err { IsOkUnless result (Memory alloc_error) }
+{
+    let mut part = array.clone(alloc);
+    if let Ok(part) = &mut part {
+        part.slice(o, n);
+    }
+    part
 }
 
 // Copies of kinds whose children are copied too, each out of line: else the room for all of them would be cleared for each.

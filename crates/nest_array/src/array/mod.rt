@@ -104,6 +104,17 @@ pub trait Slotted {
     fn again(&self, alloc: Global) -> Result<Self, Error>
         ensures ok { IfOk result (λ a. parts a ≡ parts self.now) }
         ensures err { IsOkUnless result (Memory alloc_error) };
+
+    /// The n slots from place o, on shared memory.
+    fn part(&self, alloc: Global, o: usize, n: usize) -> Result<Self, Error>
+        requires { o + n ≤ len (parts self.now) }
+        ensures ok { IfOk result (λ a. parts a ≡ cut_layout (parts self.now) o n) }
+        ensures err { IsOkUnless result (Memory alloc_error) }
+    {
+        let mut part = self.again(alloc)?;
+        part.slice(o, n);
+        Ok(part)
+    }
 }
 
 /// A kind of array that is a variant of `AnyArray`.
@@ -153,10 +164,9 @@ impl<A: Variant> Array for A {
         Ok(self.again(alloc)?.into_any())
     }
 
+    #[inline(never)]
     fn sliced(&self, alloc: Global, o: usize, n: usize) -> Result<AnyArray, Error> {
-        let mut array = Array::to_boxed(self, alloc)?;
-        AnyArray::slice(&mut array, o, n);
-        Ok(array)
+        Ok(self.part(alloc, o, n)?.into_any())
     }
 
     fn with_validity(&self, alloc: Global, validity: Option<Bitmap>) -> Result<AnyArray, Error> {
@@ -206,6 +216,10 @@ impl Slotted for AnyArray {
 
     fn again(&self, alloc: Global) -> Result<AnyArray, Error> {
         self.clone(alloc)
+    }
+
+    fn part(&self, alloc: Global, o: usize, n: usize) -> Result<AnyArray, Error> {
+        AnyArray::part(self, alloc, o, n)
     }
 }
 

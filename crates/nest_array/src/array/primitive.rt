@@ -39,6 +39,10 @@ impl<T: NativeType> Slotted for PrimitiveArray<T> {
     fn again(&self, alloc: Global) -> Result<PrimitiveArray<T>, Error> {
         self.clone(alloc)
     }
+
+    fn part(&self, alloc: Global, o: usize, n: usize) -> Result<PrimitiveArray<T>, Error> {
+        PrimitiveArray::part(self, alloc, o, n)
+    }
 }
 
 impl Variant for PrimitiveArray<i8> {

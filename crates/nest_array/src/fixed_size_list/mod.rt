@@ -218,11 +218,7 @@ impl FixedSizeListArray {
         ensures err { IsOkUnless result (Memory alloc_error) }
     {
         let start = self.start(i);
-        let mut items = self.values.clone(alloc);
-        if let Ok(items) = &mut items {
-            items.slice(start, self.size);
-        }
-        items
+        self.values.part(alloc, start, self.size)
     }
 
     /// The items of slot i, `None` where it is null.

@@ -202,11 +202,7 @@ impl MapArray {
     {
         let (start, count) = self.range(i);
         let field: &AnyArray = &self.field;
-        let mut entries = field.clone(alloc);
-        if let Ok(entries) = &mut entries {
-            entries.slice(start, count);
-        }
-        entries
+        field.part(alloc, start, count)
     }
 
     /// The entries of slot i, also under a null, borrowed.

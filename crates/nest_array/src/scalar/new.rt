@@ -119,8 +119,7 @@ fn list_at(alloc: Global, lists: &Lists, i: usize) -> Result<ScalarValue, Error>
     let Some(row) = lists.row(i) else {
         return Ok(ScalarValue::Null);
     };
-    let mut items = lists.items().clone(alloc)?;
-    items.slice(row.0, row.1);
+    let items = lists.items().part(alloc, row.0, row.1)?;
     Ok(ScalarValue::List(items))
 }
 

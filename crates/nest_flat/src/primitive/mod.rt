@@ -211,6 +211,25 @@ impl<T: NativeType> PrimitiveArray<T> {
         }
     }
 
+    /// The n slots from place o, on shared memory.
+    // Cut before it stands in its variant, and inlined, so that it is written in its place at once.
+    #[inline(always)]
+    pub fn part(&self, alloc: Global, o: usize, n: usize) -> Result<PrimitiveArray<T>, Error>
+        requires { o + n ≤ len self.now }
+        ensures ok { IfOk result (λ a. IsCut self.now o n a) }
+        ensures err { IsOkUnless result (Memory alloc_error) }
+    {
+        let mut values = self.values.clone()?;
+        values.slice(o, n);
+        let mut validity = validity::clone(&self.validity)?;
+        validity::slice(&mut validity, o, n);
+        Ok(PrimitiveArray {
+            data_type: self.data_type.clone(alloc)?,
+            values,
+            validity,
+        })
+    }
+
     /// The same array, on shared memory.
     // Inlined, so that what makes a variant of the copy writes it in its place at once.
     #[inline(always)]

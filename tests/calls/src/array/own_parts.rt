@@ -142,6 +142,22 @@ fn each_kind_copies_itself(rt: HostRuntime) {
     assert!(rt; is_same(again(alloc, &keyed), &keyed));
 }
 
+/// The n slots of it from place o, on shared memory, as each kind makes them.
+fn part<A: Slotted>(alloc: Global, array: &A, o: usize, n: usize) -> Result<A, Error> {
+    array.part(alloc, o, n)
+}
+
+#[test]
+fn each_kind_makes_parts(rt: HostRuntime) {
+    let alloc = rt.alloc();
+    let keyed = four_texts(alloc).expect(&rt, "four texts");
+    let whole = keyed.len();
+    for o in 0..whole + 1 {
+        let cut = again(alloc, &keyed).expect(&rt, "four texts").sliced(o, whole - o);
+        assert!(rt; is_same(part(alloc, &keyed, o, whole - o), &cut));
+    }
+}
+
 /// How many scalars record i has, and how many of them are valid.
 fn scalars_of(alloc: Global, records: &StructArray, i: usize) -> Result<(usize, usize), Error> {
     let columns = records.values();

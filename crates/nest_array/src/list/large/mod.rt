@@ -197,11 +197,7 @@ impl LargeListArray {
     {
         let (start, count) = self.range(i);
         let values: &AnyArray = &self.values;
-        let mut items = values.clone(alloc);
-        if let Ok(items) = &mut items {
-            items.slice(start, count);
-        }
-        items
+        values.part(alloc, start, count)
     }
 
     /// The items of slot i, also under a null, borrowed.

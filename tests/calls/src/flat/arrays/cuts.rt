@@ -26,6 +26,16 @@ fn cuts_of_numbers(rt: HostRuntime) {
 }
 
 #[test]
+fn parts_of_numbers(rt: HostRuntime) {
+    let array = three(rt.alloc()).expect(&rt, "three slots");
+    for (o, n) in [(0, 3), (1, 2), (2, 1), (3, 0)] {
+        let part = array.part(rt.alloc(), o, n).expect(&rt, "a part");
+        assert!(rt; part == three(rt.alloc()).expect(&rt, "three slots").sliced(o, n));
+    }
+    assert!(rt; array.len() == 3 && array.null_count() == 1);
+}
+
+#[test]
 fn cuts_of_truths(rt: HostRuntime) {
     let bits = Some([true, false, true].as_slice());
     let array = truths(rt.alloc(), &[false, false, true], bits).expect(&rt, "three slots");
