@@ -25,6 +25,17 @@ fn lengths_of_copies(alloc: Global, array: &AnyArray, n: usize) -> Result<usize,
     Ok(total)
 }
 
+/// The fields, added up, of so many copies of an array's data type.
+fn fields_of_copies(alloc: Global, array: &AnyArray, n: usize) -> Result<usize, Error> {
+    let mut total = 0usize;
+    for _ in 0..n {
+        let copy = array.data_type().clone(alloc)?;
+        total = total.wrapping_add(copy.fields().len());
+        drop(copy);
+    }
+    Ok(total)
+}
+
 /// The nulls of two arrays added up, asked of one after the other so many times.
 fn nulls_in_turn(left: &AnyArray, right: &AnyArray, n: usize) -> usize {
     let mut total = 0usize;
@@ -45,6 +56,18 @@ fn tell_copies<R: Clock + Print + AllocGlobal>(
     let begun = begin(rt, measured)?;
     let total = lengths_of_copies(rt.alloc(), array, n)?;
     tell(rt, work, total, begun, n)?;
+    Ok(())
+}
+
+fn tell_type_copies<R: Clock + Print + AllocGlobal>(
+    rt: &R,
+    array: &AnyArray,
+    measured: bool,
+) -> Result<()> {
+    let n = if measured { COPIES } else { FEW };
+    let begun = begin(rt, measured)?;
+    let total = fields_of_copies(rt.alloc(), array, n)?;
+    tell(rt, "  fields of all copies of their data type", total, begun, n)?;
     Ok(())
 }
 
@@ -96,9 +119,18 @@ fn run_numbers<R: Clock + Print + AllocGlobal>(rt: &R, measured: bool) -> Result
     told
 }
 
+fn tell_records<R: Clock + Print + AllocGlobal>(
+    rt: &R,
+    records: &AnyArray,
+    measured: bool,
+) -> Result<()> {
+    tell_copies(rt, "  rows of all copies of records", records, measured)?;
+    tell_type_copies(rt, records, measured)
+}
+
 fn run_records<R: Clock + Print + AllocGlobal>(rt: &R, measured: bool) -> Result<()> {
     let records = arrays::records(rt.alloc(), 100, true)?;
-    let told = tell_copies(rt, "  rows of all copies of records", &records, measured);
+    let told = tell_records(rt, &records, measured);
     drop(records);
     told
 }
