@@ -1,63 +1,15 @@
 //! One file or stream as another, batch by batch where the output cannot be the input.
+use crate::output::{Line, Output};
 use crate::{Opened, convert, is, open_input, select, status, stopped};
 use ipc_schema::Columns;
 use nest_batches::Stop;
-use nest_copying::{Progress, Taken, copy, in_order};
+use nest_copying::{Taken, copy, in_order};
 use nest_look::fault::Fault;
 use nest_words::{Choice, form_of};
 use std::fs::File;
 use std::io::{IsTerminal, Write};
 use std::process::ExitCode;
 use std::{fs, io};
-
-/// After so many batches the line is written anew.
-const BATCHES: usize = 16;
-
-/// A line on standard error that counts rows, where it is a terminal.
-#[derive(Drop)]
-struct Line<'a> {
-    rt: &'a HostRuntime,
-    rows: usize,
-    batches: usize,
-    is_shown: bool,
-}
-
-impl<'a> Line<'a> {
-    fn new(rt: &'a HostRuntime, is_shown: bool) -> Line<'a> {
-        Line {
-            rt,
-            rows: 0,
-            batches: 0,
-            is_shown,
-        }
-    }
-
-    /// Takes the line away.
-    fn clear(&self) {
-        if self.is_shown {
-            let _ = eprint!(self.rt; "\r\x1b[K");
-        }
-    }
-}
-
-impl Progress for Line<'_> {
-    fn went(&mut self, rows: usize) {
-        self.rows = self.rows.saturating_add(rows);
-        self.batches = self.batches.wrapping_add(1);
-        if self.is_shown && self.batches % BATCHES == 0 {
-            let rows = self.rows;
-            let _ = eprint!(self.rt; "\r{rows} rows");
-        }
-    }
-}
-
-/// Where a copy goes.
-#[derive(Drop)]
-struct Output<'a, W> {
-    name: &'a String,
-    device: W,
-    is_counted: bool,
-}
 
 /// Copies what was opened.
 fn copy_opened<W: Write + Drop>(

@@ -3,6 +3,7 @@
 
 mod copying;
 mod importing;
+mod output;
 
 use copying::{copy_chosen, copy_file};
 use importing::from_json;

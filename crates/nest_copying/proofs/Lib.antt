@@ -1,3 +1,3 @@
-mod Lists
+pub mod Lists
 mod Sinks
-mod Steps
+pub mod Steps

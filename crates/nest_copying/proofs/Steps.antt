@@ -33,8 +33,8 @@ use Rattle.nest_words.specs.Asked.{Chosen}
 use Rattle.nest_words.specs.declared.form.Form as forms
 use Rattle.nest_copying.specs.Asking.{AreCopied, FailsBatch, IsInOrder, asks_nothing, behind}
 use Rattle.nest_copying.specs.Copied.{AreAll, Copies, IsCopy, IsEnough, IsUnwritten, StopsAt, StopsFor, WroteCopy}
-use Rattle.nest_copying.specs.Sinks.{FailsEnd, FailsMore, FailsSchema, FailsWrite, HasPut, IsPutAs}
-use Rattle.nest_copying.specs.Walks.{Copied, Copying, FailsPart, FailsTurn, FailsWrites, IsCopied, IsCopying, StopsBehind, StopsWalk, Turned, Writes}
+use Rattle.nest_copying.specs.Sinks.{FailsEnd, FailsMore, FailsPart, FailsSchema, FailsWrite, HasPut, IsPutAs}
+use Rattle.nest_copying.specs.Walks.{Copied, Copying, FailsTurn, FailsWrites, IsCopied, IsCopying, StopsBehind, StopsWalk, Turned, Writes}
 use Rattle.nest_copying.specs.declared.sink.Sink.{Sink}
 use Rattle.nest_copying.proofs.Lists.{IsOfColumn, rows-both, behind-none, behind-twice, column-behind, copied-more, copied-none, enough, is-copy, no-place, not-enough, of-column}
 
@@ -96,7 +96,7 @@ end-stops faults.Place c form s came went copy h = absurd h
 end-stops faults.NoColumn c form s came went copy h = absurd h
 end-stops faults.NotBoolean c form s came went copy h = absurd h
 
-empty-refused : (form : forms.Form) (s : SchemaTree) (why : reasons.NoForm) → IsRefused (schema_refusal s) why → IsRefused (refusal form (of_batches s [])) why
+pub empty-refused : (form : forms.Form) (s : SchemaTree) (why : reasons.NoForm) → IsRefused (schema_refusal s) why → IsRefused (refusal form (of_batches s [])) why
 empty-refused forms.TheVariants.Stream s why h = first_refused (schema_refusal s) (batches_refusal (types_of s) [] []) why h
 empty-refused forms.TheVariants.File s why h = first_refused (schema_refusal s) (else_for (blocks_refusal (types_of s) (filed_start s) []) (footer_refusal (written_footer s []))) why h
 

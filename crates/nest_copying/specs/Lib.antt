@@ -1,6 +1,6 @@
 -- What contracts cite.
 pub mod Asking
 pub mod Copied
--- Words of functions within.
+-- Words of sinks, and of functions within.
 pub mod Sinks
 pub mod Walks

@@ -77,6 +77,10 @@ FailsSchema fault reason = FailsWrite fault (IsRefused reason)
 abbrev pub FailsMore : Fault → forms.Form → SchemaTree → List Arrays → Arrays → Type 0
 FailsMore fault form s went b = FailsWrite fault (λ why. (more : List Arrays) → IsUnwritten form (of_batches s (went ++ b ∷ more)) why)
 
+-- one of these batches was not written
+abbrev pub FailsPart : Fault → forms.Form → SchemaTree → List Arrays → Type 0
+FailsPart fault form s bs = FailsWrite fault (λ why. IsUnwritten form (of_batches s bs) why)
+
 -- of the end
 abbrev pub FailsEnd : Fault → forms.Form → SchemaTree → List Arrays → Type 0
 FailsEnd fault form s went = FailsWrite fault (λ why. IsRefused (refusal form (of_batches s went)) why)

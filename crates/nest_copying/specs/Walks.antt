@@ -14,13 +14,9 @@ use Rattle.nest_look.specs.declared.fault.Fault.{Fault}
 use Rattle.nest_words.specs.Asked.{Chosen}
 use Rattle.nest_words.specs.declared.form.Form as forms
 use Rattle.nest_copying.specs.Asking.{AreCopied, FailsBatch, IsInOrder, behind}
-use Rattle.nest_copying.specs.Copied.{IsEnough, IsUnwritten, StopsFor}
-use Rattle.nest_copying.specs.Sinks.{FailsWrite, HasPut}
+use Rattle.nest_copying.specs.Copied.{IsEnough, StopsFor}
+use Rattle.nest_copying.specs.Sinks.{FailsPart, HasPut}
 use Rattle.nest_copying.specs.declared.sink.Sink.{Sink}
-
--- one of these batches was not written
-abbrev pub FailsPart : Fault → forms.Form → SchemaTree → List Arrays → Type 0
-FailsPart fault form s bs = FailsWrite fault (λ why. IsUnwritten form (of_batches s bs) why)
 
 module _ {W : Type 0} (contents : W → Option (List ℕ)) where
   -- what is chosen of a batch was put behind the others

@@ -14,11 +14,11 @@ ghost use Rattle.nest_words.specs.declared.form.Form as forms;
 ghost use Rattle.nest_copying.specs.Asking.{AreCopied, IsInOrder, behind, chosen_of};
 ghost use Rattle.nest_copying.specs.Copied.{Copies};
 ghost use Rattle.nest_copying.specs.Sinks.{HasPut};
-ghost use Rattle.nest_copying.specs.Walks.{Copied, Copying, FailsPart, FailsTurn, FailsWrites, StopsWalk, Turned, Writes};
+ghost use Rattle.nest_copying.specs.Walks.{Copied, Copying, FailsTurn, FailsWrites, StopsWalk, Turned, Writes};
 
 use crate::asking::{Taken, choice_of, is_over, pass};
 use crate::picking::{pick, row_count};
-use crate::sink::{Sink, begin};
+use crate::sink::{Sink, begin, write_all};
 use ipc::Batch;
 use ipc_device::SeekRead;
 use ipc_schema::{Columns, Schema};
@@ -36,21 +36,6 @@ use std::io::Write;
 pub trait Progress {
     /// A batch of so many rows was read, and what is chosen of it is out.
     fn went(&mut self, rows: usize);
-}
-
-/// Writes batches, one after another.
-fn write_all<W: Write + Drop>(
-    alloc: Global,
-    sink: &mut Sink<W>,
-    batches: &[Batch],
-) -> Result<(), Fault>
-    ensures put { OnOk result ((form : forms.Form) (start : W) (s : SchemaTree) (went : List Arrays) → HasPut W.contents form start s went sink.old → HasPut W.contents form start s (went ++ map arrays_of batches.now) sink.new) }
-    ensures fault { IfErr result (λ e. (form : forms.Form) (start : W) (s : SchemaTree) (went : List Arrays) → HasPut W.contents form start s went sink.old → FailsPart e form s (went ++ map arrays_of batches.now)) }
-{
-    for batch in batches {
-        sink.write(alloc, batch)?;
-    }
-    Ok(())
 }
 
 /// Writes what is chosen of a batch; how many rows the batch has.

@@ -6,7 +6,7 @@ mod asking;
 mod copying;
 pub mod laws;
 mod picking;
-mod sink;
+pub mod sink;
 
 pub use asking::{Taken, in_order};
 pub use copying::{Progress, copy};

@@ -1,11 +1,11 @@
-//! What batches are written to.
-ghost use Rattle.std.specs.Prelude.{◌≡◌, ◌++◌, List, [], ◌∷◌, ℕ, IfErr, IfOk, OnOk};
+//! What batches are written to: a writer of either form over a device, each batch out before the next is taken.
+ghost use Rattle.std.specs.Prelude.{◌≡◌, ◌++◌, List, [], ◌∷◌, ℕ, IfErr, IfOk, OnOk, map};
 ghost use Rattle.ipc.specs.Streams.{Arrays, arrays_of};
 ghost use Rattle.ipc.specs.Written.{schema_refusal};
 ghost use Rattle.ipc_schema.specs.Schemas.{SchemaTree, schema_of};
 ghost use Rattle.nest_words.specs.declared.form.Form as forms;
 ghost use Rattle.nest_words.specs.declared.form.Form.TheVariants as variants;
-ghost use Rattle.nest_copying.specs.Sinks.{FailsEnd, FailsMore, FailsSchema, HasPut, IsPutAs, unwritten as unwritten_lem};
+ghost use Rattle.nest_copying.specs.Sinks.{FailsEnd, FailsMore, FailsPart, FailsSchema, HasPut, IsPutAs, unwritten as unwritten_lem};
 
 use ipc::Batch;
 use ipc_device::{FileWriter, StreamWriter, WriteError};
@@ -15,9 +15,9 @@ use nest_words::Form;
 use std::alloc::Global;
 use std::io::Write;
 
-/// A writer of either form.
+/// A writer of either form, which was begun with a schema. After a fault it is only let go.
 #[derive(Drop)]
-pub(crate) enum Sink<W> {
+pub enum Sink<W> {
     Stream(StreamWriter<W>),
     File(FileWriter<W>),
 }
@@ -59,8 +59,11 @@ fn begin_file<W: Write + Drop>(alloc: Global, device: W, schema: &Schema) -> Res
     }
 }
 
-/// One of the form, begun.
-pub(crate) fn begin<W: Write + Drop>(
+/// One of the form, begun: what stands before the batches is out.
+///
+/// # Errors
+/// `Form` with the first reason not to write the schema. `Output` where the device fails.
+pub fn begin<W: Write + Drop>(
     alloc: Global,
     form: Form,
     device: W,
@@ -77,7 +80,10 @@ pub(crate) fn begin<W: Write + Drop>(
 
 impl<W: Write + Drop> Sink<W> {
     /// Writes a batch.
-    pub(crate) fn write(&mut self, alloc: Global, batch: &Batch) -> Result<(), Fault>
+    ///
+    /// # Errors
+    /// `Form` with the first reason not to write the batches up to it. `Output` where the device fails.
+    pub fn write(&mut self, alloc: Global, batch: &Batch) -> Result<(), Fault>
         ensures put { OnOk result ((form : forms.Form) (start : W) (s : SchemaTree) (went : List Arrays) → HasPut W.contents form start s went self.old → HasPut W.contents form start s (went ++ arrays_of batch.now ∷ []) self.new) }
         ensures fault { IfErr result (λ e. (form : forms.Form) (start : W) (s : SchemaTree) (went : List Arrays) → HasPut W.contents form start s went self.old → FailsMore e form s went (arrays_of batch.now)) }
     {
@@ -94,7 +100,10 @@ impl<W: Write + Drop> Sink<W> {
     }
 
     /// Writes what stands behind the batches, and gives the device back.
-    pub(crate) fn finish(self, alloc: Global) -> Result<W, Fault>
+    ///
+    /// # Errors
+    /// `Form` with the first reason not to write what was put. `Output` where the device fails.
+    pub fn finish(self, alloc: Global) -> Result<W, Fault>
         ensures put { IfOk result (λ end. (form : forms.Form) (start : W) (s : SchemaTree) (went : List Arrays) → HasPut W.contents form start s went self → IsPutAs form s went (W.contents start) (W.contents end)) }
         ensures fault { IfErr result (λ e. (form : forms.Form) (start : W) (s : SchemaTree) (went : List Arrays) → HasPut W.contents form start s went self → FailsEnd e form s went) }
     {
@@ -109,4 +118,22 @@ impl<W: Write + Drop> Sink<W> {
             },
         }
     }
+}
+
+/// Writes batches, one after another.
+///
+/// # Errors
+/// As `Sink::write`, of the first that is not written.
+pub fn write_all<W: Write + Drop>(
+    alloc: Global,
+    sink: &mut Sink<W>,
+    batches: &[Batch],
+) -> Result<(), Fault>
+    ensures put { OnOk result ((form : forms.Form) (start : W) (s : SchemaTree) (went : List Arrays) → HasPut W.contents form start s went sink.old → HasPut W.contents form start s (went ++ map arrays_of batches.now) sink.new) }
+    ensures fault { IfErr result (λ e. (form : forms.Form) (start : W) (s : SchemaTree) (went : List Arrays) → HasPut W.contents form start s went sink.old → FailsPart e form s (went ++ map arrays_of batches.now)) }
+{
+    for batch in batches {
+        sink.write(alloc, batch)?;
+    }
+    Ok(())
 }

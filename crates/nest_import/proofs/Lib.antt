@@ -1,1 +1,4 @@
+mod Ahead
 mod Batching
+mod Fed
+mod Turns

@@ -1,2 +1,5 @@
 -- What contracts cite.
 pub mod Imported
+-- Words of functions within.
+pub mod Unused
+pub mod Walks

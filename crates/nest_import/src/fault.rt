@@ -13,10 +13,14 @@ pub enum Unimported {
     Type(Unread),
     /// The first line that is no row, counted from 0, and why.
     Line(usize, LineReason),
-    /// The lines of a batch are more than one array holds.
+    /// The lines of a batch are more than one array holds, or all lines more than are counted.
     Overflow,
     /// The rows are not written in the form that is asked for.
     Form(NoForm),
+    /// The lines could not be read.
+    Input,
+    /// The output could not be written; a beginning of it may have gone out.
+    Output,
     /// A request for memory was refused.
     Memory,
 }

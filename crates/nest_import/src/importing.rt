@@ -1,150 +1,241 @@
 //! Lines in, bytes of either form out.
-ghost use Rattle.std.specs.Prelude.{◌≡◌, ◌<◌, ◌+◌, ◌^◌, ℕ, length, map, IfErr, IfOk};
-ghost use Rattle.ipc.specs.Streams.{arrays_of};
+ghost use Rattle.std.specs.Prelude.{◌≡◌, ◌⊎◌, ◌+◌, [], ℕ, List, None, Option, map, IfErr, IfOk, IfSome, OnOk};
+ghost use Rattle.std.specs.Io.KnownBytes.{IsAtEnd};
+ghost use Rattle.ipc_schema.specs.Schemas.{schema_of};
 ghost use Rattle.nest_answer.specs.Tables.{record_type};
-ghost use Rattle.nest_import.specs.Imported.{AreBatches, HasBatch, ImportFault, Imports, Unread, behind as behind_lem, unread_for};
-ghost use Rattle.nest_import.specs.declared.fault.Unimported.TheVariants.{Line};
-ghost use Rattle.nest_json.specs.declared.fault.LineReason.{LineReason};
-ghost use Rattle.nest_json.specs.Split.{lines_of};
+ghost use Rattle.nest_copying.specs.Sinks.{HasPut};
+ghost use Rattle.nest_import.specs.Imported.{Imports};
+ghost use Rattle.nest_import.specs.Unused.{EndsWell, ahead};
+ghost use Rattle.nest_import.specs.Walks.{Importing, Stops, Unread, plain_schema, unwritten as unwritten_lem};
 ghost use Rattle.nest_memory.specs.TypeOf.{field_of, type_of};
+ghost use Rattle.nest_words.specs.declared.form.Form as forms;
 
 use crate::fault::Unimported;
-use ipc::Batch;
+use crate::reading::{Taken, behind, read_batch, take_batch};
+use crate::unused::Unused;
 use ipc_schema::Schema;
-use nest_json::{Rows, TextFault, read_rows};
-use nest_look::converting::write_held;
-use nest_look::holding::Held;
-use nest_look::selecting::{copy_fields, push_rows};
+use nest_copying::Progress;
+use nest_copying::sink::{Sink, begin, write_all};
+use nest_look::fault::Fault;
+use nest_look::selecting::copy_fields;
 use nest_memory::datatypes::{DataType, Field, Metadata};
 use nest_words::Form;
 use std::alloc::Global;
+use std::io::{Read, Write};
 
-/// How many rows a batch has at most.
-const ROWS: usize = 65536;
-
-fn fault_of(fault: TextFault) -> Unimported
-    ensures { result ≡ unread_for fault }
+/// How it is told that nothing more was written.
+fn unwritten(fault: Fault) -> Unimported
+    ensures { result ≡ unwritten_lem fault }
 {
     match fault {
-        TextFault::Type(reason) => Unimported::Type(reason),
-        TextFault::Line { line, reason } => Unimported::Line(line, reason),
-        TextFault::Overflow => Unimported::Overflow,
-        TextFault::Memory => Unimported::Memory,
+        Fault::Form(why) => Unimported::Form(why),
+        Fault::Memory => Unimported::Memory,
+        Fault::Input
+        | Fault::Format(_)
+        | Fault::Columns
+        | Fault::Place
+        | Fault::NoColumn
+        | Fault::NotBoolean
+        | Fault::Output => Unimported::Output,
     }
 }
 
-/// The fault of lines behind others.
-fn behind(fault: Unimported, lines: usize) -> Unimported
-    requires { (k : ℕ) (e : LineReason) → fault ≡ Line k e → lines + k < 2 ^ 64 }
-    ensures { result ≡ behind_lem lines fault }
-{
-    match fault {
-        Unimported::Line(line, reason) => Unimported::Line(lines + line, reason),
-        other => other,
-    }
-}
-
-/// Appends the rows of the first lines as a batch: how many bytes and how many lines they are.
-fn push_batch(
+/// Writes the rows of the next lines, behind so many: how many they are.
+fn import_batch<R: Read, W: Write + Drop>(
     alloc: Global,
     data_type: &DataType,
     fields: &[Field],
-    batches: &mut Vec<Batch>,
-    text: &[u8],
-) -> Result<(usize, usize), Unimported>
+    text: &mut Unused<R>,
+    lines: &mut usize,
+    sink: &mut Sink<W>,
+) -> Result<usize, Unimported>
     requires typed { type_of data_type.now ≡ record_type (map field_of fields.now) }
-    requires some { 0 < length text.now }
-    ensures rows { IfOk result (λ r. HasBatch (map field_of fields.now) text.now r.0 r.1 (map arrays_of batches.old.items) (map arrays_of batches.new.items)) }
-    ensures fault { IfErr result (λ e. Unread e (map field_of fields.now) (lines_of text.now)) }
+    requires over { EndsWell R.remaining text.old }
+    ensures over { OnOk result (EndsWell R.remaining text.new) }
+    ensures on { OnOk result ((form : forms.Form) (all : Option (List ℕ)) (start : W) → Importing W.contents (map field_of fields.now) form all start lines.old (ahead R.remaining text.old) sink.old → Importing W.contents (map field_of fields.now) form all start lines.new (ahead R.remaining text.new) sink.new) }
+    ensures fault { IfErr result (λ e. (form : forms.Form) (all : Option (List ℕ)) (start : W) → Importing W.contents (map field_of fields.now) form all start lines.old (ahead R.remaining text.old) sink.old → Stops e (map field_of fields.now) form all) }
 {
-    match read_rows(alloc, data_type, text, ROWS) {
-        Err(fault) => Err(fault_of(fault)),
-        Ok(rows) => {
-            let Rows { array, used, lines } = rows;
-            match push_rows(alloc, fields, batches, array) {
-                Ok(()) => Ok((used, lines)),
-                Err(_) => Err(Unimported::Memory),
-            }
-        }
+    let taken = match take_batch(alloc, data_type, fields, text) {
+        Ok(taken) => taken,
+        Err(fault) => return Err(behind(fault, *lines)),
+    };
+    let Taken {
+        batches,
+        used,
+        lines: count,
+    } = taken;
+    let written = write_all(alloc, sink, &batches);
+    drop(batches);
+    if let Err(fault) = written {
+        return Err(unwritten(fault));
     }
+    let Some(sum) = lines.checked_add(count) else {
+        return Err(Unimported::Overflow);
+    };
+    *lines = sum;
+    text.pass(used);
+    Ok(count)
 }
 
-/// The rows of all lines, in batches.
-fn read_batches(
+/// Reads further lines and writes their rows, behind so many: how many they are, or none where no line is left.
+fn take_turn<R: Read, W: Write + Drop>(
     alloc: Global,
     data_type: &DataType,
     fields: &[Field],
-    text: &[u8],
-) -> Result<Vec<Batch>, Unimported>
-    requires { type_of data_type.now ≡ record_type (map field_of fields.now) }
-    ensures rows { IfOk result (λ v. AreBatches (map field_of fields.now) (lines_of text.now) (map arrays_of v.items)) }
-    ensures fault { IfErr result (λ e. Unread e (map field_of fields.now) (lines_of text.now)) }
+    text: &mut Unused<R>,
+    lines: &mut usize,
+    sink: &mut Sink<W>,
+) -> Result<Option<usize>, Unimported>
+    requires typed { type_of data_type.now ≡ record_type (map field_of fields.now) }
+    requires over { EndsWell R.remaining text.old }
+    ensures over { OnOk result (EndsWell R.remaining text.new) }
+    ensures on { OnOk result ((form : forms.Form) (all : Option (List ℕ)) (start : W) → Importing W.contents (map field_of fields.now) form all start lines.old (ahead R.remaining text.old) sink.old → Importing W.contents (map field_of fields.now) form all start lines.new (ahead R.remaining text.new) sink.new) }
+    ensures end { IfOk result (λ turn. turn ≡ None → IsAtEnd (ahead R.remaining text.new)) }
+    ensures fault { IfErr result (λ e. (form : forms.Form) (all : Option (List ℕ)) (start : W) → Importing W.contents (map field_of fields.now) form all start lines.old (ahead R.remaining text.old) sink.old → Stops e (map field_of fields.now) form all) }
 {
-    let mut batches = Vec::new(alloc);
-    let mut at = 0;
+    if let Err(fault) = text.fill() {
+        return Err(fault);
+    }
+    if text.is_done() {
+        return Ok(None);
+    }
+    match import_batch(alloc, data_type, fields, text, lines, sink) {
+        Ok(count) => Ok(Some(count)),
+        Err(fault) => Err(fault),
+    }
+}
+
+/// Writes the rows of all lines.
+fn walk<R: Read, W: Write + Drop, P: Progress>(
+    alloc: Global,
+    data_type: &DataType,
+    fields: &[Field],
+    text: &mut Unused<R>,
+    sink: &mut Sink<W>,
+    progress: &mut P,
+) -> Result<usize, Unimported>
+    requires typed { type_of data_type.now ≡ record_type (map field_of fields.now) }
+    requires over { EndsWell R.remaining text.old }
+    ensures end { OnOk result (IsAtEnd (ahead R.remaining text.new)) }
+    ensures on { IfOk result (λ lines. (form : forms.Form) (all : Option (List ℕ)) (start : W) → Importing W.contents (map field_of fields.now) form all start 0 (ahead R.remaining text.old) sink.old → Importing W.contents (map field_of fields.now) form all start lines (ahead R.remaining text.new) sink.new) }
+    ensures fault { IfErr result (λ e. (form : forms.Form) (all : Option (List ℕ)) (start : W) → Importing W.contents (map field_of fields.now) form all start 0 (ahead R.remaining text.old) sink.old → Stops e (map field_of fields.now) form all) }
+{
     let mut lines = 0;
-    'batches: while at < text.len() {
-        match push_batch(alloc, data_type, fields, &mut batches, &text[at..]) {
-            Ok((used, count)) => {
-                at += used;
-                lines += count;
-            }
-            Err(fault) => {
-                drop(batches);
-                return Err(behind(fault, lines));
-            }
+    for _turn in 0..usize::MAX {
+        match take_turn(alloc, data_type, fields, text, &mut lines, sink) {
+            Err(fault) => return Err(fault),
+            Ok(None) => return Ok(lines),
+            Ok(Some(count)) => progress.went(count),
         }
     }
-    Ok(batches)
+    Err(Unimported::Overflow)
 }
 
-/// The same, of fields alone.
-fn batches_of(alloc: Global, fields: &[Field], text: &[u8]) -> Result<Vec<Batch>, Unimported>
-    ensures rows { IfOk result (λ v. AreBatches (map field_of fields.now) (lines_of text.now) (map arrays_of v.items)) }
-    ensures fault { IfErr result (λ e. Unread e (map field_of fields.now) (lines_of text.now)) }
+/// Writes the rows of all lines to a sink that was begun, and ends it.
+fn import_lines<R: Read + Drop, W: Write + Drop, P: Progress>(
+    alloc: Global,
+    data_type: &DataType,
+    fields: &[Field],
+    text: Unused<R>,
+    sink: Sink<W>,
+    progress: &mut P,
+) -> Result<W, Unimported>
+    requires typed { type_of data_type.now ≡ record_type (map field_of fields.now) }
+    requires over { EndsWell R.remaining text }
+    ensures { (form : forms.Form) (start : W) → HasPut W.contents form start (plain_schema (map field_of fields.now)) [] sink → Imports W.contents (map field_of fields.now) form (ahead R.remaining text) start result }
 {
-    match copy_fields(alloc, fields) {
-        Err(_) => Err(Unimported::Memory),
-        Ok(copies) => {
-            let data_type = DataType::Struct(copies);
-            let batches = read_batches(alloc, &data_type, fields, text);
-            drop(data_type);
-            batches
+    let mut text = text;
+    let mut sink = sink;
+    let walked = walk(alloc, data_type, fields, &mut text, &mut sink, progress);
+    drop(text);
+    if let Err(fault) = walked {
+        drop(sink);
+        return Err(fault);
+    }
+    match sink.finish(alloc) {
+        Ok(end) => Ok(end),
+        Err(fault) => Err(unwritten(fault)),
+    }
+}
+
+/// Why records of these fields are not read, if they are not.
+fn type_fault(alloc: Global, data_type: &DataType, fields: &[Field]) -> Option<Unimported>
+    requires { type_of data_type.now ≡ record_type (map field_of fields.now) }
+    ensures { IfSome result (λ e. Unread e (map field_of fields.now) []) }
+{
+    match read_batch(alloc, data_type, fields, &[]) {
+        Ok(none) => {
+            drop(none);
+            None
+        }
+        Err(fault) => Some(fault),
+    }
+}
+
+/// Writes lines as columns of this schema. Where records of it are not read, nothing is written.
+fn import_as<R: Read + Drop, W: Write + Drop, P: Progress>(
+    alloc: Global,
+    form: Form,
+    data_type: &DataType,
+    schema: &Schema,
+    input: R,
+    out: W,
+    progress: &mut P,
+) -> Result<W, Unimported>
+    requires typed { type_of data_type.now ≡ record_type (schema_of schema.now).fields }
+    requires plain { (schema_of schema.now).metadata ≡ [] }
+    ensures { Imports W.contents (schema_of schema.now).fields form (R.remaining input) out result }
+{
+    if let Some(fault) = type_fault(alloc, data_type, &schema.fields) {
+        drop(input);
+        drop(out);
+        return Err(fault);
+    }
+    match begin(alloc, form, out, schema) {
+        Err(fault) => {
+            drop(input);
+            Err(unwritten(fault))
+        }
+        Ok(sink) => {
+            let text = Unused::new(alloc, input);
+            import_lines(alloc, data_type, &schema.fields, text, sink, progress)
         }
     }
 }
 
-/// The lines of a text as a file or a stream of columns of these fields: bytes that are read back to the record which each line is, in
-/// order. A line is one value of JSON, as `nest_json::rows_of_text` reads it; a batch has 65,536 rows at most.
+/// Writes the lines that a reader has left as a file or a stream of columns of these fields: bytes that are read back to the record which each
+/// line is, in order. A line is one value of JSON, as `nest_json::rows_of_text` reads it. The rows of up to 65,536 lines, or of 32 megabytes of
+/// them, go out as a batch before further lines are read. The device is flushed and given back.
 ///
 /// # Errors
 /// `Type` with the first reason why such records are not read. `Line` with the first line that is no row, counted from 0, and its first
-/// reason. `Overflow` where a level of a batch would pass its limit. Then `Form` with the first reason not to write what was read.
-/// `Memory`, also within `Form`, may come in the place of any.
-pub fn import(
+/// reason. `Overflow` where a level of a batch would pass its limit. `Form` with the first reason not to write the lines up to a batch.
+/// `Input` and `Output` where a device fails. `Memory`, also within `Form`. A beginning of the bytes may have gone out then.
+pub fn import<R: Read + Drop, W: Write + Drop, P: Progress>(
     alloc: Global,
     fields: Vec<Field>,
     form: Form,
-    text: &[u8],
-) -> Result<Vec<u8>, Unimported>
-    ensures bytes { IfOk result (λ out. Imports (map field_of fields.items) form text.now out.items) }
-    ensures fault { IfErr result (λ e. ImportFault e (map field_of fields.items) form text.now) }
+    input: R,
+    out: W,
+    progress: &mut P,
+) -> Result<W, Unimported>
+    ensures { Imports W.contents (map field_of fields.items) form (R.remaining input) out result }
 {
-    match batches_of(alloc, &fields, text) {
-        Err(fault) => {
+    match copy_fields(alloc, &fields) {
+        Err(_) => {
             drop(fields);
-            Err(fault)
+            drop(input);
+            drop(out);
+            Err(Unimported::Memory)
         }
-        Ok(batches) => {
+        Ok(copies) => {
+            let data_type = DataType::Struct(copies);
             let metadata = Metadata::new(alloc);
             let schema = Schema { fields, metadata };
-            let held = Held { schema, batches };
-            let written = write_held(alloc, form, &held);
-            drop(held);
-            match written {
-                Ok(out) => Ok(out),
-                Err(why) => Err(Unimported::Form(why)),
-            }
+            let done = import_as(alloc, form, &data_type, &schema, input, out, progress);
+            drop(data_type);
+            drop(schema);
+            done
         }
     }
 }

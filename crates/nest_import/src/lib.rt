@@ -1,11 +1,10 @@
-//! Lines of JSON as Arrow files and streams.
-//!
-//! A statement whose value is never read (`let _len = ..`, `x.known()`) shows the prover a fact that the next step needs, and does
-//! nothing when it runs.
+//! Lines of JSON as Arrow files and streams, batch by batch: the memory is that of the lines of one batch, as text and as columns.
 #![tactic(auto)]
 
 mod fault;
 mod importing;
+mod reading;
+mod unused;
 
 pub use fault::Unimported;
 pub use importing::import;

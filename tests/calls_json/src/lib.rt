@@ -12,7 +12,9 @@
 //! | Builders of a type, without a row | `lines::builders_are_made` |
 //! | Lines as a file and as a stream, in batches, read back as the same text | `imports::lines_are_read_back`, `imports::batches_have_their_rows` |
 //! | Rows as a batch, and batches as a stream | `imports::rows_are_written_as_batches` |
-//! | Each fault of lines that are to be written | `imports::lines_are_not_written` |
+//! | Each fault of lines that are to be written | `imports::lines_are_not_written`, `imports::nothing_goes_out_of_other_types` |
+//! | Text in parts of each width, devices that fail at each call and at each byte | `imports::text_that_comes_in_parts_is_the_same`, `imports::devices_fail` |
+//! | Batches whose dictionaries have other values, as a stream and as a file, also copied | `imports::batches_of_other_values_have_no_file` |
 #![tactic(auto)]
 
 #[cfg(test)]

@@ -6,7 +6,7 @@ use Rattle.ipc.specs.WrittenLists.{all_taken, split, taken}
 use Rattle.nest_words.specs.declared.form.Form as forms
 use Rattle.nest_copying.specs.Sinks.{HasPut}
 use Rattle.nest_copying.proofs.Steps.{part-of}
-use Rattle.nest_copying.proofs.copying.write_all.Goals as goal
+use Rattle.nest_copying.proofs.sink.write_all.Goals as goal
 
 pub loop-batch-init : goal.loop-batch-init
 loop-batch-init g c = λ form start s went p. subst (λ (bs : List Arrays). HasPut g.W.Write.contents form start s bs c.args.sink.now) (sym (append-nil went)) p

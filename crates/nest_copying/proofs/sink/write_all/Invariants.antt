@@ -3,7 +3,7 @@ use Rattle.ipc_schema.specs.Schemas.{SchemaTree}
 use Rattle.ipc.specs.Streams.{Arrays, arrays_of}
 use Rattle.nest_words.specs.declared.form.Form as forms
 use Rattle.nest_copying.specs.Sinks.{HasPut}
-use Rattle.nest_copying.proofs.copying.write_all.Given as goal
+use Rattle.nest_copying.proofs.sink.write_all.Given as goal
 
 abbrev pub invariant-loop-batch : goal.invariant-loop-batch
 invariant-loop-batch g l =

@@ -1,0 +1,25 @@
+use Rattle.std.proofs.Common.{[], map, subst, take}
+use Rattle.std.proofs.lemmas.Result.{IfErr-weaker, IfOk-weaker}
+use Rattle.ipc.specs.Streams.{arrays_of}
+use Rattle.nest_import.specs.Walks.{HasBatch, Unread}
+use Rattle.nest_json.specs.Split.{lines_of}
+use Rattle.nest_memory.specs.TypeOf.{field_of}
+use Rattle.nest_import.proofs.Turns.{reads-on, stays-unread}
+use Rattle.nest_import.proofs.reading.take_batch.Goals as goal
+
+pub returns-clause-rows : goal.returns-clause-rows
+returns-clause-rows g c =
+    let fs = map field_of c.args.fields.now in
+    let n = c.whole-whole.result in
+    IfOk-weaker c.read_batch.result _ _
+    (λ t b. reads-on fs c.args.text.now.is_over c.args.text.now.text.items n t.used t.lines (map arrays_of t.batches.items) c.whole-whole.ensures.lines
+    (subst (λ text. HasBatch fs (take n text) t.used t.lines [] (map arrays_of t.batches.items)) c.deref.ensures.value b))
+    c.read_batch.ensures.rows
+
+pub returns-clause-fault : goal.returns-clause-fault
+returns-clause-fault g c =
+    let fs = map field_of c.args.fields.now in
+    let n = c.whole-whole.result in
+    IfErr-weaker c.read_batch.result _ _
+    (λ e u. stays-unread e fs c.args.text.now.is_over c.args.text.now.text.items n c.whole-whole.ensures.lines (subst (λ text. Unread e fs (lines_of (take n text))) c.deref.ensures.value u))
+    c.read_batch.ensures.fault
