@@ -1,6 +1,6 @@
 -- What comparisons tell, one after another, and the nodes of runs.
-use Rattle.std.specs.Prelude.{◌↔◌, IsTrue, [], ◌∷◌}
-use Rattle.std.proofs.Common.{◌≡◌, ℕ, zero, suc, ◌+◌, ◌-◌, ◌<◌, ◌≤◌, Bool, true, false, refl, ap, sym, ◌∙◌, subst, arith}
+use Rattle.std.specs.Prelude.{◌↔◌, ◌≢◌, IfNone, IfSome, IsTrue, is_some, [], ◌∷◌}
+use Rattle.std.proofs.Common.{◌≡◌, Option, None, Some, ℕ, zero, suc, ◌+◌, ◌-◌, ◌<◌, ◌≤◌, Bool, true, false, refl, ap, sym, ◌∙◌, subst, arith}
 use Rattle.nest_model.specs.Accessors.{validity_of}
 use Rattle.nest_model.specs.Layout.{Layout}
 use Rattle.nest_model.specs.Meaning.{run, slot}
@@ -124,3 +124,8 @@ part-differs f g o p n k m r d h l = (λ t. cc, λ e. sym h ∙ d.1 (same-part f
 
 pub rest-decides : (f g : ℕ → Slot) (o p n k : ℕ) (r : Bool) → run f o k ≡ run g p k → (IsTrue r ↔ (run f (o + k) (n - k) ≡ run g (p + k) (n - k))) → k ≤ n → IsTrue r ↔ (run f o n ≡ run g p n)
 rest-decides f g o p n k r e d l = (λ t. same-joined f g o p k (n - k) n (omega arith) e (d.0 t), λ h. d.1 (same-part f g o p n k (n - k) h (omega arith)))
+
+-- what whole blocks of one say of the run behind the blocks that were the same
+pub blocks-decide : (f g : ℕ → Slot) (o p n k : ℕ) (r : Option ℕ) (b : Bool) → k ≤ n → run f o k ≡ run g p k → b ≡ is_some r → IfSome r (λ m. (m ≤ n - k) × (n - k < m + 1)) → IfSome r (λ m. run f (o + k) m ≡ run g (p + k) m) → IfNone r (run f (o + k) (n - k) ≢ run g (p + k) (n - k)) → IsTrue b ↔ (run f o n ≡ run g p n)
+blocks-decide f g o p n k None b l e h w s d = rest-decides f g o p n k b e (λ t. let u : false ≡ true = sym h ∙ t in cc, λ q. absurd (d q)) l
+blocks-decide f g o p n k (Some m) b l e h w s d = let m-all : m ≡ n - k = omega (arith, w.0, w.1) in rest-decides f g o p n k b e (λ t. subst (λ z. run f (o + k) z ≡ run g (p + k) z) m-all s, λ q. h) l

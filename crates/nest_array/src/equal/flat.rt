@@ -1,5 +1,5 @@
 //! Equality of runs of slots without children, counted.
-ghost use Rattle.std.specs.Prelude.{◌≡◌, ◌↔◌, ◌+◌, ◌≤◌, IsTrue};
+ghost use Rattle.std.specs.Prelude.{◌≡◌, ◌≢◌, ◌↔◌, ◌+◌, ◌<◌, ◌≤◌, IfNone, IfSome, IsTrue};
 ghost use Rattle.nest_flat.specs.AnyPrimitive.{primitive_layout};
 ghost use Rattle.nest_flat.specs.BareSlots.{bare};
 ghost use Rattle.nest_array.specs.Words.{Tells, layout_type, len, physical_type, run, slot};
@@ -36,47 +36,52 @@ pub(crate) fn each_same_slot<A: FlatArray>(
     true
 }
 
-/// Whether the n raw values of a from place o are those of b from place p, one after another.
-fn each_same_value<A: FlatArray>(
+/// How many of the n raw values of a from place o are those of b from place p, by whole blocks of B; none where a block differs.
+fn same_blocks<A: FlatArray, const B: usize>(
     a: A,
     o: usize,
     b: A,
     p: usize,
     n: usize,
     steps: &mut Steps,
-) -> bool
+) -> Option<usize>
+    requires block { 1 ≤ B }
     requires within { o + n ≤ len (A.layout a) }
     requires other_within { p + n ≤ len (A.layout b) }
-    ensures same { IsTrue result ↔ (run (slot (bare (A.layout a))) o n ≡ run (slot (bare (A.layout b))) p n) }
-    ensures told { Tells result steps.old steps.new n }
+    ensures whole { IfSome result (λ m. (m ≤ n) × (n < m + B)) }
+    ensures same { IfSome result (λ m. run (slot (bare (A.layout a))) o m ≡ run (slot (bare (A.layout b))) p m) }
+    ensures told { IfSome result (λ m. steps.new ≡ steps.old + m) }
+    ensures differ { IfNone result (run (slot (bare (A.layout a))) o n ≢ run (slot (bare (A.layout b))) p n) }
+    ensures stopped { IfNone result (steps.new ≤ steps.old + n) }
 {
     let _ends = (a.count(), b.count());
-    for k in 0..n {
-        if !a.is_same_value(o + k, &b, p + k) {
-            steps.tell(k as u64 + 1);
-            return false;
+    let mut done = 0;
+    while n - done >= B {
+        steps.tell(B as u64);
+        if !a.same_values(o + done, &b, p + done, B) {
+            return None;
         }
+        done += B;
     }
-    steps.tell(n as u64);
-    true
+    Some(done)
 }
 
-/// Whether the n raw values of a from place o are those of b from place p: in blocks of 16, and the rest one by one.
-fn same_blocks<A: FlatArray>(a: A, o: usize, b: A, p: usize, n: usize, steps: &mut Steps) -> bool
+/// Whether the n raw values of a from place o are those of b from place p: in large blocks, the rest in small ones, and one by one.
+fn same_bare<A: FlatArray>(a: A, o: usize, b: A, p: usize, n: usize, steps: &mut Steps) -> bool
     requires within { o + n ≤ len (A.layout a) }
     requires other_within { p + n ≤ len (A.layout b) }
     ensures same { IsTrue result ↔ (run (slot (bare (A.layout a))) o n ≡ run (slot (bare (A.layout b))) p n) }
     ensures told { Tells result steps.old steps.new n }
 {
     let _ends = (a.count(), b.count());
-    for k in 0..n / 16 {
-        steps.tell(16);
-        if !a.same_values(o + k * 16, &b, p + k * 16, 16) {
-            return false;
-        }
-    }
-    let done = n / 16 * 16;
-    each_same_value(a, o + done, b, p + done, n - done, steps)
+    let Some(large) = same_blocks::<A, 1024>(a, o, b, p, n, steps) else {
+        return false;
+    };
+    let Some(small) = same_blocks::<A, 16>(a, o + large, b, p + large, n - large, steps) else {
+        return false;
+    };
+    let done = large + small;
+    same_blocks::<A, 1>(a, o + done, b, p + done, n - done, steps).is_some()
 }
 
 /// Whether the n slots of a from place o are those of b from place p: by blocks of raw values where none is null.
@@ -94,7 +99,7 @@ fn same_natives<T: NativeType>(
     ensures told { Tells result steps.old steps.new n }
 {
     if is_full(a, o, n) && is_full(b, p, n) {
-        return same_blocks(a, o, b, p, n, steps);
+        return same_bare(a, o, b, p, n, steps);
     }
     each_same_slot(a, o, b, p, n, steps)
 }
