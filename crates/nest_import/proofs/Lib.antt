@@ -1,4 +1,5 @@
 mod Ahead
 mod Batching
 mod Fed
+mod Truths
 mod Turns

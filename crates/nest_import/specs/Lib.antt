@@ -1,4 +1,5 @@
 -- What contracts cite.
+pub mod Examples
 pub mod Imported
 -- Words of functions within.
 pub mod Unused

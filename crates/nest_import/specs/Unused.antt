@@ -1,5 +1,5 @@
 -- Text that is read and not yet used.
-use Rattle.std.specs.Prelude.{◌≡◌, ◌++◌, ℕ, Bool, true, false, List, [], ◌∷◌, take, Option}
+use Rattle.std.specs.Prelude.{◌≡◌, ◌≢◌, ◌⊎◌, ◌++◌, ℕ, Bool, true, false, List, [], ◌∷◌, take, Option, SomeIndex, slice_index}
 use Rattle.std.specs.Option.{option_map}
 use Rattle.std.specs.Io.KnownBytes.{IsAtEnd}
 use Rattle.nest_import.specs.declared.unused.Unused.{Unused}
@@ -9,6 +9,14 @@ abbrev pub IsFed : List ℕ → Type 0
 IsFed [] = Unit {0}
 IsFed (b ∷ []) = b ≡ 10
 IsFed (b ∷ c ∷ bs) = IsFed (c ∷ bs)
+
+-- one of its bytes is
+abbrev pub HasFeed : List ℕ → Type 0
+HasFeed text = SomeIndex text (λ i. slice_index text i ≡ 10)
+
+-- one of its lines is whole: it has a line feed, or nothing comes behind it
+abbrev pub HasLine : Bool → List ℕ → Type 0
+HasLine over text = HasFeed text ⊎ ((over ≡ true) × (text ≢ []))
 
 -- the bytes of these that are whole lines, whatever comes behind them; all where nothing does
 abbrev pub AreWhole : Bool → List ℕ → ℕ → Type 0

@@ -1,11 +1,11 @@
 //! Lines in, bytes of either form out.
-ghost use Rattle.std.specs.Prelude.{◌≡◌, ◌⊎◌, ◌+◌, [], ℕ, List, None, Option, map, IfErr, IfOk, IfSome, OnOk};
+ghost use Rattle.std.specs.Prelude.{◌≡◌, ◌⊎◌, ◌+◌, ◌<◌, [], ℕ, List, None, Option, map, IfErr, IfOk, IfSome, OnOk};
 ghost use Rattle.std.specs.Io.KnownBytes.{IsAtEnd};
 ghost use Rattle.ipc_schema.specs.Schemas.{schema_of};
 ghost use Rattle.nest_answer.specs.Tables.{record_type};
 ghost use Rattle.nest_copying.specs.Sinks.{HasPut};
 ghost use Rattle.nest_import.specs.Imported.{Imports};
-ghost use Rattle.nest_import.specs.Unused.{EndsWell, ahead};
+ghost use Rattle.nest_import.specs.Unused.{EndsWell, HasLine, ahead};
 ghost use Rattle.nest_import.specs.Walks.{Importing, Stops, Unread, plain_schema, unwritten as unwritten_lem};
 ghost use Rattle.nest_memory.specs.TypeOf.{field_of, type_of};
 ghost use Rattle.nest_words.specs.declared.form.Form as forms;
@@ -40,7 +40,7 @@ fn unwritten(fault: Fault) -> Unimported
     }
 }
 
-/// Writes the rows of the next lines, behind so many: how many they are.
+/// Writes the rows of the next lines, behind so many: how many they are, one at least where a line is whole.
 fn import_batch<R: Read, W: Write + Drop>(
     alloc: Global,
     data_type: &DataType,
@@ -52,6 +52,7 @@ fn import_batch<R: Read, W: Write + Drop>(
     requires typed { type_of data_type.now ≡ record_type (map field_of fields.now) }
     requires over { EndsWell R.remaining text.old }
     ensures over { OnOk result (EndsWell R.remaining text.new) }
+    ensures some { IfOk result (λ n. HasLine text.old.is_over text.old.text.items → 0 < n) }
     ensures on { OnOk result ((form : forms.Form) (all : Option (List ℕ)) (start : W) → Importing W.contents (map field_of fields.now) form all start lines.old (ahead R.remaining text.old) sink.old → Importing W.contents (map field_of fields.now) form all start lines.new (ahead R.remaining text.new) sink.new) }
     ensures fault { IfErr result (λ e. (form : forms.Form) (all : Option (List ℕ)) (start : W) → Importing W.contents (map field_of fields.now) form all start lines.old (ahead R.remaining text.old) sink.old → Stops e (map field_of fields.now) form all) }
 {
@@ -90,6 +91,7 @@ fn take_turn<R: Read, W: Write + Drop>(
     requires over { EndsWell R.remaining text.old }
     ensures over { OnOk result (EndsWell R.remaining text.new) }
     ensures on { OnOk result ((form : forms.Form) (all : Option (List ℕ)) (start : W) → Importing W.contents (map field_of fields.now) form all start lines.old (ahead R.remaining text.old) sink.old → Importing W.contents (map field_of fields.now) form all start lines.new (ahead R.remaining text.new) sink.new) }
+    ensures some { IfOk result (λ turn. IfSome turn (λ n. 0 < n)) }
     ensures end { IfOk result (λ turn. turn ≡ None → IsAtEnd (ahead R.remaining text.new)) }
     ensures fault { IfErr result (λ e. (form : forms.Form) (all : Option (List ℕ)) (start : W) → Importing W.contents (map field_of fields.now) form all start lines.old (ahead R.remaining text.old) sink.old → Stops e (map field_of fields.now) form all) }
 {

@@ -3,6 +3,7 @@
 
 mod fault;
 mod importing;
+pub mod laws;
 mod reading;
 mod unused;
 

@@ -1,8 +1,8 @@
 //! The next lines as a batch.
-ghost use Rattle.std.specs.Prelude.{◌≡◌, ◌<◌, ◌⊎◌, [], length, map, take, IfErr, IfOk, OnOk};
+ghost use Rattle.std.specs.Prelude.{◌≡◌, ◌≢◌, ◌<◌, ◌⊎◌, [], length, map, take, IfErr, IfOk, OnOk};
 ghost use Rattle.ipc.specs.Streams.{arrays_of};
 ghost use Rattle.nest_answer.specs.Tables.{record_type};
-ghost use Rattle.nest_import.specs.Unused.{EndsWell};
+ghost use Rattle.nest_import.specs.Unused.{HasLine};
 ghost use Rattle.nest_import.specs.Walks.{HasBatch, Reads, StaysUnread, Unread, behind as behind_lem, unread_for};
 ghost use Rattle.nest_import.specs.declared.fault.Unimported.TheVariants.{Overflow};
 ghost use Rattle.nest_json.specs.Split.{lines_of};
@@ -61,6 +61,7 @@ pub(crate) fn read_batch(
 ) -> Result<Taken, Unimported>
     requires { type_of data_type.now ≡ record_type (map field_of fields.now) }
     ensures rows { IfOk result (λ t. HasBatch (map field_of fields.now) text.now t.used t.lines [] (map arrays_of t.batches.items)) }
+    ensures some { IfOk result (λ t. text.now ≢ [] → 0 < t.lines) }
     ensures fault { IfErr result (λ e. Unread e (map field_of fields.now) (lines_of text.now)) }
 {
     match read_rows(alloc, data_type, text, LINES) {
@@ -92,6 +93,7 @@ pub(crate) fn take_batch<R: Read>(
 ) -> Result<Taken, Unimported>
     requires { type_of data_type.now ≡ record_type (map field_of fields.now) }
     ensures rows { IfOk result (λ t. Reads (map field_of fields.now) text.now.text.items text.now.is_over t.used t.lines (map arrays_of t.batches.items)) }
+    ensures some { IfOk result (λ t. HasLine text.now.is_over text.now.text.items → 0 < t.lines) }
     ensures fault { IfErr result (λ e. StaysUnread e (map field_of fields.now) text.now.text.items text.now.is_over) }
 {
     let whole = text.whole();

@@ -1,7 +1,7 @@
 //! Text that is read and not yet used.
-ghost use Rattle.std.specs.Prelude.{◌≡◌, ◌≤◌, ◌⊎◌, ◌++◌, false, drop, length, option_map, IfErr, IsTrue, OnOk};
+ghost use Rattle.std.specs.Prelude.{◌≡◌, ◌↔◌, ◌<◌, ◌≤◌, ◌⊎◌, ◌++◌, [], false, true, drop, length, option_map, IfErr, IfOk, IsTrue, OnOk};
 ghost use Rattle.std.specs.Io.KnownBytes.{IsAtEnd, Keeps};
-ghost use Rattle.nest_import.specs.Unused.{AreWhole, EndsWell, ahead};
+ghost use Rattle.nest_import.specs.Unused.{AreWhole, EndsWell, HasFeed, ahead};
 ghost use Rattle.nest_import.specs.declared.fault.Unimported.TheVariants.{Input, Memory};
 
 use crate::fault::Unimported;
@@ -23,7 +23,9 @@ pub(crate) struct Unused<R> {
 }
 
 /// How many line feeds there are.
-fn feeds(text: &[u8]) -> usize {
+fn feeds(text: &[u8]) -> usize
+    ensures { 0 < result → HasFeed text.now }
+{
     let mut found = 0usize;
     for byte in text {
         if *byte == b'\n' {
@@ -51,6 +53,8 @@ impl<R: Read> Unused<R> {
         requires open { self.old.is_over ≡ false }
         ensures ahead { OnOk result (Keeps (ahead R.remaining self.old) (ahead R.remaining self.new)) }
         ensures over { OnOk result (EndsWell R.remaining self.new) }
+        ensures more { OnOk result ((self.new.is_over ≡ true) ⊎ (length self.old.text.items < length self.new.text.items)) }
+        ensures feeds { IfOk result (λ n. (0 < n) ⊎ HasFeed self.old.text.items → HasFeed self.new.text.items) }
         ensures fault { IfErr result (λ e. (e ≡ Input) ⊎ (e ≡ Memory)) }
     {
         let mut buffer = [0u8; 16384];
@@ -72,6 +76,7 @@ impl<R: Read> Unused<R> {
         requires over { EndsWell R.remaining self.old }
         ensures ahead { OnOk result (Keeps (ahead R.remaining self.old) (ahead R.remaining self.new)) }
         ensures over { OnOk result (EndsWell R.remaining self.new) }
+        ensures enough { OnOk result ((self.new.is_over ≡ true) ⊎ HasFeed self.new.text.items) }
         ensures fault { IfErr result (λ e. (e ≡ Input) ⊎ (e ≡ Memory)) }
     {
         let mut lines = feeds(&self.text);
@@ -90,7 +95,8 @@ impl<R: Read> Unused<R> {
     /// Whether all lines were used.
     pub(crate) fn is_done(&self) -> bool
         requires over { EndsWell R.remaining self.now }
-        ensures { IsTrue result → IsAtEnd (ahead R.remaining self.now) }
+        ensures end { IsTrue result → IsAtEnd (ahead R.remaining self.now) }
+        ensures done { IsTrue result ↔ (self.now.is_over ≡ true) × (self.now.text.items ≡ []) }
     {
         self.is_over && self.text.is_empty()
     }
@@ -99,6 +105,7 @@ impl<R: Read> Unused<R> {
     pub(crate) fn whole(&self) -> usize
         ensures within { result ≤ length self.now.text.items }
         ensures lines { AreWhole self.now.is_over self.now.text.items result }
+        ensures some { HasFeed self.now.text.items → 0 < result }
     {
         if self.is_over {
             return self.text.len();

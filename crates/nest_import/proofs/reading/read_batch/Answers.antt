@@ -1,9 +1,10 @@
-use Rattle.std.proofs.Common.{◌∙◌, ◌++◌, [], map, take, sym, ap, subst}
+use Rattle.std.proofs.Common.{◌∙◌, ◌++◌, [], map, take, sym, ap, subst, arith}
 use Rattle.ipc.specs.Streams.{arrays_of}
 use Rattle.nest_array.specs.Seen.{layout_of}
 use Rattle.nest_choose.specs.Rows.{rows_of}
 use Rattle.nest_import.specs.Walks.{Unread}
 use Rattle.nest_import.proofs.Batching.{are-rows, first-batch, unread-text}
+use Rattle.nest_import.proofs.Fed.{some-lines}
 use Rattle.nest_json.specs.Lines as json_lines
 use Rattle.nest_json.specs.Split.{lines_of}
 use Rattle.nest_json.specs.Types.{type_fault}
@@ -32,3 +33,6 @@ returns-in-Ok-push_rows-clause-rows c =
     let alone = c.in-Ok-push_rows.ensures.rows ∙ ap (λ bs. batch_rows fs (map arrays_of bs) ++ rows_of a) c.new-batches.ensures.items in
     first-batch fs c.args.text.now 65536 rows.used rows.lines a [] (map arrays_of c.push_rows.new.batches.items) c.in-Ok.ensures.lines
     (ap (λ t. json_lines.rows_of t (lines_of (take rows.used c.args.text.now))) (sym c.requires) ∙ c.in-Ok.ensures.rows) (c.in-Ok.ensures.same_type ∙ c.requires) alone
+
+pub returns-in-Ok-push_rows-clause-some : goal.returns-in-Ok-push_rows-clause-some
+returns-in-Ok-push_rows-clause-some c = λ there. some-lines c.args.text.now 65536 c.in-Ok.rows.used c.in-Ok.rows.lines c.in-Ok.ensures.lines (omega arith) there

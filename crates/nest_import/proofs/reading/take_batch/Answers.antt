@@ -1,9 +1,10 @@
-use Rattle.std.proofs.Common.{[], map, subst, take}
+use Rattle.std.proofs.Common.{◌≡◌, [], map, subst, take}
 use Rattle.std.proofs.lemmas.Result.{IfErr-weaker, IfOk-weaker}
 use Rattle.ipc.specs.Streams.{arrays_of}
 use Rattle.nest_import.specs.Walks.{HasBatch, Unread}
 use Rattle.nest_json.specs.Split.{lines_of}
 use Rattle.nest_memory.specs.TypeOf.{field_of}
+use Rattle.nest_import.proofs.Fed.{whole-there}
 use Rattle.nest_import.proofs.Turns.{reads-on, stays-unread}
 use Rattle.nest_import.proofs.reading.take_batch.Goals as goal
 
@@ -23,3 +24,11 @@ returns-clause-fault g c =
     IfErr-weaker c.read_batch.result _ _
     (λ e u. stays-unread e fs c.args.text.now.is_over c.args.text.now.text.items n c.whole-whole.ensures.lines (subst (λ text. Unread e fs (lines_of (take n text))) c.deref.ensures.value u))
     c.read_batch.ensures.fault
+
+pub returns-clause-some : goal.returns-clause-some
+returns-clause-some g c =
+    let text = c.args.text.now in
+    let n = c.whole-whole.result in
+    IfOk-weaker c.read_batch.result _ _
+    (λ t some line. some (λ none. whole-there text.is_over text.text.items n c.whole-whole.ensures.lines c.whole-whole.ensures.some line (subst (λ bytes. take n bytes ≡ []) c.deref.ensures.value none)))
+    c.read_batch.ensures.some

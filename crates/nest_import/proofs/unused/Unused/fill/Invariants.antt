@@ -1,9 +1,11 @@
+use Rattle.std.proofs.Common.{◌<◌}
 use Rattle.std.specs.Io.KnownBytes.{Keeps}
-use Rattle.nest_import.specs.Unused.{EndsWell, ahead}
+use Rattle.nest_import.specs.Unused.{EndsWell, HasFeed, ahead}
 use Rattle.nest_import.proofs.unused.Unused.fill.Given as goal
 
 abbrev pub invariant-reads : goal.invariant-reads
 invariant-reads g l = record {
   ahead : Keeps (ahead g.R.Read.remaining l.fn.self) (ahead g.R.Read.remaining l.self);
   over : EndsWell g.R.Read.remaining l.self;
+  feed : 0 < l.lines → HasFeed l.self.text.items;
 }
