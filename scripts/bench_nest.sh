@@ -35,7 +35,7 @@ timed 'nest rows' "$(size "$work/text")" "$program" rows "$work/file"
 cmp "$work/text" "$work/out"
 timed 'nest rows, ten of them' "$(size "$work/file")" "$program" rows "$work/file" 0 10
 files=$(for ((i = 0; i < copies; i++)); do echo "$work/file"; done)
-"$program" concat $files -o "$work/one"
+timed 'nest concat' "$(($(size "$work/file") * copies))" "$program" concat $files -o "$work/one"
 cp "$work/one" "$work/other"
 timed 'cmp' "$(size "$work/one")" cmp "$work/one" "$work/other"
 timed 'nest equal' "$(size "$work/one")" "$program" equal "$work/one" "$work/other"

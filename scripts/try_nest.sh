@@ -132,9 +132,20 @@ expect 0 '' '' concat "$room/parts" "$room/unlike" --columns b -o "$room/b"
 expect 0 'b: string\n' '' schema "$room/b"
 expect 0 '' '' concat "$room/one" "$room/one" -o "$room/one"
 expect 1 '' "nest: $room/truths: its schema is not that of $room/file" concat "$room/file" "$room/parts" "$room/truths" -o "$room/none"
-expect 1 '' "nest: $room/packed: the body is compressed" concat "$room/file" "$room/packed" -o "$room/none"
+expect 1 '' "nest: $room/packed: batch 0: the body is compressed" concat "$room/file" "$room/packed" -o "$room/none"
+expect 1 '' "nest: $room/unmarked: batch 2: a message does not begin with FF FF FF FF" concat "$room/file" "$room/unmarked" -o "$room/none"
+expect 1 '' "nest: $room/csv: a message does not begin with FF FF FF FF" concat "$room/csv" "$room/file" -o "$room/none"
 expect 1 '' "nest: $room/absent: input cannot be read" concat "$room/file" "$room/absent" -o "$room/none"
 [ ! -e "$room/none" ] || { echo 'nest concat: an output of a fault'; failed=1; }
+# On standard output; to a full one; to a file that is there, which stays as it was where a file has a fault.
+[ "$("$program" concat "$room/file" "$room/parts" -o - | "$program" rows -)" = "$(printf "$all$all")" ] || { echo 'nest concat: a pipe'; failed=1; }
+said=$("$program" concat "$room/file" "$room/parts" -o - 2>&1 >/dev/full)
+[ "$? $said" = '1 nest: -: output cannot be written' ] || { echo "nest concat to a full device: $said"; failed=1; }
+expect 0 '' '' concat "$room/file" -o "$room/kept"
+expect 1 '' "nest: $room/packed: the body is compressed" concat "$room/parts" "$room/packed" -o "$room/kept"
+expect 0 "$all" '' rows "$room/kept"
+expect 0 '' '' concat "$room/parts" "$room/file" "$room/parts" -o "$room/kept"
+expect 0 "$all$all$all" '' rows "$room/kept"
 # Rows that are chosen, as a stream, as a file and on standard output: the same as are written as lines; some columns; an output that is the
 # input; each fault, none of which leaves an output; rows without a column are counted.
 # NAME WORD..: with an output the rows that are written without one.

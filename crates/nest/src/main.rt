@@ -3,11 +3,13 @@
 
 mod copying;
 mod importing;
+mod joining;
 mod output;
 
 use copying::{copy_chosen, copy_file};
 use importing::from_json;
 use ipc_schema::Columns;
+use joining::concat;
 use nest_batches::{
     Asked, Stop, answer_file, answer_stream, in_order, is_file, read_beginning, request_of,
 };
@@ -16,7 +18,7 @@ use nest_copying::Taken;
 use nest_look::answering::answer;
 use nest_look::comparing::{Difference, difference_line};
 use nest_look::fault::Fault;
-use nest_look::joining::{self, Unjoined};
+use nest_look::joining::{self as whole, Unjoined};
 use nest_look::running::{read_input, write_bytes};
 use nest_look::{converting, selecting};
 use nest_words::{
@@ -333,6 +335,12 @@ fn inputs<'a>(
     Ok(inputs)
 }
 
+/// Says that the schema of a file is not that of the first, and the status of it.
+fn unlike(rt: &HostRuntime, file: &String, first: &String) -> ExitCode {
+    let _ = eprintln!(rt; "nest: {file}: its schema is not that of {first}");
+    ExitCode::FAILURE
+}
+
 /// Says why files are not written as one, and the status of it. What can be blamed on no file is said of the output.
 fn unjoined(rt: &HostRuntime, files: &[String], out: &String, why: Unjoined) -> ExitCode {
     match why {
@@ -342,24 +350,27 @@ fn unjoined(rt: &HostRuntime, files: &[String], out: &String, why: Unjoined) -> 
         }
         Unjoined::Schema(k) => {
             let file = files.get(k).unwrap_or(out);
-            let first = files.first().unwrap_or(out);
-            let _ = eprintln!(rt; "nest: {file}: its schema is not that of {first}");
-            ExitCode::FAILURE
+            unlike(rt, file, files.first().unwrap_or(out))
         }
         Unjoined::Form(why) => status(rt, out, Err(Fault::Form(why))),
         Unjoined::Memory => status(rt, out, Err(Fault::Memory)),
     }
 }
 
-/// Writes files as one. The output is touched once all bytes are there: it may be one of them.
-fn concat(rt: &HostRuntime, columns: Columns<'_>, files: &[String], out: &String) -> ExitCode {
+/// Writes files as one to a file that is there, or cannot be made: it is touched once all bytes are there, since it may be one of them.
+fn concat_whole(
+    rt: &HostRuntime,
+    columns: Columns<'_>,
+    files: &[String],
+    out: &String,
+) -> ExitCode {
     match inputs(rt, files) {
         Err((file, fault)) => status(rt, file, Err(fault)),
         Ok(inputs) => {
             if inputs.is_empty() {
                 return unknown(rt);
             }
-            match joining::concat(rt.alloc(), columns, form_of(out), &inputs) {
+            match whole::concat(rt.alloc(), columns, form_of(out), &inputs) {
                 Err(why) => unjoined(rt, files, out, why),
                 Ok(made) => status(rt, out, write_out(rt, out, &made)),
             }

@@ -1,3 +1,4 @@
+mod Joined
 pub mod Lists
 mod Sinks
 pub mod Steps

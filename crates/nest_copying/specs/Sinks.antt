@@ -53,6 +53,11 @@ module _ {W : Type 0} (contents : W → Option (List ℕ)) where
   HasPut forms.TheVariants.File start s bs (Stream w) = ⊥
   HasPut forms.TheVariants.File start s bs (File w) = IsFile start s bs w
 
+-- the schema that it was begun with
+abbrev pub schema_put : {W : Type 0} → Sink W → SchemaTree
+schema_put (Stream w) = w.schema
+schema_put (File w) = w.stream.schema
+
 -- bytes of a form went out that are read back to these batches
 abbrev pub IsPutAs : forms.Form → SchemaTree → List Arrays → Option (List ℕ) → Option (List ℕ) → Type 0
 IsPutAs form s bs old new = (bytes : List ℕ) × IsFormOf form (of_batches s bs) bytes × Appends old new bytes

@@ -28,8 +28,8 @@ module _ {W : Type 0} (contents : W → Option (List ℕ)) where
   FailsWrites fault c fs b old =
       FailsBatch fault c fs (b ∷ []) ⊎ ((form : forms.Form) (start : W) (s : SchemaTree) (went : List Arrays) → HasPut contents form start s went old → (more : List Arrays) × AreCopied c fs (b ∷ []) more × FailsPart fault form s (went ++ more))
 
-  -- so many batches came, and what is chosen of them went; this is chosen of what is left
-  pub record IsCopying (form : forms.Form) (c : Chosen) (s : SchemaTree) (t : Left) (start : W) (k : ℕ) (now : Chosen) (u : Left) (sink : Sink W) : Type 0 where
+  -- so many batches came, and what is chosen of them went behind others; this is chosen of what is left
+  pub record IsCopying (form : forms.Form) (c : Chosen) (s : SchemaTree) (t : Left) (start : W) (front : List Arrays) (k : ℕ) (now : Chosen) (u : Left) (sink : Sink W) : Type 0 where
     pub came : List Arrays
     pub went : List Arrays
     pub at : IsBehind t k came u
@@ -37,40 +37,40 @@ module _ {W : Type 0} (contents : W → Option (List ℕ)) where
     pub rest : now ≡ behind c (length (batch_rows s.fields came))
     pub in_order : IsInOrder c
     pub has_column : column_fault c s.fields ≡ None
-    pub put : HasPut contents form start s went sink
+    pub put : HasPut contents form start s (front ++ went) sink
 
-  abbrev pub Copying : forms.Form → Chosen → SchemaTree → Option Left → W → ℕ → Chosen → Option Left → Sink W → Type 0
-  Copying form c s None start k now u sink = Unit {0}
-  Copying form c s (Some t) start k now None sink = ⊥
-  Copying form c s (Some t) start k now (Some u) sink = IsCopying form c s t start k now u sink
+  abbrev pub Copying : forms.Form → Chosen → SchemaTree → Option Left → W → List Arrays → ℕ → Chosen → Option Left → Sink W → Type 0
+  Copying form c s None start front k now u sink = Unit {0}
+  Copying form c s (Some t) start front k now None sink = ⊥
+  Copying form c s (Some t) start front k now (Some u) sink = IsCopying form c s t start front k now u sink
 
   -- they are all that are asked for
-  pub record IsCopied (form : forms.Form) (c : Chosen) (s : SchemaTree) (t : Left) (start : W) (k : ℕ) (sink : Sink W) : Type 0 where
+  pub record IsCopied (form : forms.Form) (c : Chosen) (s : SchemaTree) (t : Left) (start : W) (front : List Arrays) (k : ℕ) (sink : Sink W) : Type 0 where
     pub came : List Arrays
     pub went : List Arrays
     pub at : t.first k ≡ Ok came
     pub are_all : (t.first k ≡ t.whole) ⊎ IsEnough c (of_batches s came)
     pub are : AreCopied c s.fields came went
     pub has_column : column_fault c s.fields ≡ None
-    pub put : HasPut contents form start s went sink
+    pub put : HasPut contents form start s (front ++ went) sink
 
-  abbrev pub Copied : forms.Form → Chosen → SchemaTree → Option Left → W → ℕ → Sink W → Type 0
-  Copied form c s None start k sink = Unit {0}
-  Copied form c s (Some t) start k sink = IsCopied form c s t start k sink
+  abbrev pub Copied : forms.Form → Chosen → SchemaTree → Option Left → W → List Arrays → ℕ → Sink W → Type 0
+  Copied form c s None start front k sink = Unit {0}
+  Copied form c s (Some t) start front k sink = IsCopied form c s t start front k sink
 
 -- a turn goes on, or it was the last
 abbrev pub Turned : Option ℕ → Type 0 → Type 0 → Type 0
 Turned (Some rows) Next End = Next
 Turned None Next End = End
 
--- the batch behind so many, which were not all that are asked for, was not copied
-abbrev pub FailsTurn : Fault → forms.Form → Chosen → SchemaTree → Option Left → ℕ → Type 0
-FailsTurn fault form c s None k = Unit {0}
-FailsTurn fault form c s (Some t) k = StopsFor fault c form (held_with s (t.first (k + 1))) × (HasHeld (held_with s (t.first k)) (IsEnough c) → ⊥)
+-- the batch behind so many, which were not all that is asked for, was not copied behind the others
+abbrev pub FailsTurn : Fault → forms.Form → Chosen → SchemaTree → List Arrays → Option Left → ℕ → Type 0
+FailsTurn fault form c s front None k = Unit {0}
+FailsTurn fault form c s front (Some t) k = StopsFor fault c form front (held_with s (t.first (k + 1))) × HasHeld (held_with s (t.first k)) (λ h. IsEnough c h → ⊥)
 
-abbrev pub StopsBehind : Option ℕ → Fault → forms.Form → Chosen → SchemaTree → Option Left → Type 0
-StopsBehind None fault form c s t = ⊥
-StopsBehind (Some k) fault form c s t = FailsTurn fault form c s t k
+abbrev pub StopsBehind : Option ℕ → Fault → forms.Form → Chosen → SchemaTree → List Arrays → Option Left → Type 0
+StopsBehind None fault form c s front t = ⊥
+StopsBehind (Some k) fault form c s front t = FailsTurn fault form c s front t k
 
-abbrev pub StopsWalk : Stop → forms.Form → Chosen → SchemaTree → Option Left → Type 0
-StopsWalk stop form c s t = StopsBehind stop.batch stop.fault form c s t
+abbrev pub StopsWalk : Stop → forms.Form → Chosen → SchemaTree → List Arrays → Option Left → Type 0
+StopsWalk stop form c s front t = StopsBehind stop.batch stop.fault form c s front t

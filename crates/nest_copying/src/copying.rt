@@ -74,8 +74,8 @@ fn take_turn<R: SeekRead + Drop, W: Write + Drop>(
     left: &mut Choice,
     sink: &mut Sink<W>,
 ) -> Result<Option<usize>, Fault>
-    ensures turned { IfOk result (λ turn. (form : forms.Form) (c : Chosen) (s : SchemaTree) (t : Option Left) (start : W) (k : ℕ) → schema_in source.old ≡ s → Copying W.contents form c s t start k (seen_choice left.old) (left_of R.remaining R.stream_position R.stream_bytes source.old) sink.old → Turned turn (Copying W.contents form c s t start (k + 1) (seen_choice left.new) (left_of R.remaining R.stream_position R.stream_bytes source.new) sink.new) (Copied W.contents form c s t start k sink.new)) }
-    ensures fault { IfErr result (λ e. (form : forms.Form) (c : Chosen) (s : SchemaTree) (t : Option Left) (start : W) (k : ℕ) → schema_in source.old ≡ s → Copying W.contents form c s t start k (seen_choice left.old) (left_of R.remaining R.stream_position R.stream_bytes source.old) sink.old → FailsTurn e form c s t k) }
+    ensures turned { IfOk result (λ turn. (form : forms.Form) (c : Chosen) (s : SchemaTree) (t : Option Left) (start : W) (front : List Arrays) (k : ℕ) → schema_in source.old ≡ s → Copying W.contents form c s t start front k (seen_choice left.old) (left_of R.remaining R.stream_position R.stream_bytes source.old) sink.old → Turned turn (Copying W.contents form c s t start front (k + 1) (seen_choice left.new) (left_of R.remaining R.stream_position R.stream_bytes source.new) sink.new) (Copied W.contents form c s t start front k sink.new)) }
+    ensures fault { IfErr result (λ e. (form : forms.Form) (c : Chosen) (s : SchemaTree) (t : Option Left) (start : W) (front : List Arrays) (k : ℕ) → schema_in source.old ≡ s → Copying W.contents form c s t start front k (seen_choice left.old) (left_of R.remaining R.stream_position R.stream_bytes source.old) sink.old → FailsTurn e form c s front t k) }
     ensures schema { schema_in source.new ≡ schema_in source.old }
 {
     if is_over(left) {
@@ -92,15 +92,15 @@ fn take_turn<R: SeekRead + Drop, W: Write + Drop>(
 }
 
 /// Copies batch after batch; how many there were.
-fn walk<R: SeekRead + Drop, W: Write + Drop, P: Progress>(
+pub(crate) fn walk<R: SeekRead + Drop, W: Write + Drop, P: Progress>(
     alloc: Global,
     source: &mut Source<R>,
     left: &mut Choice,
     sink: &mut Sink<W>,
     progress: &mut P,
 ) -> Result<usize, Stop>
-    ensures copied { IfOk result (λ k. (form : forms.Form) (c : Chosen) (s : SchemaTree) (t : Option Left) (start : W) → schema_in source.old ≡ s → Copying W.contents form c s t start 0 (seen_choice left.old) (left_of R.remaining R.stream_position R.stream_bytes source.old) sink.old → Copied W.contents form c s t start k sink.new) }
-    ensures stop { IfErr result (λ stop. (form : forms.Form) (c : Chosen) (s : SchemaTree) (t : Option Left) (start : W) → schema_in source.old ≡ s → Copying W.contents form c s t start 0 (seen_choice left.old) (left_of R.remaining R.stream_position R.stream_bytes source.old) sink.old → StopsWalk stop form c s t) }
+    ensures copied { IfOk result (λ k. (form : forms.Form) (c : Chosen) (s : SchemaTree) (t : Option Left) (start : W) (front : List Arrays) → schema_in source.old ≡ s → Copying W.contents form c s t start front 0 (seen_choice left.old) (left_of R.remaining R.stream_position R.stream_bytes source.old) sink.old → Copied W.contents form c s t start front k sink.new) }
+    ensures stop { IfErr result (λ stop. (form : forms.Form) (c : Chosen) (s : SchemaTree) (t : Option Left) (start : W) (front : List Arrays) → schema_in source.old ≡ s → Copying W.contents form c s t start front 0 (seen_choice left.old) (left_of R.remaining R.stream_position R.stream_bytes source.old) sink.old → StopsWalk stop form c s front t) }
 {
     for k in 0..usize::MAX {
         match take_turn(alloc, source, left, sink) {
@@ -132,7 +132,7 @@ fn copy_batches<R: SeekRead + Drop, W: Write + Drop, P: Progress>(
     sink: Sink<W>,
     progress: &mut P,
 ) -> Result<W, Stop>
-    ensures { (form : forms.Form) (t : Option Left) (start : W) → Copying W.contents form (seen_choice left) (schema_in source) t start 0 (seen_choice left) (left_of R.remaining R.stream_position R.stream_bytes source) sink → Copies W.contents form (seen_choice left) (option_map (under (schema_in source)) t) start result }
+    ensures { (form : forms.Form) (t : Option Left) (start : W) → Copying W.contents form (seen_choice left) (schema_in source) t start [] 0 (seen_choice left) (left_of R.remaining R.stream_position R.stream_bytes source) sink → Copies W.contents form (seen_choice left) (option_map (under (schema_in source)) t) start result }
 {
     let mut source = source;
     let mut left = left;

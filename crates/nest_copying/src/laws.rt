@@ -1,12 +1,22 @@
 //! What a copy is, when it has enough and where it stops, as functions with empty bodies: each contract is an example.
-ghost use Rattle.std.specs.Prelude.{[], ◌∷◌, true, false, None, Some, codes};
+ghost use Rattle.std.specs.Io.KnownBytes.{Appends};
+ghost use Rattle.std.specs.List.{AllByRecursion, flat_map};
+ghost use Rattle.std.specs.Prelude.{◌≡◌, ℕ, List, [], ◌∷◌, true, false, None, Ok, Option, Some, codes, map};
 ghost use Rattle.ipc_model.specs.declared.fault.Fault.TheVariants.{Truncated};
 ghost use Rattle.nest_compare.specs.Examples.{broken, whole_of};
-ghost use Rattle.nest_look.specs.Examples.{three_truths, truths};
+ghost use Rattle.ipc_schema.specs.Schemas.{SchemaTree};
+ghost use Rattle.nest_look.specs.Examples.{bare, three_truths, truths};
+ghost use Rattle.nest_look.specs.Holding.{HeldTree};
+ghost use Rattle.nest_look.specs.Joined.{Joins};
 ghost use Rattle.nest_look.specs.declared.fault.Fault.TheVariants.{Format, NoColumn};
 ghost use Rattle.nest_words.specs.Asked.{all, from, true_in};
 ghost use Rattle.nest_words.specs.declared.form.Form.TheVariants.{Stream};
 ghost use Rattle.nest_copying.specs.Copied.{AreAll, IsCopy, StopsAt};
+ghost use Rattle.nest_copying.specs.Joining.{IsUnappended};
+ghost use Rattle.nest_copying.specs.Sinks.{IsPutAs};
+ghost use Rattle.nest_copying.specs.declared.joining.Unappended.TheVariants.{Schema, Stop};
+
+use nest_words::Form;
 
 /// Of true and false in one batch and true in the next: all as they are, the second, those that are true; not all in one batch, nor a row
 /// fewer.
@@ -26,11 +36,27 @@ pub fn first_batches_are_enough()
     ensures part { AreAll all (broken (truths ((true ∷ false ∷ []) ∷ [])) Truncated) 1 → ⊥ }
 {}
 
-/// Copying stops in the batch with a fault, and in none before; not where the rows before it are all that is asked for. It does not begin
+/// Copying stops in the batch with a fault, and in none before or behind it; not where the rows before it are all that is asked for. It does not begin
 /// where there is no column of the name.
 pub fn copying_stops_at_a_fault()
-    ensures behind { StopsAt all Stream (broken (truths ((true ∷ []) ∷ [])) Truncated) (Some 1) (Format Truncated) }
-    ensures early { StopsAt all Stream (broken (truths ((true ∷ []) ∷ [])) Truncated) (Some 0) (Format Truncated) → ⊥ }
-    ensures enough { StopsAt (from 0 1) Stream (broken (truths ((true ∷ []) ∷ [])) Truncated) (Some 1) (Format Truncated) → ⊥ }
-    ensures column { StopsAt (true_in (codes "o")) Stream (whole_of three_truths) None NoColumn }
+    ensures behind { StopsAt all Stream [] (broken (truths ((true ∷ []) ∷ [])) Truncated) (Some 1) (Format Truncated) }
+    ensures early { StopsAt all Stream [] (broken (truths ((true ∷ []) ∷ [])) Truncated) (Some 0) (Format Truncated) → ⊥ }
+    ensures late { StopsAt all Stream [] (broken (truths ((true ∷ []) ∷ [])) Truncated) (Some 2) (Format Truncated) → ⊥ }
+    ensures enough { StopsAt (from 0 1) Stream [] (broken (truths ((true ∷ []) ∷ [])) Truncated) (Some 1) (Format Truncated) → ⊥ }
+    ensures column { StopsAt (true_in (codes "o")) Stream [] (whole_of three_truths) None NoColumn }
+{}
+
+/// An input of the same schema is put behind the others, and one of another is not. Where it has a fault in a batch, that one is told; and none
+/// in a batch of an input of another schema.
+pub fn inputs_are_put_behind_others()
+    ensures other { IsUnappended Schema Stream three_truths.schema [] (Some (whole_of (bare (1 ∷ [])))) }
+    ensures same { IsUnappended Schema Stream three_truths.schema [] (Some (whole_of (truths ((true ∷ []) ∷ [])))) → ⊥ }
+    ensures fault { IsUnappended (Stop (record { batch = Some 1; fault = Format Truncated })) Stream three_truths.schema three_truths.batches (Some (broken (truths ((true ∷ []) ∷ [])) Truncated)) }
+    ensures early { IsUnappended (Stop (record { batch = Some 0; fault = Format Truncated })) Stream three_truths.schema three_truths.batches (Some (broken (truths ((true ∷ []) ∷ [])) Truncated)) → ⊥ }
+    ensures unlike { IsUnappended (Stop (record { batch = Some 1; fault = Format Truncated })) Stream three_truths.schema [] (Some (broken (bare (1 ∷ [])) Truncated)) → ⊥ }
+{}
+
+/// What went out of inputs of one schema, one behind another, is read back as all of them joined.
+pub fn what_was_put_is_joined(form: Form)
+    ensures { (s : SchemaTree) (parts : List HeldTree) (old new : Option (List ℕ)) → AllByRecursion (λ h. h.schema ≡ s) parts → IsPutAs form s (flat_map (λ h. h.batches) parts) old new → (bytes : List ℕ) × Joins form (map Ok parts) bytes × Appends old new bytes }
 {}

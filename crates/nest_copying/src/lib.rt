@@ -4,6 +4,7 @@
 
 mod asking;
 mod copying;
+pub mod joining;
 pub mod laws;
 mod picking;
 pub mod sink;

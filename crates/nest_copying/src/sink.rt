@@ -5,7 +5,7 @@ ghost use Rattle.ipc.specs.Written.{schema_refusal};
 ghost use Rattle.ipc_schema.specs.Schemas.{SchemaTree, schema_of};
 ghost use Rattle.nest_words.specs.declared.form.Form as forms;
 ghost use Rattle.nest_words.specs.declared.form.Form.TheVariants as variants;
-ghost use Rattle.nest_copying.specs.Sinks.{FailsEnd, FailsMore, FailsPart, FailsSchema, HasPut, IsPutAs, unwritten as unwritten_lem};
+ghost use Rattle.nest_copying.specs.Sinks.{FailsEnd, FailsMore, FailsPart, FailsSchema, HasPut, IsPutAs, schema_put, unwritten as unwritten_lem};
 
 use ipc::Batch;
 use ipc_device::{FileWriter, StreamWriter, WriteError};
@@ -75,6 +75,18 @@ pub fn begin<W: Write + Drop>(
     match form {
         Form::Stream => begin_stream(alloc, device, schema),
         Form::File => begin_file(alloc, device, schema),
+    }
+}
+
+impl<W> Sink<W> {
+    /// The columns of all batches.
+    pub fn schema(&self) -> &Schema
+        ensures { schema_of result.now ≡ schema_put self.now }
+    {
+        match self {
+            Sink::Stream(writer) => writer.schema(),
+            Sink::File(writer) => writer.schema(),
+        }
     }
 }
 

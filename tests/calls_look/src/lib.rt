@@ -25,6 +25,7 @@
 //! | What is copied batch by batch, as either form, beside what is made of all bytes; cuts that end within a batch, and read no further | `copies::samples_are_copied`, `copies::rows_are_cut`, `copies::true_rows_are_copied`, `copies::batches_are_cut` |
 //! | Batches as a reader of either form gives them, and the rows that are chosen of all | `copies::batches_come_and_are_selected` |
 //! | Why a copy stops, and in which batch; devices that fail at each call, outputs that are full at each byte | `copies::faults_stop_a_copy`, `copies::devices_and_outputs_fail` |
+//! | Inputs that are written one behind another, as either form, beside what is made of all bytes; which of them has a fault or another schema; devices and outputs that fail | `joins::samples_are_joined`, `joins::faults_are_of_an_input`, `joins::devices_and_outputs_fail`, `joins::a_sink_has_the_schema_of_the_first` |
 //! | Words with options, and names with commas | `answers::words_have_options` |
 #![tactic(auto)]
 
@@ -36,6 +37,8 @@ mod batches;
 mod comparisons;
 #[cfg(test)]
 mod copies;
+#[cfg(test)]
+mod joins;
 #[cfg(test)]
 mod looks;
 #[cfg(test)]

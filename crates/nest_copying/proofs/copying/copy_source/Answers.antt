@@ -37,4 +37,4 @@ returns-in-Ok g c =
     let t = left_of g.R.Read.remaining g.R.Seek.stream_position g.R.Seek.stream_bytes c.args.source in
     let column : column_fault d s.fields ≡ None = ap (λ (x : SchemaTree). column_fault d x.fields) (sym c.schema.ensures) ∙ ap (λ fs. column_fault d (map field_of fs)) (sym c.deref.ensures.value) ∙ sym c.in_default.ensures in
     c.copy_batches.ensures c.args.form t c.args.out
-    (begun g.W.Write.contents c.args.form d s t c.args.out c.in-Ok.sink (fresh g.R.Read.remaining g.R.Seek.stream_position g.R.Seek.stream_bytes c.args.source) c.requires column (subst (λ (x : SchemaTree). HasPut g.W.Write.contents c.args.form c.args.out x [] c.in-Ok.sink) c.schema-2.ensures c.in-Ok.ensures.begun))
+    (begun g.W.Write.contents c.args.form d s t c.args.out [] c.in-Ok.sink (fresh g.R.Read.remaining g.R.Seek.stream_position g.R.Seek.stream_bytes c.args.source) c.requires column (subst (λ (x : SchemaTree). HasPut g.W.Write.contents c.args.form c.args.out x [] c.in-Ok.sink) c.schema-2.ensures c.in-Ok.ensures.begun))

@@ -1,4 +1,5 @@
-use Rattle.std.proofs.Common.{◌≡◌, Option}
+use Rattle.std.proofs.Common.{◌≡◌, List, Option}
+use Rattle.ipc.specs.Streams.{Arrays}
 use Rattle.ipc_schema.specs.Schemas.{SchemaTree}
 use Rattle.nest_compare.specs.Left.{Left}
 use Rattle.nest_compare.specs.Sources.{left_of, schema_in}
@@ -13,6 +14,6 @@ invariant-loop-k g l =
     let of_ = left_of g.R.Read.remaining g.R.Seek.stream_position g.R.Seek.stream_bytes in
     record {
       schema : schema_in l.source ≡ schema_in l.fn.source;
-      on : (form : forms.Form) (c : Chosen) (s : SchemaTree) (t : Option Left) (start : _) → schema_in l.fn.source ≡ s → Copying g.W.Write.contents form c s t start 0 (seen_choice l.fn.left) (of_ l.fn.source) l.fn.sink
-          → Copying g.W.Write.contents form c s t start l.k (seen_choice l.left) (of_ l.source) l.sink;
+      on : (form : forms.Form) (c : Chosen) (s : SchemaTree) (t : Option Left) (start : _) (front : List Arrays) → schema_in l.fn.source ≡ s → Copying g.W.Write.contents form c s t start front 0 (seen_choice l.fn.left) (of_ l.fn.source) l.fn.sink
+          → Copying g.W.Write.contents form c s t start front l.k (seen_choice l.left) (of_ l.source) l.sink;
     }

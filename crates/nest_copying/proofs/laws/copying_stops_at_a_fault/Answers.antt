@@ -7,6 +7,9 @@ returns-clause-behind c = inl (λ real. refl, λ e. e)
 pub returns-clause-early : goal.returns-clause-early
 returns-clause-early c = λ h. elim h [ inl p ↦ let e = p.0 (λ m. cc) in cc | inr p ↦ let e = p.0 (λ m. cc) in cc ]
 
+pub returns-clause-late : goal.returns-clause-late
+returns-clause-late c = λ h. elim h [ inl p ↦ p.1 | inr p ↦ p.1 ]
+
 pub returns-clause-enough : goal.returns-clause-enough
 returns-clause-enough c = λ h. elim h [ inl p ↦ p.1 (omega arith) | inr p ↦ let e = p.0 (λ m. cc) in cc ]
 
