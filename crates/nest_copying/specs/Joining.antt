@@ -34,6 +34,11 @@ abbrev pub HasSchema : Option ℕ → SchemaTree → Spelled → Type 0
 HasSchema None s x = Unit {0}
 HasSchema (Some k) s x = HasHeld (x.first 0) (λ h. h.schema ≡ s)
 
+-- it stopped before any of its batches
+abbrev pub IsUnbegun : Unappended → Type 0
+IsUnbegun Schema = Unit {0}
+IsUnbegun (Stop stop) = stop.batch ≡ None
+
 -- why an input was not written behind batches of a schema: its own is another; or as copying all of it behind them stops
 abbrev pub IsUnappended : Unappended → forms.Form → SchemaTree → List Arrays → Option Spelled → Type 0
 IsUnappended e form s went None = Unit {0}

@@ -1,5 +1,5 @@
 //! One input, batch by batch.
-ghost use Rattle.std.specs.Prelude.{◌≡◌, ◌+◌, ◌++◌, ℕ, List, [], ◌∷◌, IfErr, IfOk, None, OnOk, Option, length, map, option_map};
+ghost use Rattle.std.specs.Prelude.{◌≡◌, ◌+◌, ◌++◌, ℕ, List, [], ◌∷◌, IfErr, IfOk, IsSome, None, OnOk, Option, length, map, option_map};
 ghost use Rattle.ipc.specs.Streams.{Arrays, arrays_of};
 ghost use Rattle.ipc_schema.specs.Picks.{picks_of};
 ghost use Rattle.ipc_schema.specs.Schemas.{SchemaTree, schema_of};
@@ -100,6 +100,7 @@ pub(crate) fn walk<R: SeekRead + Drop, W: Write + Drop, P: Progress>(
     progress: &mut P,
 ) -> Result<usize, Stop>
     ensures copied { IfOk result (λ k. (form : forms.Form) (c : Chosen) (s : SchemaTree) (t : Option Left) (start : W) (front : List Arrays) → schema_in source.old ≡ s → Copying W.contents form c s t start front 0 (seen_choice left.old) (left_of R.remaining R.stream_position R.stream_bytes source.old) sink.old → Copied W.contents form c s t start front k sink.new) }
+    ensures batch { IfErr result (λ stop. IsSome stop.batch) }
     ensures stop { IfErr result (λ stop. (form : forms.Form) (c : Chosen) (s : SchemaTree) (t : Option Left) (start : W) (front : List Arrays) → schema_in source.old ≡ s → Copying W.contents form c s t start front 0 (seen_choice left.old) (left_of R.remaining R.stream_position R.stream_bytes source.old) sink.old → StopsWalk stop form c s front t) }
 {
     for k in 0..usize::MAX {

@@ -1,5 +1,5 @@
 //! Several inputs one behind another, batch by batch, as one file or stream.
-ghost use Rattle.std.specs.Prelude.{[], Err, List, IfErr, IfOk, OnOk};
+ghost use Rattle.std.specs.Prelude.{◌≡◌, [], Err, List, IfErr, IfOk, IsSome, OnOk};
 ghost use Rattle.ipc.specs.Streams.{Arrays};
 ghost use Rattle.ipc_schema.specs.Picks.{picks_of};
 ghost use Rattle.ipc_schema.specs.Schemas.{SchemaTree};
@@ -9,7 +9,7 @@ ghost use Rattle.nest_compare.specs.Sources.{left_of, schema_in};
 ghost use Rattle.nest_words.specs.Asked.{all};
 ghost use Rattle.nest_words.specs.declared.form.Form as forms;
 ghost use Rattle.nest_copying.specs.Copied.{Copies};
-ghost use Rattle.nest_copying.specs.Joining.{IsUnappended, PutAll, PutFirst, PutMore};
+ghost use Rattle.nest_copying.specs.Joining.{IsUnappended, IsUnbegun, PutAll, PutFirst, PutMore};
 ghost use Rattle.nest_copying.specs.Sinks.{HasPut};
 ghost use Rattle.nest_copying.specs.Walks.{StopsWalk};
 ghost use Rattle.std.specs.Option.{option_map};
@@ -43,6 +43,7 @@ fn copy_all<R: SeekRead + Drop, W: Write + Drop, P: Progress>(
     progress: &mut P,
 ) -> Result<(), Stop>
     ensures put { OnOk result ((form : forms.Form) (start : W) (front : List Arrays) → HasPut W.contents form start (schema_in source) front sink.old → PutAll W.contents form start (schema_in source) front (left_of R.remaining R.stream_position R.stream_bytes source) sink.new) }
+    ensures batch { IfErr result (λ stop. IsSome stop.batch) }
     ensures stop { IfErr result (λ stop. (form : forms.Form) (start : W) (front : List Arrays) → HasPut W.contents form start (schema_in source) front sink.old → StopsWalk stop form all (schema_in source) front (left_of R.remaining R.stream_position R.stream_bytes source)) }
 {
     let mut source = source;
@@ -116,6 +117,7 @@ fn append_source<R: SeekRead + Drop, W: Write + Drop, P: Progress>(
     progress: &mut P,
 ) -> Result<(), Unappended>
     ensures put { OnOk result ((form : forms.Form) (start : W) (s : SchemaTree) (went : List Arrays) → HasPut W.contents form start s went sink.old → PutMore W.contents form start s went (option_map (under (schema_in source)) (left_of R.remaining R.stream_position R.stream_bytes source)) sink.new) }
+    ensures same { IfErr result (λ e. IsUnbegun e → sink.new ≡ sink.old) }
     ensures fault { IfErr result (λ e. (form : forms.Form) (start : W) (s : SchemaTree) (went : List Arrays) → HasPut W.contents form start s went sink.old → IsUnappended e form s went (option_map (under (schema_in source)) (left_of R.remaining R.stream_position R.stream_bytes source))) }
 {
     if !same_schema(sink.schema(), source.schema()) {
@@ -142,6 +144,7 @@ pub fn append<R: SeekRead + Drop, W: Write + Drop, P: Progress>(
     progress: &mut P,
 ) -> Result<(), Unappended>
     ensures put { OnOk result ((form : forms.Form) (start : W) (s : SchemaTree) (went : List Arrays) → HasPut W.contents form start s went sink.old → PutMore W.contents form start s went (spelled R.remaining R.stream_position R.stream_bytes (picks_of columns.entry) input) sink.new) }
+    ensures same { IfErr result (λ e. IsUnbegun e → sink.new ≡ sink.old) }
     ensures fault { IfErr result (λ e. (form : forms.Form) (start : W) (s : SchemaTree) (went : List Arrays) → HasPut W.contents form start s went sink.old → IsUnappended e form s went (spelled R.remaining R.stream_position R.stream_bytes (picks_of columns.entry) input)) }
 {
     match open(alloc, columns, input) {
