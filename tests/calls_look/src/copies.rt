@@ -18,9 +18,18 @@ use std::test::*;
 
 /// Counts what went.
 #[derive(Drop)]
-struct Count {
-    rows: usize,
+pub struct Count {
+    pub rows: usize,
     batches: usize,
+}
+
+impl Count {
+    pub fn new() -> Count {
+        Count {
+            rows: 0,
+            batches: 0,
+        }
+    }
 }
 
 impl Progress for Count {
@@ -42,10 +51,7 @@ fn copied(
     taken: Taken,
     fails_at: (usize, usize),
 ) -> Result<(Vec<u8>, usize), Stop> {
-    let mut count = Count {
-        rows: 0,
-        batches: 0,
-    };
+    let mut count = Count::new();
     let own = bytes.to_vec(alloc).map_err(|_| stop(Fault::Memory))?;
     let from = input(bytes, Device::new(own, fails_at.0));
     let out = Sink::new(alloc, fails_at.1);

@@ -1,29 +1,17 @@
 //! Inputs that are written one behind another, over devices in memory, beside what is made of the bytes of all of them.
 use crate::batches::{Device, NEVER, Sink};
 use crate::comparisons::{input, stopped};
+use crate::copies::Count;
 use crate::looks::bytes_of;
 use crate::samples::{BARE, EMPTY, FILE, PACKED, STREAM, TRUTHS};
 use ipc_schema::Columns;
 use nest_batches::Stop;
-use nest_copying::Progress;
 use nest_copying::joining::{Unappended, append, begin_with};
 use nest_look::fault::Fault;
 use nest_look::joining::concat;
 use nest_words::Form;
 use std::alloc::Global;
 use std::test::*;
-
-/// Counts what went.
-#[derive(Drop)]
-struct Count {
-    rows: usize,
-}
-
-impl Progress for Count {
-    fn went(&mut self, rows: usize) {
-        self.rows += rows;
-    }
-}
 
 fn stop(batch: Option<usize>, fault: Fault) -> Unappended {
     Unappended::Stop(Stop { batch, fault })
@@ -46,7 +34,7 @@ fn joined(
     form: Form,
     fails_at: (usize, usize),
 ) -> Result<Vec<u8>, (usize, Unappended)> {
-    let mut count = Count { rows: 0 };
+    let mut count = Count::new();
     let last = parts.len() - 1;
     let memory = stop(None, Fault::Memory);
     let own = parts[0].to_vec(alloc).map_err(|_| (0usize, memory))?;
@@ -157,7 +145,7 @@ fn a_sink_has_the_schema_of_the_first(rt: HostRuntime) -> Result<(), Fail> {
     for (digits, fields) in [(STREAM, 2usize), (FILE, 2), (BARE, 0)] {
         let bytes = bytes_of(alloc, digits)?;
         for form in [Form::File, Form::Stream] {
-            let mut count = Count { rows: 0 };
+            let mut count = Count::new();
             let first = input(&bytes, Device::new(bytes.to_vec(alloc)?, NEVER));
             let out = Sink::new(alloc, NEVER);
             let begun = begin_with(alloc, Columns::All, form, first, out, &mut count);
