@@ -39,4 +39,5 @@ timed 'nest concat' "$(($(size "$work/file") * copies))" "$program" concat $file
 cp "$work/one" "$work/other"
 timed 'cmp' "$(size "$work/one")" cmp "$work/one" "$work/other"
 timed 'nest equal' "$(size "$work/one")" "$program" equal "$work/one" "$work/other"
+timed 'nest take, three' "$(size "$work/one")" "$program" take "$work/one" $((rows * copies - 1)) 3 $((rows * copies / 2))
 timed 'nest rows of all' "$(size "$work/one")" "$program" rows "$work/one"

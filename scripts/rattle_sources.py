@@ -3,7 +3,7 @@ import functools
 import os
 import re
 
-LIBRARIES = ["nest_memory", "nest_flat", "nest_array", "nest_scan", "nest_take", "nest_concat", "nest_build", "nest_any", "nest_show", "nest_parse", "ipc_model", "ipc_words", "ipc_message", "ipc_schema", "ipc_batch", "ipc_footer", "ipc_layout", "ipc", "listcut_rows", "nest_words", "nest_choose", "nest_lines", "nest_answer", "nest_look", "nest_json", "nest_import", "nest_batches", "nest_compare", "nest_copying"]
+LIBRARIES = ["nest_memory", "nest_flat", "nest_array", "nest_scan", "nest_take", "nest_concat", "nest_build", "nest_any", "nest_show", "nest_parse", "ipc_model", "ipc_words", "ipc_message", "ipc_schema", "ipc_batch", "ipc_footer", "ipc_layout", "ipc", "listcut_rows", "nest_words", "nest_choose", "nest_lines", "nest_answer", "nest_look", "nest_json", "nest_import", "nest_batches", "nest_compare", "nest_copying", "nest_taking"]
 RUNNERS = ["guide"]  # and each crate of tests
 # What words of contracts say of refusals without their names.
 SPOKEN = {

@@ -81,9 +81,15 @@ expect 0 "$two" '' rows "$room/early" 0 2
 expect 0 '' '' cut "$room/early" 0 0
 expect 1 "$two" "nest: $room/unmarked: batch 2: a message does not begin with FF FF FF FF" rows "$room/unmarked"
 expect 0 "$two" '' rows "$room/unmarked" 0 2
-expect 1 '' "nest: $room/unmarked: a message does not begin with FF FF FF FF" take "$room/unmarked" 0
+expect 0 '{"a":1,"b":"a"}\n' '' take "$room/unmarked" 0
+expect 1 '' "nest: $room/unmarked: batch 2: a message does not begin with FF FF FF FF" take "$room/unmarked" 0 2
 [ "$("$program" rows - <"$room/file")" = "$("$program" rows "$room/file")" ] || { echo 'nest rows: a file as standard input'; failed=1; }
-[ "$(cat "$room/file" | "$program" cut /dev/stdin 1 1)" = '{"a":null,"b":"b"}' ] || { echo 'nest cut: a pipe'; failed=1; }
+for input in stream file; do
+    [ "$(cat "$room/$input" | "$program" cut /dev/stdin 1 1)" = '{"a":null,"b":"b"}' ] || { echo 'nest cut: a pipe'; failed=1; }
+    [ "$(cat "$room/$input" | "$program" take - 1)" = '{"a":null,"b":"b"}' ] || { echo 'nest take: a pipe'; failed=1; }
+    [ "$(cat "$room/$input" | "$program" convert - - | "$program" rows -)" = "$("$program" rows "$room/file")" ] || { echo 'nest convert: a pipe'; failed=1; }
+    cat "$room/$input" | "$program" equal /dev/stdin "$room/file" || { echo 'nest equal: a pipe'; failed=1; }
+done
 # Equal rows in other batches and forms; another schema, another row, rows that one lacks; tables without a column.
 "$program" convert "$room/stream" "$room/other.arrows"
 for other in "$room/stream" "$room/file" "$room/other.arrows" -; do

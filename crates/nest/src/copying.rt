@@ -1,8 +1,11 @@
 //! One file or stream as another, batch by batch where the output cannot be the input.
+use crate::input::{Device, open_input};
 use crate::output::{Line, Output};
-use crate::{Opened, convert, is, open_input, select, status, stopped};
+use crate::taking::take_file;
+use crate::{convert, is, select, status, stopped};
 use ipc_schema::Columns;
 use nest_batches::Stop;
+use nest_compare::Input;
 use nest_copying::{Taken, copy, in_order};
 use nest_look::fault::Fault;
 use nest_words::{Choice, form_of};
@@ -16,15 +19,20 @@ fn copy_opened<W: Write + Drop>(
     rt: &HostRuntime,
     columns: Columns<'_>,
     taken: Taken,
-    opened: Opened,
+    opened: Input<Device>,
     out: Output<'_, W>,
 ) -> Result<(), Stop> {
     let form = form_of(out.name);
     let mut line = Line::new(rt, out.is_counted);
-    let done = match opened {
-        Opened::Device(x) => copy(rt.alloc(), columns, form, taken, x, out.device, &mut line),
-        Opened::Whole(x) => copy(rt.alloc(), columns, form, taken, x, out.device, &mut line),
-    };
+    let done = copy(
+        rt.alloc(),
+        columns,
+        form,
+        taken,
+        opened,
+        out.device,
+        &mut line,
+    );
     line.clear();
     match done {
         Ok(device) => {
@@ -137,7 +145,7 @@ pub fn copy_file(
     }
 }
 
-/// Writes the rows that are chosen of a file, or of standard input. Rows at places are found once all is read.
+/// Writes the rows that are chosen of a file, or of standard input.
 pub fn copy_chosen(
     rt: &HostRuntime,
     columns: Columns<'_>,
@@ -147,6 +155,6 @@ pub fn copy_chosen(
 ) -> ExitCode {
     match in_order(choice) {
         Ok(taken) => copy_file(rt, columns, file, taken, out),
-        Err(choice) => select(rt, columns, file, &choice, out),
+        Err(places) => take_file(rt, columns, file, &places, out),
     }
 }

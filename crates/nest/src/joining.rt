@@ -1,6 +1,7 @@
 //! Several files as one, batch by batch where the output cannot be one of them.
+use crate::input::open_input;
 use crate::output::{Line, Output};
-use crate::{Opened, concat_whole, is, open_input, status, stopped, unknown, unlike};
+use crate::{concat_whole, is, status, stopped, unknown, unlike};
 use ipc_schema::Columns;
 use nest_batches::Stop;
 use nest_copying::joining::{Unappended, append, begin_with};
@@ -37,8 +38,7 @@ fn begin_joined<'a, W: Write + Drop>(
             drop(out);
             Err(Stop { batch: None, fault })
         }
-        Ok(Opened::Device(x)) => begin_with(rt.alloc(), columns, form, x, out.device, line),
-        Ok(Opened::Whole(x)) => begin_with(rt.alloc(), columns, form, x, out.device, line),
+        Ok(opened) => begin_with(rt.alloc(), columns, form, opened, out.device, line),
     };
     match begun {
         Ok(sink) => Ok(sink),
@@ -56,8 +56,7 @@ fn append_file<'a, W: Write + Drop>(
 ) -> Result<(), Unjoined<'a>> {
     let appended = match open_input(rt, file) {
         Err(fault) => Err(Unappended::Stop(Stop { batch: None, fault })),
-        Ok(Opened::Device(x)) => append(rt.alloc(), columns, x, sink, line),
-        Ok(Opened::Whole(x)) => append(rt.alloc(), columns, x, sink, line),
+        Ok(opened) => append(rt.alloc(), columns, opened, sink, line),
     };
     match appended {
         Ok(()) => Ok(()),

@@ -3,19 +3,19 @@
 
 mod copying;
 mod importing;
+mod input;
 mod joining;
 mod output;
+mod taking;
 
 use copying::{copy_chosen, copy_file};
 use importing::from_json;
+use input::open_input;
 use ipc_schema::Columns;
 use joining::concat;
-use nest_batches::{
-    Asked, Stop, answer_file, answer_stream, in_order, is_file, read_beginning, request_of,
-};
-use nest_compare::{Input as Compared, Uncompared, compare};
+use nest_batches::{Asked, Stop, answer_file, answer_stream, in_order};
+use nest_compare::{Input, Uncompared, compare};
 use nest_copying::Taken;
-use nest_look::answering::answer;
 use nest_look::comparing::{Difference, difference_line};
 use nest_look::fault::Fault;
 use nest_look::joining::{self as whole, Unjoined};
@@ -24,11 +24,11 @@ use nest_look::{converting, selecting};
 use nest_words::{
     Choice, Request, form_of, parse_choice, parse_import, parse_names, parse_options, parse_request,
 };
-use std::fs::File;
-use std::io::{Cursor, ErrorKind, Read, Seek, SeekFrom};
+use std::io::ErrorKind;
 use std::process::ExitCode;
 use std::rt::{Env, Files};
 use std::{env, fs, io};
+use taking::look_at;
 
 const USAGE: &str = "\
 nest schema FILE                    a line for each column: its name and its type
@@ -64,7 +64,7 @@ fn is(word: &String, text: &str) -> bool {
 }
 
 /// The bytes of a file, or of standard input.
-fn input(rt: &(impl AllocGlobal + Files + Input), file: &String) -> Result<Vec<u8>, Fault> {
+fn bytes_of(rt: &HostRuntime, file: &String) -> Result<Vec<u8>, Fault> {
     if is(file, "-") {
         return read_input(rt.alloc(), &mut rt.reader());
     }
@@ -74,58 +74,9 @@ fn input(rt: &(impl AllocGlobal + Files + Input), file: &String) -> Result<Vec<u
     }
 }
 
-/// Answers a request of bytes that were read whole.
-fn answer_bytes(
-    rt: &(impl AllocGlobal + Print),
-    columns: Columns<'_>,
-    request: &Request,
-    bytes: Vec<u8>,
-) -> Result<(), Fault> {
-    let text = answer(rt.alloc(), columns, request, &bytes)?;
-    drop(bytes);
-    write_bytes(&mut io::writer(rt), text.as_bytes())
-}
-
 /// Before any batch.
 fn before(fault: Fault) -> Stop {
     Stop { batch: None, fault }
-}
-
-/// Answers what is asked of a device that is read once, behind these first bytes of it: a stream goes batch by batch, a file is read whole.
-fn look_once<R: Read + Drop>(
-    rt: &(impl AllocGlobal + Print),
-    columns: Columns<'_>,
-    asked: Asked,
-    head: Vec<u8>,
-    rest: R,
-) -> Result<(), Stop> {
-    let is_whole = is_file(&head);
-    let mut device = Cursor::new(head).chain(rest);
-    if !is_whole {
-        return answer_stream(rt.alloc(), columns, asked, device, &mut io::writer(rt));
-    }
-    match read_input(rt.alloc(), &mut device) {
-        Err(fault) => Err(before(fault)),
-        Ok(bytes) => answer_bytes(rt, columns, &request_of(asked), bytes).map_err(before),
-    }
-}
-
-/// Answers what is asked of a file that was opened, batch by batch.
-fn look_opened(
-    rt: &(impl AllocGlobal + Print),
-    columns: Columns<'_>,
-    asked: Asked,
-    mut opened: File,
-) -> Result<(), Stop> {
-    match read_beginning(rt.alloc(), &mut opened) {
-        Err(fault) => Err(before(fault)),
-        Ok(head) => {
-            if is_file(&head) && opened.seek(SeekFrom::Start(0)).is_ok() {
-                return answer_file(rt.alloc(), columns, asked, opened, &mut io::writer(rt));
-            }
-            look_once(rt, columns, asked, head, opened)
-        }
-    }
 }
 
 /// Answers what is asked of a file, or of standard input, batch by batch.
@@ -135,30 +86,25 @@ fn look_in_order(
     file: &String,
     asked: Asked,
 ) -> Result<(), Stop> {
-    if !is(file, "-") {
-        return match fs::open(rt, file.as_str()) {
-            Ok(opened) => look_opened(rt, columns, asked, opened),
-            Err(_) => Err(before(Fault::Input)),
-        };
-    }
-    let mut reader = rt.reader();
-    match read_beginning(rt.alloc(), &mut reader) {
-        Err(fault) => Err(before(fault)),
-        Ok(head) => look_once(rt, columns, asked, head, reader),
+    match open_input(rt, file) {
+        Err(fault) => {
+            drop(asked);
+            Err(before(fault))
+        }
+        Ok(Input::File(x)) => answer_file(rt.alloc(), columns, asked, x, &mut io::writer(rt)),
+        Ok(Input::Stream(x)) => answer_stream(rt.alloc(), columns, asked, x, &mut io::writer(rt)),
     }
 }
 
-/// Answers a request about a file, or about standard input. Rows at places are found once all is read.
+/// Answers a request about a file, or about standard input, batch by batch.
 fn look(rt: &HostRuntime, columns: Columns<'_>, file: &String, request: Request) -> ExitCode {
-    match in_order(request) {
-        Ok(asked) => match look_in_order(rt, columns, file, asked) {
-            Ok(()) => ExitCode::SUCCESS,
-            Err(stop) => stopped(rt, file, stop),
-        },
-        Err(request) => match input(rt, file) {
-            Ok(bytes) => status(rt, file, answer_bytes(rt, columns, &request, bytes)),
-            Err(fault) => status(rt, file, Err(fault)),
-        },
+    let done = match in_order(request) {
+        Ok(asked) => look_in_order(rt, columns, file, asked),
+        Err(places) => look_at(rt, columns, file, &places),
+    };
+    match done {
+        Ok(()) => ExitCode::SUCCESS,
+        Err(stop) => stopped(rt, file, stop),
     }
 }
 
@@ -179,12 +125,12 @@ fn write_out(
 
 /// Writes a file, or standard input, in another form. The output is touched once all bytes are there: it may be the input.
 fn convert(
-    rt: &(impl AllocGlobal + Files + Input + Print),
+    rt: &HostRuntime,
     columns: Columns<'_>,
     file: &String,
     out: &String,
 ) -> Result<(), Fault> {
-    let bytes = input(rt, file)?;
+    let bytes = bytes_of(rt, file)?;
     let made = converting::convert(rt.alloc(), columns, form_of(out), &bytes)?;
     drop(bytes);
     write_out(rt, out, &made)
@@ -198,7 +144,7 @@ fn select(
     choice: &Choice,
     out: &String,
 ) -> ExitCode {
-    match input(rt, file) {
+    match bytes_of(rt, file) {
         Err(fault) => status(rt, file, Err(fault)),
         Ok(bytes) => match selecting::select(rt.alloc(), columns, form_of(out), choice, &bytes) {
             Err(fault) => status(rt, file, Err(fault)),
@@ -216,55 +162,6 @@ fn differ(rt: &HostRuntime, file: &String, difference: Difference) -> ExitCode {
     match written {
         Ok(()) => ExitCode::FAILURE,
         Err(fault) => status(rt, file, Err(fault)),
-    }
-}
-
-/// What is read batch by batch: a file, or bytes that came from where nothing seeks.
-#[derive(Drop)]
-enum Opened {
-    Device(Compared<File>),
-    Whole(Compared<Cursor<Vec<u8>>>),
-}
-
-/// A device as a file or as a stream, by the first bytes of it.
-fn compared<R>(head: &[u8], device: R) -> Compared<R> {
-    if is_file(head) {
-        Compared::File(device)
-    } else {
-        Compared::Stream(device)
-    }
-}
-
-/// Bytes, as a file or as a stream.
-fn compared_bytes(bytes: Vec<u8>) -> Opened {
-    if is_file(&bytes) {
-        return Opened::Whole(Compared::File(Cursor::new(bytes)));
-    }
-    Opened::Whole(Compared::Stream(Cursor::new(bytes)))
-}
-
-/// A file that was opened, from its first byte on.
-fn open_device(rt: &impl AllocGlobal, mut opened: File) -> Result<Opened, Fault> {
-    match read_beginning(rt.alloc(), &mut opened) {
-        Err(fault) => Err(fault),
-        Ok(head) => {
-            if opened.seek(SeekFrom::Start(0)).is_ok() {
-                return Ok(Opened::Device(compared(&head, opened)));
-            }
-            let mut device = Cursor::new(head).chain(opened);
-            Ok(compared_bytes(read_input(rt.alloc(), &mut device)?))
-        }
-    }
-}
-
-/// A file, or standard input, which is read whole.
-fn open_input(rt: &HostRuntime, file: &String) -> Result<Opened, Fault> {
-    if is(file, "-") {
-        return Ok(compared_bytes(read_input(rt.alloc(), &mut rt.reader())?));
-    }
-    match fs::open(rt, file.as_str()) {
-        Ok(opened) => open_device(rt, opened),
-        Err(_) => Err(Fault::Input),
     }
 }
 
@@ -287,21 +184,6 @@ fn tell(
     }
 }
 
-/// Compares two that were opened.
-fn compare_opened(
-    rt: &HostRuntime,
-    columns: Columns<'_>,
-    left: Opened,
-    right: Opened,
-) -> Result<Option<Difference>, Uncompared> {
-    match (left, right) {
-        (Opened::Device(x), Opened::Device(y)) => compare(rt.alloc(), columns, x, y),
-        (Opened::Device(x), Opened::Whole(y)) => compare(rt.alloc(), columns, x, y),
-        (Opened::Whole(x), Opened::Device(y)) => compare(rt.alloc(), columns, x, y),
-        (Opened::Whole(x), Opened::Whole(y)) => compare(rt.alloc(), columns, x, y),
-    }
-}
-
 /// Compares two files, one of which may be standard input.
 fn equal(rt: &HostRuntime, columns: Columns<'_>, file: &String, other: &String) -> ExitCode {
     match open_input(rt, file) {
@@ -311,19 +193,16 @@ fn equal(rt: &HostRuntime, columns: Columns<'_>, file: &String, other: &String) 
                 drop(left);
                 status(rt, other, Err(fault))
             }
-            Ok(right) => tell(rt, (file, other), compare_opened(rt, columns, left, right)),
+            Ok(right) => tell(rt, (file, other), compare(rt.alloc(), columns, left, right)),
         },
     }
 }
 
 /// The bytes of files, or whose could not be read.
-fn inputs<'a>(
-    rt: &(impl AllocGlobal + Files + Input),
-    files: &'a [String],
-) -> Result<Vec<Vec<u8>>, (&'a String, Fault)> {
+fn inputs<'a>(rt: &HostRuntime, files: &'a [String]) -> Result<Vec<Vec<u8>>, (&'a String, Fault)> {
     let mut inputs = Vec::new(rt.alloc());
     for file in files {
-        match input(rt, file) {
+        match bytes_of(rt, file) {
             Err(fault) => return Err((file, fault)),
             Ok(bytes) => {
                 if inputs.push(bytes).is_err() {

@@ -1,5 +1,6 @@
 //! What is asked of batches that come one after another.
 ghost use Rattle.std.specs.Prelude.{◌≡◌, IfErr, IfOk};
+ghost use Rattle.nest_words.specs.Asked.{at, rows};
 ghost use Rattle.nest_batches.specs.Words.{IsInOrder, asks_nothing, left_of, query_of, seen};
 
 use nest_words::{Choice, Request};
@@ -17,17 +18,17 @@ pub enum Asked {
     True(String),
 }
 
-/// The same of a request, or the request where it asks for rows at places: those come in another order than the batches.
-pub fn in_order(request: Request) -> Result<Asked, Request>
+/// The same of a request, or the places where it asks for rows at places: those come in another order than the batches.
+pub fn in_order(request: Request) -> Result<Asked, Vec<usize>>
     ensures asked { IfOk result (λ a. query_of a ≡ seen request) }
-    ensures places { IfErr result (λ r. (r ≡ request) × (IsInOrder (seen request) → ⊥)) }
+    ensures places { IfErr result (λ places. seen request ≡ rows (at places.items)) }
 {
     match request {
         Request::Columns => Ok(Asked::Columns),
         Request::Rows(Choice::All) => Ok(Asked::All),
         Request::Rows(Choice::Cut(start, count)) => Ok(Asked::Cut(start, count)),
         Request::Rows(Choice::True(name)) => Ok(Asked::True(name)),
-        Request::Rows(Choice::Places(places)) => Err(Request::Rows(Choice::Places(places))),
+        Request::Rows(Choice::Places(places)) => Err(places),
     }
 }
 

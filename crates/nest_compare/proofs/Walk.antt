@@ -188,12 +188,12 @@ passed-by (Some t) s done over k rows more n u e p = record {
 
 -- ---- both
 
-side-first : (t : Left) (over : Bool) (k : ℕ) (bs : List Arrays) (u : Option Left) → IsAt t over k bs u → t.first k ≡ Ok bs
+pub side-first : (t : Left) (over : Bool) (k : ℕ) (bs : List Arrays) (u : Option Left) → IsAt t over k bs u → t.first k ≡ Ok bs
 side-first t true k bs u at = at.0
 side-first t false k bs None at = absurd at
 side-first t false k bs (Some u) at = behind-first t u k bs at
 
-side-whole : (t : Left) (over : Bool) (k : ℕ) (bs : List Arrays) (u : Option Left) → over ≡ true → IsAt t over k bs u → t.first k ≡ t.whole
+pub side-whole : (t : Left) (over : Bool) (k : ℕ) (bs : List Arrays) (u : Option Left) → over ≡ true → IsAt t over k bs u → t.first k ≡ t.whole
 side-whole t true k bs u e at = at.0 ∙ sym at.1
 side-whole t false k bs u e at = absurd cc
 

@@ -5,7 +5,9 @@
 mod comparing;
 pub mod laws;
 mod pending;
+mod rows;
 pub mod source;
 
 pub use comparing::{Uncompared, compare};
+pub use rows::next_rows;
 pub use source::Input;

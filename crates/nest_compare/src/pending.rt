@@ -1,23 +1,18 @@
 //! Rows that are read and not yet compared.
-ghost use Rattle.std.specs.Prelude.{◌≡◌, ◌≤◌, List, [], ◌∷◌, IfErr, IfOk, Ok, Option, Some, false, length, option_map, take};
+ghost use Rattle.std.specs.Prelude.{◌≡◌, ◌≤◌, List, [], IfErr, IfOk, Option, Some, false, length, take};
 ghost use Rattle.nest_model.specs.Meaning.{len};
 ghost use Rattle.nest_array.specs.Seen.{layout_of};
-ghost use Rattle.ipc.specs.Streams.{arrays_of};
-ghost use Rattle.ipc_schema.specs.Schemas.{schema_of};
 ghost use Rattle.nest_choose.specs.Rows.{Row, rows_in};
-ghost use Rattle.nest_look.specs.Compared.{IsUnread, batch_array};
 ghost use Rattle.nest_compare.specs.Left.{Left};
-ghost use Rattle.nest_compare.specs.Pending.{FailsRows, GivesRows, HasRoom, IsPending, IsSettled, IsStopped, passed, rows_left};
+ghost use Rattle.nest_compare.specs.Pending.{HasRoom, IsPending, IsSettled, IsStopped, passed, rows_left};
 ghost use Rattle.nest_compare.specs.Sources.{left_of, schema_in};
 
+use crate::rows::next_rows;
 use crate::source::Source;
-use ipc::Batch;
 use ipc_device::SeekRead;
-use ipc_schema::Schema;
 use nest_array::{AnyArray, NullArray, Window};
 use nest_batches::Stop;
 use nest_look::fault::Fault;
-use nest_look::selecting::rows_of_batches;
 use nest_memory::datatypes::DataType;
 use std::alloc::Global;
 use std::mem;
@@ -38,39 +33,6 @@ fn no_rows() -> AnyArray
     ensures { len (layout_of result) ≡ 0 }
 {
     AnyArray::Null(NullArray::new(DataType::Null, 0))
-}
-
-/// A batch as one array of its rows.
-fn row_array(alloc: Global, schema: &Schema, batch: Batch) -> Result<AnyArray, Fault>
-    ensures rows { IfOk result (λ a. layout_of a ≡ batch_array (schema_of schema.now).fields (arrays_of batch)) }
-    ensures fault { IfErr result (λ e. IsUnread e (Ok (record { schema = schema_of schema.now; batches = arrays_of batch ∷ [] }))) }
-{
-    let mut batches = Vec::new(alloc);
-    batches.push(batch)?;
-    let mut arrays = rows_of_batches(alloc, schema, batches)?;
-    match arrays.pop() {
-        Some(array) => Ok(array),
-        None => Err(Fault::Memory),
-    }
-}
-
-/// The rows of the next batch, or none at the end.
-fn next_rows<R: SeekRead + Drop>(
-    alloc: Global,
-    source: &mut Source<R>,
-) -> Result<Option<AnyArray>, Fault>
-    ensures rows { IfOk result (λ r. GivesRows (schema_in source.old) (left_of R.remaining R.stream_position R.stream_bytes source.old) (left_of R.remaining R.stream_position R.stream_bytes source.new) (option_map layout_of r)) }
-    ensures fault { IfErr result (λ e. FailsRows (schema_in source.old) e (left_of R.remaining R.stream_position R.stream_bytes source.old)) }
-    ensures schema { schema_in source.new ≡ schema_in source.old }
-{
-    match source.next_batch(alloc) {
-        Err(fault) => Err(fault),
-        Ok(None) => Ok(None),
-        Ok(Some(batch)) => match row_array(alloc, source.schema(), batch) {
-            Ok(rows) => Ok(Some(rows)),
-            Err(fault) => Err(fault),
-        },
-    }
 }
 
 impl<R> Pending<R> {

@@ -1,6 +1,7 @@
 //! Which rows are copied.
 ghost use Rattle.std.specs.Prelude.{◌≡◌, IfErr, IfOk, length};
 ghost use Rattle.nest_copying.specs.Asking.{IsInOrder, asks_nothing, behind as behind_lem, chosen_of};
+ghost use Rattle.nest_words.specs.Asked.{at};
 ghost use Rattle.nest_words.specs.Seen.{seen_choice};
 
 use nest_words::Choice;
@@ -16,16 +17,16 @@ pub enum Taken {
     True(String),
 }
 
-/// The same of a choice, or the choice where it is of rows at places: those come in another order than the batches.
-pub fn in_order(choice: Choice) -> Result<Taken, Choice>
+/// The same of a choice, or the places where it is of rows at places: those come in another order than the batches.
+pub fn in_order(choice: Choice) -> Result<Taken, Vec<usize>>
     ensures taken { IfOk result (λ t. chosen_of t ≡ seen_choice choice) }
-    ensures places { IfErr result (λ c. (c ≡ choice) × (IsInOrder (seen_choice choice) → ⊥)) }
+    ensures places { IfErr result (λ places. seen_choice choice ≡ at places.items) }
 {
     match choice {
         Choice::All => Ok(Taken::All),
         Choice::Cut(start, count) => Ok(Taken::Cut(start, count)),
         Choice::True(name) => Ok(Taken::True(name)),
-        Choice::Places(places) => Err(Choice::Places(places)),
+        Choice::Places(places) => Err(places),
     }
 }
 

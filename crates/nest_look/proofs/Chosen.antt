@@ -86,6 +86,11 @@ module _ {A : Type 0} (P : A → Type 0) where
   view-each f h (y ∷ ys) zero x lt e k = subst (λ z. AllByRecursion P (f (h z))) (sym e) (left-all (f (h y)) (flat_map f (map h ys)) k)
   view-each f h (y ∷ ys) (suc i) x lt e k = view-each f h ys i x (omega (arith, lt)) e (right-all (f (h y)) (flat_map f (map h ys)) k)
 
+  -- the same of an item between others
+  pub middle-each : {X Y : Type 0} (f : Y → List A) (h : X → Y) (xs : List X) (x : X) (ys : List X) → AllByRecursion P (flat_map f (map h (xs ++ x ∷ ys))) → AllByRecursion P (f (h x))
+  middle-each f h [] x ys k = left-all (f (h x)) (flat_map f (map h ys)) k
+  middle-each f h (z ∷ zs) x ys k = middle-each f h zs x ys (right-all (f (h z)) (flat_map f (map h (zs ++ x ∷ ys))) k)
+
 -- ---- rows of batches
 
 -- slots under a data type
@@ -100,7 +105,7 @@ record-run : (f : FieldTree) (fs : List FieldTree) (cs : Layouts) (o n : ℕ) �
 record-run f fs cs o zero = tt
 record-run f fs cs o (suc n) = ((refl, refl), record-run f fs cs (suc o) n)
 
-batch-each : (fs : List FieldTree) (b : Arrays) → AreRowsOf fs (rows_of (batch_array fs b))
+pub batch-each : (fs : List FieldTree) (b : Arrays) → AreRowsOf fs (rows_of (batch_array fs b))
 batch-each [] b = null-run [] 0 b.rows
 batch-each (f ∷ fs) b = record-run f fs _ 0 (len (records (record_type (f ∷ fs)) b.columns))
 

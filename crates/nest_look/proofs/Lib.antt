@@ -1,6 +1,6 @@
 mod Alike
-mod Batches
-mod Chosen
+pub mod Batches
+pub mod Chosen
 mod Gathered
 mod JoinedRows
 mod Joins

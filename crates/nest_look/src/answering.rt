@@ -39,7 +39,11 @@ pub(crate) fn table(alloc: Global, held: Held) -> Result<Table, AllocError>
     }
 }
 
-fn answer_held(alloc: Global, request: &Request, held: Held) -> Result<String, Fault>
+/// The lines that answer a request, of what was read.
+///
+/// # Errors
+/// Those of [`answer`] behind `Format`.
+pub fn answer_held(alloc: Global, request: &Request, held: Held) -> Result<String, Fault>
     ensures text { IfOk result (λ text. answer_to (seen request.now) (Ok (held_of held)) ≡ Some (string_bytes text)) }
     ensures fault { IfErr result (λ e. Refuses e (seen request.now) (Ok (held_of held))) }
 {

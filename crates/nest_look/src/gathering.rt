@@ -1,22 +1,26 @@
-//! Rows at places, gathered as one batch.
-ghost use Rattle.std.specs.Prelude.{◌≡◌, ◌⊎◌, ◌++◌, IfOk, IfSome, IsOkUnless, OnOk, None, map, true};
+//! Rows that are chosen, gathered in one array or batch.
+ghost use Rattle.std.specs.Prelude.{◌≡◌, ◌⊎◌, ◌++◌, IfErr, IfOk, IfSome, IsOkUnless, OnOk, None, Some, map, true};
 ghost use Rattle.std.specs.List.{flat_map};
 ghost use Rattle.nest_memory.specs.TypeOf.{field_of};
 ghost use Rattle.nest_array.specs.Seen.{layout_of};
 ghost use Rattle.nest_concat.specs.Joined.{AreOfOneType};
 ghost use Rattle.nest_concat.specs.Laid.{joins_past};
+ghost use Rattle.nest_words.specs.Seen.{seen_choice};
+ghost use Rattle.nest_choose.specs.Choice.{choice as choice_lem};
 ghost use Rattle.nest_choose.specs.Rows.{rows_in, rows_of};
 ghost use Rattle.nest_look.specs.declared.fault.Fault.TheVariants.{Memory};
-ghost use Rattle.nest_look.specs.Selected.{AreRowsOf, batch_rows};
+ghost use Rattle.nest_look.specs.Selected.{AreRowsOf, IsUnpicked, batch_rows};
 ghost use Rattle.nest_look.specs.Words.{arrays_of};
 
 use crate::fault::Fault;
-use crate::selecting::{push_rows, window_batches};
+use crate::selecting::array_batches;
 use ipc::Batch;
 use nest_array::{AnyArray, Window};
+use nest_choose::choose;
 use nest_concat::concatenate;
 use nest_memory::datatypes::Field;
 use nest_memory::error::Error;
+use nest_words::Choice;
 use std::alloc::Global;
 
 /// Appends the rows of a window as an array of its own, cut in place: no value is copied.
@@ -59,6 +63,27 @@ fn joined(alloc: Global, arrays: &[AnyArray]) -> Result<Option<AnyArray>, Fault>
     }
 }
 
+/// The rows of windows as one array, if there are any; where they are too much for one, each window's as an array.
+fn gathered_arrays(alloc: Global, windows: &[Window<'_>]) -> Result<Vec<AnyArray>, Fault>
+    ensures rows { IfOk result (λ v. flat_map rows_of (map layout_of v.items) ≡ flat_map rows_in windows.now) }
+    ensures fault { IsOkUnless result Memory }
+{
+    let arrays = cut_windows(alloc, windows)?;
+    match joined(alloc, &arrays) {
+        Err(fault) => {
+            drop(arrays);
+            Err(fault)
+        }
+        Ok(None) => Ok(arrays),
+        Ok(Some(rows)) => {
+            drop(arrays);
+            let mut arrays = Vec::new(alloc);
+            arrays.push(rows)?;
+            Ok(arrays)
+        }
+    }
+}
+
 /// The rows of windows as one batch, if there are any; where they are too much for one, each window's as a batch.
 pub(crate) fn gathered(
     alloc: Global,
@@ -69,16 +94,21 @@ pub(crate) fn gathered(
     ensures rows { IfOk result (λ v. batch_rows (map field_of fields.now) (map arrays_of v.items) ≡ flat_map rows_in windows.now) }
     ensures fault { IsOkUnless result Memory }
 {
-    let arrays = cut_windows(alloc, windows)?;
-    let found = joined(alloc, &arrays);
-    drop(arrays);
-    match found {
-        Err(fault) => Err(fault),
-        Ok(None) => window_batches(alloc, fields, windows),
-        Ok(Some(rows)) => {
-            let mut batches = Vec::new(alloc);
-            push_rows(alloc, fields, &mut batches, rows)?;
-            Ok(batches)
-        }
+    let arrays = gathered_arrays(alloc, windows)?;
+    array_batches(alloc, fields, arrays)
+}
+
+/// The rows of a choice over arrays, copied to one array, if there are any; where they are too much for one, in several, over the memory of
+/// those that they come from.
+///
+/// # Errors
+/// `Place` where there is no row at a place. `Memory`.
+pub fn gather(alloc: Global, choice: &Choice, arrays: &[AnyArray]) -> Result<Vec<AnyArray>, Fault>
+    ensures rows { IfOk result (λ v. choice_lem (seen_choice choice.now) (flat_map rows_of (map layout_of arrays.now)) ≡ Some (flat_map rows_of (map layout_of v.items))) }
+    ensures fault { IfErr result (λ e. IsUnpicked e (choice_lem (seen_choice choice.now) (flat_map rows_of (map layout_of arrays.now)))) }
+{
+    match choose(alloc, choice, arrays)? {
+        None => Err(Fault::Place),
+        Some(windows) => gathered_arrays(alloc, &windows),
     }
 }

@@ -8,7 +8,7 @@ pub mod answering;
 pub mod comparing;
 pub mod converting;
 pub mod fault;
-mod gathering;
+pub mod gathering;
 pub mod holding;
 pub mod joining;
 pub mod laws;

@@ -2,7 +2,7 @@
 ghost use Rattle.std.specs.Prelude.{◌≡◌, ◌++◌, ◌<◌, IfErr, IfOk, IsOkUnless, OnOk, Ok, Some, None, length, map, string_bytes};
 ghost use Rattle.std.specs.List.{filter, flat_map};
 ghost use Rattle.nest_memory.specs.Physical.{physical_type};
-ghost use Rattle.nest_memory.specs.TypeOf.{field_of};
+ghost use Rattle.nest_memory.specs.TypeOf.{entries_of, field_of};
 ghost use Rattle.nest_memory.specs.declared.datatypes.physical_type.PhysicalType.TheVariants as physical;
 ghost use Rattle.nest_model.specs.Accessors.{validity_of};
 ghost use Rattle.nest_model.specs.Layout as layouts;
@@ -51,6 +51,37 @@ pub fn copy_fields(alloc: Global, fields: &[Field]) -> Result<Vec<Field>, Fault>
         }
     }
     Ok(copies)
+}
+
+/// Equal metadata of its own.
+fn copy_metadata(metadata: &Metadata) -> Result<Metadata, Fault>
+    ensures same { IfOk result (λ m. entries_of m.entries ≡ entries_of metadata.now.entries) }
+    ensures fault { IsOkUnless result Memory }
+{
+    match metadata.clone() {
+        Ok(copy) => Ok(copy),
+        Err(_) => Err(Fault::Memory),
+    }
+}
+
+/// An equal schema of its own.
+///
+/// # Errors
+/// `Memory`.
+pub fn copy_schema(alloc: Global, schema: &Schema) -> Result<Schema, Fault>
+    ensures same { IfOk result (λ s. schema_of s ≡ schema_of schema.now) }
+    ensures fault { IsOkUnless result Memory }
+{
+    match copy_fields(alloc, &schema.fields) {
+        Err(fault) => Err(fault),
+        Ok(fields) => match copy_metadata(&schema.metadata) {
+            Ok(metadata) => Ok(Schema { fields, metadata }),
+            Err(fault) => {
+                drop(fields);
+                Err(fault)
+            }
+        },
+    }
 }
 
 /// Each batch as one array of its rows: of records; without a column, of as many nulls as it has rows. The schema stays.
@@ -137,6 +168,26 @@ pub fn push_rows(
     let batch = batch_of(alloc, fields, array);
     batches.push(batch)?;
     Ok(())
+}
+
+/// Rows as batches, one for each array that has any: records of these fields by their columns.
+///
+/// # Errors
+/// `Memory`.
+pub fn array_batches(
+    alloc: Global,
+    fields: &[Field],
+    arrays: Vec<AnyArray>,
+) -> Result<Vec<Batch>, Fault>
+    requires { AreRowsOf (map field_of fields.now) (flat_map rows_of (map layout_of arrays.items)) }
+    ensures rows { IfOk result (λ v. batch_rows (map field_of fields.now) (map arrays_of v.items) ≡ flat_map rows_of (map layout_of arrays.items)) }
+    ensures fault { IsOkUnless result Memory }
+{
+    let mut batches = Vec::new(alloc);
+    for array in arrays {
+        push_rows(alloc, fields, &mut batches, array)?;
+    }
+    Ok(batches)
 }
 
 /// Appends the rows of a window as a batch, if there are any. They are cut in place: no value is copied.

@@ -1,4 +1,4 @@
-//! Tests of `nest_words`, `nest_choose`, `nest_lines`, `nest_answer`, `nest_look`, `nest_batches`, `nest_compare` and `nest_copying`: their public calls, as a crate above sees them.
+//! Tests of `nest_words`, `nest_choose`, `nest_lines`, `nest_answer`, `nest_look`, `nest_batches`, `nest_compare`, `nest_copying` and `nest_taking`: their public calls, as a crate above sees them.
 //! They are run, not proved.
 //!
 //! | What the row shows | Test |
@@ -26,6 +26,9 @@
 //! | Batches as a reader of either form gives them, and the rows that are chosen of all | `copies::batches_come_and_are_selected` |
 //! | Why a copy stops, and in which batch; devices that fail at each call, outputs that are full at each byte | `copies::faults_stop_a_copy`, `copies::devices_and_outputs_fail` |
 //! | Inputs that are written one behind another, as either form, beside what is made of all bytes; which of them has a fault or another schema; devices and outputs that fail | `joins::samples_are_joined`, `joins::faults_are_of_an_input`, `joins::devices_and_outputs_fail`, `joins::a_sink_has_the_schema_of_the_first` |
+//! | Rows at places as they come batch by batch, as either form and as lines, beside what is selected of all bytes; drawn ones beside a plain model | `takes::samples_are_taken`, `takes::rows_are_lines`, `takes::drawn_rows_are_taken` |
+//! | Faults behind the places, which are not read, and before them; devices that fail at each call | `takes::faults_are_told_where_places_lie_behind`, `takes::devices_fail_at_any_call` |
+//! | Rows of batches as arrays, gathered, in batches again | `takes::rows_come_as_arrays`, `takes::rows_are_gathered` |
 //! | Words with options, and names with commas | `answers::words_have_options` |
 #![tactic(auto)]
 
@@ -43,3 +46,5 @@ mod joins;
 mod looks;
 #[cfg(test)]
 mod samples;
+#[cfg(test)]
+mod takes;

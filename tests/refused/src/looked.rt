@@ -1,5 +1,5 @@
 //! What the program `nest` answers of a stream: its rows as lines, rows of it in another form, all of it in another form, where two
-//! differ, two as one.
+//! differ, two as one, and rows at places that are taken batch by batch.
 
 use crate::streams::{STREAM, refused, unwritten};
 use crate::trial::Trial;
@@ -12,6 +12,7 @@ use nest_look::fault::Fault;
 use nest_look::joining::{Unjoined, concat};
 use nest_look::selecting::select;
 use nest_memory::error::Error;
+use nest_taking::take_lines;
 use nest_words::{Choice, Form, Request};
 use std::alloc::{AllocError, Global};
 use std::io::Cursor;
@@ -71,6 +72,15 @@ fn joined(alloc: Global) -> Result<usize, Error> {
     }
 }
 
+/// Whether the lines of the rows at places are those that are wanted.
+fn taken(alloc: Global) -> Result<bool, Error> {
+    let input = Input::Stream(Cursor::new(STREAM.as_slice()));
+    match take_lines(alloc, Columns::All, &[1, 0, 1], input) {
+        Ok(text) => Ok(text.as_str() == "{\"a\":null}\n{\"a\":7}\n{\"a\":null}\n"),
+        Err(stop) => Err(looked(stop.fault)),
+    }
+}
+
 pub fn calls(trial: &mut Trial, alloc: Global) -> Result<(), Wrong> {
     let answered = trial.again(|| answered(alloc))?;
     expect(answered, "another text")?;
@@ -80,5 +90,7 @@ pub fn calls(trial: &mut Trial, alloc: Global) -> Result<(), Wrong> {
     let compared = trial.again(|| compared(alloc))?;
     expect(compared, "a stream that differs from itself")?;
     let joined = trial.again(|| joined(alloc))?;
-    expect(joined > STREAM.len(), "another stream")
+    expect(joined > STREAM.len(), "another stream")?;
+    let taken = trial.again(|| taken(alloc))?;
+    expect(taken, "other rows")
 }

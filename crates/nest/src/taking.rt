@@ -1,0 +1,65 @@
+//! Rows at places of one file, batch by batch. All of them are there before the output is touched, since it may be the input.
+use crate::input::open_input;
+use crate::{before, status, stopped, write_out};
+use ipc_schema::Columns;
+use nest_batches::Stop;
+use nest_look::running::write_bytes;
+use nest_taking::{take_bytes, take_lines};
+use nest_words::form_of;
+use std::io;
+use std::process::ExitCode;
+
+/// Takes them as lines.
+fn lines(
+    rt: &HostRuntime,
+    columns: Columns<'_>,
+    file: &String,
+    places: &[usize],
+) -> Result<String, Stop> {
+    match open_input(rt, file) {
+        Err(fault) => Err(before(fault)),
+        Ok(opened) => take_lines(rt.alloc(), columns, places, opened),
+    }
+}
+
+/// Writes them as lines.
+pub fn look_at(
+    rt: &HostRuntime,
+    columns: Columns<'_>,
+    file: &String,
+    places: &[usize],
+) -> Result<(), Stop> {
+    match lines(rt, columns, file, places) {
+        Err(stop) => Err(stop),
+        Ok(text) => write_bytes(&mut io::writer(rt), text.as_bytes()).map_err(before),
+    }
+}
+
+/// Takes them in the form of an output.
+fn bytes(
+    rt: &HostRuntime,
+    columns: Columns<'_>,
+    file: &String,
+    places: &[usize],
+    out: &String,
+) -> Result<Vec<u8>, Stop> {
+    let form = form_of(out);
+    match open_input(rt, file) {
+        Err(fault) => Err(before(fault)),
+        Ok(opened) => take_bytes(rt.alloc(), columns, form, places, opened),
+    }
+}
+
+/// Writes them in the form of an output.
+pub fn take_file(
+    rt: &HostRuntime,
+    columns: Columns<'_>,
+    file: &String,
+    places: &[usize],
+    out: &String,
+) -> ExitCode {
+    match bytes(rt, columns, file, places, out) {
+        Err(stop) => stopped(rt, file, stop),
+        Ok(made) => status(rt, out, write_out(rt, out, &made)),
+    }
+}

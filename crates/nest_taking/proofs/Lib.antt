@@ -1,0 +1,4 @@
+mod Ranks
+mod Rows
+mod Taken
+mod Turns

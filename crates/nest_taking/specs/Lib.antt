@@ -1,0 +1,4 @@
+-- What contracts cite.
+pub mod Places
+pub mod Takes
+pub mod Taking
