@@ -63,9 +63,9 @@ done
 expect 0 '' '' convert "$room/as" "$room/as"
 expect 0 "$all" '' rows "$room/as"
 expect 0 '{"a":true,"b":false}\n{"a":true,"b":true}\n{"a":true,"b":false}\n{"a":true,"b":true}\n{"a":true,"b":true}\n' '' where "$room/truths" a
-expect 1 '' "nest: $room/packed: the body is compressed" convert "$room/packed" "$room/as"
+expect 1 '' "nest: $room/packed: batch 0: the body is compressed" convert "$room/packed" "$room/as"
 expect 0 "$all" '' rows "$room/as"
-expect 1 '' "nest: $room/file: output cannot be written" convert "$room/file" "$room/none/as"
+expect 1 '' "nest: $room/none/as: output cannot be written" convert "$room/file" "$room/none/as"
 expect 1 '' "nest: $room/packed: batch 0: the body is compressed" rows "$room/packed"
 expect 0 '' '' rows "$room/packed" 0 0
 expect 1 '' "nest: $room/csv: a message does not begin with FF FF FF FF" rows "$room/csv"
@@ -148,7 +148,7 @@ expect 1 '' "nest: $room/absent: input cannot be read" concat "$room/file" "$roo
 said=$("$program" concat "$room/file" "$room/parts" -o - 2>&1 >/dev/full)
 [ "$? $said" = '1 nest: -: output cannot be written' ] || { echo "nest concat to a full device: $said"; failed=1; }
 expect 0 '' '' concat "$room/file" -o "$room/kept"
-expect 1 '' "nest: $room/packed: the body is compressed" concat "$room/parts" "$room/packed" -o "$room/kept"
+expect 1 '' "nest: $room/packed: batch 0: the body is compressed" concat "$room/parts" "$room/packed" -o "$room/kept"
 expect 0 "$all" '' rows "$room/kept"
 expect 0 '' '' concat "$room/parts" "$room/file" "$room/parts" -o "$room/kept"
 expect 0 "$all$all$all" '' rows "$room/kept"
@@ -202,7 +202,11 @@ expect 1 '' "nest: $room/absent: input cannot be read" where "$room/absent" a -o
 expect 1 '' "nest: $room/no/out: output cannot be written" cut "$room/file" 0 1 -o "$room/no/out"
 [ ! -e "$room/none" ] || { echo 'nest: an output of a fault'; failed=1; }
 # Batch by batch into a new file: a fault in a batch, or of the columns, leaves none; rows before a batch with a fault are cut without it; an output that is there
-# stays as it was, and one that is the input is written from all of it.
+# stays as it was, and one that is the input is written from all of it; a device is written as it is.
+: >"$room/none.json"
+expect 0 '' '' convert "$room/file" /dev/null
+expect 1 '' 'nest: /dev/full: output cannot be written' convert "$room/file" /dev/full
+[ -c /dev/null ] && [ -c /dev/full ] || { echo 'nest convert: a device is gone'; failed=1; }
 for out in "$room/new.arrows" "$room/new"; do
     for file in "$room/stream" "$room/file" "$room/truths" "$room/bare" -; do
         rm -f "$out"
@@ -228,12 +232,26 @@ for out in "$room/new.arrows" "$room/new"; do
     [ ! -e "$out" ] || { echo 'nest: a new output of a fault'; failed=1; }
     expect 0 '' '' cut "$room/unmarked" 1 1 -o "$out"
     expect 0 '{"a":null,"b":"b"}\n' '' rows "$out"
-    expect 1 '' "nest: $room/unmarked: a message does not begin with FF FF FF FF" convert "$room/unmarked" "$out"
+    expect 1 '' "nest: $room/unmarked: batch 2: a message does not begin with FF FF FF FF" convert "$room/unmarked" "$out"
     expect 0 '{"a":null,"b":"b"}\n' '' rows "$out"
     rm -f "$out"
     expect 0 '' '' convert "$room/file" "$out"
     expect 0 '' '' cut "$out" 1 1 -o "$out"
     expect 0 '{"a":null,"b":"b"}\n' '' rows "$out"
+    # By another name of it, and with its rights; where the file beside it is there already it stays as it is.
+    chmod 604 "$out"
+    ln -sf "$out" "$room/link.arrows"
+    expect 0 '' '' convert "$room/stream" "$room/link.arrows"
+    expect 0 "$all" '' rows "$out"
+    [ "$(stat -c %a "$out")" = 604 ] && [ -L "$room/link.arrows" ] || { echo "nest convert: another file than $out"; failed=1; }
+    echo mine >"$out.part"
+    expect 1 '' "nest: $out: output cannot be written" cut "$room/file" 0 1 -o "$out"
+    expect 0 "$all" '' rows "$out"
+    [ "$(cat "$out.part")" = mine ] || { echo 'nest cut: another file was written'; failed=1; }
+    rm "$out.part"
+    expect 0 '' '' from-json 'struct<a: int32>' "$room/none.json" "$out"
+    expect 0 '' '' rows "$out"
+    [ ! -e "$out.part" ] || { echo "nest: $out.part is left"; failed=1; }
 done
 [ "$("$program" convert "$room/stream" - | "$program" rows -)" = "$("$program" rows "$room/stream")" ] || { echo 'nest convert: standard output'; failed=1; }
 misplaced='nest: --columns and -o each stand once, with a word behind; try --help'

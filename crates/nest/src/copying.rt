@@ -1,15 +1,14 @@
 //! One file or stream as another, batch by batch where the output cannot be the input.
 use crate::input::{Device, open_input};
-use crate::output::{Line, Output};
+use crate::output::{Line, Output, create, settle};
 use crate::taking::take_file;
-use crate::{convert, is, select, status, stopped};
+use crate::{before, is, status, stopped};
 use ipc_schema::Columns;
 use nest_batches::Stop;
 use nest_compare::Input;
 use nest_copying::{Taken, copy, in_order};
 use nest_look::fault::Fault;
 use nest_words::{Choice, form_of};
-use std::fs::File;
 use std::io::{IsTerminal, Write};
 use std::process::ExitCode;
 use std::{fs, io};
@@ -61,20 +60,31 @@ fn copy_from<W: Write + Drop>(
     }
 }
 
-/// Copies to a file that was made for it, and is removed again where not all of the copy is there.
+/// Copies to a file, of which there is nothing where not all of the copy is there.
 fn copy_created(
     rt: &HostRuntime,
     columns: Columns<'_>,
     file: &String,
     taken: Taken,
-    out: Output<'_, File>,
+    out: &String,
 ) -> Result<(), Stop> {
-    let name = out.name;
-    let done = copy_from(rt, columns, file, taken, out);
-    if done.is_err() {
-        let _ = fs::remove_file(rt, name.as_str());
+    match create(rt, out) {
+        Err(fault) => {
+            drop(taken);
+            Err(before(fault))
+        }
+        Ok((device, place)) => {
+            let output = Output {
+                name: out,
+                device,
+                is_counted: rt.stderr().is_terminal(),
+            };
+            let done = copy_from(rt, columns, file, taken, output);
+            let settled = settle(rt, out, place, done.is_ok());
+            done?;
+            settled.map_err(before)
+        }
     }
-    done
 }
 
 /// Says why there is no copy, and the status of it.
@@ -86,27 +96,6 @@ fn told(rt: &HostRuntime, file: &String, out: &String, done: Result<(), Stop>) -
                 return status(rt, out, Err(Fault::Output));
             }
             stopped(rt, file, stop)
-        }
-    }
-}
-
-/// Copies to a file that is there, or cannot be made: it is touched once all bytes are there, since it may be the input.
-fn copy_whole(
-    rt: &HostRuntime,
-    columns: Columns<'_>,
-    file: &String,
-    taken: Taken,
-    out: &String,
-) -> ExitCode {
-    match taken {
-        Taken::All => status(rt, file, convert(rt, columns, file, out)),
-        Taken::Cut(start, count) => {
-            let choice = Choice::Cut(start, count);
-            select(rt, columns, file, &choice, out)
-        }
-        Taken::True(name) => {
-            let choice = Choice::True(name);
-            select(rt, columns, file, &choice, out)
         }
     }
 }
@@ -131,18 +120,7 @@ pub fn copy_file(
         drop(taken);
         return status(rt, file, Err(Fault::Input));
     }
-    match File::create_new(rt, out.as_str()) {
-        Err(_) => copy_whole(rt, columns, file, taken, out),
-        Ok(created) => {
-            let output = Output {
-                name: out,
-                device: created,
-                is_counted: rt.stderr().is_terminal(),
-            };
-            let done = copy_created(rt, columns, file, taken, output);
-            told(rt, file, out, done)
-        }
-    }
+    told(rt, file, out, copy_created(rt, columns, file, taken, out))
 }
 
 /// Writes the rows that are chosen of a file, or of standard input.

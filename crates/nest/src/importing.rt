@@ -1,12 +1,11 @@
 //! Lines of JSON as a file or a stream, batch by batch where the output cannot be the input.
-use crate::output::{Line, Output};
-use crate::{is, status, write_out};
+use crate::output::{Line, Output, create, settle};
+use crate::{is, status};
 use nest_import::{Unimported, import};
 use nest_look::fault::Fault;
 use nest_memory::datatypes::{DataType, Field};
 use nest_parse::parse_type;
 use nest_words::{Import, form_of};
-use std::fs::File;
 use std::io::{IsTerminal, Read, Write};
 use std::process::ExitCode;
 use std::{fs, io};
@@ -80,36 +79,28 @@ fn told<W: Drop>(rt: &HostRuntime, asked: &Import<'_>, done: Result<W, Unimporte
     }
 }
 
-/// Writes to a file that is there, or cannot be made: it is touched once all bytes are there, since it may be the input.
-fn import_whole(rt: &HostRuntime, asked: &Import<'_>, fields: Vec<Field>) -> ExitCode {
-    let output = Output {
-        name: asked.output,
-        device: Vec::new(rt.alloc()),
-        is_counted: false,
-    };
-    match import_from(rt, asked.input, fields, output) {
-        Err(why) => unimported(rt, asked, why),
-        Ok(made) => status(rt, asked.output, write_out(rt, asked.output, &made)),
+/// Writes to a file, of which there is nothing where not all of it is there.
+fn import_created(rt: &HostRuntime, asked: &Import<'_>, fields: Vec<Field>) -> ExitCode {
+    let out = asked.output;
+    match create(rt, out) {
+        Err(fault) => {
+            drop(fields);
+            status(rt, out, Err(fault))
+        }
+        Ok((device, place)) => {
+            let output = Output {
+                name: out,
+                device,
+                is_counted: rt.stderr().is_terminal(),
+            };
+            let done = import_from(rt, asked.input, fields, output);
+            let settled = settle(rt, out, place, done.is_ok());
+            if done.is_ok() && settled.is_err() {
+                return status(rt, out, settled);
+            }
+            told(rt, asked, done)
+        }
     }
-}
-
-/// Writes to a file that was made for it, and is removed again where not all of it is there.
-fn import_created(
-    rt: &HostRuntime,
-    asked: &Import<'_>,
-    fields: Vec<Field>,
-    created: File,
-) -> ExitCode {
-    let output = Output {
-        name: asked.output,
-        device: created,
-        is_counted: rt.stderr().is_terminal(),
-    };
-    let done = import_from(rt, asked.input, fields, output);
-    if done.is_err() {
-        let _ = fs::remove_file(rt, asked.output.as_str());
-    }
-    told(rt, asked, done)
 }
 
 /// Writes lines as columns of these fields.
@@ -128,10 +119,7 @@ fn import_lines(rt: &HostRuntime, asked: &Import<'_>, fields: Vec<Field>) -> Exi
         drop(fields);
         return status(rt, file, Err(Fault::Input));
     }
-    match File::create_new(rt, out.as_str()) {
-        Err(_) => import_whole(rt, asked, fields),
-        Ok(created) => import_created(rt, asked, fields, created),
-    }
+    import_created(rt, asked, fields)
 }
 
 /// Does what words ask to be made of lines of JSON.

@@ -1,14 +1,13 @@
 //! Several files as one, batch by batch where the output cannot be one of them.
 use crate::input::open_input;
-use crate::output::{Line, Output};
-use crate::{concat_whole, is, status, stopped, unknown, unlike};
+use crate::output::{Line, Output, create, settle};
+use crate::{is, status, stopped, unknown};
 use ipc_schema::Columns;
 use nest_batches::Stop;
 use nest_copying::joining::{Unappended, append, begin_with};
 use nest_copying::sink::Sink;
 use nest_look::fault::Fault;
 use nest_words::form_of;
-use std::fs::File;
 use std::io::{IsTerminal, Write};
 use std::process::ExitCode;
 use std::{fs, io};
@@ -109,6 +108,12 @@ fn join<'a, W: Write + Drop>(
     done
 }
 
+/// Says that the schema of a file is not that of the first, and the status of it.
+fn unlike(rt: &HostRuntime, file: &String, first: &String) -> ExitCode {
+    let _ = eprintln!(rt; "nest: {file}: its schema is not that of {first}");
+    ExitCode::FAILURE
+}
+
 /// Says why files are not written as one, and the status of it.
 fn told(
     rt: &HostRuntime,
@@ -129,20 +134,30 @@ fn told(
     }
 }
 
-/// Writes to a file that was made for it, and is removed again where not all files are there.
+/// Writes to a file, of which there is nothing where not all files are there.
 fn join_created(
     rt: &HostRuntime,
     columns: Columns<'_>,
     first: &String,
     others: &[String],
-    out: Output<'_, File>,
+    out: &String,
 ) -> ExitCode {
-    let name = out.name;
-    let done = join(rt, columns, first, others, out);
-    if done.is_err() {
-        let _ = fs::remove_file(rt, name.as_str());
+    match create(rt, out) {
+        Err(fault) => status(rt, out, Err(fault)),
+        Ok((device, place)) => {
+            let output = Output {
+                name: out,
+                device,
+                is_counted: rt.stderr().is_terminal(),
+            };
+            let done = join(rt, columns, first, others, output);
+            let settled = settle(rt, out, place, done.is_ok());
+            if done.is_ok() && settled.is_err() {
+                return status(rt, out, settled);
+            }
+            told(rt, first, out, done)
+        }
     }
-    told(rt, first, name, done)
 }
 
 /// The first file that cannot be opened.
@@ -171,15 +186,5 @@ pub fn concat(rt: &HostRuntime, columns: Columns<'_>, files: &[String], out: &St
     if let Some(file) = unopened(rt, files) {
         return status(rt, file, Err(Fault::Input));
     }
-    match File::create_new(rt, out.as_str()) {
-        Err(_) => concat_whole(rt, columns, files, out),
-        Ok(created) => {
-            let output = Output {
-                name: out,
-                device: created,
-                is_counted: rt.stderr().is_terminal(),
-            };
-            join_created(rt, columns, first, others, output)
-        }
-    }
+    join_created(rt, columns, first, others, out)
 }

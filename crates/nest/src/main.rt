@@ -18,12 +18,8 @@ use nest_compare::{Input, Uncompared, compare};
 use nest_copying::Taken;
 use nest_look::comparing::{Difference, difference_line};
 use nest_look::fault::Fault;
-use nest_look::joining::{self as whole, Unjoined};
-use nest_look::running::{read_input, write_bytes};
-use nest_look::{converting, selecting};
-use nest_words::{
-    Choice, Request, form_of, parse_choice, parse_import, parse_names, parse_options, parse_request,
-};
+use nest_look::running::write_bytes;
+use nest_words::{Request, parse_choice, parse_import, parse_names, parse_options, parse_request};
 use std::io::ErrorKind;
 use std::process::ExitCode;
 use std::rt::{Env, Files};
@@ -61,17 +57,6 @@ fn argument_words(rt: &(impl Env + AllocGlobal)) -> Result<Vec<String>, Fault> {
 
 fn is(word: &String, text: &str) -> bool {
     word.as_bytes() == text.as_bytes()
-}
-
-/// The bytes of a file, or of standard input.
-fn bytes_of(rt: &HostRuntime, file: &String) -> Result<Vec<u8>, Fault> {
-    if is(file, "-") {
-        return read_input(rt.alloc(), &mut rt.reader());
-    }
-    match fs::open(rt, file.as_str()) {
-        Ok(mut opened) => read_input(rt.alloc(), &mut opened),
-        Err(_) => Err(Fault::Input),
-    }
 }
 
 /// Before any batch.
@@ -123,36 +108,6 @@ fn write_out(
     }
 }
 
-/// Writes a file, or standard input, in another form. The output is touched once all bytes are there: it may be the input.
-fn convert(
-    rt: &HostRuntime,
-    columns: Columns<'_>,
-    file: &String,
-    out: &String,
-) -> Result<(), Fault> {
-    let bytes = bytes_of(rt, file)?;
-    let made = converting::convert(rt.alloc(), columns, form_of(out), &bytes)?;
-    drop(bytes);
-    write_out(rt, out, &made)
-}
-
-/// Writes the rows that are chosen of a file, or of standard input. The output is touched once all bytes are there: it may be the input.
-fn select(
-    rt: &HostRuntime,
-    columns: Columns<'_>,
-    file: &String,
-    choice: &Choice,
-    out: &String,
-) -> ExitCode {
-    match bytes_of(rt, file) {
-        Err(fault) => status(rt, file, Err(fault)),
-        Ok(bytes) => match selecting::select(rt.alloc(), columns, form_of(out), choice, &bytes) {
-            Err(fault) => status(rt, file, Err(fault)),
-            Ok(made) => status(rt, out, write_out(rt, out, &made)),
-        },
-    }
-}
-
 /// Says where two files differ first; the status is that of a difference.
 fn differ(rt: &HostRuntime, file: &String, difference: Difference) -> ExitCode {
     let Ok(line) = difference_line(rt.alloc(), difference) else {
@@ -195,65 +150,6 @@ fn equal(rt: &HostRuntime, columns: Columns<'_>, file: &String, other: &String) 
             }
             Ok(right) => tell(rt, (file, other), compare(rt.alloc(), columns, left, right)),
         },
-    }
-}
-
-/// The bytes of files, or whose could not be read.
-fn inputs<'a>(rt: &HostRuntime, files: &'a [String]) -> Result<Vec<Vec<u8>>, (&'a String, Fault)> {
-    let mut inputs = Vec::new(rt.alloc());
-    for file in files {
-        match bytes_of(rt, file) {
-            Err(fault) => return Err((file, fault)),
-            Ok(bytes) => {
-                if inputs.push(bytes).is_err() {
-                    return Err((file, Fault::Memory));
-                }
-            }
-        }
-    }
-    Ok(inputs)
-}
-
-/// Says that the schema of a file is not that of the first, and the status of it.
-fn unlike(rt: &HostRuntime, file: &String, first: &String) -> ExitCode {
-    let _ = eprintln!(rt; "nest: {file}: its schema is not that of {first}");
-    ExitCode::FAILURE
-}
-
-/// Says why files are not written as one, and the status of it. What can be blamed on no file is said of the output.
-fn unjoined(rt: &HostRuntime, files: &[String], out: &String, why: Unjoined) -> ExitCode {
-    match why {
-        Unjoined::Input(k, fault) => {
-            let file = files.get(k).unwrap_or(out);
-            status(rt, file, Err(Fault::Format(fault)))
-        }
-        Unjoined::Schema(k) => {
-            let file = files.get(k).unwrap_or(out);
-            unlike(rt, file, files.first().unwrap_or(out))
-        }
-        Unjoined::Form(why) => status(rt, out, Err(Fault::Form(why))),
-        Unjoined::Memory => status(rt, out, Err(Fault::Memory)),
-    }
-}
-
-/// Writes files as one to a file that is there, or cannot be made: it is touched once all bytes are there, since it may be one of them.
-fn concat_whole(
-    rt: &HostRuntime,
-    columns: Columns<'_>,
-    files: &[String],
-    out: &String,
-) -> ExitCode {
-    match inputs(rt, files) {
-        Err((file, fault)) => status(rt, file, Err(fault)),
-        Ok(inputs) => {
-            if inputs.is_empty() {
-                return unknown(rt);
-            }
-            match whole::concat(rt.alloc(), columns, form_of(out), &inputs) {
-                Err(why) => unjoined(rt, files, out, why),
-                Ok(made) => status(rt, out, write_out(rt, out, &made)),
-            }
-        }
     }
 }
 

@@ -1,5 +1,8 @@
 //! Where batches go as Arrow, and the line that counts their rows.
 use nest_copying::Progress;
+use nest_look::fault::Fault;
+use std::fs::File;
+use std::{fs, io};
 
 /// After so many batches the line is written anew.
 const BATCHES: usize = 16;
@@ -48,4 +51,87 @@ pub struct Output<'a, W> {
     pub name: &'a String,
     pub device: W,
     pub is_counted: bool,
+}
+
+/// How what is written comes to its name.
+#[derive(Drop)]
+pub enum Place {
+    /// Under its name, where nothing was: it is removed again where not all of it is there.
+    Made,
+    /// Under its name, where no file was: a device, say.
+    There,
+    /// Under this one, since the file of its own name may be the input: it takes that one's place once all of it is there.
+    Beside(String),
+}
+
+/// Whether there is a file.
+fn is_file(rt: &HostRuntime, name: &String) -> bool {
+    match fs::metadata(rt, name.as_str()) {
+        Ok(metadata) => metadata.is_file(),
+        Err(_) => false,
+    }
+}
+
+/// Opens a file beside an output.
+fn create_beside(rt: &HostRuntime, out: &String) -> Result<(File, Place), Fault> {
+    let Ok(name) = format!(in rt.alloc(); "{out}.part") else {
+        return Err(Fault::Memory);
+    };
+    match File::create_new(rt, name.as_str()) {
+        Ok(made) => Ok((made, Place::Beside(name))),
+        Err(_) => {
+            drop(name);
+            Err(Fault::Output)
+        }
+    }
+}
+
+/// Opens an output, or a file beside it.
+pub fn create(rt: &HostRuntime, out: &String) -> Result<(File, Place), Fault> {
+    if let Ok(made) = File::create_new(rt, out.as_str()) {
+        return Ok((made, Place::Made));
+    }
+    if is_file(rt, out) {
+        return create_beside(rt, out);
+    }
+    match fs::create(rt, out.as_str()) {
+        Ok(opened) => Ok((opened, Place::There)),
+        Err(_) => Err(Fault::Output),
+    }
+}
+
+/// Writes a file over an output, which stays the same file.
+fn write_over(rt: &HostRuntime, from: &String, out: &String) -> Result<(), Fault> {
+    let Ok(mut written) = fs::open(rt, from.as_str()) else {
+        return Err(Fault::Output);
+    };
+    let Ok(mut target) = fs::create(rt, out.as_str()) else {
+        return Err(Fault::Output);
+    };
+    match io::copy(&mut written, &mut target) {
+        Ok(_) => Ok(()),
+        Err(_) => Err(Fault::Output),
+    }
+}
+
+/// Has what was written stand under the name of an output, if all of it is there; else nothing of it.
+pub fn settle(rt: &HostRuntime, out: &String, place: Place, is_whole: bool) -> Result<(), Fault> {
+    match place {
+        Place::There => Ok(()),
+        Place::Made => {
+            if !is_whole {
+                let _ = fs::remove_file(rt, out.as_str());
+            }
+            Ok(())
+        }
+        Place::Beside(name) => {
+            let done = if is_whole {
+                write_over(rt, &name, out)
+            } else {
+                Ok(())
+            };
+            let _ = fs::remove_file(rt, name.as_str());
+            done
+        }
+    }
 }
