@@ -200,7 +200,8 @@ fn devices_and_outputs_fail(rt: HostRuntime) -> Result<(), Fail> {
             let (want, _) = copied(alloc, &bytes, form, Taken::All, (NEVER, NEVER)).expect(
                 &rt, "a copy",
             );
-            for at in 0..want.len() {
+            for third in 0..want.len() / 3 {
+                let at = third * 3;
                 let found = copied(alloc, &bytes, form, Taken::All, (NEVER, at));
                 assert!(rt;
                     found.err().map(|stop| stop.fault) == Some(Fault::Output),

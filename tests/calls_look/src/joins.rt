@@ -115,7 +115,8 @@ fn devices_and_outputs_fail(rt: HostRuntime) -> Result<(), Fail> {
     let parts = samples(alloc, &[FILE, STREAM])?;
     for form in [Form::File, Form::Stream] {
         let want = joined(alloc, &parts, form, (NEVER, NEVER)).expect(&rt, "as one");
-        for at in 0..want.len() {
+        for third in 0..want.len() / 3 {
+            let at = third * 3;
             let found = joined(alloc, &parts, form, (NEVER, at)).err();
             let told = match found {
                 Some((_, Unappended::Stop(stop))) => stop.fault == Fault::Output,

@@ -24,7 +24,7 @@
 //! | Which of both has a fault, in which batch, and that a difference before it is told instead; devices that fail at each call | `comparisons::a_fault_is_told_where_nothing_differs_before`, `comparisons::devices_fail_at_any_call` |
 //! | What is copied batch by batch, as either form, beside what is made of all bytes; cuts that end within a batch, and read no further | `copies::samples_are_copied`, `copies::rows_are_cut`, `copies::true_rows_are_copied`, `copies::batches_are_cut` |
 //! | Batches as a reader of either form gives them, and the rows that are chosen of all | `copies::batches_come_and_are_selected` |
-//! | Why a copy stops, and in which batch; devices that fail at each call, outputs that are full at each byte | `copies::faults_stop_a_copy`, `copies::devices_and_outputs_fail` |
+//! | Why a copy stops, and in which batch; devices that fail at each call, outputs that are full at each third byte | `copies::faults_stop_a_copy`, `copies::devices_and_outputs_fail` |
 //! | Inputs that are written one behind another, as either form, beside what is made of all bytes; which of them has a fault or another schema; devices and outputs that fail | `joins::samples_are_joined`, `joins::faults_are_of_an_input`, `joins::devices_and_outputs_fail`, `joins::a_sink_has_the_schema_of_the_first` |
 //! | Rows at places as they come batch by batch, as either form and as lines, beside what is selected of all bytes; drawn ones beside a plain model | `takes::samples_are_taken`, `takes::rows_are_lines`, `takes::drawn_rows_are_taken` |
 //! | Faults behind the places, which are not read, and before them; devices that fail at each call | `takes::faults_are_told_where_places_lie_behind`, `takes::devices_fail_at_any_call` |
