@@ -253,6 +253,24 @@ for out in "$room/new.arrows" "$room/new"; do
     expect 0 '' '' rows "$out"
     [ ! -e "$out.part" ] || { echo "nest: $out.part is left"; failed=1; }
 done
+# Where it cannot be written over an output, a program that runs say, it stays beside it.
+cp "$(command -v sleep)" "$room/busy"
+"$room/busy" 600 &
+busy=$!
+until [ "/proc/$busy/exe" -ef "$room/busy" ]; do sleep 0.01; done
+beside() {
+    expect 1 '' "nest: $room/busy: output cannot be written; all of it is in $room/busy.part" "$@"
+    expect 0 "$all" '' rows "$room/busy.part"
+    cmp -s "$room/busy" "$(command -v sleep)" || { echo "nest $*: a program was written over"; failed=1; }
+    rm -f "$room/busy.part"
+}
+beside convert "$room/file" "$room/busy"
+beside cut "$room/file" 0 9 -o "$room/busy"
+beside take "$room/file" 0 1 2 -o "$room/busy"
+beside concat "$room/file" -o "$room/busy"
+"$program" rows "$room/file" >"$room/rows.json"
+beside from-json 'struct<a: int32, b: string>' "$room/rows.json" "$room/busy"
+kill $busy
 [ "$("$program" convert "$room/stream" - | "$program" rows -)" = "$("$program" rows "$room/stream")" ] || { echo 'nest convert: standard output'; failed=1; }
 misplaced='nest: --columns and -o each stand once, with a word behind; try --help'
 expect 2 '' "$misplaced" cut "$room/file" 0 1 -o

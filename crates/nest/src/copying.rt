@@ -2,7 +2,7 @@
 use crate::input::{Device, open_input};
 use crate::output::{Line, Output, create, settle};
 use crate::taking::take_file;
-use crate::{before, is, status, stopped};
+use crate::{is, status, stopped};
 use ipc_schema::Columns;
 use nest_batches::Stop;
 use nest_compare::Input;
@@ -60,33 +60,6 @@ fn copy_from<W: Write + Drop>(
     }
 }
 
-/// Copies to a file, of which there is nothing where not all of the copy is there.
-fn copy_created(
-    rt: &HostRuntime,
-    columns: Columns<'_>,
-    file: &String,
-    taken: Taken,
-    out: &String,
-) -> Result<(), Stop> {
-    match create(rt, out) {
-        Err(fault) => {
-            drop(taken);
-            Err(before(fault))
-        }
-        Ok((device, place)) => {
-            let output = Output {
-                name: out,
-                device,
-                is_counted: rt.stderr().is_terminal(),
-            };
-            let done = copy_from(rt, columns, file, taken, output);
-            let settled = settle(rt, out, place, done.is_ok());
-            done?;
-            settled.map_err(before)
-        }
-    }
-}
-
 /// Says why there is no copy, and the status of it.
 fn told(rt: &HostRuntime, file: &String, out: &String, done: Result<(), Stop>) -> ExitCode {
     match done {
@@ -96,6 +69,34 @@ fn told(rt: &HostRuntime, file: &String, out: &String, done: Result<(), Stop>) -
                 return status(rt, out, Err(Fault::Output));
             }
             stopped(rt, file, stop)
+        }
+    }
+}
+
+/// Copies to a file, of which there is nothing where not all of the copy is there.
+fn copy_created(
+    rt: &HostRuntime,
+    columns: Columns<'_>,
+    file: &String,
+    taken: Taken,
+    out: &String,
+) -> ExitCode {
+    match create(rt, out) {
+        Err(fault) => {
+            drop(taken);
+            status(rt, out, Err(fault))
+        }
+        Ok((device, place)) => {
+            let output = Output {
+                name: out,
+                device,
+                is_counted: rt.stderr().is_terminal(),
+            };
+            let done = copy_from(rt, columns, file, taken, output);
+            match settle(rt, out, place, done.is_ok()) {
+                Ok(()) => told(rt, file, out, done),
+                Err(said) => said,
+            }
         }
     }
 }
@@ -120,7 +121,7 @@ pub fn copy_file(
         drop(taken);
         return status(rt, file, Err(Fault::Input));
     }
-    told(rt, file, out, copy_created(rt, columns, file, taken, out))
+    copy_created(rt, columns, file, taken, out)
 }
 
 /// Writes the rows that are chosen of a file, or of standard input.

@@ -94,11 +94,13 @@ fn import_created(rt: &HostRuntime, asked: &Import<'_>, fields: Vec<Field>) -> E
                 is_counted: rt.stderr().is_terminal(),
             };
             let done = import_from(rt, asked.input, fields, output);
-            let settled = settle(rt, out, place, done.is_ok());
-            if done.is_ok() && settled.is_err() {
-                return status(rt, out, settled);
+            match settle(rt, out, place, done.is_ok()) {
+                Ok(()) => told(rt, asked, done),
+                Err(said) => {
+                    drop(done);
+                    said
+                }
             }
-            told(rt, asked, done)
         }
     }
 }

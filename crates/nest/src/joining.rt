@@ -151,11 +151,13 @@ fn join_created(
                 is_counted: rt.stderr().is_terminal(),
             };
             let done = join(rt, columns, first, others, output);
-            let settled = settle(rt, out, place, done.is_ok());
-            if done.is_ok() && settled.is_err() {
-                return status(rt, out, settled);
+            match settle(rt, out, place, done.is_ok()) {
+                Ok(()) => told(rt, first, out, done),
+                Err(said) => {
+                    drop(done);
+                    said
+                }
             }
-            told(rt, first, out, done)
         }
     }
 }

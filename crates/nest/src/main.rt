@@ -22,8 +22,8 @@ use nest_look::running::write_bytes;
 use nest_words::{Request, parse_choice, parse_import, parse_names, parse_options, parse_request};
 use std::io::ErrorKind;
 use std::process::ExitCode;
-use std::rt::{Env, Files};
-use std::{env, fs, io};
+use std::rt::Env;
+use std::{env, io};
 use taking::look_at;
 
 const USAGE: &str = "\
@@ -90,21 +90,6 @@ fn look(rt: &HostRuntime, columns: Columns<'_>, file: &String, request: Request)
     match done {
         Ok(()) => ExitCode::SUCCESS,
         Err(stop) => stopped(rt, file, stop),
-    }
-}
-
-/// Writes a file, or standard output.
-fn write_out(
-    rt: &(impl AllocGlobal + Files + Print),
-    out: &String,
-    made: &[u8],
-) -> Result<(), Fault> {
-    if is(out, "-") {
-        return write_bytes(&mut io::writer(rt), made);
-    }
-    match fs::create(rt, out.as_str()) {
-        Ok(mut created) => write_bytes(&mut created, made),
-        Err(_) => Err(Fault::Output),
     }
 }
 

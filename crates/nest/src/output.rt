@@ -2,6 +2,7 @@
 use nest_copying::Progress;
 use nest_look::fault::Fault;
 use std::fs::File;
+use std::process::ExitCode;
 use std::{fs, io};
 
 /// After so many batches the line is written anew.
@@ -114,8 +115,14 @@ fn write_over(rt: &HostRuntime, from: &String, out: &String) -> Result<(), Fault
     }
 }
 
-/// Has what was written stand under the name of an output, if all of it is there; else nothing of it.
-pub fn settle(rt: &HostRuntime, out: &String, place: Place, is_whole: bool) -> Result<(), Fault> {
+/// Has what was written stand under the name of an output, if all of it is there; else nothing of it. Where it cannot be written over what is there it stays
+/// beside it, and this is said.
+pub fn settle(
+    rt: &HostRuntime,
+    out: &String,
+    place: Place,
+    is_whole: bool,
+) -> Result<(), ExitCode> {
     match place {
         Place::There => Ok(()),
         Place::Made => {
@@ -125,13 +132,14 @@ pub fn settle(rt: &HostRuntime, out: &String, place: Place, is_whole: bool) -> R
             Ok(())
         }
         Place::Beside(name) => {
-            let done = if is_whole {
-                write_over(rt, &name, out)
-            } else {
-                Ok(())
-            };
+            if is_whole && write_over(rt, &name, out).is_err() {
+                let _ = eprintln!(rt;
+                    "nest: {out}: output cannot be written; all of it is in {name}"
+                );
+                return Err(ExitCode::FAILURE);
+            }
             let _ = fs::remove_file(rt, name.as_str());
-            done
+            Ok(())
         }
     }
 }

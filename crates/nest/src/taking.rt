@@ -1,6 +1,7 @@
-//! Rows at places of one file, batch by batch. All of them are there before the output is touched, since it may be the input.
+//! Rows at places of one file, batch by batch. All of them are there before the output is touched.
 use crate::input::open_input;
-use crate::{before, status, stopped, write_out};
+use crate::output::{create, settle};
+use crate::{before, is, status, stopped};
 use ipc_schema::Columns;
 use nest_batches::Stop;
 use nest_look::running::write_bytes;
@@ -50,6 +51,21 @@ fn bytes(
     }
 }
 
+/// Writes them to a file, of which there is nothing where not all of them are there.
+fn write_created(rt: &HostRuntime, out: &String, made: &[u8]) -> ExitCode {
+    match create(rt, out) {
+        Err(fault) => status(rt, out, Err(fault)),
+        Ok((mut device, place)) => {
+            let written = write_bytes(&mut device, made);
+            drop(device);
+            match settle(rt, out, place, written.is_ok()) {
+                Ok(()) => status(rt, out, written),
+                Err(said) => said,
+            }
+        }
+    }
+}
+
 /// Writes them in the form of an output.
 pub fn take_file(
     rt: &HostRuntime,
@@ -60,6 +76,7 @@ pub fn take_file(
 ) -> ExitCode {
     match bytes(rt, columns, file, places, out) {
         Err(stop) => stopped(rt, file, stop),
-        Ok(made) => status(rt, out, write_out(rt, out, &made)),
+        Ok(made) if is(out, "-") => status(rt, out, write_bytes(&mut io::writer(rt), &made)),
+        Ok(made) => write_created(rt, out, &made),
     }
 }
