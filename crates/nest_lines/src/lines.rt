@@ -1,24 +1,32 @@
 //! Columns and rows as lines of text.
-ghost use Rattle.std.specs.Prelude.{◌≡◌, ◌+◌, ◌≤◌, IfOk, map, string_bytes};
+ghost use Rattle.std.specs.Prelude.{◌≡◌, ◌+◌, ◌≤◌, IfOk, false, map, string_bytes};
 ghost use Rattle.std.specs.Fmt.{WritesOnOk};
 ghost use Rattle.std.specs.List.{flat_map};
 ghost use Rattle.nest_memory.specs.TypeOf.{field_of};
+ghost use Rattle.nest_memory.specs.TypeTree.{fields_of};
+ghost use Rattle.nest_model.specs.Layout.{layout_type};
 ghost use Rattle.nest_model.specs.Meaning.{len};
 ghost use Rattle.nest_array.specs.Seen.{layout_of};
 ghost use Rattle.nest_array.specs.WindowParts.{window_parts};
 ghost use Rattle.nest_choose.specs.Rows.{rows_in};
+ghost use Rattle.nest_show.specs.Json.{heads_of};
 ghost use Rattle.nest_lines.specs.Text.{text_of_columns, text_of_rows};
 
-use nest_array::{AnyArray, Window};
+use nest_array::{AnyArray, StructArray, Window};
 use nest_memory::datatypes::Field;
+use nest_show::records::{member_heads, write_record};
 use nest_show::written::WriteSlot;
 use std::alloc::{AllocError, Global};
 use std::fmt;
 use std::fmt::{Display, Formatter};
 
+/// Of so many records in a window, what stands before their members is made once.
+const MANY: usize = 8;
+
 /// The rows of windows, one after another, by `Display`.
 #[derive(Drop)]
 struct RowLines<'a> {
+    alloc: Global,
     windows: &'a [Window<'a>],
 }
 
@@ -31,24 +39,71 @@ impl Display for RowLines<'_> {
     ghost output = { λ l. Some (text_of_rows (flat_map rows_in l.windows.now)) };
 
     fn fmt<W: fmt::Write>(&self, f: &mut Formatter<W>) -> fmt::Result {
-        write_windows(f, self.windows)
+        write_windows(self.alloc, f, self.windows)
     }
 }
 
-fn write_windows<W: fmt::Write>(f: &mut Formatter<W>, windows: &[Window<'_>]) -> fmt::Result
+fn write_windows<W: fmt::Write>(
+    alloc: Global,
+    f: &mut Formatter<W>,
+    windows: &[Window<'_>],
+) -> fmt::Result
     ensures { WritesOnOk W.write_str_gives f.old result (text_of_rows (flat_map rows_in windows.now)) f.new }
 {
     for window in windows {
-        write_window(f, window)?;
+        write_window(alloc, f, window)?;
     }
     Ok(())
 }
 
-fn write_window<W: fmt::Write>(f: &mut Formatter<W>, window: &Window<'_>) -> fmt::Result
+fn write_window<W: fmt::Write>(
+    alloc: Global,
+    f: &mut Formatter<W>,
+    window: &Window<'_>,
+) -> fmt::Result
     ensures { WritesOnOk W.write_str_gives f.old result (text_of_rows (rows_in window.now)) f.new }
 {
     window.known();
-    write_run(f, window.array(), window.offset(), window.len())
+    let (o, n) = (window.offset(), window.len());
+    match window.array() {
+        AnyArray::Struct(records) if n >= MANY => write_records(alloc, f, records, o, n),
+        array => write_run(f, array, o, n),
+    }
+}
+
+/// The n records from place o, each on a line of its own.
+fn write_records<W: fmt::Write>(
+    alloc: Global,
+    f: &mut Formatter<W>,
+    records: &StructArray,
+    o: usize,
+    n: usize,
+) -> fmt::Result
+    requires { o + n ≤ len records.now }
+    ensures { WritesOnOk W.write_str_gives f.old result (text_of_rows (rows_in (window_parts records.now o n))) f.new }
+{
+    let heads = member_heads(alloc, records.fields())?;
+    write_headed(f, records, &heads, o, n)
+}
+
+/// The same, by what stands before their members.
+fn write_headed<W: fmt::Write>(
+    f: &mut Formatter<W>,
+    records: &StructArray,
+    heads: &[String],
+    o: usize,
+    n: usize,
+) -> fmt::Result
+    requires within { o + n ≤ len records.now }
+    requires heads { map string_bytes heads.now ≡ heads_of (fields_of (layout_type records.now)) false }
+    ensures { WritesOnOk W.write_str_gives f.old result (text_of_rows (rows_in (window_parts records.now o n))) f.new }
+{
+    let _end = records.len();
+    for k in 0..n {
+        write_record(f, records, heads, o + k)?;
+        f.write_str("\n")?;
+    }
+    Ok(())
 }
 
 /// The n slots from place o, each on a line of its own.
@@ -73,7 +128,7 @@ fn write_run<W: fmt::Write>(
 pub fn row_lines(alloc: Global, windows: &[Window<'_>]) -> Result<String, AllocError>
     ensures { IfOk result (λ text. string_bytes text ≡ text_of_rows (flat_map rows_in windows.now)) }
 {
-    let lines = RowLines { windows };
+    let lines = RowLines { alloc, windows };
     format!(in alloc; "{lines}")
 }
 

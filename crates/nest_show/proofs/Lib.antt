@@ -1,3 +1,4 @@
+mod Heads
 mod Natives
 mod Nesting
 mod OneText

@@ -82,6 +82,14 @@ abbrev mutual
   json_members no_fields after (more_slots s ss) = []
   json_members (more_fields f fs) after (more_slots s ss) = comma after ++ (quoted (field_name f) ++ 58 ∷ (json_of_slot (field_type f) s ++ json_members fs true ss))
 
+-- what stands before each member, of the names alone
+abbrev pub head_of : Bool → Letters → List ℕ
+head_of after name = comma after ++ (quoted name ++ 58 ∷ [])
+
+abbrev pub heads_of : FieldTrees → Bool → List (List ℕ)
+heads_of no_fields after = []
+heads_of (more_fields f fs) after = head_of after (field_name f) ∷ heads_of fs true
+
 -- slots of a data type, as a list
 abbrev pub json_list : TypeTree → List Slot → List ℕ
 json_list t ss = 91 ∷ (json_items t false (seal ss) ++ 93 ∷ [])

@@ -9,6 +9,7 @@ pub mod laws;
 mod leaves;
 mod letters;
 mod nested;
+pub mod records;
 mod scalar;
 pub mod writing;
 pub mod written;

@@ -1,15 +1,17 @@
 //! The text of arrays of each kind.
-use crate::show::making::parts::{buffer, offsets};
+use crate::show::making::parts::{buffer, offsets, validity};
 use crate::show::making::{flat, nested, tagged};
-use nest_array::{AnyArray, NullArray, Window, new_scalar};
+use nest_array::{AnyArray, NullArray, StructArray, Window, new_scalar};
 use nest_flat::any_primitive::AnyPrimitive;
 use nest_flat::primitive::PrimitiveArray;
 use nest_flat::utf8::Utf8Array;
-use nest_memory::datatypes::{DataType, IntervalUnit};
+use nest_memory::datatypes::{DataType, Field, IntervalUnit};
 use nest_memory::error::Error;
 use nest_memory::types::{days_ms, i256, months_days_ns};
+use nest_show::records::{member_heads, write_record};
 use nest_show::{Json, WriteJson, writing};
 use std::alloc::Global;
+use std::fmt::Formatter;
 
 /// What an array, a window or a scalar prints.
 fn text<T: WriteJson + Drop>(alloc: Global, value: T) -> Result<String, Error> {
@@ -64,6 +66,33 @@ fn records(rt: HostRuntime) -> Result<(), Error> {
         text(rt.alloc(), nested::maps(rt.alloc())?.boxed())?.as_str(),
         "[[{\"number\":1,\"text\":\"ab\"},{\"number\":null,\"text\":\"\"}],[{\"number\":3,\"text\":null},{\"number\":4,\"text\":\"c\"}]]"
     );
+    Ok(())
+}
+
+#[test]
+fn records_by_heads(rt: HostRuntime) -> Result<(), Error> {
+    let alloc = rt.alloc();
+    let mut array = nested::records(alloc)?;
+    array.set_validity(validity(alloc, &[true, true, false, true])?)?;
+    let heads = member_heads(alloc, array.fields())?;
+    assert!(rt; heads.len() == 2);
+    assert_eq!(rt; heads[0].as_str(), "\"number\":");
+    assert_eq!(rt; heads[1].as_str(), ",\"text\":");
+    let mut all = Formatter::new(String::new(alloc));
+    for i in 0..4 {
+        let mark = if i == 0 { "[" } else { "," };
+        assert!(rt; all.write_str(mark).is_ok());
+        assert!(rt; write_record(&mut all, &array, &heads, i).is_ok());
+    }
+    assert!(rt; all.write_str("]").is_ok());
+    assert_eq!(rt; all.into_inner().as_str(), text(alloc, array)?.as_str());
+    let mut odd = Vec::new(alloc);
+    odd.push(Field::new(alloc, "a\"b\n", DataType::Null, true)?)?;
+    odd.push(Field::new(alloc, "", DataType::Null, true)?)?;
+    let heads = member_heads(alloc, &odd)?;
+    assert_eq!(rt; heads[0].as_str(), "\"a\\\"b\\n\":");
+    assert_eq!(rt; heads[1].as_str(), ",\"\":");
+    assert!(rt; member_heads(alloc, &[])?.is_empty());
     Ok(())
 }
 
