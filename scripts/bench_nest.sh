@@ -1,6 +1,6 @@
 #!/usr/bin/env bash
 # Times the built program on records of five columns: rows as text beside a plain program that writes the same text from vectors, lines
-# of JSON as a file, two equal files beside `cmp`, and the most memory that each has.
+# of JSON as a file, two files of the same bytes and a file and a stream of the same rows beside `cmp`, and the most memory that each has.
 # Usage, at the top of the repository and after the gate or `(cd crates/nest && rt run -- --help)`; rustc builds the plain program:
 #     bash scripts/bench_nest.sh [ROWS [COPIES]]
 # ROWS is 1000000 if left out; COPIES of their file, 8 if left out, make the two that are compared.
@@ -38,6 +38,8 @@ files=$(for ((i = 0; i < copies; i++)); do echo "$work/file"; done)
 timed 'nest concat' "$(($(size "$work/file") * copies))" "$program" concat $files -o "$work/one"
 cp "$work/one" "$work/other"
 timed 'cmp' "$(size "$work/one")" cmp "$work/one" "$work/other"
-timed 'nest equal' "$(size "$work/one")" "$program" equal "$work/one" "$work/other"
+timed 'nest equal, same bytes' "$(size "$work/one")" "$program" equal "$work/one" "$work/other"
+"$program" convert "$work/one" "$work/one.arrows"
+timed 'nest equal, a stream' "$(size "$work/one")" "$program" equal "$work/one" "$work/one.arrows"
 timed 'nest take, three' "$(size "$work/one")" "$program" take "$work/one" $((rows * copies - 1)) 3 $((rows * copies / 2))
 timed 'nest rows of all' "$(size "$work/one")" "$program" rows "$work/one"

@@ -3,3 +3,5 @@ pub mod Walk
 pub mod Sources
 mod Looks
 mod Whole
+mod SameBytes
+mod Alone

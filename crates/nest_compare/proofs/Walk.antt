@@ -355,7 +355,7 @@ came-as t s done over k j rows u v a b is next same p none gave =
 
 -- ---- before any batch
 
-why-fault : (fault : Fault) (read : Result HeldTree formats.Fault) → IsWhy fault read → IsFault fault read
+pub why-fault : (fault : Fault) (read : Result HeldTree formats.Fault) → IsWhy fault read → IsFault fault read
 why-fault Input read h = tt
 why-fault (Format fault) read h = h
 why-fault (Form why) read h = h

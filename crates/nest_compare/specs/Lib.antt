@@ -6,3 +6,4 @@ pub mod Examples
 -- Words of functions within.
 pub mod Sources
 pub mod Pending
+pub mod Alike

@@ -7,7 +7,9 @@ ghost use Rattle.nest_compare.specs.Left.{Left, under};
 ghost use Rattle.nest_compare.specs.Pending.{Both, HasRoom, IsPending, IsPlace, LooksAs, Turns, rows_left};
 ghost use Rattle.nest_compare.specs.Sources.{left_of, schema_in};
 ghost use Rattle.nest_compare.specs.Told.{Answers};
+ghost use Rattle.nest_compare.specs.declared.source.Input.TheVariants.{File};
 
+use crate::alike::have_same_bytes;
 use crate::pending::Pending;
 use crate::source::{Input, Source, open};
 use ipc_device::SeekRead;
@@ -167,16 +169,8 @@ fn compare_sources<R: SeekRead + Drop, S: SeekRead + Drop>(
     compare_rows(alloc, left, right)
 }
 
-/// Where two Arrow files or streams differ first, however their rows lie in batches. Their schemas are compared with what users attach;
-/// then their rows, of tables without a column how many there are. Rows are compared as the batches come: none is read behind the first
-/// that differs. The columns alone are read, as by `nest_look::answering::answer`.
-///
-/// # Errors
-/// `First` and `Second`: where reading stopped, and why. Before any batch, of the second only where the first was opened: `Format` with the
-/// first fault of the bytes in the order of reading. In a batch, where the rows of the batches before begin the other input: `Format` with
-/// its first fault, `Columns` where its columns are not those of the schema, side by side. `Input` where the device fails; `Memory`, also
-/// within `Format`. `TooManyRows`.
-pub fn compare<R: SeekRead + Drop, S: SeekRead + Drop>(
+/// Compares two inputs: both are read as Arrow.
+fn compare_inputs<R: SeekRead + Drop, S: SeekRead + Drop>(
     alloc: Global,
     columns: Columns<'_>,
     left: Input<R>,
@@ -196,5 +190,90 @@ pub fn compare<R: SeekRead + Drop, S: SeekRead + Drop>(
             }
             Ok(right) => compare_sources(alloc, left, right),
         },
+    }
+}
+
+/// Reads all batches of a side, whose bytes are those of the other.
+fn walk_alone<R: SeekRead + Drop>(
+    alloc: Global,
+    side: &mut Pending<R>,
+) -> Result<Option<Difference>, Uncompared>
+    requires { HasRoom side.old }
+    ensures { (t : Option Left) (s : SchemaTree) → schema_in side.old.source ≡ s → IsPending t s [] (left_of R.remaining R.stream_position R.stream_bytes side.old.source) side.old → Answers (option_map (under s) t) (option_map (under s) t) result }
+{
+    'batches: for _turn in 0..u64::MAX {
+        let is_on = match side.read_on(alloc) {
+            Err(stop) => return Err(Uncompared::First(stop)),
+            Ok(is_on) => is_on,
+        };
+        let n = side.len();
+        if !is_on && n == 0 {
+            return Ok(None);
+        }
+        side.pass(n);
+    }
+    // There are more batches than are counted.
+    Err(Uncompared::First(Stop {
+        batch: Some(usize::MAX),
+        fault: Fault::Input,
+    }))
+}
+
+/// Compares two inputs of the same bytes: one of them is read as Arrow.
+fn compare_alike<R: SeekRead + Drop>(
+    alloc: Global,
+    columns: Columns<'_>,
+    input: Input<R>,
+) -> Result<Option<Difference>, Uncompared>
+    ensures { Answers (spelled R.remaining R.stream_position R.stream_bytes (picks_of columns.entry) input) (spelled R.remaining R.stream_position R.stream_bytes (picks_of columns.entry) input) result }
+{
+    match open(alloc, columns, input) {
+        Err(fault) => Err(Uncompared::First(Stop { batch: None, fault })),
+        Ok(source) => {
+            let mut side = Pending::new(source);
+            walk_alone(alloc, &mut side)
+        }
+    }
+}
+
+/// Compares two files. Where their bytes are the same, which is soon seen, so is all that they spell.
+fn compare_files<R: SeekRead + Drop, S: SeekRead + Drop>(
+    alloc: Global,
+    columns: Columns<'_>,
+    mut left: R,
+    mut right: S,
+) -> Result<Option<Difference>, Uncompared>
+    ensures { Answers (spelled R.remaining R.stream_position R.stream_bytes (picks_of columns.entry) (File left)) (spelled S.remaining S.stream_position S.stream_bytes (picks_of columns.entry) (File right)) result }
+{
+    if have_same_bytes(&mut left, &mut right) {
+        drop(right);
+        return compare_alike(alloc, columns, Input::File(left));
+    }
+    compare_inputs(alloc, columns, Input::File(left), Input::File(right))
+}
+
+/// Where two Arrow files or streams differ first, however their rows lie in batches. Their schemas are compared with what users attach;
+/// then their rows, of tables without a column how many there are. Rows are compared as the batches come: none is read behind the first
+/// that differs. The columns alone are read, as by `nest_look::answering::answer`. Of two files of the same bytes one alone is read so.
+///
+/// # Errors
+/// `First` and `Second`: where reading stopped, and why. Before any batch, of the second only where the first was opened: `Format` with the
+/// first fault of the bytes in the order of reading. In a batch, where the rows of the batches before begin the other input: `Format` with
+/// its first fault, `Columns` where its columns are not those of the schema, side by side. `Input` where the device fails; `Memory`, also
+/// within `Format`. `TooManyRows`.
+pub fn compare<R: SeekRead + Drop, S: SeekRead + Drop>(
+    alloc: Global,
+    columns: Columns<'_>,
+    left: Input<R>,
+    right: Input<S>,
+) -> Result<Option<Difference>, Uncompared>
+    ensures { Answers (spelled R.remaining R.stream_position R.stream_bytes (picks_of columns.entry) left) (spelled S.remaining S.stream_position S.stream_bytes (picks_of columns.entry) right) result }
+{
+    match left {
+        Input::File(x) => match right {
+            Input::File(y) => compare_files(alloc, columns, x, y),
+            right => compare_inputs(alloc, columns, Input::File(x), right),
+        },
+        left => compare_inputs(alloc, columns, left, right),
     }
 }

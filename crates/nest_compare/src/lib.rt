@@ -2,6 +2,7 @@
 //! a batch is dropped before the next of its side. The memory is that of one batch of each side, and of the dictionaries that are known.
 #![tactic(auto)]
 
+mod alike;
 mod comparing;
 pub mod laws;
 mod pending;

@@ -149,10 +149,18 @@ fn batches_are_rows(rt: HostRuntime) -> Result<(), Fail> {
         batches.push(batch(alloc, rows).expect(&rt, "a batch"))?;
     }
     let arrays = rows_of_batches(alloc, &schema, batches)?;
-    assert!(rt; arrays.len() == 3 && arrays[0].len() == 2 && arrays[1].len() == 0 && arrays[2].len() == 1);
-    let first = window_difference(&Window::new(&arrays[0], 0, 1), &Window::new(&arrays[0], 1, 1));
+    assert!(rt;
+        arrays.len() == 3 && arrays[0].len() == 2 && arrays[1].len() == 0 && arrays[2].len() == 1
+    );
+    let first = window_difference(
+        &Window::new(&arrays[0], 0, 1),
+        &Window::new(&arrays[0], 1, 1),
+    );
     assert!(rt; first == Some(0));
-    let second = window_difference(&Window::new(&arrays[0], 1, 1), &Window::new(&arrays[2], 0, 1));
+    let second = window_difference(
+        &Window::new(&arrays[0], 1, 1),
+        &Window::new(&arrays[2], 0, 1),
+    );
     assert!(rt; second.is_none());
     let mut wrong = Vec::new(alloc);
     wrong.push(Batch {
@@ -178,14 +186,13 @@ fn schemas_are_compared(rt: HostRuntime) -> Result<(), Fail> {
 }
 
 /// The same truths, cut behind these places, some of which are one.
-fn cut_in(
-    alloc: Global,
-    form: Form,
-    rows: &[bool],
-    places: [usize; 3],
-) -> Result<Vec<u8>, NoForm> {
+fn cut_in(alloc: Global, form: Form, rows: &[bool], places: [usize; 3]) -> Result<Vec<u8>, NoForm> {
     let [a, b, c] = places;
-    bytes_in(alloc, form, &[&rows[..a], &rows[a..b], &rows[b..c], &rows[c..]])
+    bytes_in(
+        alloc,
+        form,
+        &[&rows[..a], &rows[a..b], &rows[b..c], &rows[c..]],
+    )
 }
 
 /// Where two lists differ first.
@@ -217,9 +224,15 @@ fn batches_differ(rt: HostRuntime) -> Result<(), Fail> {
                     let x = cut_in(alloc, Form::Stream, &rows, left).expect(&rt, "a stream");
                     let y = cut_in(alloc, Form::File, &others[..len], right).expect(&rt, "a file");
                     let found = told(alloc, Columns::All, &x, &y, (NEVER, NEVER));
-                    assert!(rt; found == Ok(want), "{changed} {len} {left:?} {right:?}: {found:?}");
+                    assert!(rt;
+                        found == Ok(want),
+                        "{changed} {len} {left:?} {right:?}: {found:?}"
+                    );
                     let found = told(alloc, Columns::All, &y, &x, (NEVER, NEVER));
-                    assert!(rt; found == Ok(want), "{changed} {len} {right:?} {left:?}: {found:?}");
+                    assert!(rt;
+                        found == Ok(want),
+                        "{changed} {len} {right:?} {left:?}: {found:?}"
+                    );
                 }
             }
         }
@@ -265,11 +278,17 @@ fn devices_fail_at_any_call(rt: HostRuntime) -> Result<(), Fail> {
             match told(alloc, Columns::All, &stream, &file, fails_at) {
                 Ok(difference) => assert!(rt; difference.is_none()),
                 Err(Uncompared::First(stop)) => {
-                    assert!(rt; fails_at.0 == call && stop.fault == Fault::Input, "{stop:?}");
+                    assert!(rt;
+                        fails_at.0 == call && stop.fault == Fault::Input,
+                        "{stop:?}"
+                    );
                     faults += 1;
                 }
                 Err(Uncompared::Second(stop)) => {
-                    assert!(rt; fails_at.1 == call && stop.fault == Fault::Input, "{stop:?}");
+                    assert!(rt;
+                        fails_at.1 == call && stop.fault == Fault::Input,
+                        "{stop:?}"
+                    );
                     faults += 1;
                 }
                 Err(Uncompared::TooManyRows) => assert!(rt; false),
@@ -277,5 +296,42 @@ fn devices_fail_at_any_call(rt: HostRuntime) -> Result<(), Fail> {
         }
     }
     assert!(rt; faults > 300, "{faults}");
+    Ok(())
+}
+
+#[test]
+fn files_of_the_same_bytes(rt: HostRuntime) -> Result<(), Fail> {
+    let alloc = rt.alloc();
+    let rows = [true, false, false, true];
+    let file = cut_in(alloc, Form::File, &rows, [1, 2, 3]).expect(&rt, "a file");
+    let same = told(alloc, Columns::All, &file, &file, (NEVER, NEVER));
+    assert!(rt; same == Ok(None), "{same:?}");
+    // A byte spoilt in both: a fault is told of the first.
+    let mut unread = 0;
+    for at in (0..file.len()).step_by(5) {
+        let mut spoilt = file.to_vec(alloc)?;
+        spoilt[at] = !spoilt[at];
+        match told(alloc, Columns::All, &spoilt, &spoilt, (NEVER, NEVER)) {
+            Ok(difference) => assert!(rt; difference.is_none(), "{at}: {difference:?}"),
+            Err(Uncompared::First(_)) => unread += 1,
+            Err(why) => assert!(rt; false, "{at}: {why:?}"),
+        }
+    }
+    assert!(rt; unread > 10, "{unread}");
+    // A device that fails as the bytes are compared is asked once more.
+    let mut faults = 0;
+    for call in (0..1000usize).step_by(7) {
+        for fails_at in [(call, NEVER), (NEVER, call)] {
+            match told(alloc, Columns::All, &file, &file, fails_at) {
+                Ok(difference) => assert!(rt; difference.is_none()),
+                Err(Uncompared::First(stop) | Uncompared::Second(stop)) => {
+                    assert!(rt; stop.fault == Fault::Input, "{stop:?}");
+                    faults += 1;
+                }
+                Err(Uncompared::TooManyRows) => assert!(rt; false),
+            }
+        }
+    }
+    assert!(rt; faults > 20, "{faults}");
     Ok(())
 }

@@ -3,7 +3,7 @@ use Rattle.nest_compare.specs.Inputs.{spelled}
 use Rattle.nest_compare.specs.Sources.{left_of, schema_in}
 use Rattle.nest_compare.proofs.Sources.{fresh}
 use Rattle.nest_compare.proofs.Walk.{second-unopened}
-use Rattle.nest_compare.proofs.comparing.compare.Goals as goal
+use Rattle.nest_compare.proofs.comparing.compare_inputs.Goals as goal
 
 pub returns-in-Err-open : goal.returns-in-Err-open
 returns-in-Err-open g c =
