@@ -12,6 +12,9 @@ use std::alloc::Global;
 use std::io;
 use std::io::{ErrorKind, Read};
 
+/// So many bytes are read at a time.
+pub(crate) const PIECE: usize = 16384;
+
 // One read, again where it is interrupted.
 fn read_part<R: Read>(device: &mut R, piece: &mut [u8]) -> io::Result<usize>
     ensures bound { ReadsAtMost result piece.new }
@@ -35,10 +38,10 @@ fn fill<R: Read>(device: &mut R, came: &mut Vec<u8>, want: usize) -> Result<(), 
     ensures came { OnOk result (Came (R.remaining device.old) (R.remaining device.new) came.old.items came.new.items want) }
     ensures err { IfErr result IsUnread }
 {
-    let mut buffer = [0u8; 4096];
+    let mut buffer = [0u8; PIECE];
     let mut left = want;
     'reads: while left > 0 {
-        let piece = &mut buffer[..left.min(4096)];
+        let piece = &mut buffer[..left.min(PIECE)];
         match read_part(device, piece) {
             Ok(0) => return Ok(()),
             Ok(n) => {

@@ -6,6 +6,7 @@ ghost use Rattle.ipc_device.specs.Seeks.{standing, known, ReadsThere, IsAt, IsRe
 ghost use Rattle.ipc_device.specs.Fetched.{IsUnread};
 
 use crate::fault::ReadError;
+use crate::fetching::PIECE;
 use crate::seek_read::SeekRead;
 use std::alloc::Global;
 use std::io;
@@ -62,7 +63,7 @@ fn fill<R: SeekRead>(device: &mut R, came: &mut Vec<u8>, want: usize) -> Result<
     ensures kept { Keeps (known (R.stream_position device.old) (R.stream_bytes device.old)) (known (R.stream_position device.new) (R.stream_bytes device.new)) }
     ensures err { IfErr result IsUnread }
 {
-    let mut buffer = [0u8; 4096];
+    let mut buffer = [0u8; PIECE];
     let mut left = want;
     'reads: while left > 0 {
         let n = read_some(device, &mut buffer, came, left)?;
