@@ -42,6 +42,9 @@
 //! *What is read of bytes in the Arrow IPC format is what they spell, or the first fault, and what is written is read back*: `stream_of_bytes`,
 //! `bytes_of_stream`, `written_and_read` in [`streams`], so far of columns that are flat arrays.
 //!
+//! *What is printed is the text of the slots as JSON, and a data type is read from just the text that is printed of it*: `text_of`, `type_of_text`
+//! in [`texts`].
+//!
 //! # Below and above
 //!
 //! [`memory`] has what all this stands on: buffers, bitmaps and offsets are lists, and data types are trees. What follows from
@@ -67,3 +70,4 @@ pub use promises_memory as memory;
 pub use promises_rows as rows;
 pub use promises_scans as scans;
 pub use promises_takes as takes;
+pub use promises_texts as texts;
