@@ -161,9 +161,18 @@ fn status(rt: &HostRuntime, file: &String, done: Result<(), Fault>) -> ExitCode 
     }
 }
 
+/// What to do of a fault, where that is known.
+fn advice(fault: Fault) -> &'static str {
+    match fault {
+        Fault::Format(ipc_model::Fault::Compressed) => "; it has to be written without compression",
+        _ => "",
+    }
+}
+
 /// Says where reading a file stopped, and the status of it.
 fn stopped(rt: &HostRuntime, file: &String, stop: Stop) -> ExitCode {
-    let _ = eprintln!(rt; "nest: {file}: {stop}");
+    let advice = advice(stop.fault);
+    let _ = eprintln!(rt; "nest: {file}: {stop}{advice}");
     ExitCode::FAILURE
 }
 
