@@ -185,6 +185,27 @@ fn one(alloc: Global, batch: Vec<AnyArray>) -> Result<Table, Error> {
     Ok(Table { fields, batches })
 }
 
+/// Windows of few rows and of many, whose names are laid out once.
+#[test]
+fn many_rows_are_shown(rt: HostRuntime) {
+    let alloc = rt.alloc();
+    let ids = [1, 2, -3, 1, 2, -3, 1, 2, -3, 1, 2, -3];
+    let (a, c) = (Some("a"), Some("\"c\""));
+    let names = [a, None, c, a, None, c, a, None, c, a, None, c];
+    let places = [0usize, 1, 2, 0, 1, 2, 0, 1, 2, 0, 1, 2];
+    for (words, first, count) in [
+        (["rows"].as_slice(), 0usize, 12usize),
+        (["rows", "2", "7"].as_slice(), 2, 7),
+        (["rows", "2", "8"].as_slice(), 2, 8),
+        (["cut", "3", "9"].as_slice(), 3, 9),
+    ] {
+        let columns = batch(alloc, &ids, &names).expect(&rt, "no batch");
+        let table = one(alloc, columns).expect(&rt, "no table");
+        let text = said(alloc, words, table).ok().expect(&rt, "no text");
+        assert!(rt; are_rows(&text, &places[first..first + count]), "{text}");
+    }
+}
+
 #[test]
 fn refuses_columns(rt: HostRuntime) {
     let alloc = rt.alloc();
