@@ -257,7 +257,7 @@ done
 cp "$(command -v sleep)" "$room/busy"
 "$room/busy" 600 &
 busy=$!
-until [ "/proc/$busy/exe" -ef "$room/busy" ]; do sleep 0.01; done
+for _ in {1..500}; do [ "/proc/$busy/exe" -ef "$room/busy" ] && break || sleep 0.01; done
 beside() {
     expect 1 '' "nest: $room/busy: output cannot be written; all of it is in $room/busy.part" "$@"
     expect 0 "$all" '' rows "$room/busy.part"
