@@ -10,7 +10,7 @@ use anyhow::Result;
 use bench_tools::{begin, is_measured, tell};
 use nest_array::AnyArray;
 use nest_memory::error::Error;
-use nest_show::writing::json_text;
+use json_write::writing::json_text;
 use std::alloc::{AllocError, Global};
 use std::rt::Clock;
 

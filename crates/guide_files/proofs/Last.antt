@@ -1,7 +1,7 @@
 -- The last batch of a file, or its fault.
 use Rattle.std.proofs.Common.{◌≡◌, ℕ, zero, suc, ◌-◌, length, Some, Result, Ok, Err, refl, ap, sym, ◌∙◌, subst, arith}
-use Rattle.ipc_model.specs.Reading.{◌>>=◌, Fails}
-use Rattle.ipc_model.specs.declared.fault.Fault.{Fault}
+use Rattle.ipc_flatbuf.specs.Reading.{◌>>=◌, Fails}
+use Rattle.ipc_flatbuf.specs.declared.error.Fault.{Fault}
 use Rattle.ipc.specs.Files.{FileReaderTree, batch_of_file}
 use Rattle.ipc.specs.Streams.{Arrays}
 use Rattle.guide_files.specs.Orders.{last_from, last_of}

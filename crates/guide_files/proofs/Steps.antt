@@ -4,9 +4,9 @@ use Rattle.std.proofs.lemmas.List.{append-nil, map-append}
 use Rattle.std.specs.Global.{Vec}
 use Rattle.std.specs.Io.KnownBytes.{Appends}
 use Rattle.std.specs.declared.io.Error.{Error}
-use Rattle.ipc_model.specs.Reading.{◌>>=◌, Fails}
-use Rattle.ipc_model.specs.declared.fault.Fault.{Fault}
-use Rattle.ipc_message.specs.MessageBytes.{end_mark}
+use Rattle.ipc_flatbuf.specs.Reading.{◌>>=◌, Fails}
+use Rattle.ipc_flatbuf.specs.declared.error.Fault.{Fault}
+use Rattle.ipc_flatbuf.specs.MessageBytes.{end_mark}
 use Rattle.ipc_schema.specs.Picks.{all}
 use Rattle.ipc_schema.specs.SchemaBytes.{schema_message}
 use Rattle.ipc_schema.specs.Schemas.{SchemaTree}
@@ -14,12 +14,12 @@ use Rattle.ipc.specs.declared.batch.Batch.{Batch}
 use Rattle.ipc.specs.Readers.{ReaderTree, before}
 use Rattle.ipc.specs.Streams.{Arrays, arrays_of, stream_in}
 use Rattle.ipc.specs.Written.{schema_refusal, shown_stream, stream_bytes}
-use Rattle.ipc_device.specs.declared.fault.ReadError.{ReadError}
-use Rattle.ipc_device.specs.declared.fault.ReadError.TheVariants as errors
-use Rattle.ipc_device.specs.declared.fault.WriteError.{WriteError}
-use Rattle.ipc_device.specs.Readers.{DeviceTree, FailsNext, FailsReader, Goes, Opens, SpellsNext, SpellsReader, as_reader}
-use Rattle.ipc_device.specs.WriterLaws.{IsFinished, Writes, WritesOne, stream_put, stream_read}
-use Rattle.ipc_device.specs.Writers.{WriterTree, Begins, Ends, IsSchemaAgain}
+use Rattle.ipc_io.specs.declared.error.ReadError.{ReadError}
+use Rattle.ipc_io.specs.declared.error.ReadError.TheVariants as errors
+use Rattle.ipc_io.specs.declared.error.WriteError.{WriteError}
+use Rattle.ipc_io.specs.Readers.{DeviceTree, FailsNext, FailsReader, Goes, Opens, SpellsNext, SpellsReader, as_reader}
+use Rattle.ipc_io.specs.WriterLaws.{IsFinished, Writes, WritesOne, stream_put, stream_read}
+use Rattle.ipc_io.specs.Writers.{WriterTree, Begins, Ends, IsSchemaAgain}
 use Rattle.guide_files.specs.Orders.{FirstOf, first_in, first_of}
 
 -- ---- written

@@ -7,16 +7,16 @@ use Rattle.nest_model.specs.Layout.{Layout}
 use Rattle.nest_model.specs.SameArray.{IsSameArray}
 use Rattle.nest_model.specs.Slot as slots
 use Rattle.nest_model.specs.Slot.{Slot, seal}
-use Rattle.ipc_model.specs.Reading.{◌>>=◌, Fails}
-use Rattle.ipc_model.specs.declared.fault.Fault.{Fault}
+use Rattle.ipc_flatbuf.specs.Reading.{◌>>=◌, Fails}
+use Rattle.ipc_flatbuf.specs.declared.error.Fault.{Fault}
 use Rattle.ipc_schema.specs.Picks.{all}
 use Rattle.ipc_schema.specs.Schemas.{SchemaTree}
 use Rattle.ipc.specs.declared.batch.Batch.{Batch}
 use Rattle.ipc.specs.Streams.{Arrays, arrays_of}
 use Rattle.ipc.specs.Readers.{ReaderTree, before, next_of, reader_in}
 use Rattle.ipc.specs.Files.{FileReaderTree, batch_of_file, file_reader_in}
-use Rattle.ipc_device.specs.declared.fault.ReadError.{ReadError}
-use Rattle.ipc_device.specs.declared.fault.ReadError.TheVariants as errors
+use Rattle.ipc_io.specs.declared.error.ReadError.{ReadError}
+use Rattle.ipc_io.specs.declared.error.ReadError.TheVariants as errors
 
 abbrev pub number : ℕ → Slot
 number n = slots.number (pos n ∷ [])

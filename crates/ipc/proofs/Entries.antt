@@ -10,8 +10,8 @@ use Rattle.std.specs.declared.cmp.Ordering.{Ordering}
 use Rattle.std.specs.declared.cmp.Ordering.TheVariants.{Less, Equal, Greater}
 use Rattle.std.proofs.lemmas.List.{map-append}
 use Rattle.nest_array.specs.declared.any.AnyArray.{AnyArray}
-use Rattle.ipc_needed.specs.Puts.{whole}
-use Rattle.ipc_needed.specs.Sent.{entry_of}
+use Rattle.ipc.specs.Puts.{whole}
+use Rattle.ipc.specs.Sent.{entry_of}
 use Rattle.ipc.specs.WrittenLists.{taken, split}
 
 module _ {V W : Type 0} (view : V → W) where

@@ -15,9 +15,9 @@ use Rattle.nest_array.specs.Seen.{layout_of}
 use Rattle.nest_array.specs.declared.any.AnyArray.{AnyArray}
 use Rattle.nest_concat.specs.Joined.{AreOfOneType, RefusesConcatenate}
 use Rattle.nest_concat.specs.Laid.{joined_layout, joins_past}
-use Rattle.ipc_model.specs.Reading.{◌>>=◌, check, Fails}
-use Rattle.ipc_model.specs.declared.fault.Fault.{Fault}
-use Rattle.ipc_model.specs.declared.fault.Fault.TheVariants.{Delta}
+use Rattle.ipc_flatbuf.specs.Reading.{◌>>=◌, check, Fails}
+use Rattle.ipc_flatbuf.specs.declared.error.Fault.{Fault}
+use Rattle.ipc_flatbuf.specs.declared.error.Fault.TheVariants.{Delta}
 use Rattle.ipc.specs.Dense.{dense_past}
 use Rattle.ipc.specs.Streams.{State, known_of, known_at, is_among, joined_values, fault_of, with_more, with_values}
 use Rattle.ipc.proofs.Entries.{viewed_found}

@@ -1,3 +1,6 @@
+pub mod Walks
+pub mod Sents
+pub mod Putting
 pub mod Entries
 pub mod Copies
 pub mod Loops

@@ -2,9 +2,9 @@
 use Rattle.std.proofs.Common.{◌≡◌, ℕ, ◌<◌, List, [], ◌∷◌, ◌++◌, length, map, Result, Ok, Err, refl, sym, ap, ◌∙◌, append_assoc}
 use Rattle.std.specs.Prelude.{Some, None}
 use Rattle.std.proofs.lemmas.List.{append-nil, map-append}
-use Rattle.ipc_model.specs.declared.fault.Fault.{Fault}
-use Rattle.ipc_model.specs.Reading.{◌>>=◌, Fails}
-use Rattle.ipc_message.specs.Messages.{Parts, message_at}
+use Rattle.ipc_flatbuf.specs.declared.error.Fault.{Fault}
+use Rattle.ipc_flatbuf.specs.Reading.{◌>>=◌, Fails}
+use Rattle.ipc_flatbuf.specs.Messages.{Parts, message_at}
 use Rattle.ipc.specs.Streams.{Arrays, State, message_in, next_in, batches_in}
 use Rattle.ipc.specs.StreamLaws.{message_goes, next_moves, by_message, one_by_one}
 

@@ -2,7 +2,7 @@
 use Rattle.std.proofs.Common.{◌≡◌, ℕ, ◌+◌, ◌-◌, ◌≤◌, List, ◌++◌, length, take, drop, refl, sym, ap, ◌∙◌, arith}
 use Rattle.std.specs.Prelude.{pos}
 use Rattle.std.proofs.lemmas.List.{length-append, drop_at, take_all}
-use Rattle.ipc_footer.specs.declared.footer.Block.{Block}
+use Rattle.ipc_schema.specs.declared.footer.types.Block.{Block}
 use Rattle.ipc.specs.WrittenFiles.{block_at}
 
 -- a message with its body that was put behind these bytes, as the code counts it

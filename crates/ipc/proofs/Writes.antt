@@ -3,16 +3,16 @@ use Rattle.std.proofs.Common.{◌≡◌, ℕ, ◌^◌, ◌<◌, ◌≤◌, inl, 
 use Rattle.std.specs.Prelude.{◌⊎◌, ◌&&◌}
 use Rattle.std.proofs.lemmas.Bool.{le-leb, lt-leb}
 use Rattle.std.proofs.lemmas.List.{append-nil}
-use Rattle.ipc_model.specs.declared.fault.NoForm.{NoForm}
-use Rattle.ipc_model.specs.declared.fault.NoForm.TheVariants.{Memory, Size, Dictionaries}
+use Rattle.ipc_flatbuf.specs.declared.error.NoForm.{NoForm}
+use Rattle.ipc_flatbuf.specs.declared.error.NoForm.TheVariants.{Memory, Size, Dictionaries}
 use Rattle.nest_memory.specs.TypeTree.{TypeTree}
 use Rattle.nest_model.specs.Layout.{Layout}
-use Rattle.ipc_message.specs.MessageBytes.{metadata_size}
-use Rattle.ipc_batch.specs.Batches.{BatchTree, all_within}
-use Rattle.ipc_batch.specs.BatchBytes as batches
-use Rattle.ipc_layout.specs.Written.{columns_body, no_form, IsUnwritten}
-use Rattle.ipc_needed.specs.Entries.{Entries}
-use Rattle.ipc_needed.specs.Puts.{any_anew}
+use Rattle.ipc_flatbuf.specs.MessageBytes.{metadata_size}
+use Rattle.ipc_flatbuf.specs.Batches.{BatchTree, all_within}
+use Rattle.ipc_flatbuf.specs.BatchBytes as batches
+use Rattle.ipc_arrays.specs.Written.{columns_body, no_form, IsUnwritten}
+use Rattle.ipc.specs.Entries.{Entries}
+use Rattle.ipc.specs.Puts.{any_anew}
 use Rattle.ipc_schema.specs.PickedLaws.{all_written}
 use Rattle.ipc_schema.specs.PickedSchemas.{stream_picked_at}
 use Rattle.ipc_schema.specs.Picks.{all}

@@ -9,13 +9,13 @@ use Rattle.nest_memory.specs.TypeTree.{TypeTree, field, no_fields, more_fields}
 use Rattle.nest_memory.specs.declared.datatypes.IntegerType.TheVariants.{Int8}
 use Rattle.nest_memory.specs.declared.datatypes.physical_type.PrimitiveType.TheVariants as primitives
 use Rattle.nest_model.specs.Layout.{Layout, primitive, text, struct, dictionary, no_layouts, more_layouts}
-use Rattle.ipc_model.specs.declared.fault.Fault.TheVariants.{Delta}
-use Rattle.ipc_words.specs.Words.{offset_at, back_from, table_at, field_place, spend, visit_table, visit_vector, structs_at, items_at, vector_at}
+use Rattle.ipc_flatbuf.specs.declared.error.Fault.TheVariants.{Delta}
+use Rattle.ipc_flatbuf.specs.Flatbuffers.{offset_at, back_from, table_at, field_place, spend, visit_table, visit_vector, structs_at, items_at, vector_at}
 use Rattle.ipc_schema.specs.Outer.{outer_within}
 use Rattle.ipc_schema.specs.PickedSchemas.{PickedTree}
-use Rattle.ipc_batch.specs.Batches.{each_within, all_within, batch_at}
-use Rattle.ipc_layout.specs.Stored.{values_in as stored_in}
-use Rattle.ipc_layout.specs.Columns.{next_counts, bytes_of, next_bytes, validity_in, node_in, buffer_in, head_in, natives_in, offsets_from, offsets_in, covered_in, are_texts, rows_in, strings_in, text_in}
+use Rattle.ipc_flatbuf.specs.Batches.{each_within, all_within, batch_at}
+use Rattle.ipc_arrays.specs.Stored.{values_in as stored_in}
+use Rattle.ipc_arrays.specs.Columns.{next_counts, bytes_of, next_bytes, validity_in, node_in, buffer_in, head_in, natives_in, offsets_from, offsets_in, covered_in, are_texts, rows_in, strings_in, text_in}
 use Rattle.ipc.specs.Streams.{State, start, data_in, dictionary_in, with_new, with_values}
 use Rattle.ipc.specs.DictionaryExamples.{colors, known, joined_message}
 

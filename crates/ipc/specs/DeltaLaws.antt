@@ -7,14 +7,14 @@ use Rattle.nest_model.specs.Layout.{Layout, layout_type}
 use Rattle.nest_model.specs.Meaning.{slots_of}
 use Rattle.nest_model.specs.Slot.{Slot}
 use Rattle.nest_concat.specs.Laid.{joined_layout, joins_past}
-use Rattle.ipc_model.specs.Reading.{◌>>=◌, check}
-use Rattle.ipc_model.specs.declared.fault.Fault.{Fault}
-use Rattle.ipc_model.specs.declared.fault.Fault.TheVariants.{Delta}
-use Rattle.ipc_words.specs.Words.{number_at, signed_at, field, offset_field, visit_table}
-use Rattle.ipc_words.specs.declared.tables.Table.{Table}
-use Rattle.ipc_message.specs.Messages.{Parts}
+use Rattle.ipc_flatbuf.specs.Reading.{◌>>=◌, check}
+use Rattle.ipc_flatbuf.specs.declared.error.Fault.{Fault}
+use Rattle.ipc_flatbuf.specs.declared.error.Fault.TheVariants.{Delta}
+use Rattle.ipc_flatbuf.specs.Flatbuffers.{number_at, signed_at, field, offset_field, visit_table}
+use Rattle.ipc_flatbuf.specs.declared.tables.Table.{Table}
+use Rattle.ipc_flatbuf.specs.Messages.{Parts}
 use Rattle.ipc_schema.specs.Dictionaries.{Values}
-use Rattle.ipc_needed.specs.KnownLaws.{entry_put}
+use Rattle.ipc.specs.KnownLaws.{entry_put}
 use Rattle.ipc.specs.Dense.{dense_past}
 use Rattle.ipc.specs.Streams.{State, data_place, may_come, data_in, found_in, found_values, new_values_in, named_in, known_at, is_among, can_join, joined_values, with_more, with_values, dictionary_in}
 

@@ -9,20 +9,20 @@ use Rattle.nest_memory.specs.TypeTree.{field}
 use Rattle.nest_memory.specs.declared.datatypes.IntegerType.TheVariants.{Int32}
 use Rattle.nest_memory.specs.declared.datatypes.physical_type.PrimitiveType.TheVariants as primitives
 use Rattle.nest_model.specs.Layout.{Layout, primitive, text, dictionary}
-use Rattle.ipc_model.specs.declared.fault.Fault.TheVariants.{MissingDictionary, UnknownDictionary, Replaced}
-use Rattle.ipc_model.specs.declared.spans.Step.TheVariants.{Read, Skip}
-use Rattle.ipc_words.specs.Words.{offset_at, back_from, table_at, field_place, spend, visit_table, visit_vector, structs_at, items_at, vector_at}
-use Rattle.ipc_message.specs.Messages.{Parts}
-use Rattle.ipc_message.specs.declared.message.Kind.{Kind}
-use Rattle.ipc_message.specs.declared.message.Kind.TheVariants.{DictionaryBatch, RecordBatch}
-use Rattle.ipc_message.specs.declared.message.Version.TheVariants.{V5}
+use Rattle.ipc_flatbuf.specs.declared.error.Fault.TheVariants.{MissingDictionary, UnknownDictionary, Replaced}
+use Rattle.ipc_flatbuf.specs.declared.projection.Step.TheVariants.{Read, Skip}
+use Rattle.ipc_flatbuf.specs.Flatbuffers.{offset_at, back_from, table_at, field_place, spend, visit_table, visit_vector, structs_at, items_at, vector_at}
+use Rattle.ipc_flatbuf.specs.Messages.{Parts}
+use Rattle.ipc_flatbuf.specs.declared.message.types.Kind.{Kind}
+use Rattle.ipc_flatbuf.specs.declared.message.types.Kind.TheVariants.{DictionaryBatch, RecordBatch}
+use Rattle.ipc_flatbuf.specs.declared.message.types.Version.TheVariants.{V5}
 use Rattle.ipc_schema.specs.Outer.{outer_within}
 use Rattle.ipc_schema.specs.PickedSchemas.{PickedTree}
-use Rattle.ipc_batch.specs.Batches.{each_within, all_within, batch_at}
-use Rattle.ipc_layout.specs.Keys.{blanked}
-use Rattle.ipc_layout.specs.Stored.{values_in as stored_in}
-use Rattle.ipc_layout.specs.Columns.{next_counts, bytes_of, next_bytes, validity_in, node_in, buffer_in, head_in, natives_in, offsets_from, offsets_in, covered_in, are_texts, rows_in, strings_in, text_in, keys_by, next_values, known_in, dictionary_in as keyed_in}
-use Rattle.ipc_layout.specs.Picked.{steps_in, picked_in}
+use Rattle.ipc_flatbuf.specs.Batches.{each_within, all_within, batch_at}
+use Rattle.ipc_arrays.specs.Keys.{blanked}
+use Rattle.ipc_arrays.specs.Stored.{values_in as stored_in}
+use Rattle.ipc_arrays.specs.Columns.{next_counts, bytes_of, next_bytes, validity_in, node_in, buffer_in, head_in, natives_in, offsets_from, offsets_in, covered_in, are_texts, rows_in, strings_in, text_in, keys_by, next_values, known_in, dictionary_in as keyed_in}
+use Rattle.ipc_arrays.specs.Picked.{steps_in, picked_in}
 use Rattle.ipc.specs.Streams.{Arrays, State, start, record_batch_in, data_in, dictionary_in}
 
 -- a message that says this, with this body

@@ -4,10 +4,10 @@ use Rattle.std.specs.Str.{is_utf8}
 use Rattle.std.proofs.Common.{rules, arith, ap, ◌∙◌}
 use Rattle.std.proofs.lemmas.Str.{IsUtf8-from_ascii, is_utf8-from_IsUtf8}
 use Rattle.nest_memory.specs.Bits.{bit, bits_from}
-use Rattle.ipc_words.specs.Words.{offset_at, back_from, table_at, field_place, spend, visit_table, visit_vector, visit_string, tables_at, structs_at, items_at, vector_at, text_at}
-use Rattle.ipc_message.specs.Messages.{root_at, front, behind_mark, parts_at, sized_at, message_at}
-use Rattle.ipc_model.specs.Reading.{◌>>=◌}
-use Rattle.ipc_model.specs.declared.fault.Fault.{Fault}
+use Rattle.ipc_flatbuf.specs.Flatbuffers.{offset_at, back_from, table_at, field_place, spend, visit_table, visit_vector, visit_string, tables_at, structs_at, items_at, vector_at, text_at}
+use Rattle.ipc_flatbuf.specs.Messages.{root_at, front, behind_mark, parts_at, sized_at, message_at}
+use Rattle.ipc_flatbuf.specs.Reading.{◌>>=◌}
+use Rattle.ipc_flatbuf.specs.declared.error.Fault.{Fault}
 use Rattle.ipc_schema.specs.Dictionaries.{Seen, unseen}
 use Rattle.ipc_schema.specs.Outer.{outer_within}
 use Rattle.ipc_schema.specs.PickedLaws.{all_picked, stream_same}
@@ -16,12 +16,12 @@ use Rattle.ipc_schema.specs.Picks.{all}
 use Rattle.ipc_schema.specs.Schemas.{SchemaTree, pair_at, metadata_at, integer_at, field_at, keyed_schema_at, stream_keyed_schema_at}
 use Rattle.ipc_schema.specs.FieldRows.{rows_at}
 use Rattle.ipc_schema.specs.Examples as schemas
-use Rattle.ipc_batch.specs.Batches.{each_within, all_within, batch_at}
-use Rattle.ipc_batch.specs.Examples as batches
-use Rattle.ipc_layout.specs.Stored.{values_in}
-use Rattle.ipc_layout.specs.Columns.{next_counts, bytes_of, next_bytes, bits_in, validity_in, node_in, buffer_in, head_in, natives_in, native_in}
-use Rattle.ipc_layout.specs.Picked.{steps_in, picked_in}
-use Rattle.ipc_layout.specs.Examples as columns
+use Rattle.ipc_flatbuf.specs.Batches.{each_within, all_within, batch_at}
+use Rattle.ipc_flatbuf.specs.BatchExamples as batches
+use Rattle.ipc_arrays.specs.Stored.{values_in}
+use Rattle.ipc_arrays.specs.Columns.{next_counts, bytes_of, next_bytes, bits_in, validity_in, node_in, buffer_in, head_in, natives_in, native_in}
+use Rattle.ipc_arrays.specs.Picked.{steps_in, picked_in}
+use Rattle.ipc_arrays.specs.Examples as columns
 use Rattle.ipc.specs.Streams.{Arrays, State, StreamTree, start, record_batch_in, message_in, first_in, picked_stream_in, stream_in}
 use Rattle.ipc.specs.StreamLaws.{by_message, one_by_one}
 

@@ -17,14 +17,14 @@ use Rattle.ipc_schema.specs.Dictionaries.{Values}
 use Rattle.ipc_schema.specs.Numbering.{ids_from}
 use Rattle.ipc_schema.specs.Outer.{Named}
 use Rattle.ipc_schema.specs.PickedSchemas.{PickedTree}
-use Rattle.ipc_layout.specs.Written.{shown}
-use Rattle.ipc_needed.specs.Entries.{Entries, count_keys, count_each, own_entries, each_own, columns_own, entries_in, each_entries, columns_entries}
-use Rattle.ipc_needed.specs.Known.{IsKnown, values_or, over_known, each_over, columns_over}
-use Rattle.ipc_needed.specs.KnownLaws.{AreWithin, IsSent, all_parts, columns_own_of, columns_needed_of, columns_within, count_columns, needed_sent}
-use Rattle.ipc_needed.specs.Named.{ids_of, values_of, IsNamed, AreNamed, seen_of_fields}
-use Rattle.ipc_needed.specs.Needed.{entry_at, is_same, is_none, needed_in, each_needed, columns_needed}
-use Rattle.ipc_needed.specs.Puts.{Put, behind, begins_with, put_of, puts_of, is_anew, any_anew}
-use Rattle.ipc_needed.specs.PutsLaws.{begun_type}
+use Rattle.ipc_arrays.specs.Written.{shown}
+use Rattle.ipc.specs.Entries.{Entries, count_keys, count_each, own_entries, each_own, columns_own, entries_in, each_entries, columns_entries}
+use Rattle.ipc.specs.Known.{IsKnown, values_or, over_known, each_over, columns_over}
+use Rattle.ipc.specs.KnownLaws.{AreWithin, IsSent, all_parts, columns_own_of, columns_needed_of, columns_within, count_columns, needed_sent}
+use Rattle.ipc.specs.Named.{ids_of, values_of, IsNamed, AreNamed, seen_of_fields}
+use Rattle.ipc.specs.Needed.{entry_at, is_same, is_none, needed_in, each_needed, columns_needed}
+use Rattle.ipc.specs.Puts.{Put, behind, begins_with, put_of, puts_of, is_anew, any_anew}
+use Rattle.ipc.specs.PutsLaws.{begun_type}
 use Rattle.ipc.specs.FileKnown.{Extends, begun_all, was_so, first_false, second_false, IsBehindFile, is_accepted, IsNext, part_next}
 use Rattle.ipc.specs.Streams.{Arrays, types_of}
 use Rattle.ipc.specs.Written.{needed_by, sent_behind, read_arrays, read_batches, AreAgain}

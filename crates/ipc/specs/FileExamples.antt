@@ -1,11 +1,11 @@
 -- The file of another writer, byte by byte: no column, and one batch of three rows.
 use Rattle.std.specs.Prelude.{◌≡◌, [], ◌∷◌, Ok, refl}
-use Rattle.ipc_words.specs.Words.{offset_at, back_from, table_at, field_place, spend, visit_table, visit_vector, structs_at, items_at, vector_at}
-use Rattle.ipc_message.specs.Messages.{root_at, front, behind_mark, parts_at, sized_at, message_at}
-use Rattle.ipc_batch.specs.Batches.{each_within, all_within, batch_at}
-use Rattle.ipc_layout.specs.Picked.{steps_in, picked_in}
+use Rattle.ipc_flatbuf.specs.Flatbuffers.{offset_at, back_from, table_at, field_place, spend, visit_table, visit_vector, structs_at, items_at, vector_at}
+use Rattle.ipc_flatbuf.specs.Messages.{root_at, front, behind_mark, parts_at, sized_at, message_at}
+use Rattle.ipc_flatbuf.specs.Batches.{each_within, all_within, batch_at}
+use Rattle.ipc_arrays.specs.Picked.{steps_in, picked_in}
 use Rattle.ipc_schema.specs.Outer.{outer_within}
-use Rattle.ipc_footer.specs.Examples as footers
+use Rattle.ipc_schema.specs.FooterExamples as footers
 use Rattle.ipc.specs.Streams.{Arrays, start, record_batch_in}
 use Rattle.ipc.specs.Files.{FileTree, message_in_block, batches_at, dictionaries_at, file_reader_in, picked_file_in, file_in}
 

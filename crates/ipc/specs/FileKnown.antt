@@ -19,30 +19,30 @@ use Rattle.nest_model.specs.SameArrayLaws.{same_array-decides}
 use Rattle.nest_model.specs.Slot.{Slot}
 use Rattle.nest_concat.specs.Laid.{joined_layout}
 use Rattle.nest_concat.proofs.LaidWholes.{two-joined, two-slots}
-use Rattle.ipc_model.specs.Reading.{◌>>=◌}
-use Rattle.ipc_model.specs.declared.fault.Fault.{Fault}
-use Rattle.ipc_model.specs.declared.fault.NoForm.{NoForm}
-use Rattle.ipc_model.specs.declared.fault.NoForm.TheVariants.{Columns, Dictionaries}
-use Rattle.ipc_message.specs.Messages.{Parts, message_at}
+use Rattle.ipc_flatbuf.specs.Reading.{◌>>=◌}
+use Rattle.ipc_flatbuf.specs.declared.error.Fault.{Fault}
+use Rattle.ipc_flatbuf.specs.declared.error.NoForm.{NoForm}
+use Rattle.ipc_flatbuf.specs.declared.error.NoForm.TheVariants.{Columns, Dictionaries}
+use Rattle.ipc_flatbuf.specs.Messages.{Parts, message_at}
 use Rattle.ipc_schema.specs.Dictionaries.{Seen}
 use Rattle.ipc_schema.specs.Forms.{keyed_form}
 use Rattle.ipc_schema.specs.PickedLaws.{all_steps}
 use Rattle.ipc_schema.specs.PickedSchemas.{PickedTree}
 use Rattle.ipc_schema.specs.Schemas.{SchemaTree}
-use Rattle.ipc_layout.specs.Rekeyed.{AreSameValues}
-use Rattle.ipc_layout.specs.Written.{columns_body}
-use Rattle.ipc_needed.specs.Again as again
-use Rattle.ipc_needed.specs.Again.{written_rest, AreValuesAgain}
-use Rattle.ipc_needed.specs.AgainLaws.{covers_all, values_again}
-use Rattle.ipc_needed.specs.ApartLaws.{AreApart, needed_apart}
-use Rattle.ipc_needed.specs.Entries.{Entries, own_entries, columns_own}
-use Rattle.ipc_needed.specs.Known.{IsKnown, AreKnown, Covers, Follows, number_of, read_values, known_with}
-use Rattle.ipc_needed.specs.KnownLaws.{entry_put, entry_kept, IsOther, IsSent, AreSentInOrder, all_parts, columns_needed_of, columns_own_of, needed_sent}
-use Rattle.ipc_needed.specs.Named.{IsNamed, AreNamed, seen_of_fields}
-use Rattle.ipc_needed.specs.NamedLaws.{are_named}
-use Rattle.ipc_needed.specs.Needed.{entry_at, with_entries, is_same}
-use Rattle.ipc_needed.specs.Puts.{Put, whole, behind, begins_with, put_of, puts_of, is_anew, any_anew}
-use Rattle.ipc_needed.specs.PutsLaws.{begun, begun_long, begun_type, behind_long, own_cut, named_behind}
+use Rattle.ipc_arrays.specs.Rekeyed.{AreSameValues}
+use Rattle.ipc_arrays.specs.Written.{columns_body}
+use Rattle.ipc.specs.Again as again
+use Rattle.ipc.specs.Again.{written_rest, AreValuesAgain}
+use Rattle.ipc.specs.AgainLaws.{covers_all, values_again}
+use Rattle.ipc.specs.ApartLaws.{AreApart, needed_apart}
+use Rattle.ipc.specs.Entries.{Entries, own_entries, columns_own}
+use Rattle.ipc.specs.Known.{IsKnown, AreKnown, Covers, Follows, number_of, read_values, known_with}
+use Rattle.ipc.specs.KnownLaws.{entry_put, entry_kept, IsOther, IsSent, AreSentInOrder, all_parts, columns_needed_of, columns_own_of, needed_sent}
+use Rattle.ipc.specs.Named.{IsNamed, AreNamed, seen_of_fields}
+use Rattle.ipc.specs.NamedLaws.{are_named}
+use Rattle.ipc.specs.Needed.{entry_at, with_entries, is_same}
+use Rattle.ipc.specs.Puts.{Put, whole, behind, begins_with, put_of, puts_of, is_anew, any_anew}
+use Rattle.ipc.specs.PutsLaws.{begun, begun_long, begun_type, behind_long, own_cut, named_behind}
 use Rattle.ipc.specs.DeltaLaws.{delta_joins, delta_type}
 use Rattle.ipc.specs.Grown.{IsGrown, HoldsArray, AreAllArrays, Grows, HasArrays, IsLater}
 use Rattle.ipc.specs.GrownColumns.{columns_fit}

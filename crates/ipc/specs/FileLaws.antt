@@ -5,25 +5,25 @@ use Rattle.std.specs.List.{AllByRecursion, flat_map}
 use Rattle.std.proofs.lemmas.List.{length-append}
 use Rattle.std.proofs.lemmas.List.Concat.{flat_map-cons}
 use Rattle.nest_memory.specs.TypeTree.{TypeTree}
-use Rattle.ipc_model.specs.Reading.{◌>>=◌}
-use Rattle.ipc_model.specs.declared.fault.Fault.{Fault}
-use Rattle.ipc_message.specs.Messages.{Parts}
-use Rattle.ipc_message.specs.MessageBytes.{end_mark}
-use Rattle.ipc_message.specs.declared.message.Kind.TheVariants.{DictionaryBatch, RecordBatch}
+use Rattle.ipc_flatbuf.specs.Reading.{◌>>=◌}
+use Rattle.ipc_flatbuf.specs.declared.error.Fault.{Fault}
+use Rattle.ipc_flatbuf.specs.Messages.{Parts}
+use Rattle.ipc_flatbuf.specs.MessageBytes.{end_mark}
+use Rattle.ipc_flatbuf.specs.declared.message.types.Kind.TheVariants.{DictionaryBatch, RecordBatch}
 use Rattle.ipc_schema.specs.Forms.{keyed_form}
 use Rattle.ipc_schema.specs.PickedSchemas.{PickedTree}
 use Rattle.ipc_schema.specs.Picks.{all}
 use Rattle.ipc_schema.specs.Schemas.{SchemaTree}
 use Rattle.ipc_schema.specs.SchemaBytes.{schema_message}
-use Rattle.ipc_footer.specs.declared.footer.Block.{Block}
-use Rattle.ipc_footer.specs.FooterBytes.{file_head, file_end}
-use Rattle.ipc_footer.specs.FooterLaws.{read_again}
-use Rattle.ipc_footer.specs.Footers.{blocks_before}
-use Rattle.ipc_footer.specs.PickedFooters.{file_picked_in}
-use Rattle.ipc_layout.specs.Written.{columns_body}
-use Rattle.ipc_needed.specs.AgainLaws.{columns_again}
-use Rattle.ipc_needed.specs.Entries.{Entries}
-use Rattle.ipc_needed.specs.Puts.{Put}
+use Rattle.ipc_schema.specs.declared.footer.types.Block.{Block}
+use Rattle.ipc_schema.specs.FooterBytes.{file_head, file_end}
+use Rattle.ipc_schema.specs.FooterLaws.{read_again}
+use Rattle.ipc_schema.specs.Footers.{blocks_before}
+use Rattle.ipc_schema.specs.PickedFooters.{file_picked_in}
+use Rattle.ipc_arrays.specs.Written.{columns_body}
+use Rattle.ipc.specs.AgainLaws.{columns_again}
+use Rattle.ipc.specs.Entries.{Entries}
+use Rattle.ipc.specs.Puts.{Put}
 use Rattle.ipc.specs.FileAlike.{all_as_stream}
 use Rattle.ipc.specs.FileKnown.{put_read, starts_file, IsAccepted, is_accepted, IsAtEnd, AreAtEnd, all_next}
 use Rattle.ipc.specs.FilePlaces.{batch_long, put_long, blocks_fit, message_found, LiesAt, lies_at}

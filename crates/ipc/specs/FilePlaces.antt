@@ -7,16 +7,16 @@ use Rattle.std.proofs.lemmas.Bool.Decides.{Decides-eqb}
 use Rattle.std.proofs.lemmas.List.{append-nil, length-append, take_at, drop_at}
 use Rattle.std.proofs.lemmas.List.Concat.{flat_map-cons}
 use Rattle.std.proofs.lemmas.List.Sums.{sum_by-cons}
-use Rattle.ipc_message.specs.Messages.{Parts, message_at}
-use Rattle.ipc_message.specs.MessageBytes.{tag_of}
-use Rattle.ipc_message.specs.declared.message.Kind.{Kind}
+use Rattle.ipc_flatbuf.specs.Messages.{Parts, message_at}
+use Rattle.ipc_flatbuf.specs.MessageBytes.{tag_of}
+use Rattle.ipc_flatbuf.specs.declared.message.types.Kind.{Kind}
 use Rattle.ipc_schema.specs.PickedSchemas.{PickedTree}
-use Rattle.ipc_footer.specs.declared.footer.Block.{Block}
-use Rattle.ipc_footer.specs.Footers.{block_before, block_length, blocks_before}
-use Rattle.ipc_layout.specs.ShownLaws.{pass_append}
-use Rattle.ipc_layout.specs.Written.{columns_body}
-use Rattle.ipc_needed.specs.Entries.{Entries}
-use Rattle.ipc_needed.specs.Puts.{Put}
+use Rattle.ipc_schema.specs.declared.footer.types.Block.{Block}
+use Rattle.ipc_schema.specs.Footers.{block_before, block_length, blocks_before}
+use Rattle.ipc_arrays.specs.ShownLaws.{pass_append}
+use Rattle.ipc_arrays.specs.Written.{columns_body}
+use Rattle.ipc.specs.Entries.{Entries}
+use Rattle.ipc.specs.Puts.{Put}
 use Rattle.ipc.specs.Streams.{Arrays}
 use Rattle.ipc.specs.Files.{message_in_block, block_in}
 use Rattle.ipc.specs.Written.{batch_head, batch_bytes, dictionary_head, dictionary_bytes, sent_behind, part_bytes, batches_bytes, IsMessage, IsPutAgain, AreAgain}

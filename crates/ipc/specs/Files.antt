@@ -1,19 +1,19 @@
 -- The file that bytes spell: "IPC File Format" of the Arrow columnar format, in the order of reading.
 use Rattle.std.specs.Prelude.{refl, ℕ, ◌+◌, ℤ, pos, true, ◌&&◌, ◌==◌, List, [], ◌∷◌, map, length, get_or, Option, Some, None, Result, Ok, Err, unsigned_abs}
 use Rattle.std.specs.Coded.{Coded, code_by, coded×, coded_list, coded_ℕ, coded_ℤ}
-use Rattle.ipc_model.specs.Reading.{◌>>=◌, check}
-use Rattle.ipc_model.specs.declared.fault.Fault.{Fault}
-use Rattle.ipc_model.specs.declared.fault.Fault.TheVariants as faults
-use Rattle.ipc_message.specs.Messages.{Parts, message_at}
-use Rattle.ipc_message.specs.MessageBytes.{tag_of}
-use Rattle.ipc_message.specs.declared.message.Kind.{Kind}
-use Rattle.ipc_message.specs.declared.message.Kind.TheVariants.{DictionaryBatch, RecordBatch}
+use Rattle.ipc_flatbuf.specs.Reading.{◌>>=◌, check}
+use Rattle.ipc_flatbuf.specs.declared.error.Fault.{Fault}
+use Rattle.ipc_flatbuf.specs.declared.error.Fault.TheVariants as faults
+use Rattle.ipc_flatbuf.specs.Messages.{Parts, message_at}
+use Rattle.ipc_flatbuf.specs.MessageBytes.{tag_of}
+use Rattle.ipc_flatbuf.specs.declared.message.types.Kind.{Kind}
+use Rattle.ipc_flatbuf.specs.declared.message.types.Kind.TheVariants.{DictionaryBatch, RecordBatch}
 use Rattle.ipc_schema.specs.Picks.{Picks, all}
 use Rattle.ipc_schema.specs.PickedSchemas.{PickedTree, in_any_version}
 use Rattle.ipc_schema.specs.Schemas.{SchemaTree, schema_of}
-use Rattle.ipc_footer.specs.declared.footer.Block.{Block}
-use Rattle.ipc_footer.specs.Footers.{block_bytes}
-use Rattle.ipc_footer.specs.PickedFooters.{file_picked_in}
+use Rattle.ipc_schema.specs.declared.footer.types.Block.{Block}
+use Rattle.ipc_schema.specs.Footers.{block_bytes}
+use Rattle.ipc_schema.specs.PickedFooters.{file_picked_in}
 use Rattle.ipc.specs.Streams.{Arrays, State, start, arrays_of, record_batch_in, dictionary_in}
 use Rattle.ipc.specs.Readers.{coded_state}
 use Rattle.ipc.specs.declared.file.File.{File}

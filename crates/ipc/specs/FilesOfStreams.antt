@@ -1,16 +1,16 @@
 -- A file whose blocks name the messages of a stream: its dictionaries are those of the stream, in order, and so are its batches.
 use Rattle.std.specs.Prelude.{◌≡◌, ℕ, zero, suc, Bool, ◌==◌, List, [], ◌∷◌, length, Option, Some, None, Result, Ok}
 use Rattle.std.specs.List.{AllZip, filter}
-use Rattle.ipc_model.specs.Reading.{◌>>=◌}
-use Rattle.ipc_model.specs.declared.fault.Fault.{Fault}
-use Rattle.ipc_message.specs.MessageBytes.{tag_of}
-use Rattle.ipc_message.specs.Messages.{Parts, message_at}
-use Rattle.ipc_message.specs.declared.message.Kind.{Kind}
-use Rattle.ipc_message.specs.declared.message.Kind.TheVariants.{DictionaryBatch, RecordBatch}
+use Rattle.ipc_flatbuf.specs.Reading.{◌>>=◌}
+use Rattle.ipc_flatbuf.specs.declared.error.Fault.{Fault}
+use Rattle.ipc_flatbuf.specs.MessageBytes.{tag_of}
+use Rattle.ipc_flatbuf.specs.Messages.{Parts, message_at}
+use Rattle.ipc_flatbuf.specs.declared.message.types.Kind.{Kind}
+use Rattle.ipc_flatbuf.specs.declared.message.types.Kind.TheVariants.{DictionaryBatch, RecordBatch}
 use Rattle.ipc_schema.specs.Picks.{Picks}
 use Rattle.ipc_schema.specs.PickedSchemas.{PickedTree, stream_picked_at}
-use Rattle.ipc_footer.specs.PickedFooters.{PickedFooterTree, file_picked_in}
-use Rattle.ipc_footer.specs.declared.footer.Block.{Block}
+use Rattle.ipc_schema.specs.PickedFooters.{PickedFooterTree, file_picked_in}
+use Rattle.ipc_schema.specs.declared.footer.types.Block.{Block}
 use Rattle.ipc.specs.Files.{FileTree, block_in, picked_file_in}
 use Rattle.ipc.specs.Streams.{Arrays, State, StreamTree, message_in}
 use Rattle.ipc.specs.Written.{AreSameBatches}

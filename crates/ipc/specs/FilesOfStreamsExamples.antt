@@ -1,13 +1,13 @@
 -- The file of another writer, byte by byte, names the stream that it holds behind its first eight bytes: its blocks name the one batch of it.
 use Rattle.std.specs.Prelude.{List, ℕ, [], ◌∷◌, drop, take, refl}
-use Rattle.ipc_words.specs.Words.{offset_at, back_from, table_at, field_place, spend, visit_table, visit_vector, tables_at, structs_at, items_at, vector_at}
-use Rattle.ipc_message.specs.Messages.{Parts, root_at, front, behind_mark, parts_at, sized_at, message_at}
-use Rattle.ipc_message.specs.declared.message.Kind.TheVariants.{RecordBatch}
-use Rattle.ipc_message.specs.declared.message.Version.TheVariants.{V5}
+use Rattle.ipc_flatbuf.specs.Flatbuffers.{offset_at, back_from, table_at, field_place, spend, visit_table, visit_vector, tables_at, structs_at, items_at, vector_at}
+use Rattle.ipc_flatbuf.specs.Messages.{Parts, root_at, front, behind_mark, parts_at, sized_at, message_at}
+use Rattle.ipc_flatbuf.specs.declared.message.types.Kind.TheVariants.{RecordBatch}
+use Rattle.ipc_flatbuf.specs.declared.message.types.Version.TheVariants.{V5}
 use Rattle.ipc_schema.specs.PickedSchemas.{picked_at, picked_schema_at, stream_picked_at}
 use Rattle.ipc_schema.specs.Picks.{all}
 use Rattle.ipc_schema.specs.Schemas.{metadata_at}
-use Rattle.ipc_footer.specs.Examples as footers
+use Rattle.ipc_schema.specs.FooterExamples as footers
 use Rattle.ipc.specs.Files.{message_in_block}
 use Rattle.ipc.specs.FilesOfStreams.{NamesStream, messages_within}
 

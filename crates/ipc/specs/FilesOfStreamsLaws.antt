@@ -1,17 +1,17 @@
 -- A file whose blocks name the messages of a stream, none of which replaces another, is read as that stream.
 use Rattle.std.specs.Prelude.{◌≡◌, ◌⊎◌, ◌-◌, ℕ, true, false, List, [], ◌∷◌, length, Option, Some, None, Result, Ok, Err, refl}
 use Rattle.std.proofs.Common.{sym, ap, subst, inl, inr, ◌∙◌}
-use Rattle.ipc_model.specs.Reading.{◌>>=◌}
-use Rattle.ipc_model.specs.declared.fault.Fault.{Fault}
-use Rattle.ipc_model.specs.declared.fault.Fault.TheVariants.{Replaced}
-use Rattle.ipc_message.specs.Messages.{Parts}
-use Rattle.ipc_message.specs.declared.message.Kind.{Kind}
-use Rattle.ipc_message.specs.declared.message.Kind.TheVariants.{Schema, DictionaryBatch, RecordBatch}
+use Rattle.ipc_flatbuf.specs.Reading.{◌>>=◌}
+use Rattle.ipc_flatbuf.specs.declared.error.Fault.{Fault}
+use Rattle.ipc_flatbuf.specs.declared.error.Fault.TheVariants.{Replaced}
+use Rattle.ipc_flatbuf.specs.Messages.{Parts}
+use Rattle.ipc_flatbuf.specs.declared.message.types.Kind.{Kind}
+use Rattle.ipc_flatbuf.specs.declared.message.types.Kind.TheVariants.{Schema, DictionaryBatch, RecordBatch}
 use Rattle.ipc_schema.specs.Picks.{Picks}
 use Rattle.ipc_schema.specs.PickedSchemas.{PickedTree, in_any_version, stream_picked_at}
-use Rattle.ipc_footer.specs.PickedFooters.{PickedFooterTree, file_picked_in}
-use Rattle.ipc_footer.specs.declared.footer.Block.{Block}
-use Rattle.ipc_layout.specs.ReadLaws.{found}
+use Rattle.ipc_schema.specs.PickedFooters.{PickedFooterTree, file_picked_in}
+use Rattle.ipc_schema.specs.declared.footer.types.Block.{Block}
+use Rattle.ipc_arrays.specs.ReadLaws.{found}
 use Rattle.ipc.specs.Files.{block_in, batches_at, dictionaries_at, file_reader_in, picked_file_in}
 use Rattle.ipc.specs.FilesOfStreams.{with_batch, batches_by, with_left, messages_of, NameMessages, NamesStream, IsReadAsStream}
 use Rattle.ipc.specs.Grown.{HasArrays, IsLater}

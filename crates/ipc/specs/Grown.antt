@@ -1,12 +1,12 @@
 -- Values of dictionaries that only grow: others have in their place the same slots, and maybe more behind them.
 use Rattle.std.specs.Prelude.{◌≡◌, ℤ, List, Option, Some, None, Result, Ok, Err}
 use Rattle.std.specs.List.{AllByRecursion, AllZip}
-use Rattle.ipc_model.specs.declared.fault.Fault.{Fault}
+use Rattle.ipc_flatbuf.specs.declared.error.Fault.{Fault}
 use Rattle.nest_model.specs.Array.{IsArray}
 use Rattle.nest_model.specs.Layout.{Layout}
 use Rattle.nest_model.specs.SameArray.{IsSameArray}
-use Rattle.ipc_layout.specs.Columns.{Rest}
-use Rattle.ipc_layout.specs.Rekeyed.{AreGrown}
+use Rattle.ipc_arrays.specs.Columns.{Rest}
+use Rattle.ipc_arrays.specs.Rekeyed.{AreGrown}
 use Rattle.ipc.specs.Streams.{Known, State, Arrays, known_at}
 use Rattle.ipc.specs.Written.{IsSameBatch}
 

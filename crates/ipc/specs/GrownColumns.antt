@@ -4,14 +4,14 @@ use Rattle.std.specs.Prelude.{ℤ, ◌&&◌}
 use Rattle.std.specs.List.{AllByRecursion}
 use Rattle.std.proofs.lemmas.List.{append-nil}
 use Rattle.std.proofs.lemmas.Bool.{leb-true, ltb-true, and_parts}
-use Rattle.ipc_model.specs.Reading.{◌>>=◌, check}
-use Rattle.ipc_model.specs.declared.batch.Node.{Node}
-use Rattle.ipc_model.specs.declared.batch.Region.{Region}
-use Rattle.ipc_model.specs.declared.fault.Fault.{Fault}
-use Rattle.ipc_model.specs.declared.fault.Fault.TheVariants.{TypeRange, NodeCount, BufferCount, OffsetPastChild, UnionSlot}
-use Rattle.ipc_model.specs.declared.spans.Span.{Span}
-use Rattle.ipc_model.specs.declared.spans.Step.{Step}
-use Rattle.ipc_model.specs.declared.spans.Step.TheVariants.{Read, Skip}
+use Rattle.ipc_flatbuf.specs.Reading.{◌>>=◌, check}
+use Rattle.ipc_flatbuf.specs.declared.batch.parts.Node.{Node}
+use Rattle.ipc_flatbuf.specs.declared.batch.parts.Region.{Region}
+use Rattle.ipc_flatbuf.specs.declared.error.Fault.{Fault}
+use Rattle.ipc_flatbuf.specs.declared.error.Fault.TheVariants.{TypeRange, NodeCount, BufferCount, OffsetPastChild, UnionSlot}
+use Rattle.ipc_flatbuf.specs.declared.projection.Span.{Span}
+use Rattle.ipc_flatbuf.specs.declared.projection.Step.{Step}
+use Rattle.ipc_flatbuf.specs.declared.projection.Step.TheVariants.{Read, Skip}
 use Rattle.nest_memory.specs.Physical.{physical_type, list_of_width}
 use Rattle.nest_memory.specs.Rising.{last_of}
 use Rattle.nest_memory.specs.TypeTree as types
@@ -25,17 +25,17 @@ use Rattle.nest_model.specs.Layout.{Layout, Layouts, fixed_size_list, struct, un
 use Rattle.nest_model.specs.Meaning.{len, slots_of}
 use Rattle.nest_model.specs.Part.{Validity, field_named}
 use Rattle.nest_model.specs.SameArrayLaws.{same-len}
-use Rattle.ipc_layout.proofs.Nested.{names_so, kinds_agree, item_is as item_type_is, pairs_are, sized_list_fits, struct_fits, union_pickable}
-use Rattle.ipc_layout.specs.Columns.{Rest, Picks, names, node_in, buffer_in, head_in, rows_in, natives_in, types_in, picks_in, of_kind, are_ids, name_slots, are_there, wanted_by, list_over, map_over, union_over, array_in, item_in, items_in, column_in, none_left, columns_in}
-use Rattle.ipc_layout.specs.Meant.{CoversWhereSparse, IsPickable}
-use Rattle.ipc_layout.specs.Picked.{AheadTree, behind, views_in, passed_in, steps_in, picked_in, all_read}
-use Rattle.ipc_layout.specs.PickedLaws.{picked_same}
-use Rattle.ipc_layout.specs.ReadLaws.{ArePicks, Suits, EachSuits, found, array_is, item_is, items_are, picks_are, kind_stored, item_stored, ids_stored}
-use Rattle.ipc_layout.specs.Rekeyed.{AreGrown}
-use Rattle.ipc_layout.specs.Stored.{offset_form}
-use Rattle.ipc_layout.specs.declared.parts.Counts.{Counts}
-use Rattle.ipc_layout.specs.declared.parts.Wanted.{Wanted}
-use Rattle.ipc_layout.specs.declared.parts.Wanted.TheVariants.{Rows, Exactly, Any}
+use Rattle.ipc_arrays.proofs.Nested.{names_so, kinds_agree, item_is as item_type_is, pairs_are, sized_list_fits, struct_fits, union_pickable}
+use Rattle.ipc_arrays.specs.Columns.{Rest, Picks, names, node_in, buffer_in, head_in, rows_in, natives_in, types_in, picks_in, of_kind, are_ids, name_slots, are_there, wanted_by, list_over, map_over, union_over, array_in, item_in, items_in, column_in, none_left, columns_in}
+use Rattle.ipc_arrays.specs.Meant.{CoversWhereSparse, IsPickable}
+use Rattle.ipc_arrays.specs.Picked.{AheadTree, behind, views_in, passed_in, steps_in, picked_in, all_read}
+use Rattle.ipc_arrays.specs.PickedLaws.{picked_same}
+use Rattle.ipc_arrays.specs.ReadLaws.{ArePicks, Suits, EachSuits, found, array_is, item_is, items_are, picks_are, kind_stored, item_stored, ids_stored}
+use Rattle.ipc_arrays.specs.Rekeyed.{AreGrown}
+use Rattle.ipc_arrays.specs.Stored.{offset_form}
+use Rattle.ipc_arrays.specs.declared.parts.Counts.{Counts}
+use Rattle.ipc_arrays.specs.declared.parts.Wanted.{Wanted}
+use Rattle.ipc_arrays.specs.declared.parts.Wanted.TheVariants.{Rows, Exactly, Any}
 use Rattle.ipc.specs.Grown.{IsOver, IsReadOver, AllGrown, AreAllArrays, AreSameArrays, ReadTogether, AreReadAgain}
 use Rattle.ipc.specs.GrownReads.{then_read, then_same, then_checked, GoesOn, on_and_on, IsPart, then_part, Anything, any_read, node_next, buffer_next, head_next, rows_next, RowsFit, IsRead, IsReadOf, so_many, kind_next}
 use Rattle.ipc.specs.GrownSlots.{EachSame, list_same, map_same, sized_same, struct_same, union_same}

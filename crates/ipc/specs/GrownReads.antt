@@ -8,11 +8,11 @@ use Rattle.std.proofs.lemmas.List.{length-map, length-take-le}
 use Rattle.std.proofs.lemmas.List.FromFn.{length-range_with_len, get_or-range_with_len}
 use Rattle.std.proofs.lemmas.List.Sums.{AllPass-from_list_all}
 use Rattle.std.proofs.lemmas.Str.{IsUtf8-from_is_utf8}
-use Rattle.ipc_model.specs.Reading.{◌>>=◌, check}
-use Rattle.ipc_model.specs.declared.batch.Node.{Node}
-use Rattle.ipc_model.specs.declared.batch.Region.{Region}
-use Rattle.ipc_model.specs.declared.fault.Fault.{Fault}
-use Rattle.ipc_model.specs.declared.fault.Fault.TheVariants.{TypeRange, BufferShort, NullCount, Offsets, OffsetPastChild, Text, MissingDictionary, KeyRange}
+use Rattle.ipc_flatbuf.specs.Reading.{◌>>=◌, check}
+use Rattle.ipc_flatbuf.specs.declared.batch.parts.Node.{Node}
+use Rattle.ipc_flatbuf.specs.declared.batch.parts.Region.{Region}
+use Rattle.ipc_flatbuf.specs.declared.error.Fault.{Fault}
+use Rattle.ipc_flatbuf.specs.declared.error.Fault.TheVariants.{TypeRange, BufferShort, NullCount, Offsets, OffsetPastChild, Text, MissingDictionary, KeyRange}
 use Rattle.nest_memory.specs.Bits.{bit, bits_from}
 use Rattle.nest_memory.specs.Cut.{cut}
 use Rattle.nest_memory.specs.Physical.{physical_type, primitive_tree, binary_of_width, text_of_width}
@@ -35,14 +35,14 @@ use Rattle.nest_model.specs.Reads.{slots-length}
 use Rattle.nest_model.specs.Runs.{product-exact}
 use Rattle.nest_model.specs.SameArray.{IsSameArray}
 use Rattle.nest_model.specs.SameArrayLaws.{same-refl}
-use Rattle.ipc_layout.proofs.Nested.{names_so}
-use Rattle.ipc_layout.specs.Columns.{Rest, RowsHead, Strings, are_texts, next_counts, next_bytes, validity_in, bits_in, natives_in, bytes_in, offsets_from, offsets_in, covered_in, are_wanted, node_in, buffer_in, head_in, boolean_in, native_in, fixed_size_binary_in, rows_in, strings_in, binary_in, text_of, text_in, key_names, names, keys_by, keys_in, keys_name, over_values, next_values, known_in, dictionary_in, of_form, of_kind, without_nulls}
-use Rattle.ipc_layout.specs.Keys.{key_native, key_form, are_logically, blanked}
-use Rattle.ipc_layout.specs.ReadLaws.{AreRead, after, checked, found, keys_are, keys_of_type}
-use Rattle.ipc_layout.specs.Rekeyed.{AreGrown}
-use Rattle.ipc_layout.specs.Stored.{Form, form_of, offset_form, only}
-use Rattle.ipc_layout.specs.declared.parts.Counts.{Counts}
-use Rattle.ipc_layout.specs.declared.parts.Wanted.{Wanted}
+use Rattle.ipc_arrays.proofs.Nested.{names_so}
+use Rattle.ipc_arrays.specs.Columns.{Rest, RowsHead, Strings, are_texts, next_counts, next_bytes, validity_in, bits_in, natives_in, bytes_in, offsets_from, offsets_in, covered_in, are_wanted, node_in, buffer_in, head_in, boolean_in, native_in, fixed_size_binary_in, rows_in, strings_in, binary_in, text_of, text_in, key_names, names, keys_by, keys_in, keys_name, over_values, next_values, known_in, dictionary_in, of_form, of_kind, without_nulls}
+use Rattle.ipc_arrays.specs.Keys.{key_native, key_form, are_logically, blanked}
+use Rattle.ipc_arrays.specs.ReadLaws.{AreRead, after, checked, found, keys_are, keys_of_type}
+use Rattle.ipc_arrays.specs.Rekeyed.{AreGrown}
+use Rattle.ipc_arrays.specs.Stored.{Form, form_of, offset_form, only}
+use Rattle.ipc_arrays.specs.declared.parts.Counts.{Counts}
+use Rattle.ipc_arrays.specs.declared.parts.Wanted.{Wanted}
 use Rattle.ipc.specs.Grown.{AllGrown, IsOver, AreAllArrays, ReadTogether}
 use Rattle.ipc.specs.GrownSlots.{keyed_same}
 

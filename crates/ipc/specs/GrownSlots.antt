@@ -16,8 +16,8 @@ use Rattle.nest_model.specs.SameArray.{IsSameArray}
 use Rattle.nest_model.specs.SameArrayLaws.{same-len, same-slot, same-from_places}
 use Rattle.nest_model.specs.Slot as slots
 use Rattle.nest_model.specs.Slot.{Slot, seal}
-use Rattle.ipc_layout.specs.AgainLaws.{of_same, place_named}
-use Rattle.ipc_layout.specs.Rekeyed.{AreGrown}
+use Rattle.ipc_arrays.specs.AgainLaws.{of_same, place_named}
+use Rattle.ipc_arrays.specs.Rekeyed.{AreGrown}
 
 -- the same children, one for one
 abbrev pub EachSame : Layouts → Layouts → Type 0

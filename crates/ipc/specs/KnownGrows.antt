@@ -11,22 +11,22 @@ use Rattle.nest_model.specs.Array.{IsArray}
 use Rattle.nest_model.specs.Layout.{Layout, layout_type}
 use Rattle.nest_model.specs.Meaning.{slots_of}
 use Rattle.nest_model.specs.Slot.{Slot}
-use Rattle.ipc_model.specs.Reading.{◌>>=◌, check}
-use Rattle.ipc_model.specs.declared.fault.Fault.{Fault}
-use Rattle.ipc_model.specs.declared.fault.Fault.TheVariants.{Replaced, Delta}
-use Rattle.ipc_words.specs.Words.{number_at, signed_at, field, offset_field, visit_table}
-use Rattle.ipc_words.specs.declared.tables.Table.{Table}
-use Rattle.ipc_message.specs.Messages.{Parts}
+use Rattle.ipc_flatbuf.specs.Reading.{◌>>=◌, check}
+use Rattle.ipc_flatbuf.specs.declared.error.Fault.{Fault}
+use Rattle.ipc_flatbuf.specs.declared.error.Fault.TheVariants.{Replaced, Delta}
+use Rattle.ipc_flatbuf.specs.Flatbuffers.{number_at, signed_at, field, offset_field, visit_table}
+use Rattle.ipc_flatbuf.specs.declared.tables.Table.{Table}
+use Rattle.ipc_flatbuf.specs.Messages.{Parts}
 use Rattle.ipc_schema.specs.Dictionaries.{Values}
 use Rattle.ipc_schema.specs.Outer.{outer_ids}
 use Rattle.ipc_schema.specs.PickedSchemas.{PickedTree}
-use Rattle.ipc_batch.specs.Batches.{batch_at}
-use Rattle.ipc_layout.specs.Columns.{Rest, column_in, none_left}
-use Rattle.ipc_layout.specs.Picked.{picked_in}
-use Rattle.ipc_layout.specs.ReadLaws.{after, found, checked}
-use Rattle.ipc_layout.specs.Rekeyed.{AreGrown}
-use Rattle.ipc_layout.specs.declared.parts.Wanted.TheVariants.{Rows}
-use Rattle.ipc_needed.specs.KnownLaws.{entry_put, entry_kept}
+use Rattle.ipc_flatbuf.specs.Batches.{batch_at}
+use Rattle.ipc_arrays.specs.Columns.{Rest, column_in, none_left}
+use Rattle.ipc_arrays.specs.Picked.{picked_in}
+use Rattle.ipc_arrays.specs.ReadLaws.{after, found, checked}
+use Rattle.ipc_arrays.specs.Rekeyed.{AreGrown}
+use Rattle.ipc_arrays.specs.declared.parts.Wanted.TheVariants.{Rows}
+use Rattle.ipc.specs.KnownLaws.{entry_put, entry_kept}
 use Rattle.std.proofs.lemmas.Bool.{and_parts}
 use Rattle.nest_memory.specs.TypeEq.{same_type, same_type-decides}
 use Rattle.nest_concat.specs.Laid.{joined_layout, joins_past}

@@ -1,9 +1,9 @@
 -- The batches of a stream are those that its messages bring.
 use Rattle.std.specs.Prelude.{◌≡◌, ℕ, zero, suc, ◌<◌, List, [], ◌∷◌, length, Option, Some, None, Result, Ok, Err, IfOk, refl}
 use Rattle.std.proofs.Common.{sym, ap, subst, ◌∙◌, arith}
-use Rattle.ipc_model.specs.Reading.{◌>>=◌}
-use Rattle.ipc_model.specs.declared.fault.Fault.{Fault}
-use Rattle.ipc_message.specs.Messages.{Parts, message_at}
+use Rattle.ipc_flatbuf.specs.Reading.{◌>>=◌}
+use Rattle.ipc_flatbuf.specs.declared.error.Fault.{Fault}
+use Rattle.ipc_flatbuf.specs.Messages.{Parts, message_at}
 use Rattle.ipc.specs.FilesOfStreams.{with_messages, messages_within, messages_in, with_batch, batches_by, with_left}
 use Rattle.ipc.specs.StreamLaws.{Goes, message_goes, by_message, one_by_one}
 use Rattle.ipc.specs.Streams.{Arrays, State, Next, message_in, or_next, next_by, next_in, with_others, batches_in}

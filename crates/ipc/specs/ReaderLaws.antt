@@ -1,8 +1,8 @@
 -- A reader goes through a stream as `picked_stream_in` does.
 use Rattle.std.specs.Prelude.{◌≡◌, ℕ, ◌-◌, List, ◌∷◌, length, Option, Some, None, Result, Ok, Err, refl}
 use Rattle.std.proofs.Common.{ap, ◌∙◌}
-use Rattle.ipc_model.specs.Reading.{◌>>=◌}
-use Rattle.ipc_model.specs.declared.fault.Fault.{Fault}
+use Rattle.ipc_flatbuf.specs.Reading.{◌>>=◌}
+use Rattle.ipc_flatbuf.specs.declared.error.Fault.{Fault}
 use Rattle.ipc_schema.specs.Picks.{Picks}
 use Rattle.ipc_schema.specs.PickedSchemas.{PickedTree, stream_picked_at}
 use Rattle.ipc_schema.specs.Schemas.{SchemaTree}

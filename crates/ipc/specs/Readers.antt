@@ -4,11 +4,11 @@ use Rattle.std.specs.Coded.{Coded, code_by, coded×, coded_list, coded_option, c
 use Rattle.nest_memory.specs.TypeTree.{Letters, Entries, TypeTree, FieldTree, field}
 use Rattle.nest_memory.specs.TypeCode.{coded_type}
 use Rattle.nest_model.specs.LayoutCode.{coded_layout}
-use Rattle.ipc_model.specs.Reading.{◌>>=◌}
-use Rattle.ipc_model.specs.declared.fault.Fault.{Fault}
-use Rattle.ipc_model.specs.declared.spans.Span.{Span}
-use Rattle.ipc_model.specs.declared.spans.Step.{Step}
-use Rattle.ipc_model.specs.declared.spans.Step.TheVariants.{Read, Skip}
+use Rattle.ipc_flatbuf.specs.Reading.{◌>>=◌}
+use Rattle.ipc_flatbuf.specs.declared.error.Fault.{Fault}
+use Rattle.ipc_flatbuf.specs.declared.projection.Span.{Span}
+use Rattle.ipc_flatbuf.specs.declared.projection.Step.{Step}
+use Rattle.ipc_flatbuf.specs.declared.projection.Step.TheVariants.{Read, Skip}
 use Rattle.ipc_schema.specs.Dictionaries.{Values, Seen}
 use Rattle.ipc_schema.specs.Picks.{Picks, all}
 use Rattle.ipc_schema.specs.PickedSchemas.{PickedTree, stream_picked_at}

@@ -2,11 +2,11 @@
 use Rattle.std.specs.Prelude.{◌≡◌, ℕ, zero, suc, ◌<◌, ◌≤◌, Bool, true, false, ◌==◌, List, [], ◌∷◌, length, take, drop, Option, Some, None, Result, Ok, Err, IfOk, IfSome, nat_le, if◌then◌else◌, refl}
 use Rattle.std.proofs.Common.{ap, arith, length-drop}
 use Rattle.std.specs.Int.{w32, from_le_bytes, cast_signed}
-use Rattle.ipc_model.specs.Reading.{◌>>=◌, check}
-use Rattle.ipc_model.specs.declared.fault.Fault.{Fault}
-use Rattle.ipc_model.specs.declared.fault.Fault.TheVariants.{Truncated, Continuation, MetadataLength}
-use Rattle.ipc_words.specs.Words.{natural}
-use Rattle.ipc_message.specs.Messages.{Parts, root_at, front, behind_mark, parts_at, sized_at, message_at}
+use Rattle.ipc_flatbuf.specs.Reading.{◌>>=◌, check}
+use Rattle.ipc_flatbuf.specs.declared.error.Fault.{Fault}
+use Rattle.ipc_flatbuf.specs.declared.error.Fault.TheVariants.{Truncated, Continuation, MetadataLength}
+use Rattle.ipc_flatbuf.specs.Flatbuffers.{natural}
+use Rattle.ipc_flatbuf.specs.Messages.{Parts, root_at, front, behind_mark, parts_at, sized_at, message_at}
 use Rattle.ipc_schema.specs.Schemas.{schema_parts}
 use Rattle.ipc_schema.specs.Picks.{Picks}
 use Rattle.ipc_schema.specs.PickedSchemas.{in_any_version, picked_schema_at, stream_picked_at}

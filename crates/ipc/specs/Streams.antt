@@ -14,26 +14,26 @@ use Rattle.nest_model.specs.Layout.{Layout, layout_type}
 use Rattle.nest_array.specs.Seen.{layout_of}
 use Rattle.nest_array.specs.declared.any.AnyArray.{AnyArray}
 use Rattle.nest_concat.specs.Laid.{joined_layout, joins_past}
-use Rattle.ipc_model.specs.Reading.{◌>>=◌, check}
-use Rattle.ipc_model.specs.declared.fault.Fault.{Fault}
-use Rattle.ipc_model.specs.declared.fault.Fault.TheVariants.{HeaderType, UnknownDictionary, NoData, MissingDictionary, Replaced, Delta, Memory}
-use Rattle.ipc_model.specs.declared.spans.Step.{Step}
-use Rattle.ipc_model.specs.declared.spans.Step.TheVariants.{Read, Skip}
-use Rattle.ipc_words.specs.Words.{number_at, signed_at, field, offset_field, visit_table}
-use Rattle.ipc_words.specs.declared.tables.Table.{Table}
-use Rattle.ipc_message.specs.Messages.{Parts, message_at}
-use Rattle.ipc_message.specs.declared.message.Kind.{Kind}
-use Rattle.ipc_message.specs.declared.message.Kind.TheVariants.{Schema, DictionaryBatch, RecordBatch}
+use Rattle.ipc_flatbuf.specs.Reading.{◌>>=◌, check}
+use Rattle.ipc_flatbuf.specs.declared.error.Fault.{Fault}
+use Rattle.ipc_flatbuf.specs.declared.error.Fault.TheVariants.{HeaderType, UnknownDictionary, NoData, MissingDictionary, Replaced, Delta, Memory}
+use Rattle.ipc_flatbuf.specs.declared.projection.Step.{Step}
+use Rattle.ipc_flatbuf.specs.declared.projection.Step.TheVariants.{Read, Skip}
+use Rattle.ipc_flatbuf.specs.Flatbuffers.{number_at, signed_at, field, offset_field, visit_table}
+use Rattle.ipc_flatbuf.specs.declared.tables.Table.{Table}
+use Rattle.ipc_flatbuf.specs.Messages.{Parts, message_at}
+use Rattle.ipc_flatbuf.specs.declared.message.types.Kind.{Kind}
+use Rattle.ipc_flatbuf.specs.declared.message.types.Kind.TheVariants.{Schema, DictionaryBatch, RecordBatch}
 use Rattle.ipc_schema.specs.Dictionaries.{Values}
 use Rattle.ipc_schema.specs.Outer.{outer_ids}
 use Rattle.ipc_schema.specs.Picks.{Picks, all}
 use Rattle.ipc_schema.specs.PickedSchemas.{PickedTree, in_any_version, stream_picked_at, picked_of}
 use Rattle.ipc_schema.specs.Schemas.{SchemaTree, schema_of}
-use Rattle.ipc_batch.specs.Batches.{BatchTree, batch_at}
-use Rattle.ipc_batch.specs.MoreBuffers.{more_buffers_at}
-use Rattle.ipc_layout.specs.Columns.{Rest, column_in, none_left}
-use Rattle.ipc_layout.specs.Picked.{picked_in}
-use Rattle.ipc_layout.specs.declared.parts.Wanted.TheVariants.{Rows}
+use Rattle.ipc_flatbuf.specs.Batches.{BatchTree, batch_at}
+use Rattle.ipc_flatbuf.specs.VariadicBuffers.{more_buffers_at}
+use Rattle.ipc_arrays.specs.Columns.{Rest, column_in, none_left}
+use Rattle.ipc_arrays.specs.Picked.{picked_in}
+use Rattle.ipc_arrays.specs.declared.parts.Wanted.TheVariants.{Rows}
 use Rattle.ipc.specs.Dense.{dense_past}
 use Rattle.ipc.specs.declared.batch.Batch.{Batch}
 use Rattle.ipc.specs.declared.state.Dictionaries.{Dictionaries}

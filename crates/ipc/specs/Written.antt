@@ -6,27 +6,27 @@ use Rattle.nest_memory.specs.TypeEq.{same_type}
 use Rattle.nest_model.specs.Array.{IsArray}
 use Rattle.nest_model.specs.Layout.{Layout, layout_type}
 use Rattle.nest_model.specs.Meaning.{len, slots_of}
-use Rattle.ipc_model.specs.declared.fault.NoForm.{NoForm}
-use Rattle.ipc_model.specs.declared.fault.NoForm.TheVariants.{Memory, Size, Columns}
-use Rattle.ipc_message.specs.Messages.{Parts, message_at}
-use Rattle.ipc_message.specs.MessageBytes.{metadata_size, end_mark}
-use Rattle.ipc_message.specs.declared.message.Kind.TheVariants.{DictionaryBatch, RecordBatch}
-use Rattle.ipc_message.specs.declared.message.Version.TheVariants.{V5}
+use Rattle.ipc_flatbuf.specs.declared.error.NoForm.{NoForm}
+use Rattle.ipc_flatbuf.specs.declared.error.NoForm.TheVariants.{Memory, Size, Columns}
+use Rattle.ipc_flatbuf.specs.Messages.{Parts, message_at}
+use Rattle.ipc_flatbuf.specs.MessageBytes.{metadata_size, end_mark}
+use Rattle.ipc_flatbuf.specs.declared.message.types.Kind.TheVariants.{DictionaryBatch, RecordBatch}
+use Rattle.ipc_flatbuf.specs.declared.message.types.Version.TheVariants.{V5}
 use Rattle.ipc_schema.specs.Schemas.{SchemaTree}
 use Rattle.ipc_schema.specs.Forms.{keyed_form}
 use Rattle.ipc_schema.specs.PickedLaws.{all_steps}
 use Rattle.ipc_schema.specs.SchemaBytes.{schema_message}
-use Rattle.ipc_batch.specs.Batches.{BatchTree}
-use Rattle.ipc_batch.specs.BatchBytes.{batch_message}
-use Rattle.ipc_batch.specs.DictionaryBytes.{dictionary_message}
-use Rattle.ipc_layout.specs.Placed.{regions_from}
-use Rattle.ipc_layout.specs.Rekeyed.{AreReadOver}
-use Rattle.ipc_layout.specs.Written.{column_node, written, buffers_of, columns_body, no_form}
-use Rattle.ipc_needed.specs.Entries.{Entries, own_entries}
-use Rattle.ipc_needed.specs.Needed.{entry_at, with_entries, needed}
-use Rattle.ipc_needed.specs.Known.{Covers, CoversColumns, number_of, read_columns, read_values, known_with}
-use Rattle.ipc_needed.specs.Named.{IsNamed, AreNamed, seen_of_fields}
-use Rattle.ipc_needed.specs.Puts.{Put, whole}
+use Rattle.ipc_flatbuf.specs.Batches.{BatchTree}
+use Rattle.ipc_flatbuf.specs.BatchBytes.{batch_message}
+use Rattle.ipc_flatbuf.specs.DictionaryBytes.{dictionary_message}
+use Rattle.ipc_arrays.specs.Placed.{regions_from}
+use Rattle.ipc_arrays.specs.Rekeyed.{AreReadOver}
+use Rattle.ipc_arrays.specs.Written.{column_node, written, buffers_of, columns_body, no_form}
+use Rattle.ipc.specs.Entries.{Entries, own_entries}
+use Rattle.ipc.specs.Needed.{entry_at, with_entries, needed}
+use Rattle.ipc.specs.Known.{Covers, CoversColumns, number_of, read_columns, read_values, known_with}
+use Rattle.ipc.specs.Named.{IsNamed, AreNamed, seen_of_fields}
+use Rattle.ipc.specs.Puts.{Put, whole}
 use Rattle.ipc.specs.Streams.{Arrays, State, StreamTree, record_batch_in, dictionary_in, may_come, types_of, with_new, with_values}
 
 -- ---- bytes

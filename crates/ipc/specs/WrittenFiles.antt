@@ -2,21 +2,21 @@
 use Rattle.std.specs.Prelude.{◌≡◌, ℕ, ◌+◌, ◌^◌, ℤ, pos, true, false, nat_le, if◌then◌else◌, List, [], ◌∷◌, ◌++◌, map, length, Option, Some, None, Result, Ok, Err}
 use Rattle.std.specs.List.{AllByRecursion, flat_map}
 use Rattle.nest_memory.specs.TypeTree.{TypeTree}
-use Rattle.ipc_model.specs.Reading.{◌>>=◌}
-use Rattle.ipc_model.specs.declared.fault.Fault.{Fault}
-use Rattle.ipc_model.specs.declared.fault.Fault.TheVariants as faults
-use Rattle.ipc_model.specs.declared.fault.NoForm.{NoForm}
-use Rattle.ipc_model.specs.declared.fault.NoForm.TheVariants.{Memory, Columns, Dictionaries}
-use Rattle.ipc_message.specs.Messages.{Parts, message_at}
+use Rattle.ipc_flatbuf.specs.Reading.{◌>>=◌}
+use Rattle.ipc_flatbuf.specs.declared.error.Fault.{Fault}
+use Rattle.ipc_flatbuf.specs.declared.error.Fault.TheVariants as faults
+use Rattle.ipc_flatbuf.specs.declared.error.NoForm.{NoForm}
+use Rattle.ipc_flatbuf.specs.declared.error.NoForm.TheVariants.{Memory, Columns, Dictionaries}
+use Rattle.ipc_flatbuf.specs.Messages.{Parts, message_at}
 use Rattle.ipc_schema.specs.PickedLaws.{all_written}
 use Rattle.ipc_schema.specs.Schemas.{SchemaTree}
 use Rattle.ipc_schema.specs.SchemaBytes.{schema_message}
-use Rattle.ipc_layout.specs.Written.{columns_body}
-use Rattle.ipc_footer.specs.declared.footer.Block.{Block}
-use Rattle.ipc_footer.specs.Footers.{FooterTree}
-use Rattle.ipc_footer.specs.FooterBytes.{footer_bytes, file_head, file_end}
-use Rattle.ipc_needed.specs.Entries.{Entries}
-use Rattle.ipc_needed.specs.Puts.{Put, puts_of, any_anew}
+use Rattle.ipc_arrays.specs.Written.{columns_body}
+use Rattle.ipc_schema.specs.declared.footer.types.Block.{Block}
+use Rattle.ipc_schema.specs.Footers.{FooterTree}
+use Rattle.ipc_schema.specs.FooterBytes.{footer_bytes, file_head, file_end}
+use Rattle.ipc.specs.Entries.{Entries}
+use Rattle.ipc.specs.Puts.{Put, puts_of, any_anew}
 use Rattle.ipc.specs.Streams.{Arrays, State, start, types_of, dictionary_in}
 use Rattle.ipc.specs.Files.{FileTree}
 use Rattle.ipc.specs.declared.writing_files.Blocks as declared

@@ -9,19 +9,19 @@ use Rattle.nest_memory.specs.TypeTree.{TypeTree, FieldTree, field_type}
 use Rattle.nest_memory.specs.TypeEq.{same_type, same_type-decides}
 use Rattle.nest_model.specs.Layout.{Layout, layout_type}
 use Rattle.nest_model.specs.Meaning.{len}
-use Rattle.ipc_model.specs.declared.fault.NoForm.TheVariants.{Columns}
-use Rattle.ipc_model.specs.Reading.{◌>>=◌}
-use Rattle.ipc_model.specs.declared.fault.Fault.{Fault}
-use Rattle.ipc_model.specs.declared.fault.NoForm.{NoForm}
-use Rattle.ipc_model.specs.declared.spans.Step.{Step}
-use Rattle.ipc_model.specs.declared.spans.Step.TheVariants.{Read}
-use Rattle.ipc_message.specs.MessageBytes.{end_mark}
-use Rattle.ipc_message.specs.MessageLaws.{end_again}
-use Rattle.ipc_message.specs.Messages.{Parts}
-use Rattle.ipc_message.specs.declared.message.Kind.{Kind}
-use Rattle.ipc_message.specs.declared.message.Kind.TheVariants.{DictionaryBatch, RecordBatch}
-use Rattle.ipc_message.specs.declared.message.Version.{Version}
-use Rattle.ipc_message.specs.declared.message.Version.TheVariants.{V5}
+use Rattle.ipc_flatbuf.specs.declared.error.NoForm.TheVariants.{Columns}
+use Rattle.ipc_flatbuf.specs.Reading.{◌>>=◌}
+use Rattle.ipc_flatbuf.specs.declared.error.Fault.{Fault}
+use Rattle.ipc_flatbuf.specs.declared.error.NoForm.{NoForm}
+use Rattle.ipc_flatbuf.specs.declared.projection.Step.{Step}
+use Rattle.ipc_flatbuf.specs.declared.projection.Step.TheVariants.{Read}
+use Rattle.ipc_flatbuf.specs.MessageBytes.{end_mark}
+use Rattle.ipc_flatbuf.specs.MessageLaws.{end_again}
+use Rattle.ipc_flatbuf.specs.Messages.{Parts}
+use Rattle.ipc_flatbuf.specs.declared.message.types.Kind.{Kind}
+use Rattle.ipc_flatbuf.specs.declared.message.types.Kind.TheVariants.{DictionaryBatch, RecordBatch}
+use Rattle.ipc_flatbuf.specs.declared.message.types.Version.{Version}
+use Rattle.ipc_flatbuf.specs.declared.message.types.Version.TheVariants.{V5}
 use Rattle.ipc_schema.specs.Dictionaries.{Values, Seen}
 use Rattle.ipc_schema.specs.Forms.{keyed_form}
 use Rattle.ipc_schema.specs.Outer.{outer_ids}
@@ -31,26 +31,26 @@ use Rattle.ipc_schema.specs.Picks.{all}
 use Rattle.ipc_schema.specs.Schemas.{SchemaTree, stream_keyed_schema_at}
 use Rattle.ipc_schema.specs.SchemaBytes.{schema_message}
 use Rattle.ipc_schema.specs.SchemaLaws.{with_ids}
-use Rattle.ipc_batch.specs.Batches.{batch_at}
-use Rattle.ipc_batch.specs.BatchLaws.{IsReadBack}
-use Rattle.ipc_batch.specs.DictionaryBytes.{delta_byte}
-use Rattle.ipc_batch.specs.DictionaryLaws.{IsDictionaryBack}
-use Rattle.ipc_layout.specs.declared.parts.Wanted.TheVariants.{Rows}
-use Rattle.ipc_layout.specs.Columns.{Rest, columns_in, each_in, none_left, column_in}
-use Rattle.ipc_layout.specs.Picked.{all_read, picked_in}
-use Rattle.ipc_layout.specs.PickedLaws.{picked_same}
-use Rattle.ipc_layout.specs.Rekeyed.{AreReadOver}
-use Rattle.ipc_layout.specs.Written.{columns_body}
-use Rattle.ipc_needed.specs.Entries.{Entries, own_entries, columns_own}
-use Rattle.ipc_needed.specs.Needed.{entry_at}
-use Rattle.ipc_needed.specs.Known.{IsKnown, Covers, Follows, ComeInOrder, AreAllKnown, number_of, read_columns, read_values, known_with}
-use Rattle.ipc_needed.specs.Named.{ids_of, values_of, IsNamed, AreNamed, seen_of_fields}
-use Rattle.ipc_needed.specs.Again.{written_rest, AreColumnsAgain, AreValuesAgain}
-use Rattle.ipc_needed.specs.Again as again
-use Rattle.ipc_needed.specs.AgainLaws.{columns_again, covers_all, values_again, columns_known}
-use Rattle.ipc_needed.specs.KnownLaws.{columns_needed_of}
-use Rattle.ipc_needed.specs.NamedLaws.{are_named}
-use Rattle.ipc_needed.specs.Puts.{Put, whole}
+use Rattle.ipc_flatbuf.specs.Batches.{batch_at}
+use Rattle.ipc_flatbuf.specs.BatchLaws.{IsReadBack}
+use Rattle.ipc_flatbuf.specs.DictionaryBytes.{delta_byte}
+use Rattle.ipc_flatbuf.specs.DictionaryLaws.{IsDictionaryBack}
+use Rattle.ipc_arrays.specs.declared.parts.Wanted.TheVariants.{Rows}
+use Rattle.ipc_arrays.specs.Columns.{Rest, columns_in, each_in, none_left, column_in}
+use Rattle.ipc_arrays.specs.Picked.{all_read, picked_in}
+use Rattle.ipc_arrays.specs.PickedLaws.{picked_same}
+use Rattle.ipc_arrays.specs.Rekeyed.{AreReadOver}
+use Rattle.ipc_arrays.specs.Written.{columns_body}
+use Rattle.ipc.specs.Entries.{Entries, own_entries, columns_own}
+use Rattle.ipc.specs.Needed.{entry_at}
+use Rattle.ipc.specs.Known.{IsKnown, Covers, Follows, ComeInOrder, AreAllKnown, number_of, read_columns, read_values, known_with}
+use Rattle.ipc.specs.Named.{ids_of, values_of, IsNamed, AreNamed, seen_of_fields}
+use Rattle.ipc.specs.Again.{written_rest, AreColumnsAgain, AreValuesAgain}
+use Rattle.ipc.specs.Again as again
+use Rattle.ipc.specs.AgainLaws.{columns_again, covers_all, values_again, columns_known}
+use Rattle.ipc.specs.KnownLaws.{columns_needed_of}
+use Rattle.ipc.specs.NamedLaws.{are_named}
+use Rattle.ipc.specs.Puts.{Put, whole}
 use Rattle.ipc.specs.Streams.{Arrays, State, fresh_behind, has_views, start, record_batch_in, dictionary_in, data_in, may_come, known_at, only_column, with_values, message_in, of_kind, next_in, batches_in, types_of, values_at, picked_stream_in, stream_in}
 use Rattle.ipc.specs.StreamLaws.{by_message, one_by_one}
 use Rattle.ipc.specs.WrittenLists.{first_accepts, others_accept}

@@ -5,20 +5,20 @@ use Rattle.std.specs.List.{AllByRecursion, flat_map}
 use Rattle.std.proofs.lemmas.Bool.{le-leb, lt-leb}
 use Rattle.std.proofs.lemmas.List.{append-nil, map-append, map_more, drop_more, take-append-drop, take_all, length-append}
 use Rattle.std.proofs.lemmas.List.Concat.{flat_map-cons, flat_map-append}
-use Rattle.ipc_model.specs.declared.fault.NoForm.{NoForm}
-use Rattle.ipc_model.specs.declared.fault.NoForm.TheVariants.{Size, Columns}
+use Rattle.ipc_flatbuf.specs.declared.error.NoForm.{NoForm}
+use Rattle.ipc_flatbuf.specs.declared.error.NoForm.TheVariants.{Size, Columns}
 use Rattle.nest_memory.specs.TypeTree.{TypeTree}
 use Rattle.nest_model.specs.Layout.{Layout}
-use Rattle.ipc_message.specs.MessageBytes.{metadata_size}
-use Rattle.ipc_batch.specs.Batches.{BatchTree, all_within}
+use Rattle.ipc_flatbuf.specs.MessageBytes.{metadata_size}
+use Rattle.ipc_flatbuf.specs.Batches.{BatchTree, all_within}
 use Rattle.ipc_schema.specs.Schemas.{SchemaTree}
 use Rattle.ipc_schema.specs.Forms as forms
 use Rattle.ipc_schema.specs.Forms.{keyed_form}
 use Rattle.ipc_schema.specs.SchemaBytes.{schema_message}
-use Rattle.ipc_footer.specs.declared.footer.Block.{Block}
-use Rattle.ipc_layout.specs.Written.{columns_body}
-use Rattle.ipc_needed.specs.Entries.{Entries}
-use Rattle.ipc_needed.specs.Puts.{Put}
+use Rattle.ipc_schema.specs.declared.footer.types.Block.{Block}
+use Rattle.ipc_arrays.specs.Written.{columns_body}
+use Rattle.ipc.specs.Entries.{Entries}
+use Rattle.ipc.specs.Puts.{Put}
 use Rattle.ipc.specs.Streams.{Arrays}
 use Rattle.ipc.specs.Written.{batch_tree, batch_bytes, dictionary_head, dictionary_bytes, sent_behind, part_bytes, batches_bytes, else_for, schema_refusal, metadata_refusal, reason_in, each_refusal, refusal_from, IsRefused, IsPartAgain, AreAgain}
 use Rattle.ipc.specs.WrittenFiles.{block_at, written_block, dictionary_blocks, Blocks, no_blocks, batch_place, puts_by, blocks_from, long_refusal, after, Filed, filed_behind}

@@ -1,8 +1,8 @@
 //! Reads the message that a block of a file names.
 ghost use Rattle.std.specs.Prelude.{◌≡◌, ◌<◌, ◌^◌, ◌==◌, length, IfOk};
-ghost use Rattle.ipc_model.specs.Reading.{Gives, Spells};
-ghost use Rattle.ipc_message.specs.Messages.{parts_of, message_of};
-ghost use Rattle.ipc_message.specs.MessageBytes.{tag_of};
+ghost use Rattle.ipc_flatbuf.specs.Reading.{Gives, Spells};
+ghost use Rattle.ipc_flatbuf.specs.Messages.{parts_of, message_of};
+ghost use Rattle.ipc_flatbuf.specs.MessageBytes.{tag_of};
 ghost use Rattle.ipc_schema.specs.PickedSchemas.{picked_of};
 ghost use Rattle.ipc.specs.Streams.{arrays_of, state_of};
 ghost use Rattle.ipc.specs.Files.{of_block as of_block_lem, message_in_block as message_in_block_lem, batch_in_block, dictionary_in_block};
@@ -11,9 +11,9 @@ use crate::batch::Batch;
 use crate::dictionary::read_dictionary;
 use crate::reading::record_batch;
 use crate::state::State;
-use ipc_footer::Block;
-use ipc_message::{Kind, Message, next_message};
-use ipc_model::Fault;
+use ipc_schema::footer::Block;
+use ipc_flatbuf::message::{Kind, Message, next_message};
+use ipc_flatbuf::Fault;
 use ipc_schema::{PickedSchema, in_any_version};
 use std::alloc::Global;
 

@@ -1,14 +1,14 @@
 //! Values behind those that a dictionary has.
 ghost use Rattle.std.specs.Prelude.{◌≡◌, true, Some};
 ghost use Rattle.std.specs.Option.{option_map};
-ghost use Rattle.ipc_model.specs.Reading.{Gives};
+ghost use Rattle.ipc_flatbuf.specs.Reading.{Gives};
 ghost use Rattle.nest_array.specs.Seen.{layout_of};
 ghost use Rattle.ipc.specs.Streams.{fault_of as fault_of_lem, joined_values as joined_values_lem, with_values, state_of};
 
 use crate::dense::dense_past;
 use crate::fresh::is_among;
 use crate::state::State;
-use ipc_model::Fault;
+use ipc_flatbuf::Fault;
 use nest_array::any::AnyArray;
 use nest_concat::concatenate;
 use nest_memory::error::Error;

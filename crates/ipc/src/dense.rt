@@ -3,7 +3,7 @@ ghost use Rattle.std.specs.Prelude.{◌≡◌, ◌↔◌, ◌≤◌, ◌+◌, �
 ghost use Rattle.nest_model.specs.Fits.{child_len};
 ghost use Rattle.nest_array.specs.Kinds.{has_leaves};
 ghost use Rattle.nest_array.specs.Seen.{layout_of, layouts_of};
-ghost use Rattle.ipc_needed.specs.Walked.{is_leaf};
+ghost use Rattle.ipc.specs.Walked.{is_leaf};
 ghost use Rattle.ipc.specs.Dense.{below as below_lem, slots_past as slots_past_lem, offsets_past as offsets_past_lem, dense_past as dense_past_lem, some_past as some_past_lem};
 
 use nest_array::any::AnyArray;

@@ -1,18 +1,18 @@
 //! Reads files.
 ghost use Rattle.std.specs.Prelude.{◌≡◌, ◌<◌, true, length, map};
 ghost use Rattle.std.specs.List.{list_all};
-ghost use Rattle.ipc_model.specs.Reading.{Gives};
+ghost use Rattle.ipc_flatbuf.specs.Reading.{Gives};
 ghost use Rattle.ipc_schema.specs.Picks.{all, picks_of};
 ghost use Rattle.ipc_schema.specs.Schemas.{schema_of};
-ghost use Rattle.ipc_footer.specs.Footers.{block_before};
+ghost use Rattle.ipc_schema.specs.Footers.{block_before};
 ghost use Rattle.ipc.specs.Streams.{arrays_of, state_of};
 ghost use Rattle.ipc.specs.Files.{dictionaries_at, file_reader_in, batch_of_file, batches_of_file, picked_file_in, file_in, file_of};
 
 use crate::batch::Batch;
 use crate::block::{read_batch_block, read_dictionary_block};
 use crate::state::State;
-use ipc_footer::{Block, block_bytes, read_footer};
-use ipc_model::Fault;
+use ipc_schema::footer::{Block, block_bytes, read_footer};
+use ipc_flatbuf::Fault;
 use ipc_schema::{Columns, Schema};
 use std::alloc::Global;
 use std::marker::Model;
@@ -59,7 +59,7 @@ impl<'a> Model for FileReader<'a> {
 
     ghost use Rattle.std.specs.Prelude.{◌≡◌, length, true};
     ghost use Rattle.std.specs.List.{list_all};
-    ghost use Rattle.ipc_footer.specs.Footers.{block_before};
+    ghost use Rattle.ipc_schema.specs.Footers.{block_before};
     ghost use Rattle.ipc.specs.Streams.{state_of};
 
     ghost view = { λ r. record { state = state_of r.state; bytes = r.bytes.now; blocks = r.blocks.items } };

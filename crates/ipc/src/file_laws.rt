@@ -1,21 +1,21 @@
 //! Laws of files that hold what streams hold, as functions with empty bodies.
 ghost use Rattle.std.specs.Prelude.{◌≡◌, ◌⊎◌, true, false, List, ℕ, ℤ, Ok, Err};
-ghost use Rattle.ipc_model.specs.declared.fault.Fault.TheVariants.{Replaced};
-ghost use Rattle.ipc_model.specs.declared.spans.Step.{Step as ColumnStep};
+ghost use Rattle.ipc_flatbuf.specs.declared.error.Fault.TheVariants.{Replaced};
+ghost use Rattle.ipc_flatbuf.specs.declared.projection.Step.{Step as ColumnStep};
 ghost use Rattle.nest_memory.specs.TypeTree.{TypeTree};
 ghost use Rattle.nest_model.specs.Array.{IsArray};
 ghost use Rattle.nest_model.specs.Layout.{Layout};
-ghost use Rattle.ipc_message.specs.Messages.{Parts};
+ghost use Rattle.ipc_flatbuf.specs.Messages.{Parts};
 ghost use Rattle.ipc_schema.specs.Picks.{Picks, all};
-ghost use Rattle.ipc_layout.specs.Columns.{Rest, column_in, columns_in};
-ghost use Rattle.ipc_layout.specs.Picked.{picked_in};
-ghost use Rattle.ipc_layout.specs.declared.parts.Wanted.{Wanted as WantedColumn};
+ghost use Rattle.ipc_arrays.specs.Columns.{Rest, column_in, columns_in};
+ghost use Rattle.ipc_arrays.specs.Picked.{picked_in};
+ghost use Rattle.ipc_arrays.specs.declared.parts.Wanted.{Wanted as WantedColumn};
 ghost use Rattle.ipc.specs.Streams.{Arrays, State, StreamTree, batches_in, record_batch_in, dictionary_in, picked_stream_in};
 ghost use Rattle.ipc.specs.Files.{picked_file_in};
 ghost use Rattle.ipc.specs.Grown.{IsOver, AreAllArrays, IsReadOver, AreReadAgain, HasArrays, IsLater, IsBatchAgain};
 ghost use Rattle.ipc.specs.FilesOfStreams.{NamesStream, IsReadAsStream, batches_by, messages_in, with_left};
 ghost use Rattle.ipc.specs.FilesOfStreamsExamples.{worked_stream};
-ghost use Rattle.ipc_footer.specs.Examples.{worked_file};
+ghost use Rattle.ipc_schema.specs.FooterExamples.{worked_file};
 
 /// Where values of dictionaries are known that begin with the same slots, and maybe have more, a column is read as the same
 /// array, and what is left of it is over such values too; and so are all columns of a batch, or those that are picked. Over arrays

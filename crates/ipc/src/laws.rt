@@ -4,7 +4,7 @@ ghost use Rattle.nest_model.specs.Array.{IsArray};
 ghost use Rattle.nest_model.specs.Layout.{Layout};
 ghost use Rattle.nest_model.specs.Meaning.{slots_of};
 ghost use Rattle.nest_concat.specs.Laid.{joined_layout};
-ghost use Rattle.ipc_message.specs.Messages.{Parts};
+ghost use Rattle.ipc_flatbuf.specs.Messages.{Parts};
 ghost use Rattle.ipc_schema.specs.Picks.{Picks};
 ghost use Rattle.ipc.specs.Streams.{State, next_in, batches_in, first_and_others, stream_in, dictionary_in, known_at, with_more, with_values};
 ghost use Rattle.ipc.specs.Readers.{ReaderTree, batches_of, next_and_others, batches_of_stream, read_one_by_one};
@@ -17,7 +17,7 @@ ghost use Rattle.ipc.specs.DictionaryExamples.{AreDictionaries};
 ghost use Rattle.ipc.specs.Files.{FileReaderTree, batch_of_file, batches_of_file, file_in};
 ghost use Rattle.ipc.specs.FileLaws.{no_arrays};
 ghost use Rattle.ipc.specs.FileExamples as files;
-ghost use Rattle.ipc_footer.specs.Examples.{worked_file};
+ghost use Rattle.ipc_schema.specs.FooterExamples.{worked_file};
 
 /// The batches of a stream are its next batch, and the batches of what stands behind that.
 pub fn batches_come_one_by_one()

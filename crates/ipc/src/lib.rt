@@ -26,3 +26,5 @@ pub use state::{Dictionaries, State};
 pub use stream::{Stream, read_stream, read_stream_columns};
 pub use writing::{put_batch, put_part, write_stream};
 pub use writing_files::{Blocks, put_part_blocks, write_file};
+
+pub mod dictionaries;

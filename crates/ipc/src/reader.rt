@@ -1,7 +1,7 @@
 //! Reads streams batch by batch.
 ghost use Rattle.std.specs.Prelude.{◌≡◌, [], IfErr};
 ghost use Rattle.std.specs.Option.{option_map};
-ghost use Rattle.ipc_model.specs.Reading.{Gives};
+ghost use Rattle.ipc_flatbuf.specs.Reading.{Gives};
 ghost use Rattle.ipc_schema.specs.Picks.{all, picks_of};
 ghost use Rattle.ipc_schema.specs.Schemas.{schema_of};
 ghost use Rattle.ipc.specs.Streams.{arrays_of};
@@ -10,7 +10,7 @@ ghost use Rattle.ipc.specs.Readers.{next_of, reader_in};
 use crate::batch::Batch;
 use crate::reading::next_batch;
 use crate::state::State;
-use ipc_model::Fault;
+use ipc_flatbuf::Fault;
 use ipc_schema::{Columns, Schema, read_picked_schema};
 use std::alloc::Global;
 use std::marker::Model;

@@ -2,21 +2,21 @@
 ghost use Rattle.std.specs.Prelude.{◌≡◌, ◌<◌, ◌^◌, map, length, IfErr, is_some};
 ghost use Rattle.std.specs.List.{list_any};
 ghost use Rattle.std.specs.Option.{option_map};
-ghost use Rattle.ipc_model.specs.Reading.{Gives};
-ghost use Rattle.ipc_message.specs.Messages.{parts_of};
+ghost use Rattle.ipc_flatbuf.specs.Reading.{Gives};
+ghost use Rattle.ipc_flatbuf.specs.Messages.{parts_of};
 ghost use Rattle.nest_memory.specs.TypeOf.{field_of};
 ghost use Rattle.nest_memory.specs.TypeTree.{field_type};
 ghost use Rattle.nest_array.specs.Seen.{layout_of};
-ghost use Rattle.ipc_layout.specs.Picked.{picked_in, ahead_of};
+ghost use Rattle.ipc_arrays.specs.Picked.{picked_in, ahead_of};
 ghost use Rattle.ipc.specs.Streams.{has_views as has_views_lem, more_in as more_in_lem, record_batch_in, of_kind as of_kind_lem, message_in, next_in, arrays_of, state_of};
 
 use crate::batch::Batch;
 use crate::dictionary::read_dictionary;
 use crate::state::{State, values_of};
-use ipc_batch::{read_batch, read_more_buffers};
-use ipc_layout::{Ahead, Left, read_picked};
-use ipc_message::{Kind, Message, next_message};
-use ipc_model::{Fault, Step};
+use ipc_flatbuf::batch::{read_batch, read_more_buffers};
+use ipc_arrays::{Ahead, Left, read_picked};
+use ipc_flatbuf::message::{Kind, Message, next_message};
+use ipc_flatbuf::{Fault, Step};
 use ipc_schema::{in_any_version, outer_ids};
 use nest_array::any::AnyArray;
 use nest_memory::datatypes::Field;

@@ -3,14 +3,14 @@ ghost use Rattle.std.specs.Prelude.{◌≡◌, IfOk, map, OnOk};
 ghost use Rattle.std.specs.BTreeMap.{insert_entry};
 ghost use Rattle.std.specs.Ordering.{int_cmp};
 ghost use Rattle.nest_array.specs.Seen.{layout_of};
-ghost use Rattle.ipc_model.specs.Reading.{Gives};
+ghost use Rattle.ipc_flatbuf.specs.Reading.{Gives};
 ghost use Rattle.ipc_schema.specs.PickedSchemas.{picked_of};
-ghost use Rattle.ipc_layout.specs.Keys.{dictionary_of};
+ghost use Rattle.ipc_arrays.specs.Keys.{dictionary_of};
 ghost use Rattle.ipc.specs.Readers.{state_in};
 ghost use Rattle.ipc.specs.Streams.{start, dictionaries_of, known_of, values_at, state_of, with_more, with_new};
 
 use crate::fresh::fresh_behind;
-use ipc_model::Fault;
+use ipc_flatbuf::Fault;
 use ipc_schema::{Columns, PickedSchema, read_picked_schema};
 use nest_array::any::AnyArray;
 use std::alloc::{AllocError, Global};

@@ -1,13 +1,13 @@
 //! Reads streams whole.
 ghost use Rattle.std.specs.Prelude.{◌≡◌, map};
-ghost use Rattle.ipc_model.specs.Reading.{Gives};
+ghost use Rattle.ipc_flatbuf.specs.Reading.{Gives};
 ghost use Rattle.ipc_schema.specs.Picks.{picks_of};
 ghost use Rattle.ipc.specs.Streams.{arrays_of, batches_in, picked_stream_in, state_of, stream_in, stream_of};
 
 use crate::batch::Batch;
 use crate::reading::next_batch;
 use crate::state::State;
-use ipc_model::Fault;
+use ipc_flatbuf::Fault;
 use ipc_schema::{Columns, Schema, read_picked_schema};
 use std::alloc::Global;
 

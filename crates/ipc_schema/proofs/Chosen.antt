@@ -2,11 +2,11 @@
 use Rattle.std.proofs.Common.{◌≡◌, ℕ, suc, ◌-◌, ◌+◌, ◌*◌, ◌≤◌, ◌<◌, List, [], ◌∷◌, ◌++◌, Result, Ok, Err, refl, sym, ap, ◌∙◌, append_assoc, arith}
 use Rattle.std.proofs.lemmas.List.{append-nil}
 use Rattle.nest_memory.specs.TypeTree.{FieldTree}
-use Rattle.ipc_model.specs.declared.fault.Fault.{Fault}
-use Rattle.ipc_model.specs.declared.spans.Step.{Step}
-use Rattle.ipc_model.specs.declared.spans.Step.TheVariants.{Read, Skip}
-use Rattle.ipc_model.specs.Reading.{◌>>=◌, Fails}
-use Rattle.ipc_words.specs.Words.{offset_at}
+use Rattle.ipc_flatbuf.specs.declared.error.Fault.{Fault}
+use Rattle.ipc_flatbuf.specs.declared.projection.Step.{Step}
+use Rattle.ipc_flatbuf.specs.declared.projection.Step.TheVariants.{Read, Skip}
+use Rattle.ipc_flatbuf.specs.Reading.{◌>>=◌, Fails}
+use Rattle.ipc_flatbuf.specs.Flatbuffers.{offset_at}
 use Rattle.ipc_schema.specs.Dictionaries.{Progress}
 use Rattle.ipc_schema.specs.Picks.{Picks}
 use Rattle.ipc_schema.specs.PickedSchemas.{Item, read, passed, Picked, none_picked, with_item, joined, item_at, picked_at}

@@ -6,8 +6,8 @@ use Rattle.std.proofs.lemmas.List.{drop_more, drop_all, map_push}
 use Rattle.nest_memory.specs.TypeOf.{field_of}
 use Rattle.nest_memory.specs.TypeTree.{FieldTree}
 use Rattle.nest_memory.specs.declared.datatypes.field.Field.{Field}
-use Rattle.ipc_model.specs.declared.fault.NoForm.{NoForm}
-use Rattle.ipc_words.specs.Bytes.{parts_of}
+use Rattle.ipc_flatbuf.specs.declared.error.NoForm.{NoForm}
+use Rattle.ipc_flatbuf.specs.Bytes.{parts_of}
 use Rattle.ipc_schema.specs.Forms.{each_form}
 use Rattle.ipc_schema.specs.Numbering.{total, each_from}
 use Rattle.ipc_schema.specs.FieldLaws.{split}

@@ -4,10 +4,10 @@ use Rattle.std.specs.Prelude.{◌||◌, Option, is_some}
 use Rattle.std.specs.List.{AllByRecursion, list_any}
 use Rattle.std.specs.Str.{is_utf8}
 use Rattle.nest_memory.specs.TypeTree.{FieldTree, field_type}
-use Rattle.ipc_model.specs.declared.fault.Fault.TheVariants as faults
-use Rattle.ipc_model.specs.declared.fault.NoForm.{NoForm}
-use Rattle.ipc_model.specs.declared.fault.NoForm.TheVariants as reasons
-use Rattle.ipc_words.specs.Bytes.{row_bytes, string_bytes}
+use Rattle.ipc_flatbuf.specs.declared.error.Fault.TheVariants as faults
+use Rattle.ipc_flatbuf.specs.declared.error.NoForm.{NoForm}
+use Rattle.ipc_flatbuf.specs.declared.error.NoForm.TheVariants as reasons
+use Rattle.ipc_flatbuf.specs.Bytes.{row_bytes, string_bytes}
 use Rattle.ipc_schema.specs.Extensions.{stored, table_type}
 use Rattle.ipc_schema.specs.Dictionaries.{Progress}
 use Rattle.ipc_schema.specs.Types.{children_of}

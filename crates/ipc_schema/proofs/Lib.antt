@@ -7,3 +7,4 @@ pub mod Skipped
 pub mod Chosen
 pub mod Sought
 pub mod Passed
+pub mod FooterLoops

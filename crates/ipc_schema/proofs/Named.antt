@@ -7,7 +7,7 @@ use Rattle.std.specs.BTreeMap.{insert_entry}
 use Rattle.std.specs.Ordering.{int_cmp, match_ordering}
 use Rattle.std.specs.declared.cmp.Ordering.{Ordering}
 use Rattle.std.specs.declared.cmp.Ordering.TheVariants.{Less, Equal, Greater}
-use Rattle.ipc_model.specs.declared.fault.Fault.TheVariants.{DictionaryType}
+use Rattle.ipc_flatbuf.specs.declared.error.Fault.TheVariants.{DictionaryType}
 use Rattle.ipc_schema.specs.Dictionaries as spelled
 use Rattle.ipc_schema.specs.Dictionaries.{same_values, name_values}
 use Rattle.ipc_schema.specs.SeenOf.{values_of, named_of}

@@ -3,11 +3,11 @@ use Rattle.std.proofs.Common.{◌≡◌, ℕ, suc, ◌-◌, ◌+◌, ◌*◌, �
 use Rattle.std.specs.Prelude.{IfOk, nat_le, ◌||◌, if◌then◌else◌}
 use Rattle.std.proofs.lemmas.Bool.{leb-true}
 use Rattle.std.specs.Int.{w32}
-use Rattle.ipc_model.specs.declared.fault.Fault.{Fault}
-use Rattle.ipc_model.specs.declared.fault.Fault.TheVariants as faults
-use Rattle.ipc_model.specs.declared.spans.Span.{Span}
-use Rattle.ipc_model.specs.Reading.{◌>>=◌}
-use Rattle.ipc_words.specs.Words.{number_at, spend, table_at, offset_at, visit_table, visit_vector, items_at}
+use Rattle.ipc_flatbuf.specs.declared.error.Fault.{Fault}
+use Rattle.ipc_flatbuf.specs.declared.error.Fault.TheVariants as faults
+use Rattle.ipc_flatbuf.specs.declared.projection.Span.{Span}
+use Rattle.ipc_flatbuf.specs.Reading.{◌>>=◌}
+use Rattle.ipc_flatbuf.specs.Flatbuffers.{number_at, spend, table_at, offset_at, visit_table, visit_vector, items_at}
 use Rattle.ipc_schema.specs.Spans.{no_span, plus, spans_at, span_over, span_at}
 
 -- ---- what is paid

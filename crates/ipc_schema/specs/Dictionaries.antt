@@ -10,11 +10,11 @@ use Rattle.nest_memory.specs.TypeTree.{TypeTree}
 use Rattle.nest_memory.specs.TypeEq.{same_type}
 use Rattle.nest_memory.specs.declared.datatypes.IntegerType.{IntegerType}
 use Rattle.nest_memory.specs.declared.datatypes.IntegerType.TheVariants.{Int32}
-use Rattle.ipc_model.specs.Reading.{◌>>=◌, check}
-use Rattle.ipc_model.specs.declared.fault.Fault.{Fault}
-use Rattle.ipc_model.specs.declared.fault.Fault.TheVariants.{TypeRange, DictionaryType}
-use Rattle.ipc_words.specs.Words as words
-use Rattle.ipc_words.specs.Words.{number_at, signed_at, offset_field, visit_table}
+use Rattle.ipc_flatbuf.specs.Reading.{◌>>=◌, check}
+use Rattle.ipc_flatbuf.specs.declared.error.Fault.{Fault}
+use Rattle.ipc_flatbuf.specs.declared.error.Fault.TheVariants.{TypeRange, DictionaryType}
+use Rattle.ipc_flatbuf.specs.Flatbuffers as words
+use Rattle.ipc_flatbuf.specs.Flatbuffers.{number_at, signed_at, offset_field, visit_table}
 use Rattle.ipc_schema.specs.Types.{integer_at}
 use Rattle.ipc_schema.specs.declared.dictionaries.Encoding.{Encoding}
 

@@ -6,10 +6,10 @@ use Rattle.std.proofs.lemmas.Str.{IsUtf8-from_ascii, is_utf8-from_IsUtf8}
 use Rattle.nest_memory.specs.TypeTree as types
 use Rattle.nest_memory.specs.TypeTree.{FieldTree, field, no_fields}
 use Rattle.nest_memory.specs.declared.datatypes.UnionMode.TheVariants.{Dense}
-use Rattle.ipc_model.specs.declared.fault.Fault.{Fault}
+use Rattle.ipc_flatbuf.specs.declared.error.Fault.{Fault}
 use Rattle.nest_memory.specs.declared.datatypes.IntegerType.TheVariants.{Int8, Int16, Int32, UInt32}
-use Rattle.ipc_model.specs.declared.fault.Fault.TheVariants.{TypeRange, DictionaryType}
-use Rattle.ipc_words.specs.Words.{offset_at, back_from, table_at, field_place, spend, visit_table, visit_vector, visit_string, tables_at, items_at, text_at}
+use Rattle.ipc_flatbuf.specs.declared.error.Fault.TheVariants.{TypeRange, DictionaryType}
+use Rattle.ipc_flatbuf.specs.Flatbuffers.{offset_at, back_from, table_at, field_place, spend, visit_table, visit_vector, visit_string, tables_at, items_at, text_at}
 use Rattle.ipc_schema.specs.Types.{bare_at, integer_at}
 use Rattle.ipc_schema.specs.Dictionaries.{Seen, unseen, progress, with_values, key_at, encoding_at}
 use Rattle.ipc_schema.specs.Outer.{outer_within, outer_ids}

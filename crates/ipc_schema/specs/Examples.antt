@@ -5,8 +5,8 @@ use Rattle.std.proofs.Common.{rules, arith}
 use Rattle.std.proofs.lemmas.Str.{IsUtf8-from_ascii, is_utf8-from_IsUtf8}
 use Rattle.nest_memory.specs.TypeTree as types
 use Rattle.nest_memory.specs.TypeTree.{FieldTree, field}
-use Rattle.ipc_words.specs.Words.{offset_at, back_from, table_at, field_place, spend, visit_table, visit_vector, visit_string, tables_at, items_at, text_at}
-use Rattle.ipc_message.specs.Messages.{root_at, front, behind_mark, parts_at, sized_at, message_at}
+use Rattle.ipc_flatbuf.specs.Flatbuffers.{offset_at, back_from, table_at, field_place, spend, visit_table, visit_vector, visit_string, tables_at, items_at, text_at}
+use Rattle.ipc_flatbuf.specs.Messages.{root_at, front, behind_mark, parts_at, sized_at, message_at}
 use Rattle.ipc_schema.specs.Dictionaries.{unseen}
 use Rattle.ipc_schema.specs.FieldRows.{rows_at}
 use Rattle.ipc_schema.specs.Schemas.{SchemaTree, pair_at, metadata_at, integer_at, field_at, keyed_schema_at, stream_keyed_schema_at}

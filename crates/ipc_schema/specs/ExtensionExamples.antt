@@ -5,8 +5,8 @@ use Rattle.std.proofs.Common.{rules, arith}
 use Rattle.std.proofs.lemmas.Str.{IsUtf8-from_ascii, IsAscii-append, is_utf8-from_IsUtf8}
 use Rattle.nest_memory.specs.TypeTree as types
 use Rattle.nest_memory.specs.TypeTree.{FieldTree, field, no_fields, more_fields}
-use Rattle.ipc_model.specs.declared.fault.Fault.TheVariants.{MapEntries}
-use Rattle.ipc_words.specs.Words.{offset_at, back_from, table_at, field_place, spend, visit_table, visit_vector, visit_string, tables_at, items_at, text_at}
+use Rattle.ipc_flatbuf.specs.declared.error.Fault.TheVariants.{MapEntries}
+use Rattle.ipc_flatbuf.specs.Flatbuffers.{offset_at, back_from, table_at, field_place, spend, visit_table, visit_vector, visit_string, tables_at, items_at, text_at}
 use Rattle.ipc_schema.specs.Types.{bare_at, integer_at, fixed_size_binary_at, map_of}
 use Rattle.ipc_schema.specs.Extensions.{extension_name, extension_metadata, field_with_all}
 use Rattle.ipc_schema.specs.Dictionaries.{unseen, progress}

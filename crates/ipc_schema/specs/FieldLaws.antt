@@ -8,14 +8,14 @@ use Rattle.std.proofs.lemmas.Int.{ints}
 use Rattle.std.proofs.lemmas.List.{append-nil, length-append}
 use Rattle.nest_memory.specs.Physical.{integer_tree}
 use Rattle.nest_memory.specs.TypeTree.{Letters, Entries, TypeTree, FieldTree, field, field_type}
-use Rattle.ipc_model.specs.declared.fault.Fault.{Fault}
-use Rattle.ipc_model.specs.declared.fault.NoForm.{NoForm}
-use Rattle.ipc_model.specs.declared.fault.NoForm.TheVariants as reasons
-use Rattle.ipc_words.specs.Words.{number_at, signed_at, offset_at, offset_field, field_place, visit_table, visit_string, text_at, items_at}
-use Rattle.ipc_words.specs.Bytes.{u32_bytes, i64_bytes, string_bytes, together, row_bytes}
-use Rattle.ipc_words.specs.Laws.{From, From-length, From_next, number_in, field_is_past}
-use Rattle.ipc_words.specs.PartLaws.{From_at, offset_in, table_in, visit_in, field_in, field_out, i64_in, flag_back, string_long, string_again}
-use Rattle.ipc_words.specs.RowLaws.{IsRead, row_is_long}
+use Rattle.ipc_flatbuf.specs.declared.error.Fault.{Fault}
+use Rattle.ipc_flatbuf.specs.declared.error.NoForm.{NoForm}
+use Rattle.ipc_flatbuf.specs.declared.error.NoForm.TheVariants as reasons
+use Rattle.ipc_flatbuf.specs.Flatbuffers.{number_at, signed_at, offset_at, offset_field, field_place, visit_table, visit_string, text_at, items_at}
+use Rattle.ipc_flatbuf.specs.Bytes.{u32_bytes, i64_bytes, string_bytes, together, row_bytes}
+use Rattle.ipc_flatbuf.specs.FlatbufferLaws.{From, From-length, From_next, number_in, field_is_past}
+use Rattle.ipc_flatbuf.specs.PartLaws.{From_at, offset_in, table_in, visit_in, field_in, field_out, i64_in, flag_back, string_long, string_again}
+use Rattle.ipc_flatbuf.specs.VectorLaws.{IsRead, row_is_long}
 use Rattle.ipc_schema.specs.FieldRows.{IsReadBy, AreReadBy, row_vector, row_tables}
 use Rattle.ipc_schema.specs.declared.dictionaries.Encoding.{Encoding}
 use Rattle.ipc_schema.specs.Dictionaries.{Values, Seen, Progress, unseen, progress, with_id, with_values, keyed, key_at, encoding_at, dictionary_at}

@@ -3,13 +3,13 @@ use Rattle.std.proofs.Common.{◌≡◌, ℕ, zero, suc, ◌+◌, ◌-◌, ◌*�
 use Rattle.std.specs.Int.{w32}
 use Rattle.std.proofs.lemmas.List.{append-nil, length-append, length-take}
 use Rattle.std.proofs.lemmas.Nat.{from_le_bytes-to_le_bytes_4}
-use Rattle.ipc_model.specs.Reading.{◌>>=◌, Fails}
-use Rattle.ipc_model.specs.declared.fault.Fault.{Fault}
-use Rattle.ipc_words.specs.Words.{number_at, offset_at, visit_vector}
-use Rattle.ipc_words.specs.Bytes.{u32_bytes, zeros, vector_len, offsets, together, row_bytes}
-use Rattle.ipc_words.specs.Laws.{From, From-length, From_next, number_is, offset_is, vector_is}
-use Rattle.ipc_words.specs.PartLaws.{From_at}
-use Rattle.ipc_words.specs.RowLaws.{offsets_long, row_long}
+use Rattle.ipc_flatbuf.specs.Reading.{◌>>=◌, Fails}
+use Rattle.ipc_flatbuf.specs.declared.error.Fault.{Fault}
+use Rattle.ipc_flatbuf.specs.Flatbuffers.{number_at, offset_at, visit_vector}
+use Rattle.ipc_flatbuf.specs.Bytes.{u32_bytes, zeros, vector_len, offsets, together, row_bytes}
+use Rattle.ipc_flatbuf.specs.FlatbufferLaws.{From, From-length, From_next, number_is, offset_is, vector_is}
+use Rattle.ipc_flatbuf.specs.PartLaws.{From_at}
+use Rattle.ipc_flatbuf.specs.VectorLaws.{offsets_long, row_long}
 
 -- the tables that so many offsets in a row point to, each read by read
 unfoldable pub rows_at : {A S : Type 0} → (ℕ → S → Result (A × S) Fault) → List ℕ → ℕ → ℕ → S → Result (List A × S) Fault

@@ -3,9 +3,9 @@ use Rattle.std.specs.Prelude.{◌≡◌, ℕ, zero, suc, ◌^◌, ◌≤◌, ◌
 use Rattle.std.proofs.Common.{inl, inr, arith}
 use Rattle.nest_memory.specs.TypeTree as types
 use Rattle.nest_memory.specs.TypeTree.{Entries, TypeTree, FieldTree, field, field_type, count_fields, is_pair}
-use Rattle.ipc_model.specs.declared.fault.NoForm.{NoForm}
-use Rattle.ipc_model.specs.declared.fault.NoForm.TheVariants as reasons
-use Rattle.ipc_words.specs.Writes.{IsTooLong}
+use Rattle.ipc_flatbuf.specs.declared.error.NoForm.{NoForm}
+use Rattle.ipc_flatbuf.specs.declared.error.NoForm.TheVariants as reasons
+use Rattle.ipc_flatbuf.specs.Writers.{IsTooLong}
 use Rattle.ipc_schema.specs.Types.{is_coarse, are_ids, children_of}
 use Rattle.ipc_schema.specs.Extensions.{extension_name, extension_metadata, has_key, stored, table_type, is_extension}
 use Rattle.ipc_schema.specs.Numbering.{have_dictionary}

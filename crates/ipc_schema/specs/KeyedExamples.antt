@@ -3,8 +3,8 @@ use Rattle.std.specs.Prelude.{◌≡◌, ℕ, ℤ, pos, true, false, List, [], �
 use Rattle.nest_memory.specs.TypeTree as types
 use Rattle.nest_memory.specs.TypeTree.{FieldTree, field, no_fields, more_fields}
 use Rattle.nest_memory.specs.declared.datatypes.IntegerType.TheVariants.{Int8, Int64, UInt32}
-use Rattle.ipc_model.specs.declared.fault.NoForm.TheVariants as reasons
-use Rattle.ipc_words.specs.Bytes.{u32_bytes, i64_bytes, string_bytes, offsets, together, row_bytes}
+use Rattle.ipc_flatbuf.specs.declared.error.NoForm.TheVariants as reasons
+use Rattle.ipc_flatbuf.specs.Bytes.{u32_bytes, i64_bytes, string_bytes, offsets, together, row_bytes}
 use Rattle.ipc_schema.specs.Dictionaries.{Values}
 use Rattle.ipc_schema.specs.DictionaryExamples.{colors, inside, outside}
 use Rattle.ipc_schema.specs.Extensions.{extension_name}

@@ -30,3 +30,10 @@ pub mod ExtensionExamples
 pub mod DictionaryExamples
 pub mod PickedExamples
 pub mod KeyedExamples
+-- What contracts cite.
+pub mod Footers
+pub mod PickedFooters
+pub mod FooterParts
+pub mod FooterBytes
+pub mod FooterLaws
+pub mod FooterExamples

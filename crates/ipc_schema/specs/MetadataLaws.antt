@@ -11,11 +11,11 @@ use Rattle.std.specs.Str.{is_utf8}
 use Rattle.std.proofs.lemmas.Cmp.{nat_list_cmp_total}
 use Rattle.std.proofs.lemmas.List.{length-append, append-nil}
 use Rattle.nest_memory.specs.TypeTree.{Letters, Entries}
-use Rattle.ipc_words.specs.Words.{offset_at, field_place, visit_table, visit_string, items_at, text_at}
-use Rattle.ipc_words.specs.Bytes.{u32_bytes, string_bytes, together}
-use Rattle.ipc_words.specs.Laws.{From, From-length, From_next}
-use Rattle.ipc_words.specs.PartLaws.{From_at, offset_in, table_in, visit_in, field_in, string_long, string_again}
-use Rattle.ipc_words.specs.RowLaws.{IsRead, AreRead, row_again, row_is_long}
+use Rattle.ipc_flatbuf.specs.Flatbuffers.{offset_at, field_place, visit_table, visit_string, items_at, text_at}
+use Rattle.ipc_flatbuf.specs.Bytes.{u32_bytes, string_bytes, together}
+use Rattle.ipc_flatbuf.specs.FlatbufferLaws.{From, From-length, From_next}
+use Rattle.ipc_flatbuf.specs.PartLaws.{From_at, offset_in, table_in, visit_in, field_in, string_long, string_again}
+use Rattle.ipc_flatbuf.specs.VectorLaws.{IsRead, AreRead, row_again, row_is_long}
 use Rattle.ipc_schema.specs.Schemas.{pair_at, with_pairs, metadata_at}
 use Rattle.ipc_schema.specs.SchemaBytes.{pair_bytes, entries_bytes}
 

@@ -7,12 +7,12 @@ use Rattle.nest_memory.specs.TypeTree as types
 use Rattle.nest_memory.specs.TypeTree.{FieldTree, field, no_fields, more_fields}
 use Rattle.nest_memory.specs.declared.datatypes.IntegerType.TheVariants.{Int8}
 use Rattle.nest_memory.specs.declared.datatypes.UnionMode.TheVariants.{Dense, Sparse}
-use Rattle.ipc_model.specs.declared.spans.Span.{Span}
-use Rattle.ipc_model.specs.declared.spans.Step.TheVariants.{Read, Skip}
-use Rattle.ipc_model.specs.declared.fault.Fault.TheVariants.{Version, NoType, UnknownType}
-use Rattle.ipc_message.specs.declared.message.Version.TheVariants.{V4}
-use Rattle.ipc_words.specs.Words.{offset_at, back_from, table_at, field_place, spend, visit_table, visit_vector, visit_string, tables_at, items_at, text_at}
-use Rattle.ipc_message.specs.Messages.{root_at, front, behind_mark, parts_at, sized_at, message_at}
+use Rattle.ipc_flatbuf.specs.declared.projection.Span.{Span}
+use Rattle.ipc_flatbuf.specs.declared.projection.Step.TheVariants.{Read, Skip}
+use Rattle.ipc_flatbuf.specs.declared.error.Fault.TheVariants.{Version, NoType, UnknownType}
+use Rattle.ipc_flatbuf.specs.declared.message.types.Version.TheVariants.{V4}
+use Rattle.ipc_flatbuf.specs.Flatbuffers.{offset_at, back_from, table_at, field_place, spend, visit_table, visit_vector, visit_string, tables_at, items_at, text_at}
+use Rattle.ipc_flatbuf.specs.Messages.{root_at, front, behind_mark, parts_at, sized_at, message_at}
 use Rattle.ipc_schema.specs.Types.{bare_at, integer_at}
 use Rattle.ipc_schema.specs.Dictionaries.{unseen, key_at, encoding_at}
 use Rattle.ipc_schema.specs.FieldRows.{rows_at}

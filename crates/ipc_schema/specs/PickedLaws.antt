@@ -5,18 +5,18 @@ use Rattle.std.specs.List.{list_any}
 use Rattle.std.specs.Int.{w16}
 use Rattle.std.specs.Ordering.{int_eq}
 use Rattle.nest_memory.specs.TypeTree.{FieldTree}
-use Rattle.ipc_model.specs.Reading.{◌>>=◌, check}
-use Rattle.ipc_model.specs.declared.fault.Fault.{Fault}
-use Rattle.ipc_model.specs.declared.fault.Fault.TheVariants.{Endianness}
-use Rattle.ipc_model.specs.declared.spans.Step.{Step}
-use Rattle.ipc_model.specs.declared.spans.Step.TheVariants.{Read}
-use Rattle.ipc_words.specs.Words as words
-use Rattle.ipc_words.specs.Words.{signed_at, offset_at, offset_field, visit_table, items_at}
-use Rattle.ipc_words.specs.RowLaws.{IsRead}
-use Rattle.ipc_message.specs.Messages.{message_at}
-use Rattle.ipc_message.specs.MessageBytes.{metadata_size}
-use Rattle.ipc_message.specs.declared.message.Version as versions
-use Rattle.ipc_message.specs.declared.message.Version.TheVariants.{V4, V5}
+use Rattle.ipc_flatbuf.specs.Reading.{◌>>=◌, check}
+use Rattle.ipc_flatbuf.specs.declared.error.Fault.{Fault}
+use Rattle.ipc_flatbuf.specs.declared.error.Fault.TheVariants.{Endianness}
+use Rattle.ipc_flatbuf.specs.declared.projection.Step.{Step}
+use Rattle.ipc_flatbuf.specs.declared.projection.Step.TheVariants.{Read}
+use Rattle.ipc_flatbuf.specs.Flatbuffers as words
+use Rattle.ipc_flatbuf.specs.Flatbuffers.{signed_at, offset_at, offset_field, visit_table, items_at}
+use Rattle.ipc_flatbuf.specs.VectorLaws.{IsRead}
+use Rattle.ipc_flatbuf.specs.Messages.{message_at}
+use Rattle.ipc_flatbuf.specs.MessageBytes.{metadata_size}
+use Rattle.ipc_flatbuf.specs.declared.message.types.Version as versions
+use Rattle.ipc_flatbuf.specs.declared.message.types.Version.TheVariants.{V4, V5}
 use Rattle.ipc_schema.specs.Dictionaries.{Seen, Progress, unseen, progress}
 use Rattle.ipc_schema.specs.FieldRows.{rows_at}
 use Rattle.ipc_schema.specs.Numbering.{seen_behind_all}

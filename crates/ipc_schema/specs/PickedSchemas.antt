@@ -4,21 +4,21 @@ use Rattle.std.specs.List.{list_any}
 use Rattle.std.specs.Int.{w16}
 use Rattle.std.specs.Ordering.{int_eq}
 use Rattle.nest_memory.specs.TypeTree.{FieldTree}
-use Rattle.ipc_model.specs.Reading.{◌>>=◌, check}
-use Rattle.ipc_model.specs.declared.fault.Fault.{Fault}
-use Rattle.ipc_model.specs.declared.fault.Fault.TheVariants.{Endianness}
-use Rattle.ipc_model.specs.declared.spans.Span.{Span}
-use Rattle.ipc_model.specs.declared.spans.Step.{Step}
-use Rattle.ipc_model.specs.declared.spans.Step.TheVariants.{Read, Skip}
-use Rattle.ipc_words.specs.Words as words
-use Rattle.ipc_words.specs.Words.{signed_at, offset_at, offset_field, visit_table, items_at}
-use Rattle.ipc_message.specs.Messages.{message_at}
-use Rattle.ipc_message.specs.declared.message.Version as versions
+use Rattle.ipc_flatbuf.specs.Reading.{◌>>=◌, check}
+use Rattle.ipc_flatbuf.specs.declared.error.Fault.{Fault}
+use Rattle.ipc_flatbuf.specs.declared.error.Fault.TheVariants.{Endianness}
+use Rattle.ipc_flatbuf.specs.declared.projection.Span.{Span}
+use Rattle.ipc_flatbuf.specs.declared.projection.Step.{Step}
+use Rattle.ipc_flatbuf.specs.declared.projection.Step.TheVariants.{Read, Skip}
+use Rattle.ipc_flatbuf.specs.Flatbuffers as words
+use Rattle.ipc_flatbuf.specs.Flatbuffers.{signed_at, offset_at, offset_field, visit_table, items_at}
+use Rattle.ipc_flatbuf.specs.Messages.{message_at}
+use Rattle.ipc_flatbuf.specs.declared.message.types.Version as versions
 use Rattle.nest_memory.specs.TypeOf.{field_of}
-use Rattle.ipc_schema.specs.declared.picked.PickedSchema.{PickedSchema}
-use Rattle.ipc_schema.specs.declared.picked.Parts.{Parts}
-use Rattle.ipc_schema.specs.declared.picked.Item as declared
-use Rattle.ipc_schema.specs.declared.picked.Item.TheVariants as items
+use Rattle.ipc_schema.specs.declared.projected.PickedSchema.{PickedSchema}
+use Rattle.ipc_schema.specs.declared.projected.Parts.{Parts}
+use Rattle.ipc_schema.specs.declared.projected.Item as declared
+use Rattle.ipc_schema.specs.declared.projected.Item.TheVariants as items
 use Rattle.ipc_schema.specs.Dictionaries.{Seen, Progress, unseen, progress}
 use Rattle.ipc_schema.specs.SeenOf.{seen_of}
 use Rattle.ipc_schema.specs.Schemas.{SchemaTree, metadata_at, field_at, schema_of, schema_parts}

@@ -7,9 +7,9 @@ use Rattle.std.specs.Borrow.{Bor}
 use Rattle.std.specs.declared.cmp.Ordering.{Ordering}
 use Rattle.std.specs.BTreeSet as sets
 use Rattle.nest_memory.specs.TypeTree.{Letters}
-use Rattle.ipc_model.specs.Reading.{◌>>=◌}
-use Rattle.ipc_model.specs.declared.fault.Fault.{Fault}
-use Rattle.ipc_words.specs.Words.{offset_field, visit_table, text_at}
+use Rattle.ipc_flatbuf.specs.Reading.{◌>>=◌}
+use Rattle.ipc_flatbuf.specs.declared.error.Fault.{Fault}
+use Rattle.ipc_flatbuf.specs.Flatbuffers.{offset_field, visit_table, text_at}
 use Rattle.ipc_schema.specs.declared.columns.Columns as declared
 use Rattle.ipc_schema.specs.declared.columns.Picker.{Picker}
 use Rattle.ipc_schema.specs.declared.columns.Columns.TheVariants as columns

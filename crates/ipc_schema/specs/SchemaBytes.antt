@@ -10,9 +10,9 @@ use Rattle.nest_memory.specs.declared.datatypes.IntervalUnit.{IntervalUnit}
 use Rattle.nest_memory.specs.declared.datatypes.IntervalUnit.TheVariants.{YearMonth, DayTime, MonthDayNano}
 use Rattle.nest_memory.specs.declared.datatypes.UnionMode.{UnionMode}
 use Rattle.nest_memory.specs.declared.datatypes.UnionMode.TheVariants.{Dense, Sparse}
-use Rattle.ipc_words.specs.Bytes.{u32_bytes, i32_bytes, i64_bytes, string_bytes, row_bytes, vector_bytes, vector_len, zeros}
-use Rattle.ipc_message.specs.MessageBytes.{message_bytes}
-use Rattle.ipc_message.specs.declared.message.Kind.TheVariants as kinds
+use Rattle.ipc_flatbuf.specs.Bytes.{u32_bytes, i32_bytes, i64_bytes, string_bytes, row_bytes, vector_bytes, vector_len, zeros}
+use Rattle.ipc_flatbuf.specs.MessageBytes.{message_bytes}
+use Rattle.ipc_flatbuf.specs.declared.message.types.Kind.TheVariants as kinds
 use Rattle.ipc_schema.specs.Types.{children_of}
 use Rattle.ipc_schema.specs.declared.dictionaries.Encoding.{Encoding}
 use Rattle.ipc_schema.specs.Extensions.{table_type, all_pairs}

@@ -1,21 +1,21 @@
 -- A schema that is written is read back.
 use Rattle.std.proofs.Common.{◌≡◌, ℕ, ◌+◌, ◌-◌, ◌*◌, ◌^◌, ◌<◌, ◌≤◌, Bool, true, false, List, [], ◌++◌, length, Some, None, Ok, refl, ap, ◌∙◌, subst, append_assoc, arith}
 use Rattle.std.specs.Prelude.{not}
-use Rattle.ipc_model.specs.declared.fault.NoForm.TheVariants as reasons
+use Rattle.ipc_flatbuf.specs.declared.error.NoForm.TheVariants as reasons
 use Rattle.std.proofs.lemmas.List.{length-append}
-use Rattle.ipc_words.specs.Words.{offset_at, field_place, visit_table, items_at}
-use Rattle.ipc_words.specs.Bytes.{u32_bytes}
-use Rattle.ipc_words.specs.Laws.{From, From-length, From_next}
-use Rattle.ipc_words.specs.PartLaws.{From_at, offset_in, table_in, visit_in, field_in, field_out}
-use Rattle.ipc_words.specs.RowLaws.{IsRead, row_is_long}
+use Rattle.ipc_flatbuf.specs.Flatbuffers.{offset_at, field_place, visit_table, items_at}
+use Rattle.ipc_flatbuf.specs.Bytes.{u32_bytes}
+use Rattle.ipc_flatbuf.specs.FlatbufferLaws.{From, From-length, From_next}
+use Rattle.ipc_flatbuf.specs.PartLaws.{From_at, offset_in, table_in, visit_in, field_in, field_out}
+use Rattle.ipc_flatbuf.specs.VectorLaws.{IsRead, row_is_long}
 use Rattle.ipc_schema.specs.FieldRows.{row_vector, row_tables}
 use Rattle.ipc_schema.specs.Dictionaries.{Seen, unseen, progress}
 use Rattle.ipc_schema.specs.Numbering.{total, count_all, have_dictionary, seen_behind_all}
 use Rattle.ipc_schema.specs.NumberingLaws.{none_seen}
-use Rattle.ipc_message.specs.Messages.{message_at}
-use Rattle.ipc_message.specs.MessageBytes.{root_bytes, message_bytes, metadata_size, framed_bytes, padding}
-use Rattle.ipc_message.specs.MessageLaws.{padded, padded_long, padding_long, framed_long, root_long, written_parts, message_again, written_part}
-use Rattle.ipc_message.specs.declared.message.Kind.TheVariants as kinds
+use Rattle.ipc_flatbuf.specs.Messages.{message_at}
+use Rattle.ipc_flatbuf.specs.MessageBytes.{root_bytes, message_bytes, metadata_size, framed_bytes, padding}
+use Rattle.ipc_flatbuf.specs.MessageLaws.{padded, padded_long, padding_long, framed_long, root_long, written_parts, message_again, written_part}
+use Rattle.ipc_flatbuf.specs.declared.message.types.Kind.TheVariants as kinds
 use Rattle.ipc_schema.specs.Schemas.{SchemaTree, metadata_at, field_at, keyed_schema_at, stream_keyed_schema_at}
 use Rattle.ipc_schema.specs.Forms.{unless, keyed_form, fields_form}
 use Rattle.ipc_schema.specs.TypeLaws.{both}

@@ -6,14 +6,14 @@ use Rattle.std.specs.Ordering.{nat_cmp, int_eq}
 use Rattle.std.specs.Int.{w8, w16}
 use Rattle.nest_memory.specs.TypeOf.{entries_of, field_of}
 use Rattle.nest_memory.specs.TypeTree.{Letters, Entries, TypeTree, FieldTree}
-use Rattle.ipc_model.specs.Reading.{◌>>=◌, check}
-use Rattle.ipc_model.specs.declared.fault.Fault.{Fault}
-use Rattle.ipc_model.specs.declared.fault.Fault.TheVariants.{NoSchema, BodyLength, Endianness, Depth, ChildCount, Metadata}
-use Rattle.ipc_words.specs.Words as words
-use Rattle.ipc_words.specs.Words.{number_at, signed_at, offset_field, visit_table, text_at, items_at, tables_at}
-use Rattle.ipc_message.specs.Messages.{Parts, message_at}
-use Rattle.ipc_message.specs.declared.message.Kind.{Kind}
-use Rattle.ipc_message.specs.declared.message.Kind.TheVariants as kinds
+use Rattle.ipc_flatbuf.specs.Reading.{◌>>=◌, check}
+use Rattle.ipc_flatbuf.specs.declared.error.Fault.{Fault}
+use Rattle.ipc_flatbuf.specs.declared.error.Fault.TheVariants.{NoSchema, BodyLength, Endianness, Depth, ChildCount, Metadata}
+use Rattle.ipc_flatbuf.specs.Flatbuffers as words
+use Rattle.ipc_flatbuf.specs.Flatbuffers.{number_at, signed_at, offset_field, visit_table, text_at, items_at, tables_at}
+use Rattle.ipc_flatbuf.specs.Messages.{Parts, message_at}
+use Rattle.ipc_flatbuf.specs.declared.message.types.Kind.{Kind}
+use Rattle.ipc_flatbuf.specs.declared.message.types.Kind.TheVariants as kinds
 use Rattle.ipc_schema.specs.declared.schema.Schema.{Schema}
 use Rattle.ipc_schema.specs.declared.schema.KeyedSchema.{KeyedSchema}
 use Rattle.ipc_schema.specs.declared.dictionaries.Encoding.{Encoding}

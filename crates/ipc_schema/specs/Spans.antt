@@ -4,12 +4,12 @@ use Rattle.std.specs.Prelude.{ℕ, zero, suc, ◌+◌, ◌≤◌, pos, Bool, tru
 use Rattle.std.specs.Int.{w8, w16}
 use Rattle.nest_memory.specs.declared.datatypes.UnionMode.{UnionMode}
 use Rattle.nest_memory.specs.declared.datatypes.UnionMode.TheVariants.{Dense, Sparse}
-use Rattle.ipc_model.specs.Reading.{◌>>=◌}
-use Rattle.ipc_model.specs.declared.fault.Fault.{Fault}
-use Rattle.ipc_model.specs.declared.fault.Fault.TheVariants.{NoType, UnknownType, TypeRange, Depth}
-use Rattle.ipc_model.specs.declared.spans.Span.{Span}
-use Rattle.ipc_words.specs.Words as words
-use Rattle.ipc_words.specs.Words.{natural, number_at, signed_at, offset_at, offset_field, visit_table, items_at}
+use Rattle.ipc_flatbuf.specs.Reading.{◌>>=◌}
+use Rattle.ipc_flatbuf.specs.declared.error.Fault.{Fault}
+use Rattle.ipc_flatbuf.specs.declared.error.Fault.TheVariants.{NoType, UnknownType, TypeRange, Depth}
+use Rattle.ipc_flatbuf.specs.declared.projection.Span.{Span}
+use Rattle.ipc_flatbuf.specs.Flatbuffers as words
+use Rattle.ipc_flatbuf.specs.Flatbuffers.{natural, number_at, signed_at, offset_at, offset_field, visit_table, items_at}
 use Rattle.ipc_schema.specs.Types.{mode_of}
 
 -- ---- sums

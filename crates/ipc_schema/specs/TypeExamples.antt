@@ -7,7 +7,7 @@ use Rattle.nest_memory.specs.TypeTree as types
 use Rattle.nest_memory.specs.TypeTree.{Letters, TypeTree, field}
 use Rattle.nest_memory.specs.declared.datatypes.TimeUnit.TheVariants.{Second, Millisecond, Microsecond, Nanosecond}
 use Rattle.nest_memory.specs.declared.datatypes.IntervalUnit.TheVariants.{YearMonth, DayTime, MonthDayNano}
-use Rattle.ipc_words.specs.Words.{offset_at, back_from, table_at, field_place, spend, visit_table, visit_vector, visit_string, tables_at, items_at, text_at}
+use Rattle.ipc_flatbuf.specs.Flatbuffers.{offset_at, back_from, table_at, field_place, spend, visit_table, visit_vector, visit_string, tables_at, items_at, text_at}
 use Rattle.ipc_schema.specs.Types.{decimal_at, date_at, time_at, zone_at, timestamp_at, interval_at, duration_at, fixed_size_binary_at}
 use Rattle.ipc_schema.specs.Dictionaries.{unseen, progress}
 use Rattle.ipc_schema.specs.FieldRows.{rows_at}

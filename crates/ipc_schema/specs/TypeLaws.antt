@@ -21,13 +21,13 @@ use Rattle.nest_memory.specs.declared.datatypes.IntervalUnit.{IntervalUnit}
 use Rattle.nest_memory.specs.declared.datatypes.IntervalUnit.TheVariants.{YearMonth, DayTime, MonthDayNano}
 use Rattle.nest_memory.specs.declared.datatypes.UnionMode.{UnionMode}
 use Rattle.nest_memory.specs.declared.datatypes.UnionMode.TheVariants.{Dense, Sparse}
-use Rattle.ipc_model.specs.declared.fault.NoForm.{NoForm}
-use Rattle.ipc_model.specs.declared.fault.NoForm.TheVariants as reasons
-use Rattle.ipc_words.specs.Words.{number_at, signed_at, offset_at, field_place, visit_table, visit_string, vector_at}
-use Rattle.ipc_words.specs.Bytes.{u32_bytes, i32_bytes, string_bytes, vector_bytes, vector_len, zeros}
-use Rattle.ipc_words.specs.Laws.{From, number_is, offset_is, field_is_past}
-use Rattle.ipc_words.specs.PartLaws.{From_at, table_in, visit_in, field_in, i32_in, flag_back, string_long, string_again}
-use Rattle.ipc_words.specs.RowLaws.{IsRead, IsStruct, structs_long, vector_again}
+use Rattle.ipc_flatbuf.specs.declared.error.NoForm.{NoForm}
+use Rattle.ipc_flatbuf.specs.declared.error.NoForm.TheVariants as reasons
+use Rattle.ipc_flatbuf.specs.Flatbuffers.{number_at, signed_at, offset_at, field_place, visit_table, visit_string, vector_at}
+use Rattle.ipc_flatbuf.specs.Bytes.{u32_bytes, i32_bytes, string_bytes, vector_bytes, vector_len, zeros}
+use Rattle.ipc_flatbuf.specs.FlatbufferLaws.{From, number_is, offset_is, field_is_past}
+use Rattle.ipc_flatbuf.specs.PartLaws.{From_at, table_in, visit_in, field_in, i32_in, flag_back, string_long, string_again}
+use Rattle.ipc_flatbuf.specs.VectorLaws.{IsRead, IsStruct, structs_long, vector_again}
 use Rattle.ipc_schema.specs.declared.tags.LeafTag.{LeafTag}
 use Rattle.ipc_schema.specs.declared.tags.LeafTag.TheVariants as leaves
 use Rattle.ipc_schema.specs.declared.tags.Tag.{Tag}

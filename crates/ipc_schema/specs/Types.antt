@@ -14,11 +14,11 @@ use Rattle.nest_memory.specs.declared.datatypes.IntervalUnit.{IntervalUnit}
 use Rattle.nest_memory.specs.declared.datatypes.IntervalUnit.TheVariants.{YearMonth, DayTime, MonthDayNano}
 use Rattle.nest_memory.specs.declared.datatypes.UnionMode.{UnionMode}
 use Rattle.nest_memory.specs.declared.datatypes.UnionMode.TheVariants.{Dense, Sparse}
-use Rattle.ipc_model.specs.Reading.{◌>>=◌, check}
-use Rattle.ipc_model.specs.declared.fault.Fault.{Fault}
-use Rattle.ipc_model.specs.declared.fault.Fault.TheVariants.{NoType, UnknownType, UnsupportedType, TypeRange, UnionIds, ChildCount, MapEntries}
-use Rattle.ipc_words.specs.Words as words
-use Rattle.ipc_words.specs.Words.{natural, number_at, signed_at, offset_field, visit_table, visit_string, vector_at}
+use Rattle.ipc_flatbuf.specs.Reading.{◌>>=◌, check}
+use Rattle.ipc_flatbuf.specs.declared.error.Fault.{Fault}
+use Rattle.ipc_flatbuf.specs.declared.error.Fault.TheVariants.{NoType, UnknownType, UnsupportedType, TypeRange, UnionIds, ChildCount, MapEntries}
+use Rattle.ipc_flatbuf.specs.Flatbuffers as words
+use Rattle.ipc_flatbuf.specs.Flatbuffers.{natural, number_at, signed_at, offset_field, visit_table, visit_string, vector_at}
 use Rattle.ipc_schema.specs.declared.tags.LeafTag.{LeafTag}
 use Rattle.ipc_schema.specs.declared.tags.LeafTag.TheVariants as leaves
 use Rattle.ipc_schema.specs.declared.tags.Tag.{Tag}

@@ -3,11 +3,11 @@ use Rattle.std.specs.Prelude.{ℕ, zero, suc, Bool, true, false, not, ◌||◌, 
 use Rattle.std.specs.List.{list_any}
 use Rattle.nest_memory.specs.TypeTree as types
 use Rattle.nest_memory.specs.TypeTree.{TypeTree, FieldTree, field_type}
-use Rattle.ipc_model.specs.Reading.{check}
-use Rattle.ipc_model.specs.declared.fault.Fault.{Fault}
-use Rattle.ipc_model.specs.declared.fault.Fault.TheVariants as faults
-use Rattle.ipc_message.specs.declared.message.Version as versions
-use Rattle.ipc_message.specs.declared.message.Version.TheVariants.{V4, V5}
+use Rattle.ipc_flatbuf.specs.Reading.{check}
+use Rattle.ipc_flatbuf.specs.declared.error.Fault.{Fault}
+use Rattle.ipc_flatbuf.specs.declared.error.Fault.TheVariants as faults
+use Rattle.ipc_flatbuf.specs.declared.message.types.Version as versions
+use Rattle.ipc_flatbuf.specs.declared.message.types.Version.TheVariants.{V4, V5}
 use Rattle.ipc_schema.specs.Extensions.{table_type}
 use Rattle.ipc_schema.specs.Types.{children_of}
 

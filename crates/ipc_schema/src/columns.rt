@@ -3,11 +3,11 @@ ghost use Rattle.std.specs.Prelude.{◌≡◌, ◌<◌, ◌^◌, length, List, �
 ghost use Rattle.std.specs.Ordering.{nat_cmp};
 ghost use Rattle.std.specs.BTreeSet.{contains as set_contains, IsFromIterResult};
 ghost use Rattle.std.specs.Borrow.{Bor};
-ghost use Rattle.ipc_model.specs.Reading.{Spells};
+ghost use Rattle.ipc_flatbuf.specs.Reading.{Spells};
 ghost use Rattle.ipc_schema.specs.Picks.{picks_of, places_in, names_in, is_among, is_named, text_cmp, name_at as name_at_lem, is_picked_at as is_picked_at_lem, IsMade};
 
-use ipc_model::Fault;
-use ipc_words::{offset_field, text_at, visit_table};
+use ipc_flatbuf::Fault;
+use ipc_flatbuf::{offset_field, text_at, visit_table};
 use std::alloc::{AllocError, Global};
 use std::collections::BTreeSet;
 

@@ -1,7 +1,7 @@
 //! How fields are encoded by dictionaries, and what their ids name.
 ghost use Rattle.std.specs.Prelude.{◌≡◌, ◌<◌, ◌^◌, length, suc, drop, Ok, IfOk, OnOk, option_map};
 ghost use Rattle.nest_memory.specs.TypeOf.{type_of};
-ghost use Rattle.ipc_model.specs.Reading.{Gives};
+ghost use Rattle.ipc_flatbuf.specs.Reading.{Gives};
 ghost use Rattle.ipc_schema.specs.Dictionaries.{key_at as key_at_lem, encoding_at as encoding_at_lem, dictionary_at as dictionary_at_lem, keyed as keyed_lem, unseen, with_id as with_id_lem, with_name, same_values as same_values_lem, name_values as name_values_lem, with_values as with_values_lem};
 ghost use Rattle.ipc_schema.specs.SeenOf.{values_of, seen_of};
 ghost use Rattle.std.specs.Map.{lookup};
@@ -9,8 +9,8 @@ ghost use Rattle.std.specs.BTreeMap.{is_at};
 ghost use Rattle.std.specs.Ordering.{int_cmp};
 
 use crate::types::integer_at;
-use ipc_model::Fault;
-use ipc_words::{i16_field, i64_field, offset_field, u8_field, visit_table};
+use ipc_flatbuf::Fault;
+use ipc_flatbuf::{i16_field, i64_field, offset_field, u8_field, visit_table};
 use nest_memory::datatypes::{DataType, IntegerType};
 use std::alloc::{AllocError, Global};
 use std::collections::BTreeMap;

@@ -3,7 +3,7 @@ ghost use Rattle.std.specs.Prelude.{◌≡◌, ◌≤◌, ◌++◌, length, map,
 ghost use Rattle.std.specs.List.{list_any};
 ghost use Rattle.nest_memory.specs.Physical.{integer_tree};
 ghost use Rattle.nest_memory.specs.TypeOf.{type_of, field_of};
-ghost use Rattle.ipc_words.specs.Writes.{IsTooLong};
+ghost use Rattle.ipc_flatbuf.specs.Writers.{IsTooLong};
 ghost use Rattle.ipc_schema.specs.Extensions.{stored as stored_lem};
 ghost use Rattle.ipc_schema.specs.Forms.{are_plain as are_plain_lem, can_encode as can_encode_lem};
 ghost use Rattle.ipc_schema.specs.Numbering.{keys_of, encoding_of as encoding_of_lem, behind_own, has_dictionary as has_dictionary_lem};
@@ -11,8 +11,8 @@ ghost use Rattle.ipc_schema.specs.SchemaBytes.{type_bytes, encoding_head, encodi
 
 use crate::dictionaries::Encoding;
 use crate::type_writing::{children_of, put_two_fields, stored, table_type};
-use ipc_model::NoForm;
-use ipc_words::put_i64;
+use ipc_flatbuf::NoForm;
+use ipc_flatbuf::put_i64;
 use nest_memory::datatypes::{DataType, Field, IntegerType};
 use std::alloc::AllocError;
 

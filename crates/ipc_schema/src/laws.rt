@@ -1,6 +1,6 @@
 //! Laws and examples of what is read, as functions with empty bodies.
 ghost use Rattle.std.specs.Prelude.{◌≡◌, ◌<◌, ◌^◌, ◌++◌, List, ℕ, ℤ, false, [], ◌∷◌, drop, Ok};
-ghost use Rattle.ipc_message.specs.MessageBytes.{metadata_size};
+ghost use Rattle.ipc_flatbuf.specs.MessageBytes.{metadata_size};
 ghost use Rattle.ipc_schema.specs.Examples.{worked_message, worked_tree};
 ghost use Rattle.ipc_schema.specs.NestedExamples.{AreNested, AreMaps, AreUnions};
 ghost use Rattle.ipc_schema.specs.ExtensionExamples.{AreExtended, ArePlain};

@@ -2,10 +2,10 @@
 ghost use Rattle.std.specs.Prelude.{◌≡◌, Ok, option_map};
 ghost use Rattle.nest_memory.specs.TypeTree as types;
 ghost use Rattle.nest_memory.specs.TypeOf.{type_of};
-ghost use Rattle.ipc_model.specs.Reading.{Gives};
+ghost use Rattle.ipc_flatbuf.specs.Reading.{Gives};
 ghost use Rattle.ipc_schema.specs.Leaves.{leaf_tree};
 
-use ipc_model::Fault;
+use ipc_flatbuf::Fault;
 use nest_memory::datatypes::{DataType, IntegerType, IntervalUnit, TimeUnit};
 use std::alloc::Global;
 

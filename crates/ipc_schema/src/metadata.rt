@@ -4,17 +4,17 @@ ghost use Rattle.std.specs.Str.{is_utf8};
 ghost use Rattle.std.specs.String.{string_cmp};
 ghost use Rattle.std.specs.BTreeMap.{IsOrdered};
 ghost use Rattle.nest_memory.specs.TypeOf.{entries_of, text_of};
-ghost use Rattle.ipc_model.specs.Reading.{Gives, Spells};
-ghost use Rattle.ipc_words.specs.Bytes.{together, parts_of};
-ghost use Rattle.ipc_words.specs.Words.{tables_at};
-ghost use Rattle.ipc_words.specs.Writes.{IsTooLong};
+ghost use Rattle.ipc_flatbuf.specs.Reading.{Gives, Spells};
+ghost use Rattle.ipc_flatbuf.specs.Bytes.{together, parts_of};
+ghost use Rattle.ipc_flatbuf.specs.Flatbuffers.{tables_at};
+ghost use Rattle.ipc_flatbuf.specs.Writers.{IsTooLong};
 ghost use Rattle.ipc_schema.specs.Schemas.{pair_at as pair_at_lem, metadata_at as metadata_at_lem, with_all};
 ghost use Rattle.ipc_schema.specs.Extensions.{extension_name, value_at, has_key as has_key_lem, without, with_pair as with_pair_lem, with_text};
 ghost use Rattle.ipc_schema.specs.SchemaBytes.{pair_bytes, entries_bytes};
 ghost use Rattle.ipc_schema.specs.MetadataLaws.{AreTexts};
 
-use ipc_model::{Fault, NoForm};
-use ipc_words::{
+use ipc_flatbuf::{Fault, NoForm};
+use ipc_flatbuf::{
     Items, items_at, offset_at, offset_field, put_offset, put_row, put_string, text_at, visit_table,
 };
 use nest_memory::datatypes::Metadata;

@@ -1,18 +1,18 @@
 //! The tables of nested types, as they are read.
 ghost use Rattle.std.specs.Prelude.{◌≡◌, ◌<◌, ◌≤◌, ◌^◌, ◌+◌, ◌*◌, ◌++◌, ◌∷◌, [], length, option_map, OnOk, IfErr};
-ghost use Rattle.ipc_model.specs.declared.fault.Fault.TheVariants.{Memory};
+ghost use Rattle.ipc_flatbuf.specs.declared.error.Fault.TheVariants.{Memory};
 ghost use Rattle.std.specs.Int.{w32, cast_signed};
 ghost use Rattle.std.specs.List.{list_all};
-ghost use Rattle.ipc_model.specs.Reading.{Gives, Spells};
-ghost use Rattle.ipc_words.specs.Words.{signed_at, structs_at};
+ghost use Rattle.ipc_flatbuf.specs.Reading.{Gives, Spells};
+ghost use Rattle.ipc_flatbuf.specs.Flatbuffers.{signed_at, structs_at};
 ghost use Rattle.ipc_schema.specs.Types.{fixed_size_list, map as map_shape, union, fixed_size_list_at as fixed_size_list_at_lem, map_at as map_at_lem, ids_at as ids_at_lem, mode_of as mode_of_lem, is_id as is_id_lem, are_ids as are_ids_lem, union_at as union_at_lem, shape_at as shape_at_lem};
 ghost use Rattle.ipc_schema.specs.Shapes.{shape_tree};
 
 use crate::shapes::Shape;
 use crate::tags::Tag;
 use crate::types::{size_of, type_at};
-use ipc_model::Fault;
-use ipc_words::{
+use ipc_flatbuf::Fault;
+use ipc_flatbuf::{
     Items, i16_field, i32_field, natural, offset_field, u8_field, u32_at, visit_table, visit_vector,
 };
 use nest_memory::datatypes::UnionMode;
@@ -63,7 +63,7 @@ fn ids_of(alloc: Global, bytes: &[u8], items: Items) -> Result<Vec<i32>, Fault>
 }
 
 // The ids of a union's fields, where it has some.
-#[tactic(auto, unfolding(crate::specs::Types::ids_at, ipc_words::specs::Words::vector_at, ipc_words::specs::Words::items_at))]
+#[tactic(auto, unfolding(crate::specs::Types::ids_at, ipc_flatbuf::specs::Flatbuffers::vector_at, ipc_flatbuf::specs::Flatbuffers::items_at))]
 fn ids_at(
     alloc: Global,
     bytes: &[u8],

@@ -2,12 +2,12 @@
 ghost use Rattle.std.specs.Prelude.{◌≡◌, ◌<◌, ◌≤◌, ◌^◌, ◌+◌, ◌*◌, map, length, IfOk, IfSome, Ok, string_bytes};
 ghost use Rattle.nest_memory.specs.TypeOf.{entries_of, field_of, type_of};
 ghost use Rattle.ipc_schema.specs.Extensions.{field_with_all};
-ghost use Rattle.ipc_model.specs.Reading.{Gives, Spells, check};
-ghost use Rattle.ipc_model.specs.declared.fault.Fault.TheVariants.{ChildCount};
+ghost use Rattle.ipc_flatbuf.specs.Reading.{Gives, Spells, check};
+ghost use Rattle.ipc_flatbuf.specs.declared.error.Fault.TheVariants.{ChildCount};
 ghost use Rattle.ipc_schema.specs.FieldRows.{rows_at};
 ghost use Rattle.ipc_schema.specs.Dictionaries.{progress};
 ghost use Rattle.ipc_schema.specs.SeenOf.{seen_of};
-ghost use Rattle.ipc_message.specs.Messages.{parts_of, message_of};
+ghost use Rattle.ipc_flatbuf.specs.Messages.{parts_of, message_of};
 ghost use Rattle.ipc_schema.specs.Types.{can_have as can_have_lem, with_children as with_children_lem};
 ghost use Rattle.ipc_schema.specs.Shapes.{shape_tree};
 ghost use Rattle.ipc_schema.specs.Schemas.{field_of_type, field_over as field_over_lem, field_at as field_at_lem, keyed_schema_at, schema_parts, stream_keyed_schema_at, keyed_schema_of};
@@ -19,9 +19,9 @@ use crate::schema::{KeyedSchema, Schema};
 use crate::shapes::{Shape, can_have, with_children};
 use crate::tags::type_place;
 use crate::unions::in_version;
-use ipc_message::{Kind, Message, next_message};
-use ipc_model::Fault;
-use ipc_words::{
+use ipc_flatbuf::message::{Kind, Message, next_message};
+use ipc_flatbuf::Fault;
+use ipc_flatbuf::{
     Items, i16_field, items_at, offset_at, offset_field, text_at, u8_field, visit_table,
 };
 use nest_memory::datatypes::{DataType, Field, Metadata};

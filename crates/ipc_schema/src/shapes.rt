@@ -2,12 +2,12 @@
 ghost use Rattle.std.specs.Prelude.{◌≡◌, map};
 ghost use Rattle.nest_memory.specs.TypeOf.{type_of, field_of};
 ghost use Rattle.nest_memory.specs.TypeTree.{is_pair as is_pair_lem};
-ghost use Rattle.ipc_model.specs.Reading.{Gives};
+ghost use Rattle.ipc_flatbuf.specs.Reading.{Gives};
 ghost use Rattle.ipc_schema.specs.Types.{can_have as can_have_lem, only as only_lem, map_with as map_with_lem, with_children as with_children_lem};
 ghost use Rattle.ipc_schema.specs.Shapes.{shape_tree};
 
 use crate::leaves::{Leaf, data_type_of};
-use ipc_model::Fault;
+use ipc_flatbuf::Fault;
 use nest_memory::datatypes::{DataType, Field, UnionMode};
 use std::alloc::Global;
 

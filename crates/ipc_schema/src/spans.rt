@@ -1,11 +1,11 @@
 //! Fields that are not read: what they take in each batch.
 ghost use Rattle.std.specs.Prelude.{◌≡◌, ◌<◌, ◌≤◌, ◌^◌, ◌+◌, ◌*◌, length, IfOk, Ok};
-ghost use Rattle.ipc_words.specs.Words.{visit_table as visit_table_lem, items_at as items_at_lem};
+ghost use Rattle.ipc_flatbuf.specs.Flatbuffers.{visit_table as visit_table_lem, items_at as items_at_lem};
 ghost use Rattle.ipc_schema.specs.Spans.{IsPaid, no_span as no_span_lem, plus as plus_lem, table_place as table_place_lem, is_union_tag as is_union_tag_lem, is_view_tag as is_view_tag_lem, plain_buffers as plain_buffers_lem, mode_buffers as mode_buffers_lem, union_buffers as union_buffers_lem, own_buffers as own_buffers_lem, span_with as span_with_lem, spans_at as spans_at_lem, span_over as span_over_lem, span_at as span_at_lem};
 
 use crate::nested::mode_of;
-use ipc_model::{Fault, Span};
-use ipc_words::{
+use ipc_flatbuf::{Fault, Span};
+use ipc_flatbuf::{
     Items, Table, i16_field, items_at, natural, offset_at, offset_field, u8_field, visit_table,
 };
 use nest_memory::datatypes::UnionMode;

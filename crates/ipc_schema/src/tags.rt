@@ -2,7 +2,7 @@
 ghost use Rattle.std.specs.Prelude.{◌≡◌};
 ghost use Rattle.ipc_schema.specs.Types.{known_tag as known_tag_lem, tag_of as tag_of_lem, type_place as type_place_lem};
 
-use ipc_model::Fault;
+use ipc_flatbuf::Fault;
 
 /// The types without children, by their names in the union `Type` of `Schema.fbs` of the Arrow format.
 #[derive(Clone, Copy, Debug, PartialEq, Eq)]

@@ -2,8 +2,8 @@
 ghost use Rattle.std.specs.Prelude.{◌≡◌, ◌<◌, ◌^◌, ◌++◌, length, map, option_map, OnOk, IfErr, Ok};
 ghost use Rattle.std.specs.List.{flat_map};
 ghost use Rattle.nest_memory.specs.TypeOf.{type_of, text_of, field_of};
-ghost use Rattle.ipc_words.specs.Bytes.{i32_bytes};
-ghost use Rattle.ipc_words.specs.Writes.{IsTooLong};
+ghost use Rattle.ipc_flatbuf.specs.Bytes.{i32_bytes};
+ghost use Rattle.ipc_flatbuf.specs.Writers.{IsTooLong};
 ghost use Rattle.ipc_schema.specs.Extensions.{stored as stored_lem, table_type as table_type_lem, is_extension as is_extension_lem};
 ghost use Rattle.ipc_schema.specs.Types.{children_of as children_of_lem};
 ghost use Rattle.ipc_schema.specs.Forms.{then_form, unless as unless_lem, number_form as number_form_lem, size_form as size_form_lem, type_form as type_form_lem};
@@ -13,8 +13,8 @@ ghost use Rattle.ipc_schema.specs.TypeLaws.{IsZone, TypeFits, AreFew};
 use crate::nested::are_ids;
 use crate::shapes::is_pair;
 use crate::types::is_coarse;
-use ipc_model::NoForm;
-use ipc_words::{put_i32, put_string, put_u32, put_zeros};
+use ipc_flatbuf::NoForm;
+use ipc_flatbuf::{put_i32, put_string, put_u32, put_zeros};
 use nest_memory::datatypes::{DataType, Field, IntervalUnit, TimeUnit, UnionMode};
 use std::alloc::AllocError;
 use std::slice;
@@ -275,7 +275,7 @@ fn put_each_id(out: &mut Vec<u8>, ids: &[i32]) -> Result<(), AllocError>
 }
 
 // Appends a vector of ids.
-#[tactic(auto, unfolding(crate::specs::SchemaBytes::ids_bytes, ipc_words::specs::Bytes::vector_bytes))]
+#[tactic(auto, unfolding(crate::specs::SchemaBytes::ids_bytes, ipc_flatbuf::specs::Bytes::vector_bytes))]
 fn put_ids(out: &mut Vec<u8>, ids: &[i32]) -> Result<(), AllocError>
     requires { length ids.now < 128 }
     ensures { OnOk result (out.new.items ≡ out.old.items ++ ids_bytes ids.now) }

@@ -1,13 +1,13 @@
 //! The tables of types without children, as they are read.
 ghost use Rattle.std.specs.Prelude.{◌≡◌, ◌<◌, ◌^◌, length, option_map};
-ghost use Rattle.ipc_model.specs.Reading.{Spells};
+ghost use Rattle.ipc_flatbuf.specs.Reading.{Spells};
 ghost use Rattle.ipc_schema.specs.Leaves.{leaf_tree};
 ghost use Rattle.ipc_schema.specs.Types.{bare_at as bare_at_lem, integer_of as integer_of_lem, integer_at as integer_at_lem, decimal_of as decimal_of_lem, decimal_at as decimal_at_lem, date_of as date_of_lem, date_at as date_at_lem, unit_of as unit_of_lem, is_coarse as is_coarse_lem, time_of as time_of_lem, time_at as time_at_lem, zone_at as zone_at_lem, timestamp_at as timestamp_at_lem, interval_of as interval_of_lem, interval_at as interval_at_lem, duration_at as duration_at_lem, size_of as size_of_lem, fixed_size_binary_at as fixed_size_binary_at_lem, type_at as type_at_lem};
 
 use crate::leaves::Leaf;
 use crate::tags::LeafTag;
-use ipc_model::Fault;
-use ipc_words::{i16_field, i32_field, natural, offset_field, u8_field, visit_string, visit_table};
+use ipc_flatbuf::Fault;
+use ipc_flatbuf::{i16_field, i32_field, natural, offset_field, u8_field, visit_string, visit_table};
 use nest_memory::datatypes::{IntegerType, IntervalUnit, TimeUnit};
 
 #[tactic(auto, unfolding(crate::specs::Types::bare_at))]

@@ -5,8 +5,8 @@ ghost use Rattle.nest_memory.specs.TypeOf.{type_of, field_of};
 ghost use Rattle.ipc_schema.specs.Unions.{is_union as is_union_lem, field_has_union as field_has_union_lem, have_union, in_version as in_version_lem};
 
 use crate::type_writing::{children_of, table_type};
-use ipc_message::Version;
-use ipc_model::Fault;
+use ipc_flatbuf::message::Version;
+use ipc_flatbuf::Fault;
 use nest_memory::datatypes::{DataType, Field};
 
 fn is_union(data_type: &DataType) -> bool

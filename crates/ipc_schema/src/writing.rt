@@ -5,11 +5,11 @@ ghost use Rattle.std.specs.List.{AllByRecursion};
 ghost use Rattle.std.specs.Str.{is_utf8};
 ghost use Rattle.std.specs.String.{string_cmp};
 ghost use Rattle.nest_memory.specs.TypeOf.{type_of, field_of, entries_of};
-ghost use Rattle.ipc_words.specs.Bytes.{together, parts_of};
-ghost use Rattle.ipc_words.specs.Writes.{IsTooLong};
-ghost use Rattle.ipc_words.specs.RowLaws.{IsRead};
-ghost use Rattle.ipc_message.specs.MessageBytes.{message_bytes, metadata_size};
-ghost use Rattle.ipc_message.specs.declared.message.Kind.TheVariants.{Schema as SchemaKind};
+ghost use Rattle.ipc_flatbuf.specs.Bytes.{together, parts_of};
+ghost use Rattle.ipc_flatbuf.specs.Writers.{IsTooLong};
+ghost use Rattle.ipc_flatbuf.specs.VectorLaws.{IsRead};
+ghost use Rattle.ipc_flatbuf.specs.MessageBytes.{message_bytes, metadata_size};
+ghost use Rattle.ipc_flatbuf.specs.declared.message.types.Kind.TheVariants.{Schema as SchemaKind};
 ghost use Rattle.ipc_schema.specs.Schemas.{schema_of, keyed_schema_at, stream_keyed_schema_at};
 ghost use Rattle.ipc_schema.specs.Dictionaries.{unseen};
 ghost use Rattle.ipc_schema.specs.Numbering.{total, count_keyed};
@@ -31,9 +31,9 @@ use crate::schema::Schema;
 use crate::type_writing::{
     children_of, is_extension, put_type, stored, table_type, type_form, type_number,
 };
-use ipc_message::{Kind, put_message};
-use ipc_model::NoForm;
-use ipc_words::{put_offset, put_row, put_string};
+use ipc_flatbuf::message::{Kind, put_message};
+use ipc_flatbuf::NoForm;
+use ipc_flatbuf::{put_offset, put_row, put_string};
 use nest_memory::datatypes::{DataType, Field, Metadata};
 use std::alloc::{AllocError, Global};
 

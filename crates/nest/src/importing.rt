@@ -1,11 +1,11 @@
 //! Lines of JSON as a file or a stream, batch by batch where the output cannot be the input.
 use crate::output::{Line, Output, create, settle};
 use crate::{is, status};
-use nest_import::{Unimported, import};
-use nest_look::fault::Fault;
+use cli_write::import::{Unimported, import};
+use cli_rows::whole::error::Fault;
 use nest_memory::datatypes::{DataType, Field};
-use nest_parse::parse_type;
-use nest_words::{Import, form_of};
+use type_text::parse_type;
+use cli_args::{Import, form_of};
 use std::io::{IsTerminal, Read, Write};
 use std::process::ExitCode;
 use std::{fs, io};

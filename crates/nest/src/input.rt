@@ -1,10 +1,10 @@
 //! What is read batch by batch: a file, or standard input.
 use crate::is;
-use ipc_device::SeekRead;
-use nest_batches::{is_file, read_beginning};
-use nest_compare::Input;
-use nest_look::fault::Fault;
-use nest_look::running::read_input;
+use ipc_io::SeekRead;
+use cli_read::batches::{is_file, read_beginning};
+use cli_read::compare::Input;
+use cli_rows::whole::error::Fault;
+use cli_rows::whole::running::read_input;
 use std::fs::File;
 use std::io::{Chain, Cursor, ErrorKind, Read, Seek, SeekFrom, StdinLock};
 use std::rt::Files;

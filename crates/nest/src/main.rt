@@ -13,13 +13,13 @@ use importing::from_json;
 use input::open_input;
 use ipc_schema::Columns;
 use joining::concat;
-use nest_batches::{Asked, Stop, answer_file, answer_stream, in_order};
-use nest_compare::{Input, Uncompared, compare};
-use nest_copying::Taken;
-use nest_look::comparing::{Difference, difference_line};
-use nest_look::fault::Fault;
-use nest_look::running::write_bytes;
-use nest_words::{Request, parse_choice, parse_import, parse_names, parse_options, parse_request};
+use cli_read::batches::{Asked, Stop, answer_file, answer_stream, in_order};
+use cli_read::compare::{Input, Uncompared, compare};
+use cli_write::copy::Taken;
+use cli_rows::whole::comparing::{Difference, difference_line};
+use cli_rows::whole::error::Fault;
+use cli_rows::whole::running::write_bytes;
+use cli_args::{Request, parse_choice, parse_import, parse_names, parse_options, parse_request};
 use std::io::ErrorKind;
 use std::process::ExitCode;
 use std::rt::Env;
@@ -164,7 +164,7 @@ fn status(rt: &HostRuntime, file: &String, done: Result<(), Fault>) -> ExitCode 
 /// What to do of a fault, where that is known.
 fn advice(fault: Fault) -> &'static str {
     match fault {
-        Fault::Format(ipc_model::Fault::Compressed) => "; it has to be written without compression",
+        Fault::Format(ipc_flatbuf::Fault::Compressed) => "; it has to be written without compression",
         _ => "",
     }
 }

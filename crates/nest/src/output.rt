@@ -1,6 +1,6 @@
 //! Where batches go as Arrow, and the line that counts their rows.
-use nest_copying::Progress;
-use nest_look::fault::Fault;
+use cli_write::copy::Progress;
+use cli_rows::whole::error::Fault;
 use std::fs::File;
 use std::process::ExitCode;
 use std::{fs, io};

@@ -3,10 +3,10 @@ use crate::input::open_input;
 use crate::output::{create, settle};
 use crate::{before, is, status, stopped};
 use ipc_schema::Columns;
-use nest_batches::Stop;
-use nest_look::running::write_bytes;
-use nest_taking::{take_bytes, take_lines};
-use nest_words::form_of;
+use cli_read::batches::Stop;
+use cli_rows::whole::running::write_bytes;
+use cli_read::taking::{take_bytes, take_lines};
+use cli_args::form_of;
 use std::io;
 use std::process::ExitCode;
 

@@ -1,7 +1,7 @@
 -- Bytes spell one stream, and one file.
 use Rattle.std.proofs.Common.{◌≡◌, ℕ, List, [], ◌++◌, Result, Ok, Err, ap, sym, ◌∙◌, subst}
 use Rattle.std.proofs.lemmas.List.{append-nil}
-use Rattle.ipc_model.specs.declared.fault.Fault.{Fault}
+use Rattle.ipc_flatbuf.specs.declared.error.Fault.{Fault}
 use Rattle.ipc.specs.Streams.{StreamTree, stream_in}
 use Rattle.ipc.specs.Files.{FileTree, file_in}
 

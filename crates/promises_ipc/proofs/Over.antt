@@ -1,8 +1,8 @@
 -- A reader that has nothing left.
 use Rattle.std.proofs.Common.{◌≡◌, [], List, ℕ, Option, Some, None, Result, Ok, Err, IfOk, IfErr, refl, ap, sym, ◌∙◌, subst}
 use Rattle.std.specs.Option.{option_map}
-use Rattle.ipc_model.specs.Reading.{◌>>=◌, Gives}
-use Rattle.ipc_model.specs.declared.fault.Fault.{Fault}
+use Rattle.ipc_flatbuf.specs.Reading.{◌>>=◌, Gives}
+use Rattle.ipc_flatbuf.specs.declared.error.Fault.{Fault}
 use Rattle.ipc.specs.declared.batch.Batch.{Batch}
 use Rattle.ipc.specs.Streams.{Arrays, Next, next_in, arrays_of}
 use Rattle.ipc.specs.Readers.{ReaderTree, spent, behind, next_of}

@@ -1,7 +1,7 @@
 -- Words of the promises.
 use Rattle.std.specs.Prelude.{Option, Result, Ok}
-use Rattle.ipc_model.specs.Reading.{◌>>=◌}
-use Rattle.ipc_model.specs.declared.fault.Fault.{Fault}
+use Rattle.ipc_flatbuf.specs.Reading.{◌>>=◌}
+use Rattle.ipc_flatbuf.specs.declared.error.Fault.{Fault}
 use Rattle.ipc.specs.Streams.{Arrays}
 use Rattle.ipc.specs.Readers.{ReaderTree, next_of}
 

@@ -6,7 +6,7 @@
 
 ghost use Rattle.std.specs.Prelude.{◌≡◌, ◌<◌, ◌⊎◌, ◌++◌, List, ℕ, [], None, Ok, map, length, IfErr, IfOk, OnOk};
 ghost use Rattle.std.specs.Option.{option_map};
-ghost use Rattle.ipc_model.specs.Reading.{Gives};
+ghost use Rattle.ipc_flatbuf.specs.Reading.{Gives};
 ghost use Rattle.ipc_schema.specs.Picks.{all, picks_of};
 ghost use Rattle.ipc_schema.specs.Schemas.{schema_of};
 ghost use Rattle.ipc.specs.Streams.{arrays_of, picked_stream_in, stream_in, stream_of};
@@ -20,7 +20,7 @@ use ipc::{
     Batch, File, FileReader, Stream, StreamReader, read_file, read_file_columns, read_stream,
     read_stream_columns, write_file, write_stream,
 };
-use ipc_model::{Fault, NoForm};
+use ipc_flatbuf::{Fault, NoForm};
 use ipc_schema::{Columns, Schema};
 use std::alloc::Global;
 

@@ -4,6 +4,6 @@ pub use Rattle.nest_memory.specs.TypeText.{text_of_type}
 pub use Rattle.nest_memory.specs.TypeTree.{TypeTree, fields_of}
 pub use Rattle.nest_model.specs.Layout.{layout_type}
 pub use Rattle.nest_model.specs.Meaning.{len}
-pub use Rattle.nest_parse.specs.Reading.{Answers, IsWithin, parse}
-pub use Rattle.nest_parse.specs.Told.{IsTold}
-pub use Rattle.nest_show.specs.Json.{heads_of, shown}
+pub use Rattle.type_text.specs.Reading.{Answers, IsWithin, parse}
+pub use Rattle.type_text.specs.Told.{IsTold}
+pub use Rattle.json_write.specs.Json.{heads_of, shown}

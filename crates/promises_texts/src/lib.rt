@@ -9,10 +9,10 @@ ghost use Rattle.promises_texts.specs.Words.{Answers, IsTold, IsWithin, TypeTree
 
 use nest_array::StructArray;
 use nest_memory::datatypes::{DataType, Field};
-use nest_parse::{ParseError, parse_type};
-use nest_show::records::{member_heads, write_record};
-use nest_show::writing::{json_text, write_json};
-use nest_show::written::WriteJson;
+use type_text::{ParseError, parse_type};
+use json_write::records::{member_heads, write_record};
+use json_write::writing::{json_text, write_json};
+use json_write::written::WriteJson;
 use std::alloc::{AllocError, Global};
 use std::fmt::Formatter;
 use std::{fmt, io};

@@ -1,5 +1,5 @@
 //! Devices in memory: they give and take few bytes at a time, are interrupted, and fail at a byte.
-use ipc_device::SeekRead;
+use ipc_io::SeekRead;
 use std::alloc::Global;
 use std::io;
 use std::io::{ErrorKind, Read, Seek, SeekFrom, Write};

@@ -2,8 +2,8 @@
 use crate::devices::Sink;
 use crate::worked::{batch, batches, schema};
 use ipc::{Batch, FileReader, read_file, write_file};
-use ipc_device::{FileWriter, WriteError};
-use ipc_model::NoForm;
+use ipc_io::{FileWriter, WriteError};
+use ipc_flatbuf::NoForm;
 use ipc_schema::Schema;
 use nest_memory::datatypes::DataType;
 use std::alloc::Global;

@@ -2,8 +2,8 @@
 use crate::devices::Sink;
 use crate::worked::same;
 use ipc::{Batch, read_file, write_file};
-use ipc_device::{FileWriter, WriteError};
-use ipc_model::NoForm;
+use ipc_io::{FileWriter, WriteError};
+use ipc_flatbuf::NoForm;
 use ipc_schema::Schema;
 use nest_array::any::AnyArray;
 use nest_array::dictionary::DictionaryArray;

@@ -2,8 +2,8 @@
 use crate::devices::Sink;
 use crate::keyed::{DICTIONARIES_INSIDE, REPLACED, bytes_of};
 use ipc::{Batch, Stream, read_stream, write_file, write_stream};
-use ipc_device::{FileWriter, StreamWriter, WriteError};
-use ipc_model::{Fault, NoForm};
+use ipc_io::{FileWriter, StreamWriter, WriteError};
+use ipc_flatbuf::{Fault, NoForm};
 use ipc_schema::Schema;
 use std::alloc::Global;
 use std::io::ErrorKind;

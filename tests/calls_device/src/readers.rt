@@ -3,7 +3,7 @@ use crate::devices::Source;
 use crate::keyed::{DICTIONARIES_INSIDE, REPLACED, bytes_of};
 use crate::worked::{batches, same, schema};
 use ipc::{Batch, StreamReader, write_stream};
-use ipc_device::{DeviceReader, ReadError};
+use ipc_io::{DeviceReader, ReadError};
 use ipc_schema::Columns;
 use nest_memory::datatypes::DataType;
 use std::alloc::Global;

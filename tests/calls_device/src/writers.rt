@@ -2,8 +2,8 @@
 use crate::devices::Sink;
 use crate::worked::{batch, batches, schema};
 use ipc::{Batch, write_stream};
-use ipc_device::{StreamWriter, WriteError};
-use ipc_model::NoForm;
+use ipc_io::{StreamWriter, WriteError};
+use ipc_flatbuf::NoForm;
 use ipc_schema::Schema;
 use nest_memory::datatypes::DataType;
 use std::alloc::Global;

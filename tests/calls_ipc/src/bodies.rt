@@ -1,6 +1,6 @@
 //! Columns that are written, byte by byte, and read back.
-use ipc_layout::{Left, Placed, Stored, are_keyless, place_columns, put_columns, read_columns};
-use ipc_model::NoForm;
+use ipc_arrays::{Left, Placed, Stored, are_keyless, place_columns, put_columns, read_columns};
+use ipc_flatbuf::NoForm;
 use nest_array::any::AnyArray;
 use nest_array::dictionary::keys::AnyKeys;
 use nest_array::dictionary::DictionaryArray;

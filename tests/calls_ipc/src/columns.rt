@@ -1,6 +1,6 @@
 //! Columns of whole numbers, from nodes, buffers and a body.
-use ipc_layout::{Left, Wanted, read_column, read_columns};
-use ipc_model::{Fault, Node, Region};
+use ipc_arrays::{Left, Wanted, read_column, read_columns};
+use ipc_flatbuf::{Fault, Node, Region};
 use nest_flat::any_native::AnyNative;
 use nest_array::any::AnyArray;
 use nest_memory::datatypes::DataType;

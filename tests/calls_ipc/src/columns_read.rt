@@ -6,7 +6,7 @@ use crate::samples_picked::{ODD_FILE, PICKED, Picked, STREAMS};
 use crate::samples_read::{bytes_of, bytes_of_digits};
 use crate::texts::{answer, put_parts};
 use ipc::{FileReader, StreamReader, read_file_columns, read_stream, read_stream_columns};
-use ipc_model::Fault;
+use ipc_flatbuf::Fault;
 use ipc_schema::{Columns, Picker};
 use std::alloc::Global;
 

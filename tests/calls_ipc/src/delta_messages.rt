@@ -1,10 +1,10 @@
 //! Streams with deltas, put together a message at a time.
 use crate::files::{blocks_of, blocks_of_kind, file_with};
 use ipc::Batch;
-use ipc_batch::{BatchMetadata, write_batch, write_dictionary};
-use ipc_layout::{place_columns, put_columns};
-use ipc_message::Kind;
-use ipc_model::{Fault, NoForm};
+use ipc_flatbuf::batch::{BatchMetadata, write_batch, write_dictionary};
+use ipc_arrays::{place_columns, put_columns};
+use ipc_flatbuf::message::Kind;
+use ipc_flatbuf::{Fault, NoForm};
 use nest_array::any::AnyArray;
 use std::alloc::Global;
 

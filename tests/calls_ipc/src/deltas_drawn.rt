@@ -12,7 +12,7 @@ use drawn::slots::draw_slots;
 use drawn::start::START;
 use drawn::types::draw_key_type;
 use ipc::{Batch, read_file, read_stream, read_stream_columns};
-use ipc_needed::needed_of;
+use ipc::dictionaries::needed_of;
 use ipc_schema::{Columns, Schema, write_keyed_schema};
 use nest_array::DictionaryArray;
 use nest_array::any::AnyArray;

@@ -2,9 +2,9 @@
 use crate::keyed_columns::{batch, by, keyed, keyed_words, record, schema_of, single, words};
 use crate::keyed_model::{are_written, messages_of, unread, unwritten};
 use ipc::{Batch, Blocks, State, put_batch, put_part, put_part_blocks, write_file, write_stream};
-use ipc_footer::write_footer;
-use ipc_model::NoForm;
-use ipc_needed::remember;
+use ipc_schema::footer::write_footer;
+use ipc_flatbuf::NoForm;
+use ipc::dictionaries::remember;
 use ipc_schema::{Schema, write_keyed_schema};
 use nest_array::any::AnyArray;
 use nest_memory::datatypes::IntegerType;

@@ -11,9 +11,9 @@ use ipc::{
     FileReader, State, StreamReader, next_batch, read_file_columns, read_message, read_stream,
     read_stream_columns,
 };
-use ipc_footer::Block;
-use ipc_message::{Kind, next_message};
-use ipc_model::Fault;
+use ipc_schema::footer::Block;
+use ipc_flatbuf::message::{Kind, next_message};
+use ipc_flatbuf::Fault;
 use ipc_schema::{Columns, read_picked_schema, read_schema};
 use std::alloc::Global;
 

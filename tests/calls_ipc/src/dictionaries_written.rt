@@ -9,7 +9,7 @@ use crate::samples_dictionaries::{READ_DICTIONARIES, READ_DICTIONARY_FILES};
 use crate::samples_read::bytes_of;
 use crate::texts::{answer, file_answer, is_file_read, is_read};
 use ipc::{Batch, read_file, read_stream, write_file, write_stream};
-use ipc_model::{Fault, NoForm};
+use ipc_flatbuf::{Fault, NoForm};
 use ipc_schema::Schema;
 use nest_array::any::AnyArray;
 use nest_memory::datatypes::IntegerType;

@@ -1,7 +1,7 @@
 //! Each fault once.
 use crate::streams::{SHARED, WORKED};
 use crate::worked::count_batches;
-use ipc_model::Fault;
+use ipc_flatbuf::Fault;
 use ipc_schema::{Schema, read_schema, write_schema};
 use std::collections::BTreeMap;
 

@@ -3,8 +3,8 @@ use crate::files::{blocks_of, file_with};
 use crate::streams::WORKED;
 use crate::texts::is_file_read;
 use ipc::read_file;
-use ipc_footer::Block;
-use ipc_model::Fault;
+use ipc_schema::footer::Block;
+use ipc_flatbuf::Fault;
 use std::alloc::Global;
 
 // The file of one batch: its footer stands at 304.

@@ -5,9 +5,9 @@ use crate::samples_read::bytes_of;
 use crate::streams::WORKED;
 use crate::texts::{answer, file_answer, is_file_read, put_batch};
 use ipc::{FileReader, read_file, read_stream, write_file};
-use ipc_footer::{Block, block_bytes, read_footer, write_footer};
-use ipc_message::{Kind, Version, next_message, version_of};
-use ipc_model::Fault;
+use ipc_schema::footer::{Block, block_bytes, read_footer, write_footer};
+use ipc_flatbuf::message::{Kind, Version, next_message, version_of};
+use ipc_flatbuf::Fault;
 use ipc_schema::{Columns, in_version, read_schema, schema_at, schema_table};
 use std::alloc::Global;
 

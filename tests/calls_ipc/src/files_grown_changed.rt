@@ -5,9 +5,9 @@ use crate::keyed_columns::{keyed_words, schema_of, single};
 use crate::keyed_model::unwritten;
 use crate::texts::{file_answer, is_file_read};
 use ipc::write_file;
-use ipc_footer::Block;
-use ipc_message::Kind;
-use ipc_model::Fault;
+use ipc_schema::footer::Block;
+use ipc_flatbuf::message::Kind;
+use ipc_flatbuf::Fault;
 use nest_memory::error::Error;
 use std::alloc::Global;
 

@@ -1,6 +1,6 @@
 //! Flat arrays of each kind, written byte by byte and read from any place of a body; each of their faults once.
-use ipc_layout::{Left, Placed, Wanted, place_columns, put_columns, read_column};
-use ipc_model::{Fault, NoForm, Node, Region};
+use ipc_arrays::{Left, Placed, Wanted, place_columns, put_columns, read_column};
+use ipc_flatbuf::{Fault, NoForm, Node, Region};
 use nest_array::any::AnyArray;
 use nest_array::fixed_size_binary::FixedSizeBinaryArray;
 use nest_array::null::NullArray;

@@ -4,7 +4,7 @@ use crate::samples_read::bytes_of;
 use crate::streams::WORKED;
 use crate::texts::is_read;
 use crate::worked::count_batches;
-use ipc_model::Fault;
+use ipc_flatbuf::Fault;
 use std::alloc::Global;
 
 #[test]

@@ -4,7 +4,7 @@ use crate::samples_read::bytes_of;
 use crate::schemas::{count_dictionaries, draw_schema, wanted_of};
 use drawn::numbers::Draw;
 use drawn::start::START;
-use ipc_model::NoForm;
+use ipc_flatbuf::NoForm;
 use ipc_schema::{
     KeyedSchema, Schema, keyed_schema_table, read_schema, schema_table, write_keyed_schema,
     write_schema,

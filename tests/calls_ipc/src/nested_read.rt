@@ -5,7 +5,7 @@ use crate::samples_nested::{READ_NESTED, REFUSED_NESTED};
 use crate::samples_read::bytes_of;
 use crate::texts::{answer, file_answer, is_read};
 use ipc::{read_stream, write_file, write_stream};
-use ipc_model::Fault;
+use ipc_flatbuf::Fault;
 use std::alloc::Global;
 
 fn answered(alloc: Global, sample: &Sample) -> Result<String, Fault> {

@@ -1,7 +1,7 @@
 //! Streams of another program, each with its answer.
 use crate::samples::{READ, REFUSED, Sample};
 use crate::texts::answer;
-use ipc_model::Fault;
+use ipc_flatbuf::Fault;
 use std::alloc::Global;
 
 fn digit(letter: u8) -> u8 {

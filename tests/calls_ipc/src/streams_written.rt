@@ -4,7 +4,7 @@ use crate::samples_read::bytes_of;
 use crate::streams::WORKED;
 use crate::texts::answer;
 use ipc::{Batch, StreamReader, read_stream, write_stream};
-use ipc_model::{Fault, NoForm};
+use ipc_flatbuf::{Fault, NoForm};
 use ipc_schema::Schema;
 use nest_array::any::AnyArray;
 use nest_flat::any_primitive::AnyPrimitive;

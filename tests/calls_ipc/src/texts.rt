@@ -1,8 +1,8 @@
 //! What a reader answers, as the text that stands beside the samples.
 use crate::type_texts::put_schema;
 use ipc::{Batch, FileReader, StreamReader, read_file, read_stream};
-use ipc_device::{DeviceFileReader, ReadError};
-use ipc_model::Fault;
+use ipc_io::{DeviceFileReader, ReadError};
+use ipc_flatbuf::Fault;
 use ipc_schema::Schema;
 use nest_array::any::AnyArray;
 use nest_flat::any_native::AnyNative;

@@ -1,5 +1,5 @@
 //! Schemas as the text that stands beside the samples.
-use ipc_model::Fault;
+use ipc_flatbuf::Fault;
 use ipc_schema::{Schema, read_schema};
 use nest_memory::datatypes::{
     DataType, Field, IntegerType, IntervalUnit, Metadata, TimeUnit, UnionMode,

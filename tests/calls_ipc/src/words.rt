@@ -1,7 +1,7 @@
 //! The words of flatbuffers by themselves.
-use ipc_message::{Kind, put_message, put_root, read_root};
-use ipc_model::{Fault, NoForm};
-use ipc_words::{
+use ipc_flatbuf::message::{Kind, put_message, put_root, read_root};
+use ipc_flatbuf::{Fault, NoForm};
+use ipc_flatbuf::{
     Table, field_place, i16_at, i16_field, i32_at, i32_field, i64_at, i64_field, items_at, natural,
     offset_at, offset_field, put_bodies, put_i16, put_i32, put_i64, put_offset, put_row,
     put_string, put_u32, put_zeros, spend, string_at, table_at, text_at, u8_at, u8_field, u16_at,

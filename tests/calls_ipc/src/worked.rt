@@ -1,9 +1,9 @@
 //! Streams of other writers.
 use crate::streams::{INTEGERS, WORKED};
 use ipc::{StreamReader, read_stream};
-use ipc_batch::read_batch;
-use ipc_message::{Kind, Version, next_message};
-use ipc_model::{Fault, Node, Region};
+use ipc_flatbuf::batch::read_batch;
+use ipc_flatbuf::message::{Kind, Version, next_message};
+use ipc_flatbuf::{Fault, Node, Region};
 use ipc_schema::read_schema;
 use nest_memory::datatypes::DataType;
 use std::alloc::Global;

@@ -1,9 +1,9 @@
 //! What is written is read back.
-use ipc_batch::{BatchMetadata, read_batch, write_batch, write_dictionary};
-use ipc_message::{Kind, next_message};
-use ipc_model::{NoForm, Node, Region};
+use ipc_flatbuf::batch::{BatchMetadata, read_batch, write_batch, write_dictionary};
+use ipc_flatbuf::message::{Kind, next_message};
+use ipc_flatbuf::{NoForm, Node, Region};
 use ipc_schema::{Schema, read_schema, write_schema};
-use ipc_words::{i64_field, offset_field, u8_field, visit_table};
+use ipc_flatbuf::{i64_field, offset_field, u8_field, visit_table};
 use nest_memory::datatypes::{DataType, Field, Metadata};
 use std::alloc::Global;
 use std::collections::BTreeMap;

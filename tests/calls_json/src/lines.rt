@@ -1,9 +1,9 @@
 //! Lines of JSON as arrays.
 use nest_array::AnyArray;
 use nest_build::array::MutableArray;
-use nest_json::{TextFault, builder_of, read_rows, rows_of_text};
-use nest_parse::parse_type;
-use nest_show::Json;
+use json_read::{TextFault, builder_of, read_rows, rows_of_text};
+use type_text::parse_type;
+use json_write::Json;
 use std::alloc::Global;
 use std::process::Abort;
 use std::test::*;

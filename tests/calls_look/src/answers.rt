@@ -1,14 +1,14 @@
 //! What is answered of columns in batches.
-use nest_answer::{Refusal, Table, answer, records};
+use cli_rows::answer::{Refusal, Table, answer, records};
 use nest_array::AnyArray;
-use nest_choose::choose;
+use cli_rows::select::choose;
 use nest_flat::any_primitive::NativeArray;
 use nest_flat::primitive::PrimitiveArray;
 use nest_flat::utf8::mutable::MutableUtf8Array;
-use nest_lines::{column_lines, row_lines};
+use cli_rows::text::{column_lines, row_lines};
 use nest_memory::datatypes::{DataType, Field};
 use nest_memory::error::Error;
-use nest_words::{
+use cli_args::{
     Choice, Form, Options, Request, form_of, parse_choice, parse_names, parse_options,
     parse_request,
 };

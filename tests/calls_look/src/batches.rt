@@ -1,13 +1,13 @@
 //! What is answered batch by batch, over devices in memory, beside what is answered of all bytes.
 use crate::looks::{bytes_of, request};
 use crate::samples::{BARE, EMPTY, FILE, PACKED, STREAM, TRUTHS};
-use ipc_device::SeekRead;
+use ipc_io::SeekRead;
 use ipc_schema::Columns;
-use nest_batches::{
+use cli_read::batches::{
     Asked, Stop, answer_file, answer_stream, in_order, is_file, read_beginning, request_of,
 };
-use nest_look::answering::answer;
-use nest_look::fault::Fault;
+use cli_rows::whole::answering::answer;
+use cli_rows::whole::error::Fault;
 use std::alloc::Global;
 use std::io;
 use std::io::{ErrorKind, Read, Seek, SeekFrom, Write};
@@ -181,7 +181,7 @@ fn faults_stand_behind_whole_batches(rt: HostRuntime) -> Result<(), Fail> {
     let (done, out) = told(alloc, &["rows"], &stream, NEVER, NEVER)?;
     let stop = Stop {
         batch: Some(2),
-        fault: Fault::Format(ipc_model::Fault::Continuation),
+        fault: Fault::Format(ipc_flatbuf::Fault::Continuation),
     };
     assert!(rt; done == Err(stop) && out.as_slice() == two.as_bytes(), "{done:?}");
     let line = format!(in alloc; "{stop}")?;
@@ -248,7 +248,7 @@ fn bodies_are_not_looked_at_for_columns(rt: HostRuntime) -> Result<(), Fail> {
     let (done, out) = told(alloc, &["schema"], &bytes, NEVER, NEVER)?;
     assert!(rt; done == Ok(()) && !out.is_empty());
     let (done, out) = told(alloc, &["rows"], &bytes, NEVER, NEVER)?;
-    let fault = Fault::Format(ipc_model::Fault::Compressed);
+    let fault = Fault::Format(ipc_flatbuf::Fault::Compressed);
     assert!(rt; done == Err(Stop { batch: Some(0), fault }) && out.is_empty());
     Ok(())
 }

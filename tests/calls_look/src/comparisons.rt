@@ -3,18 +3,18 @@ use crate::batches::{Device, NEVER};
 use crate::looks::bytes_of;
 use crate::samples::{BARE, EMPTY, FILE, PACKED, STREAM, TRUTHS};
 use ipc::{Batch, write_file, write_stream};
-use ipc_model::NoForm;
+use ipc_flatbuf::NoForm;
 use ipc_schema::{Columns, Schema};
 use nest_array::{AnyArray, Window};
-use nest_batches::{Stop, is_file};
-use nest_choose::window_difference;
-use nest_compare::{Input, Uncompared, compare};
+use cli_read::batches::{Stop, is_file};
+use cli_rows::select::window_difference;
+use cli_read::compare::{Input, Uncompared, compare};
 use nest_flat::boolean::BooleanArray;
-use nest_look::comparing::{Difference, difference_line, same_schema};
-use nest_look::fault::Fault;
-use nest_look::selecting::rows_of_batches;
+use cli_rows::whole::comparing::{Difference, difference_line, same_schema};
+use cli_rows::whole::error::Fault;
+use cli_rows::whole::selecting::rows_of_batches;
 use nest_memory::datatypes::{DataType, Field, Metadata};
-use nest_words::Form;
+use cli_args::Form;
 use std::alloc::Global;
 use std::test::*;
 
@@ -58,7 +58,7 @@ fn differ(
     }
 }
 
-pub fn stopped(batch: Option<usize>, fault: ipc_model::Fault) -> Stop {
+pub fn stopped(batch: Option<usize>, fault: ipc_flatbuf::Fault) -> Stop {
     Stop {
         batch,
         fault: Fault::Format(fault),
@@ -79,7 +79,7 @@ fn samples_differ(rt: HostRuntime) -> Result<(), Fail> {
     assert!(rt; rows == Ok(Some(Difference::Row(0))));
     let rows = differ(rt.alloc(), Columns::Named(&["a"]), FILE, EMPTY);
     assert!(rt; rows == Ok(Some(Difference::Row(0))));
-    let packed = stopped(Some(0), ipc_model::Fault::Compressed);
+    let packed = stopped(Some(0), ipc_flatbuf::Fault::Compressed);
     let fault = differ(rt.alloc(), Columns::All, PACKED, STREAM);
     assert!(rt; fault == Err(Uncompared::First(packed)));
     let fault = differ(rt.alloc(), Columns::All, STREAM, PACKED);
@@ -247,7 +247,7 @@ fn a_fault_is_told_where_nothing_differs_before(rt: HostRuntime) -> Result<(), F
     // The third batch does not begin with its mark.
     broken[632] = 0;
     let whole = bytes_of(alloc, FILE)?;
-    let fault = stopped(Some(2), ipc_model::Fault::Continuation);
+    let fault = stopped(Some(2), ipc_flatbuf::Fault::Continuation);
     let found = told(alloc, Columns::All, &broken, &whole, (NEVER, NEVER));
     assert!(rt; found == Err(Uncompared::First(fault)), "{found:?}");
     let found = told(alloc, Columns::All, &whole, &broken, (NEVER, NEVER));
@@ -262,7 +262,7 @@ fn a_fault_is_told_where_nothing_differs_before(rt: HostRuntime) -> Result<(), F
     let mut same = bytes_in(alloc, Form::Stream, &[&[true], &[false]]).expect(&rt, "a stream");
     same.truncate(last + 4);
     let found = told(alloc, Columns::All, &truths, &same, (NEVER, NEVER));
-    let fault = stopped(Some(2), ipc_model::Fault::Truncated);
+    let fault = stopped(Some(2), ipc_flatbuf::Fault::Truncated);
     assert!(rt; found == Err(Uncompared::Second(fault)), "{found:?}");
     Ok(())
 }

@@ -4,15 +4,15 @@ use crate::comparisons::{bytes_in, input, stopped};
 use crate::looks::bytes_of;
 use crate::samples::{BARE, EMPTY, FILE, PACKED, STREAM, TRUTHS};
 use ipc_schema::Columns;
-use nest_batches::Stop;
-use nest_compare::source::open;
-use nest_copying::{Progress, Taken, copy, in_order};
-use nest_look::answering::answer;
-use nest_look::converting::convert;
-use nest_look::fault::Fault;
-use nest_look::holding::read_held;
-use nest_look::selecting::{select, select_held};
-use nest_words::{Choice, Form, Request};
+use cli_read::batches::Stop;
+use cli_read::compare::source::open;
+use cli_write::copy::{Progress, Taken, copy, in_order};
+use cli_rows::whole::answering::answer;
+use cli_rows::whole::converting::convert;
+use cli_rows::whole::error::Fault;
+use cli_rows::whole::holding::read_held;
+use cli_rows::whole::selecting::{select, select_held};
+use cli_args::{Choice, Form, Request};
 use std::alloc::Global;
 use std::test::*;
 
@@ -160,7 +160,7 @@ fn faults_stop_a_copy(rt: HostRuntime) -> Result<(), Fail> {
     let mut broken = bytes_of(alloc, STREAM)?;
     // The third batch does not begin with its mark.
     broken[632] = 0;
-    let fault = stopped(Some(2), ipc_model::Fault::Continuation);
+    let fault = stopped(Some(2), ipc_flatbuf::Fault::Continuation);
     let found = copied(alloc, &broken, Form::File, Taken::All, (NEVER, NEVER)).err();
     assert!(rt; found == Some(fault), "{found:?}");
     let found = copied(alloc, &broken, Form::File, Taken::Cut(0, 3), (NEVER, NEVER)).err();
@@ -170,7 +170,7 @@ fn faults_stop_a_copy(rt: HostRuntime) -> Result<(), Fail> {
     );
     assert!(rt; lines(alloc, &made).expect(&rt, "lines").as_str() == "{\"a\":null,\"b\":\"b\"}\n");
     let packed = bytes_of(alloc, PACKED)?;
-    let fault = stopped(Some(0), ipc_model::Fault::Compressed);
+    let fault = stopped(Some(0), ipc_flatbuf::Fault::Compressed);
     let found = copied(alloc, &packed, Form::Stream, Taken::All, (NEVER, NEVER)).err();
     assert!(rt; found == Some(fault), "{found:?}");
     assert!(rt;

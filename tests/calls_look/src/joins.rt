@@ -5,11 +5,11 @@ use crate::copies::Count;
 use crate::looks::bytes_of;
 use crate::samples::{BARE, EMPTY, FILE, PACKED, STREAM, TRUTHS};
 use ipc_schema::Columns;
-use nest_batches::Stop;
-use nest_copying::joining::{Unappended, append, begin_with};
-use nest_look::fault::Fault;
-use nest_look::joining::concat;
-use nest_words::Form;
+use cli_read::batches::Stop;
+use cli_write::copy::joining::{Unappended, append, begin_with};
+use cli_rows::whole::error::Fault;
+use cli_rows::whole::joining::concat;
+use cli_args::Form;
 use std::alloc::Global;
 use std::test::*;
 
@@ -82,9 +82,9 @@ fn faults_are_of_an_input(rt: HostRuntime) -> Result<(), Fail> {
     let mut broken = bytes_of(alloc, STREAM)?;
     // The third batch does not begin with its mark.
     broken[632] = 0;
-    let unmarked = Unappended::Stop(stopped(Some(2), ipc_model::Fault::Continuation));
-    let packed = Unappended::Stop(stopped(Some(0), ipc_model::Fault::Compressed));
-    let unread = Unappended::Stop(stopped(None, ipc_model::Fault::Continuation));
+    let unmarked = Unappended::Stop(stopped(Some(2), ipc_flatbuf::Fault::Continuation));
+    let packed = Unappended::Stop(stopped(Some(0), ipc_flatbuf::Fault::Compressed));
+    let unread = Unappended::Stop(stopped(None, ipc_flatbuf::Fault::Continuation));
     let mut none = Vec::new(alloc);
     none.extend_from_slice(b"a,b\n1,2\n")?;
     for (digits, last, k, why) in [

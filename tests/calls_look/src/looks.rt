@@ -1,14 +1,14 @@
 //! What is answered of streams and files of another program.
 use crate::samples::{BARE, EMPTY, FILE, PACKED, STREAM, TRUTHS};
 use ipc_schema::Columns;
-use nest_look::answering::answer;
-use nest_look::converting::convert;
-use nest_look::fault::Fault;
-use nest_look::holding::read_held;
-use nest_look::joining::{Unjoined, concat};
-use nest_look::running::{read_input, write_bytes};
-use nest_look::selecting::select;
-use nest_words::{Choice, Form, Request, parse_choice, parse_request};
+use cli_rows::whole::answering::answer;
+use cli_rows::whole::converting::convert;
+use cli_rows::whole::error::Fault;
+use cli_rows::whole::holding::read_held;
+use cli_rows::whole::joining::{Unjoined, concat};
+use cli_rows::whole::running::{read_input, write_bytes};
+use cli_rows::whole::selecting::select;
+use cli_args::{Choice, Form, Request, parse_choice, parse_request};
 use std::alloc::{AllocError, Global};
 use std::test::*;
 
@@ -60,7 +60,7 @@ fn columns_are_shown(rt: HostRuntime) -> Result<(), Fail> {
     ] {
         let text = said(rt.alloc(), &["schema"], digits);
         if digits == PACKED {
-            assert!(rt; text.err() == Some(Fault::Format(ipc_model::Fault::Compressed)));
+            assert!(rt; text.err() == Some(Fault::Format(ipc_flatbuf::Fault::Compressed)));
         } else {
             let text = text?;
             assert!(rt; text.as_str() == want, "{text}");
@@ -103,14 +103,14 @@ fn rows_are_shown(rt: HostRuntime) -> Result<(), Fail> {
 #[test]
 fn refuses_bytes(rt: HostRuntime) {
     for (digits, want) in [
-        (PACKED, Fault::Format(ipc_model::Fault::Compressed)),
-        ("", Fault::Format(ipc_model::Fault::NoSchema)),
-        ("ffff", Fault::Format(ipc_model::Fault::Truncated)),
-        ("4152524f5731", Fault::Format(ipc_model::Fault::Truncated)),
-        ("2c", Fault::Format(ipc_model::Fault::Truncated)),
+        (PACKED, Fault::Format(ipc_flatbuf::Fault::Compressed)),
+        ("", Fault::Format(ipc_flatbuf::Fault::NoSchema)),
+        ("ffff", Fault::Format(ipc_flatbuf::Fault::Truncated)),
+        ("4152524f5731", Fault::Format(ipc_flatbuf::Fault::Truncated)),
+        ("2c", Fault::Format(ipc_flatbuf::Fault::Truncated)),
         (
             "2c2c2c2c2c2c2c2c",
-            Fault::Format(ipc_model::Fault::Continuation),
+            Fault::Format(ipc_flatbuf::Fault::Continuation),
         ),
         (BARE, Fault::Columns),
     ] {
@@ -190,12 +190,12 @@ fn faults_are_printed(rt: HostRuntime) -> Result<(), Fail> {
     for (fault, want) in [
         (Fault::Input, "input cannot be read"),
         (
-            Fault::Format(ipc_model::Fault::Compressed),
+            Fault::Format(ipc_flatbuf::Fault::Compressed),
             "the body is compressed",
         ),
         (Fault::Columns, "a batch has no columns of the schema"),
         (
-            Fault::Form(ipc_model::NoForm::Float),
+            Fault::Form(ipc_flatbuf::NoForm::Float),
             "arrays of floats are not written",
         ),
         (Fault::Place, "there is no row at a place"),
@@ -226,7 +226,7 @@ fn forms_are_converted(rt: HostRuntime) -> Result<(), Fail> {
     }
     let packed = bytes_of(rt.alloc(), PACKED)?;
     let fault = convert(rt.alloc(), Columns::All, Form::File, &packed).err();
-    assert!(rt; fault == Some(Fault::Format(ipc_model::Fault::Compressed)));
+    assert!(rt; fault == Some(Fault::Format(ipc_flatbuf::Fault::Compressed)));
     Ok(())
 }
 
@@ -289,7 +289,7 @@ fn samples_are_joined(rt: HostRuntime) -> Result<(), Fail> {
     let schema = together(rt.alloc(), &[STREAM, FILE, TRUTHS]).err();
     assert!(rt; schema == Some(Unjoined::Schema(2)));
     let packed = together(rt.alloc(), &[STREAM, PACKED]).err();
-    assert!(rt; packed == Some(Unjoined::Input(1, ipc_model::Fault::Compressed)));
+    assert!(rt; packed == Some(Unjoined::Input(1, ipc_flatbuf::Fault::Compressed)));
     Ok(())
 }
 
@@ -361,7 +361,7 @@ fn refuses_to_select(rt: HostRuntime) {
         (
             PACKED,
             ["cut", "0", "1"].as_slice(),
-            Fault::Format(ipc_model::Fault::Compressed),
+            Fault::Format(ipc_flatbuf::Fault::Compressed),
         ),
     ] {
         let fault = selected(rt.alloc(), Form::Stream, words, digits).err();

@@ -5,16 +5,16 @@ use crate::looks::bytes_of;
 use crate::samples::{BARE, EMPTY, FILE, PACKED, STREAM, TRUTHS};
 use ipc_schema::Columns;
 use nest_array::AnyArray;
-use nest_batches::Stop;
-use nest_compare::next_rows;
-use nest_compare::source::open;
-use nest_look::answering::{answer, answer_held};
-use nest_look::fault::Fault;
-use nest_look::gathering::gather;
-use nest_look::holding::{Held, read_held};
-use nest_look::selecting::{array_batches, copy_schema, rows_of_batches, select};
-use nest_taking::{take, take_bytes, take_lines};
-use nest_words::{Choice, Form, Request};
+use cli_read::batches::Stop;
+use cli_read::compare::next_rows;
+use cli_read::compare::source::open;
+use cli_rows::whole::answering::{answer, answer_held};
+use cli_rows::whole::error::Fault;
+use cli_rows::whole::gathering::gather;
+use cli_rows::whole::holding::{Held, read_held};
+use cli_rows::whole::selecting::{array_batches, copy_schema, rows_of_batches, select};
+use cli_read::taking::{take, take_bytes, take_lines};
+use cli_args::{Choice, Form, Request};
 use std::alloc::Global;
 use std::test::*;
 
@@ -191,7 +191,7 @@ fn faults_are_told_where_places_lie_behind(rt: HostRuntime) -> Result<(), Fail> 
     let mut broken = bytes_of(alloc, STREAM)?;
     // The third batch does not begin with its mark.
     broken[632] = 0;
-    let fault = stopped(Some(2), ipc_model::Fault::Continuation);
+    let fault = stopped(Some(2), ipc_flatbuf::Fault::Continuation);
     for (places, is_read) in [
         ([].as_slice(), true),
         (&[1, 0, 1], true),
@@ -208,9 +208,9 @@ fn faults_are_told_where_places_lie_behind(rt: HostRuntime) -> Result<(), Fail> 
     let packed = bytes_of(alloc, PACKED)?;
     assert!(rt; taken(alloc, &packed, &[], NEVER).is_ok());
     let found = taken(alloc, &packed, &[0], NEVER).err();
-    assert!(rt; found == Some(stopped(Some(0), ipc_model::Fault::Compressed)));
+    assert!(rt; found == Some(stopped(Some(0), ipc_flatbuf::Fault::Compressed)));
     let found = taken(alloc, b"a,b\n1,2\n", &[0], NEVER).err();
-    assert!(rt; found == Some(stopped(None, ipc_model::Fault::Continuation)));
+    assert!(rt; found == Some(stopped(None, ipc_flatbuf::Fault::Continuation)));
     Ok(())
 }
 

@@ -17,7 +17,7 @@ use nest_flat::utf8::Utf8Array;
 use nest_memory::bitmap::immutable::Bitmap;
 use nest_memory::datatypes::{DataType, UnionMode};
 use nest_memory::error::Error;
-use nest_show::writing::json_text;
+use json_write::writing::json_text;
 use nest_take::{filter, take};
 use std::alloc::Global;
 

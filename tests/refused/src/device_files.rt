@@ -6,7 +6,7 @@ use crate::streams::{refused, unwritten};
 use crate::trial::Trial;
 use drawn_builders::wrong::{Wrong, expect};
 use ipc::{Batch, write_file};
-use ipc_device::{DeviceFileReader, ReadError};
+use ipc_io::{DeviceFileReader, ReadError};
 use nest_memory::error::Error;
 use std::alloc::Global;
 use std::io::Cursor;

@@ -5,7 +5,7 @@ use crate::streams::{refused, unwritten};
 use crate::trial::Trial;
 use drawn_builders::wrong::{Wrong, expect};
 use ipc::{Batch, read_file, write_file};
-use ipc_device::{FileWriter, WriteError};
+use ipc_io::{FileWriter, WriteError};
 use ipc_schema::Schema;
 use nest_array::{AnyArray, AnyKeys, DictionaryArray};
 use nest_flat::primitive::PrimitiveArray;

@@ -6,7 +6,7 @@ use crate::streams::{refused, unwritten};
 use crate::trial::Trial;
 use drawn_builders::wrong::{Wrong, expect};
 use ipc::{Batch, FileReader, read_file, read_stream, write_file, write_stream};
-use ipc_model::NoForm;
+use ipc_flatbuf::NoForm;
 use ipc_schema::Schema;
 use nest_array::{AnyArray, AnyKeys, DictionaryArray, StructArray};
 use nest_flat::primitive::PrimitiveArray;

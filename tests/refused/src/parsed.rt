@@ -4,7 +4,7 @@ use crate::trial::Trial;
 use drawn_builders::wrong::{Wrong, expect};
 use nest_memory::datatypes::DataType;
 use nest_memory::error::Error;
-use nest_parse::{ParseError, parse_type};
+use type_text::{ParseError, parse_type};
 use std::alloc::Global;
 
 const TEXT: &str =

@@ -2,7 +2,7 @@
 
 use crate::trial::Trial;
 use drawn_builders::wrong::{Wrong, expect};
-use ipc_model::{Fault, NoForm};
+use ipc_flatbuf::{Fault, NoForm};
 use ipc_schema::{Schema, read_schema, write_keyed_schema, write_schema};
 use nest_memory::datatypes::{DataType, Field};
 use nest_memory::error::Error;

@@ -4,8 +4,8 @@
 use crate::trial::Trial;
 use drawn_builders::wrong::{Wrong, expect};
 use ipc::{FileReader, StreamReader, read_file, read_stream, write_file, write_stream};
-use ipc_layout::{Left, place_columns, put_columns, read_columns};
-use ipc_model::{Fault, NoForm};
+use ipc_arrays::{Left, place_columns, put_columns, read_columns};
+use ipc_flatbuf::{Fault, NoForm};
 use nest_array::nulls::new_null_array;
 use nest_memory::datatypes::DataType;
 use nest_memory::error::Error;

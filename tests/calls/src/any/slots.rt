@@ -9,7 +9,7 @@ use nest_flat::any_primitive::AnyPrimitive;
 use nest_flat::plain::Plain;
 use nest_memory::datatypes::DataType;
 use nest_memory::error::Error;
-use nest_show::writing::json_text;
+use json_write::writing::json_text;
 
 fn add(records: &mut MutableStructArray, item: Option<i64>) -> Result<(), Error> {
     let item = item.map(|number| Plain::Native(AnyNative::Int64(number)));

@@ -14,7 +14,7 @@ use nest_flat::primitive::mutable::MutablePrimitiveArray;
 use nest_flat::utf8::mutable::MutableUtf8Array;
 use nest_memory::datatypes::DataType;
 use nest_memory::error::{Argument, Error};
-use nest_show::writing::json_text;
+use json_write::writing::json_text;
 use std::alloc::Global;
 
 type Numbers = MutablePrimitiveArray<i64>;

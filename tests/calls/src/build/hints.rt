@@ -9,7 +9,7 @@ use nest_build::push::TryExtend;
 use nest_flat::primitive::mutable::MutablePrimitiveArray;
 use nest_flat::utf8::mutable::MutableUtf8Array;
 use nest_memory::error::Error;
-use nest_show::writing::json_text;
+use json_write::writing::json_text;
 use std::alloc::Global;
 
 /// Gives copies of items, and says of their number that it is at least 0 and at most this one.

@@ -1,6 +1,6 @@
 //! Data types read back from their text: each there and back, each error with its byte, hostile texts, refused memory.
 use nest_memory::datatypes::{DataType, Field, UnionMode};
-use nest_parse::{DEPTH, ParseError, parse_type};
+use type_text::{DEPTH, ParseError, parse_type};
 use std::alloc::{AllocError, Global};
 
 /// Texts of data types, one of each form at least.

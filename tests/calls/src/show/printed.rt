@@ -8,8 +8,8 @@ use nest_flat::utf8::Utf8Array;
 use nest_memory::datatypes::{DataType, Field, IntervalUnit};
 use nest_memory::error::Error;
 use nest_memory::types::{days_ms, i256, months_days_ns};
-use nest_show::records::{member_heads, write_record};
-use nest_show::{Json, WriteJson, writing};
+use json_write::records::{member_heads, write_record};
+use json_write::{Json, WriteJson, writing};
 use std::alloc::Global;
 use std::fmt::Formatter;
 

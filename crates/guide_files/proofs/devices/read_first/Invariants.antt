@@ -1,6 +1,6 @@
 use Rattle.std.proofs.Common.{◌-◌, map}
 use Rattle.ipc.specs.Streams.{arrays_of}
-use Rattle.ipc_device.specs.Readers.{as_reader}
+use Rattle.ipc_io.specs.Readers.{as_reader}
 use Rattle.guide_files.proofs.Steps.{IsUnderWay}
 use Rattle.guide_files.proofs.devices.read_first.Given as goal
 

@@ -1,7 +1,7 @@
 use Rattle.std.proofs.Common.{List, map, take, subst, sym, arith}
 use Rattle.ipc_schema.specs.Schemas.{schema_of}
 use Rattle.ipc.specs.Streams.{Arrays, arrays_of}
-use Rattle.ipc_device.specs.WriterLaws.{Writes}
+use Rattle.ipc_io.specs.WriterLaws.{Writes}
 use Rattle.ipc.specs.WrittenLists.{all_taken, taken}
 use Rattle.guide_files.proofs.Steps.{all_again, all_put, writes_push}
 use Rattle.guide_files.proofs.devices.write_each.Goals as goal

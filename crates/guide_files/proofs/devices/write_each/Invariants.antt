@@ -1,6 +1,6 @@
 use Rattle.std.proofs.Common.{map, take}
 use Rattle.ipc.specs.Streams.{arrays_of}
-use Rattle.ipc_device.specs.WriterLaws.{Writes}
+use Rattle.ipc_io.specs.WriterLaws.{Writes}
 use Rattle.guide_files.proofs.devices.write_each.Given as goal
 
 abbrev pub invariant-loop-batch : goal.invariant-loop-batch

@@ -8,7 +8,7 @@ use Rattle.std.specs.Map.{lookup}
 use Rattle.std.specs.BTreeMap.{is_at}
 use Rattle.std.specs.Ordering.{int_cmp}
 use Rattle.nest_array.specs.Seen.{layout_of}
-use Rattle.ipc_model.specs.declared.fault.Fault.{Fault}
+use Rattle.ipc_flatbuf.specs.declared.error.Fault.{Fault}
 use Rattle.ipc.specs.Streams.{State, state_of, is_among, with_more}
 use Rattle.ipc.proofs.Joins.{shown, shown_known, more_fails, more_known}
 use Rattle.ipc.proofs.deltas.more_values.Goals as goal

@@ -3,13 +3,13 @@ use mir.Val.{to_z, of_z}
 use Rattle.std.proofs.Common.{◌≡◌, ℕ, Bool, Result, Option, Some, Ok, sym, ap, ◌∙◌}
 use Rattle.std.proofs.lemmas.Int.{to_z-of_z}
 use Rattle.std.specs.Prelude.{ℤ}
-use Rattle.ipc_model.specs.Reading.{◌>>=◌}
-use Rattle.ipc_model.specs.declared.fault.Fault.{Fault}
-use Rattle.ipc_message.specs.Messages.{parts_of}
+use Rattle.ipc_flatbuf.specs.Reading.{◌>>=◌}
+use Rattle.ipc_flatbuf.specs.declared.error.Fault.{Fault}
+use Rattle.ipc_flatbuf.specs.Messages.{parts_of}
 use Rattle.ipc_schema.specs.Dictionaries.{Values}
-use Rattle.ipc_message.specs.Messages.{Parts}
+use Rattle.ipc_flatbuf.specs.Messages.{Parts}
 use Rattle.ipc_schema.specs.SeenOf.{values_of}
-use Rattle.ipc_words.specs.declared.tables.Table.{Table}
+use Rattle.ipc_flatbuf.specs.declared.tables.Table.{Table}
 use Rattle.nest_model.specs.Layout.{Layout}
 use Rattle.ipc.specs.Streams.{State, state_of, named_in, found_values, found_in}
 use Rattle.ipc.proofs.dictionary.found_values.Goals as goal

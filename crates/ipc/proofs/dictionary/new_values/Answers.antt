@@ -4,13 +4,13 @@ use Rattle.std.proofs.Common.{◌≡◌, ℕ, Bool, Result, Ok, sym, ap, ◌∙�
 use Rattle.std.proofs.lemmas.Int.{to_z-of_z}
 use Rattle.std.proofs.lemmas.Result.{err_from_is_err_and}
 use Rattle.std.specs.Prelude.{ℤ, is_some}
-use Rattle.ipc_model.specs.Reading.{◌>>=◌}
-use Rattle.ipc_model.specs.declared.fault.Fault.{Fault}
-use Rattle.ipc_message.specs.Messages.{Parts, parts_of}
+use Rattle.ipc_flatbuf.specs.Reading.{◌>>=◌}
+use Rattle.ipc_flatbuf.specs.declared.error.Fault.{Fault}
+use Rattle.ipc_flatbuf.specs.Messages.{Parts, parts_of}
 use Rattle.ipc_schema.specs.Dictionaries.{Values}
 use Rattle.ipc_schema.specs.SeenOf.{values_of}
 use Rattle.nest_model.specs.Layout.{Layout}
-use Rattle.ipc_words.specs.declared.tables.Table.{Table}
+use Rattle.ipc_flatbuf.specs.declared.tables.Table.{Table}
 use Rattle.ipc.specs.Streams.{State, state_of, known_at, data_in, column_in_batch}
 use Rattle.ipc.proofs.dictionary.new_values.Goals as goal
 

@@ -3,10 +3,10 @@ use mir.Val.{to_z, of_z, SFits}
 use Rattle.std.proofs.Common.{rules, ◌≡◌, ℕ, Bool, Result, Option, None, Some, Ok, refl, sym, ap, subst, ◌∙◌}
 use Rattle.std.proofs.lemmas.Int.{to_z-of_z}
 use Rattle.std.specs.Prelude.{ℤ}
-use Rattle.ipc_model.specs.Reading.{◌>>=◌, Gives}
-use Rattle.ipc_model.specs.declared.fault.Fault.{Fault}
-use Rattle.ipc_message.specs.Messages.{Parts, parts_of}
-use Rattle.ipc_words.specs.declared.tables.Table.{Table}
+use Rattle.ipc_flatbuf.specs.Reading.{◌>>=◌, Gives}
+use Rattle.ipc_flatbuf.specs.declared.error.Fault.{Fault}
+use Rattle.ipc_flatbuf.specs.Messages.{Parts, parts_of}
+use Rattle.ipc_flatbuf.specs.declared.tables.Table.{Table}
 use Rattle.nest_array.specs.Seen.{layout_of}
 use Rattle.nest_model.specs.Layout.{Layout}
 use Rattle.ipc.specs.Streams.{State, state_of, found_in, with_found, with_values, dictionary_in}

@@ -1,9 +1,9 @@
 use Rattle.std.proofs.Common.{List, map, subst}
-use Rattle.ipc_model.specs.Reading.{Gives}
+use Rattle.ipc_flatbuf.specs.Reading.{Gives}
 use Rattle.nest_array.specs.Seen.{layout_of}
 use Rattle.nest_memory.specs.TypeOf.{field_of}
 use Rattle.nest_memory.specs.TypeTree.{TypeTree, field_type}
-use Rattle.ipc_layout.specs.Picked.{picked_in, ahead_of}
+use Rattle.ipc_arrays.specs.Picked.{picked_in, ahead_of}
 use Rattle.ipc.proofs.Loops.{map_twice}
 use Rattle.ipc.proofs.reading.columns_of.Goals as goal
 

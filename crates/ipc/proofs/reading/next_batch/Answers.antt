@@ -1,6 +1,6 @@
 use Rattle.std.proofs.Common.{sym, ◌∙◌}
 use Rattle.std.proofs.lemmas.Result.{err_from_is_err_and}
-use Rattle.ipc_message.specs.Messages.{parts_of}
+use Rattle.ipc_flatbuf.specs.Messages.{parts_of}
 use Rattle.ipc.specs.Streams.{arrays_of, state_of}
 use Rattle.ipc.proofs.Loops.{messages_go_on, messages_found, messages_end, messages_fail, message_fails, messages_shrink}
 use Rattle.ipc.proofs.reading.next_batch.Goals as goal

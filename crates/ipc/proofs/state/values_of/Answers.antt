@@ -6,7 +6,7 @@ use Rattle.std.specs.Ordering.{int_cmp}
 use Rattle.std.proofs.lemmas.List.{map-append, map_more}
 use Rattle.nest_array.specs.Seen.{layout_of}
 use Rattle.nest_array.specs.declared.any.AnyArray.{AnyArray}
-use Rattle.ipc_layout.specs.Keys.{dictionary_of}
+use Rattle.ipc_arrays.specs.Keys.{dictionary_of}
 use Rattle.ipc.specs.Streams.{known_of, known_at}
 use Rattle.ipc.proofs.Entries.{viewed_found}
 use Rattle.ipc.proofs.state.values_of.Goals as goal

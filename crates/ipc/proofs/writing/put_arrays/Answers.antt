@@ -1,9 +1,9 @@
 use Rattle.std.proofs.Common.{map}
 use Rattle.std.proofs.lemmas.Result.{err_from_is_err_and}
 use Rattle.nest_array.specs.Seen.{layout_of}
-use Rattle.ipc_batch.specs.Batches.{batch_of}
-use Rattle.ipc_batch.specs.BatchBytes.{batch_message}
-use Rattle.ipc_batch.specs.BatchLaws.{IsReadBack}
+use Rattle.ipc_flatbuf.specs.Batches.{batch_of}
+use Rattle.ipc_flatbuf.specs.BatchBytes.{batch_message}
+use Rattle.ipc_flatbuf.specs.BatchLaws.{IsReadBack}
 use Rattle.ipc.specs.Streams.{Arrays}
 use Rattle.ipc.specs.Written.{batch_head, arrays_refusal}
 use Rattle.ipc.specs.WrittenLaws.{batch_again}

@@ -3,7 +3,7 @@ use Rattle.std.proofs.lemmas.List.{append-nil}
 use Rattle.std.proofs.lemmas.Result.{err_from_is_err_and}
 use Rattle.nest_memory.specs.TypeOf.{field_of}
 use Rattle.nest_memory.specs.TypeTree.{field_type}
-use Rattle.ipc_needed.specs.Sent.{entries_of}
+use Rattle.ipc.specs.Sent.{entries_of}
 use Rattle.ipc.specs.Streams.{arrays_of}
 use Rattle.ipc.specs.Written.{wholes_by, batches_bytes, sent_behind, batch_refusal}
 use Rattle.ipc.specs.WrittenLists.{taken, split, after_more, from_refused, from_more, again_more, bytes_push}

@@ -1,7 +1,7 @@
 use Rattle.std.proofs.Common.{◌≡◌, ◌++◌, map, take, None}
 use Rattle.nest_memory.specs.TypeOf.{field_of}
 use Rattle.nest_memory.specs.TypeTree.{field_type}
-use Rattle.ipc_needed.specs.Sent.{entries_of}
+use Rattle.ipc.specs.Sent.{entries_of}
 use Rattle.ipc.specs.Streams.{arrays_of}
 use Rattle.ipc.specs.Written.{wholes_by, batches_bytes, batches_refusal, AreAgain}
 use Rattle.ipc.specs.WrittenLists.{sent_after}

@@ -4,8 +4,8 @@ use Rattle.std.proofs.Common.{rules, ◌≡◌, ◌+◌, None, List, map, take, 
 use Rattle.std.specs.List.{AllByRecursion}
 use Rattle.std.proofs.lemmas.Int.{to_z-of_z}
 use Rattle.std.proofs.lemmas.Result.{err_from_is_err_and}
-use Rattle.ipc_needed.specs.Puts.{Put, whole}
-use Rattle.ipc_needed.specs.Sent.{entry_of}
+use Rattle.ipc.specs.Puts.{Put, whole}
+use Rattle.ipc.specs.Sent.{entry_of}
 use Rattle.ipc.specs.Written.{dictionary_refusal, each_refusal, IsPutAgain}
 use Rattle.ipc.specs.WrittenLists.{each_refused, each_push, all_push, dictionaries_push}
 use Rattle.ipc.proofs.Entries.{whole_split, whole_taken}

@@ -1,7 +1,7 @@
 use Rattle.std.proofs.Common.{◌≡◌, ◌++◌, map, take, None}
 use Rattle.std.specs.List.{AllByRecursion, flat_map}
-use Rattle.ipc_needed.specs.Puts.{whole}
-use Rattle.ipc_needed.specs.Sent.{entry_of}
+use Rattle.ipc.specs.Puts.{whole}
+use Rattle.ipc.specs.Sent.{entry_of}
 use Rattle.ipc.specs.Written.{dictionary_bytes, dictionary_refusal, each_refusal, IsPutAgain}
 use Rattle.ipc.proofs.writing.put_dictionaries.Given as goal
 

@@ -6,11 +6,11 @@ use Rattle.std.specs.Prelude.{ℤ}
 use Rattle.std.proofs.lemmas.Result.{err_from_is_err_and}
 use Rattle.nest_model.specs.Layout.{Layout}
 use Rattle.nest_array.specs.Seen.{layout_of}
-use Rattle.ipc_batch.specs.Batches.{batch_of}
-use Rattle.ipc_batch.specs.DictionaryBytes.{dictionary_message}
-use Rattle.ipc_batch.specs.DictionaryLaws.{IsDictionaryBack}
-use Rattle.ipc_layout.specs.Rekeyed.{AreReadOver}
-use Rattle.ipc_needed.specs.Puts.{Put}
+use Rattle.ipc_flatbuf.specs.Batches.{batch_of}
+use Rattle.ipc_flatbuf.specs.DictionaryBytes.{dictionary_message}
+use Rattle.ipc_flatbuf.specs.DictionaryLaws.{IsDictionaryBack}
+use Rattle.ipc_arrays.specs.Rekeyed.{AreReadOver}
+use Rattle.ipc.specs.Puts.{Put}
 use Rattle.ipc.specs.Streams.{Arrays}
 use Rattle.ipc.specs.Written.{one_column, dictionary_head, dictionary_bytes, dictionary_refusal}
 use Rattle.ipc.specs.WrittenLists.{IsMetadata}

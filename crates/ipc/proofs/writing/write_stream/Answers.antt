@@ -1,9 +1,9 @@
 use Rattle.std.proofs.Common.{◌≡◌, List, ℕ, [], ◌++◌, None, Ok, map, append_assoc, ap}
-use Rattle.ipc_message.specs.MessageBytes.{end_mark}
+use Rattle.ipc_flatbuf.specs.MessageBytes.{end_mark}
 use Rattle.ipc_schema.specs.Schemas.{SchemaTree, schema_of, stream_keyed_schema_at}
 use Rattle.ipc_schema.specs.SchemaBytes.{schema_message}
 use Rattle.ipc_schema.specs.SchemaLaws.{with_ids}
-use Rattle.ipc_needed.specs.Sent.{entries_of}
+use Rattle.ipc.specs.Sent.{entries_of}
 use Rattle.ipc.specs.Streams.{Arrays, arrays_of, types_of}
 use Rattle.ipc.specs.Written.{wholes_by, batches_bytes, messages_bytes, stream_bytes, batches_refusal, AreAgain}
 use Rattle.ipc.specs.WrittenLaws.{same_batches, stream_again}

@@ -1,7 +1,7 @@
 use Rattle.std.proofs.Common.{◌≡◌, ◌-◌, length, map, refl, arith}
 use Rattle.std.proofs.lemmas.Result.{IfOk-weaker, IfErr-weaker, on_ok_weaker}
 use Rattle.nest_array.specs.Seen.{layout_of}
-use Rattle.ipc_layout.specs.Written.{columns_body}
+use Rattle.ipc_arrays.specs.Written.{columns_body}
 use Rattle.ipc.specs.Streams.{Arrays}
 use Rattle.ipc.specs.Written.{batch_head, batch_bytes, arrays_refusal}
 use Rattle.ipc.specs.WrittenFiles.{written_block}

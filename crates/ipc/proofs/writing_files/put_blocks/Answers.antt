@@ -3,8 +3,8 @@ use Rattle.std.proofs.lemmas.List.{append-nil, length-append}
 use Rattle.std.proofs.lemmas.Result.{err_from_is_err_and}
 use Rattle.nest_memory.specs.TypeOf.{field_of}
 use Rattle.nest_memory.specs.TypeTree.{field_type}
-use Rattle.ipc_needed.specs.Sent.{entries_of}
-use Rattle.ipc_needed.specs.Entries.{Entries}
+use Rattle.ipc.specs.Sent.{entries_of}
+use Rattle.ipc.specs.Entries.{Entries}
 use Rattle.ipc.specs.Streams.{arrays_of, state_of}
 use Rattle.ipc.specs.Written.{batches_bytes}
 use Rattle.ipc.specs.WrittenFiles.{Filed, puts_by, blocks_from, blocks_of, filed, filed_behind, block_refusal}

@@ -1,7 +1,7 @@
 use Rattle.std.proofs.Common.{◌≡◌, ◌++◌, length, map, take, None}
 use Rattle.nest_memory.specs.TypeOf.{field_of}
 use Rattle.nest_memory.specs.TypeTree.{field_type}
-use Rattle.ipc_needed.specs.Sent.{entries_of}
+use Rattle.ipc.specs.Sent.{entries_of}
 use Rattle.ipc.specs.Streams.{arrays_of, state_of}
 use Rattle.ipc.specs.Written.{batches_bytes, AreAgain}
 use Rattle.ipc.specs.WrittenFiles.{puts_by, blocks_from, blocks_of, after, filed, filed_behind, blocks_refusal}

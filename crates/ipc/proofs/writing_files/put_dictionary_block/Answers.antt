@@ -4,8 +4,8 @@ use Rattle.std.proofs.Common.{rules, ◌≡◌, ◌-◌, ◌<◌, ◌^◌, [], �
 use Rattle.std.specs.Prelude.{ℤ}
 use Rattle.std.proofs.lemmas.Int.{to_z-of_z}
 use Rattle.std.proofs.lemmas.Result.{err_from_is_err_and}
-use Rattle.ipc_layout.specs.Written.{columns_body}
-use Rattle.ipc_needed.specs.Puts.{Put, put_in}
+use Rattle.ipc_arrays.specs.Written.{columns_body}
+use Rattle.ipc.specs.Puts.{Put, put_in}
 use Rattle.ipc.specs.Streams.{State, state_of}
 use Rattle.ipc.specs.Written.{dictionary_head, dictionary_bytes, dictionary_refusal, IsRefused}
 use Rattle.ipc.specs.WrittenFiles.{state_by, state_put, unread_refusal, dictionary_block_refusal}

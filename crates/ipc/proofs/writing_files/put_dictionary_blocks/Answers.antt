@@ -2,7 +2,7 @@ use Rattle.std.proofs.Common.{rules, ◌≡◌, ◌+◌, None, List, length, map
 use Rattle.std.specs.List.{AllByRecursion, flat_map}
 use Rattle.std.proofs.lemmas.List.{append-nil, length-append}
 use Rattle.std.proofs.lemmas.Result.{err_from_is_err_and}
-use Rattle.ipc_needed.specs.Puts.{Put, put_in}
+use Rattle.ipc.specs.Puts.{Put, put_in}
 use Rattle.ipc.specs.Streams.{State, state_of}
 use Rattle.ipc.specs.Written.{dictionary_bytes, IsPutAgain}
 use Rattle.ipc.specs.WrittenFiles.{dictionary_blocks, state_behind, put_refusal, puts_refusal}

@@ -1,6 +1,6 @@
 use Rattle.std.proofs.Common.{◌≡◌, ◌++◌, length, map, take, None}
 use Rattle.std.specs.List.{AllByRecursion, flat_map}
-use Rattle.ipc_needed.specs.Puts.{put_in}
+use Rattle.ipc.specs.Puts.{put_in}
 use Rattle.ipc.specs.Streams.{state_of}
 use Rattle.ipc.specs.Written.{dictionary_bytes, IsPutAgain}
 use Rattle.ipc.specs.WrittenFiles.{dictionary_blocks, after, state_behind, puts_refusal}

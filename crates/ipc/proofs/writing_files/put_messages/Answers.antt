@@ -4,7 +4,7 @@ use Rattle.ipc_schema.specs.PickedLaws.{all_written}
 use Rattle.ipc_schema.specs.Schemas.{SchemaTree, schema_of, stream_keyed_schema_at}
 use Rattle.ipc_schema.specs.SchemaBytes.{schema_message}
 use Rattle.ipc_schema.specs.SchemaLaws.{with_ids}
-use Rattle.ipc_needed.specs.Sent.{entries_of}
+use Rattle.ipc.specs.Sent.{entries_of}
 use Rattle.ipc.specs.Streams.{Arrays, arrays_of, state_of, start, types_of}
 use Rattle.ipc.specs.Written.{schema_refusal}
 use Rattle.ipc.specs.WrittenFiles.{filed_start, blocks_refusal}

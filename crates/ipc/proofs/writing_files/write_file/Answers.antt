@@ -2,8 +2,8 @@ use Rattle.std.proofs.Common.{◌≡◌, ◌+◌, List, ℕ, [], None, Ok, lengt
 use Rattle.ipc_schema.specs.Schemas.{SchemaTree, schema_of}
 use Rattle.ipc_schema.specs.SchemaBytes.{schema_message}
 use Rattle.ipc_schema.specs.Picks.{all}
-use Rattle.ipc_footer.specs.FooterLaws.{read_again}
-use Rattle.ipc_footer.specs.PickedFooters.{file_picked_in}
+use Rattle.ipc_schema.specs.FooterLaws.{read_again}
+use Rattle.ipc_schema.specs.PickedFooters.{file_picked_in}
 use Rattle.ipc.specs.Streams.{Arrays, arrays_of, types_of}
 use Rattle.ipc.specs.Written.{messages_bytes, AreAgain}
 use Rattle.ipc.specs.WrittenFiles.{Blocks, puts_by, blocks_from, written_blocks, written_footer, file_bytes, filed_start, blocks_refusal}

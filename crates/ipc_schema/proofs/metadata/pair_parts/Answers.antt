@@ -4,8 +4,8 @@ use Rattle.std.specs.Map.Iter.{deref_pair}
 use Rattle.std.proofs.lemmas.Map.Iter.{rest_more}
 use Rattle.std.proofs.lemmas.Result.{err_from_is_err_and}
 use Rattle.nest_memory.specs.TypeOf.{entries_of}
-use Rattle.ipc_words.specs.Bytes.{together, parts_of}
-use Rattle.ipc_words.specs.Writes.{too_long_more}
+use Rattle.ipc_flatbuf.specs.Bytes.{together, parts_of}
+use Rattle.ipc_flatbuf.specs.Writers.{too_long_more}
 use Rattle.ipc_schema.specs.SchemaBytes.{pair_bytes}
 use Rattle.ipc_schema.specs.MetadataLaws.{one_of}
 use Rattle.ipc_schema.proofs.Maps.{Texts}

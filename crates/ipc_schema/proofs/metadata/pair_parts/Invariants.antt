@@ -1,6 +1,6 @@
 use Rattle.std.proofs.Common.{◌≡◌, ◌++◌, map}
 use Rattle.nest_memory.specs.TypeOf.{entries_of}
-use Rattle.ipc_words.specs.Bytes.{parts_of}
+use Rattle.ipc_flatbuf.specs.Bytes.{parts_of}
 use Rattle.ipc_schema.specs.SchemaBytes.{pair_bytes}
 use Rattle.ipc_schema.specs.MetadataLaws.{AreTexts}
 use Rattle.ipc_schema.proofs.metadata.pair_parts.Given as goal

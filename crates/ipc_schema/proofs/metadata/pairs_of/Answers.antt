@@ -2,8 +2,8 @@ use Rattle.std.proofs.Common.{◌++◌, ◌∷◌, [], Ok, sym, ap, ◌∙◌}
 use Rattle.std.proofs.lemmas.Result.{err_from_is_err_and}
 use Rattle.nest_memory.specs.TypeOf.{entries_of}
 use Rattle.nest_memory.specs.TypeTree.{Letters, Entries}
-use Rattle.ipc_words.specs.Words.{tables_at}
-use Rattle.ipc_words.specs.Rows.{row_starts, row_goes_on, row_lacks_offset, row_ends, row_is_done}
+use Rattle.ipc_flatbuf.specs.Flatbuffers.{tables_at}
+use Rattle.ipc_flatbuf.specs.VectorBytes.{row_starts, row_goes_on, row_lacks_offset, row_ends, row_is_done}
 use Rattle.ipc_schema.specs.Schemas.{pair_at, with_pairs, with_all}
 use Rattle.ipc_schema.proofs.Maps.{Texts, with_more}
 use Rattle.ipc_schema.proofs.metadata.pairs_of.Goals as goal

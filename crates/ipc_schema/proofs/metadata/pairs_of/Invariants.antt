@@ -1,8 +1,8 @@
 use Rattle.std.proofs.Common.{◌≡◌, [], List}
 use Rattle.nest_memory.specs.TypeOf.{entries_of}
 use Rattle.nest_memory.specs.TypeTree.{Letters}
-use Rattle.ipc_words.specs.Words.{tables_at}
-use Rattle.ipc_words.specs.Rows.{with_front, rest_at}
+use Rattle.ipc_flatbuf.specs.Flatbuffers.{tables_at}
+use Rattle.ipc_flatbuf.specs.VectorBytes.{with_front, rest_at}
 use Rattle.ipc_schema.specs.Schemas.{pair_at, with_pairs}
 use Rattle.ipc_schema.proofs.metadata.pairs_of.Given as goal
 

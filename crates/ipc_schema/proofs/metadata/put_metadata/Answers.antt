@@ -1,8 +1,8 @@
 use Rattle.std.proofs.Common.{map, arith}
 use Rattle.std.proofs.lemmas.Result.{err_from_is_err_and}
 use Rattle.nest_memory.specs.TypeOf.{entries_of}
-use Rattle.ipc_words.specs.RowLaws.{row_is_long}
-use Rattle.ipc_words.specs.Writes.{too_long_more}
+use Rattle.ipc_flatbuf.specs.VectorLaws.{row_is_long}
+use Rattle.ipc_flatbuf.specs.Writers.{too_long_more}
 use Rattle.ipc_schema.specs.SchemaBytes.{pair_bytes}
 use Rattle.ipc_schema.proofs.metadata.put_metadata.Goals as goal
 

@@ -1,8 +1,8 @@
 use Rattle.std.proofs.Common.{sym, ap}
 use Rattle.std.proofs.lemmas.Result.{err_from_is_err_and}
 use Rattle.std.specs.Int.{w32, cast_signed}
-use Rattle.ipc_words.specs.Words.{signed_at, structs_at}
-use Rattle.ipc_words.specs.Rows.{struct_starts, struct_goes_on, struct_ends, struct_is_done}
+use Rattle.ipc_flatbuf.specs.Flatbuffers.{signed_at, structs_at}
+use Rattle.ipc_flatbuf.specs.VectorBytes.{struct_starts, struct_goes_on, struct_ends, struct_is_done}
 use Rattle.ipc_schema.proofs.Signs.{signed_is}
 use Rattle.ipc_schema.proofs.nested.ids_of.Goals as goal
 

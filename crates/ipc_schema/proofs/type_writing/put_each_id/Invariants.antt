@@ -1,6 +1,6 @@
 use Rattle.std.proofs.Common.{◌≡◌, ◌++◌, take}
 use Rattle.std.specs.List.{flat_map}
-use Rattle.ipc_words.specs.Bytes.{i32_bytes}
+use Rattle.ipc_flatbuf.specs.Bytes.{i32_bytes}
 use Rattle.ipc_schema.proofs.type_writing.put_each_id.Given as goal
 
 abbrev pub invariant-loop-id : goal.invariant-loop-id

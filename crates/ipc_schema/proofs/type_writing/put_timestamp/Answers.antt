@@ -3,7 +3,7 @@ use Rattle.std.specs.Prelude.{String, string_bytes}
 use Rattle.std.specs.declared.alloc.Global.{Global}
 use Rattle.std.proofs.lemmas.Result.{err_from_is_err_and}
 use Rattle.nest_memory.specs.TypeOf.{text_of}
-use Rattle.ipc_words.specs.Writes.{too_long_more}
+use Rattle.ipc_flatbuf.specs.Writers.{too_long_more}
 use Rattle.ipc_schema.specs.SchemaBytes.{timestamp_bytes}
 use Rattle.ipc_schema.specs.TypeLaws.{timestamp_long}
 use Rattle.ipc_schema.proofs.type_writing.put_timestamp.Goals as goal

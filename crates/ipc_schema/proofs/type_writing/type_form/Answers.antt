@@ -4,7 +4,7 @@ use Rattle.std.specs.Option.{option_map}
 use Rattle.nest_memory.specs.TypeOf.{type_of, field_list_of, count_fields-field_list_of}
 use Rattle.nest_memory.specs.TypeTree.{count_fields}
 use Rattle.nest_memory.specs.declared.datatypes.DataType.{the_lemmas}
-use Rattle.ipc_model.specs.declared.fault.NoForm.TheVariants as reasons
+use Rattle.ipc_flatbuf.specs.declared.error.NoForm.TheVariants as reasons
 use Rattle.ipc_schema.specs.Types.{are_ids}
 use Rattle.ipc_schema.specs.Forms.{unless, type_form}
 use Rattle.ipc_schema.proofs.type_writing.type_form.Goals as goal

@@ -5,9 +5,9 @@ use Rattle.std.proofs.lemmas.Result.{err_from_is_err_and}
 use Rattle.std.specs.Global.{Vec}
 use Rattle.nest_memory.specs.TypeOf.{field_of}
 use Rattle.nest_memory.specs.TypeTree.{TypeTree, FieldTree, field_type}
-use Rattle.ipc_words.specs.Bytes.{together, parts_of, row_bytes}
-use Rattle.ipc_words.specs.RowLaws.{row_is_long}
-use Rattle.ipc_words.specs.Writes.{too_long_more}
+use Rattle.ipc_flatbuf.specs.Bytes.{together, parts_of, row_bytes}
+use Rattle.ipc_flatbuf.specs.VectorLaws.{row_is_long}
+use Rattle.ipc_flatbuf.specs.Writers.{too_long_more}
 use Rattle.ipc_schema.specs.Extensions.{table_type}
 use Rattle.ipc_schema.specs.Types.{children_of}
 use Rattle.ipc_schema.specs.Forms.{field_form}

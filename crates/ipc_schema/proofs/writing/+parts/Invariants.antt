@@ -1,7 +1,7 @@
 use Rattle.std.proofs.Common.{◌≡◌, ◌+◌, ◌*◌, ◌≤◌, ◌++◌, length, map, drop, Ok}
 use Rattle.std.specs.List.{AllByRecursion}
 use Rattle.nest_memory.specs.TypeOf.{field_of}
-use Rattle.ipc_words.specs.Bytes.{parts_of, together}
+use Rattle.ipc_flatbuf.specs.Bytes.{parts_of, together}
 use Rattle.ipc_schema.specs.Forms.{each_form, field_form}
 use Rattle.ipc_schema.specs.Numbering.{total, count_keyed}
 use Rattle.ipc_schema.specs.SchemaBytes.{each_bytes}

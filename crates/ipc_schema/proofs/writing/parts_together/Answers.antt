@@ -2,9 +2,9 @@ use Rattle.std.proofs.Common.{length, ap, arith}
 use Rattle.std.specs.Prelude.{string_bytes}
 use Rattle.std.proofs.lemmas.Result.{err_from_is_err_and}
 use Rattle.nest_memory.specs.TypeOf.{type_of, entries_of}
-use Rattle.ipc_words.specs.Bytes as parts
-use Rattle.ipc_words.specs.PartLaws.{string_long}
-use Rattle.ipc_words.specs.Writes.{too_long_more}
+use Rattle.ipc_flatbuf.specs.Bytes as parts
+use Rattle.ipc_flatbuf.specs.PartLaws.{string_long}
+use Rattle.ipc_flatbuf.specs.Writers.{too_long_more}
 use Rattle.ipc_schema.specs.SchemaBytes.{type_number, type_bytes, entries_bytes}
 use Rattle.ipc_schema.specs.FieldLaws.{field_parts_long}
 use Rattle.ipc_schema.proofs.writing.parts_together.Goals as goal

@@ -1,6 +1,6 @@
 use Rattle.std.proofs.Common.{arith}
 use Rattle.std.proofs.lemmas.Result.{err_from_is_err_and}
-use Rattle.ipc_words.specs.Writes.{too_long_more}
+use Rattle.ipc_flatbuf.specs.Writers.{too_long_more}
 use Rattle.ipc_schema.specs.FieldLaws.{field_parts_long}
 use Rattle.ipc_schema.proofs.writing.put_field.Goals as goal
 

@@ -2,9 +2,9 @@ use Rattle.std.proofs.Common.{◌≡◌, ◌+◌, ◌≤◌, List, ℕ, length, 
 use Rattle.std.proofs.lemmas.Result.{err_from_is_err_and}
 use Rattle.nest_memory.specs.TypeOf.{field_of}
 use Rattle.nest_memory.specs.declared.datatypes.field.Field.{Field}
-use Rattle.ipc_words.specs.Bytes.{parts_of, row_bytes, together}
-use Rattle.ipc_words.specs.RowLaws.{row_is_long}
-use Rattle.ipc_words.specs.Writes.{too_long_more}
+use Rattle.ipc_flatbuf.specs.Bytes.{parts_of, row_bytes, together}
+use Rattle.ipc_flatbuf.specs.VectorLaws.{row_is_long}
+use Rattle.ipc_flatbuf.specs.Writers.{too_long_more}
 use Rattle.ipc_schema.specs.Schemas.{SchemaTree, schema_of}
 use Rattle.ipc_schema.specs.SchemaBytes.{each_bytes, fields_bytes, entries_bytes, schema_bytes}
 use Rattle.ipc_schema.specs.FieldLaws.{AllFit}

@@ -4,7 +4,7 @@ use Rattle.nest_memory.specs.TypeOf.{field_of}
 use Rattle.nest_memory.specs.TypeTree.{FieldTree}
 use Rattle.nest_memory.specs.declared.datatypes.field.Field.{Field}
 use Rattle.ipc_schema.specs.Schemas.{schema_of}
-use Rattle.ipc_model.specs.declared.fault.NoForm.TheVariants as reasons
+use Rattle.ipc_flatbuf.specs.declared.error.NoForm.TheVariants as reasons
 use Rattle.ipc_schema.specs.Forms.{unless, keyed_form, fields_form}
 use Rattle.ipc_schema.specs.Numbering.{have_dictionary}
 use Rattle.ipc_schema.specs.TypeLaws.{both}

@@ -1,7 +1,7 @@
 use Rattle.std.proofs.Common.{◌≡◌, ◌<◌, ◌^◌, List, ℕ, length, refl, subst, arith}
 use Rattle.std.proofs.lemmas.Result.{err_from_is_err_and}
-use Rattle.ipc_message.specs.MessageBytes.{message_bytes, metadata_size}
-use Rattle.ipc_message.specs.declared.message.Kind.TheVariants as kinds
+use Rattle.ipc_flatbuf.specs.MessageBytes.{message_bytes, metadata_size}
+use Rattle.ipc_flatbuf.specs.declared.message.types.Kind.TheVariants as kinds
 use Rattle.ipc_schema.specs.Schemas.{SchemaTree, schema_of}
 use Rattle.ipc_schema.specs.Forms.{fields_form, unformed_more, long_form}
 use Rattle.ipc_schema.specs.SchemaBytes.{schema_message}

@@ -1,0 +1,6 @@
+//! cli_read
+#![tactic(auto)]
+
+pub mod batches;
+pub mod compare;
+pub mod taking;

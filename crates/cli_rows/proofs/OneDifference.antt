@@ -1,0 +1,23 @@
+-- Two inputs differ first in one way.
+use Rattle.std.proofs.Common.{◌≡◌, ℕ, List, Option, Some, None, refl, ap}
+use Rattle.cli_rows.specs.Difference.{IsDifference}
+use Rattle.cli_rows.specs.Rows.{Row}
+use Rattle.cli_rows.specs.Compared.{IsFirstDifference, held_rows}
+use Rattle.cli_rows.specs.Holding.{HeldTree}
+use Rattle.cli_rows.specs.declared.whole.comparing.Difference.{Difference}
+use Rattle.cli_rows.specs.declared.whole.comparing.Difference.TheVariants as differences
+
+module _ (one : (xs ys : List Row) (d e : Option ℕ) → IsDifference xs ys d → IsDifference xs ys e → d ≡ e) (s t : HeldTree) where
+  rows : (d e : Option ℕ) → IsDifference (held_rows s) (held_rows t) d → IsDifference (held_rows s) (held_rows t) e → d ≡ e
+  rows d e p q = one (held_rows s) (held_rows t) d e p q
+
+  pub one-difference : (d e : Option Difference) → IsFirstDifference s t d → IsFirstDifference s t e → d ≡ e
+  one-difference None None p q = refl
+  one-difference None (Some differences.Schema) p q = absurd (q p.0)
+  one-difference None (Some (differences.Row k)) p q = let same = rows None (Some k) p.1 q.1 in absurd cc
+  one-difference (Some differences.Schema) None p q = absurd (p q.0)
+  one-difference (Some differences.Schema) (Some differences.Schema) p q = refl
+  one-difference (Some differences.Schema) (Some (differences.Row k)) p q = absurd (p q.0)
+  one-difference (Some (differences.Row k)) None p q = let same = rows (Some k) None p.1 q.1 in absurd cc
+  one-difference (Some (differences.Row k)) (Some differences.Schema) p q = absurd (q p.0)
+  one-difference (Some (differences.Row k)) (Some (differences.Row j)) p q = let same = rows (Some k) (Some j) p.1 q.1 in let at : k ≡ j = cc in ap (λ n. Some (differences.Row n)) at

@@ -1,0 +1,12 @@
+use Rattle.std.proofs.Common.{◌≡◌, ◌++◌, length, map}
+use Rattle.std.specs.Vec.Iter.{into_iter_items, into_iter_len}
+use Rattle.nest_memory.specs.TypeOf.{type_of}
+use Rattle.nest_array.specs.Seen.{layout_of}
+use Rattle.cli_rows.specs.Tables.{columns_of, records}
+use Rattle.cli_rows.proofs.answer.making.record_arrays.Given as goal
+
+abbrev pub invariant-loop-batch : goal.invariant-loop-batch
+invariant-loop-batch l =
+    (l.yielded ++ into_iter_items l.batch-iterator ≡ into_iter_items l.initial.batch-iterator)
+    × (map layout_of l.arrays.items ≡ map (records (type_of l.data_type)) (map (λ b. columns_of b.items) l.yielded))
+    × (into_iter_len l.batch-iterator ≡ length (into_iter_items l.batch-iterator))

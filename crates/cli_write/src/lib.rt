@@ -1,0 +1,5 @@
+//! cli_write
+#![tactic(auto)]
+
+pub mod copy;
+pub mod import;

@@ -1,0 +1,12 @@
+use Rattle.std.proofs.Common.{◌++◌, ap, ◌∙◌}
+use Rattle.ipc_arrays.specs.Placed.{padded}
+use Rattle.ipc_arrays.specs.Written.{valid_bytes, flat_buffers}
+use Rattle.ipc_arrays.proofs.Arrays.{on_ok, two_written}
+use Rattle.ipc_arrays.proofs.fixed_size_binary.put_fixed_size_binary.Goals as goal
+
+pub returns-clause-ok : goal.returns-clause-ok
+returns-clause-ok c =
+    on_ok c.put_bytes.result c.put_bytes.ensures
+    (λ e. two_written c.args.out.now.items c.put_validity.new.out.items c.put_bytes.new.out.items _ _ (flat_buffers c.args.array.now) (ap flat_buffers c.known.ensures.kind)
+    (c.in_ok-put_validity.ensures ∙ (λ w. c.args.out.now.items ++ padded (valid_bytes (c.validity.ensures w))))
+    (e ∙ (λ w. c.put_validity.new.out.items ++ padded ((c.as_slice.ensures ∙ c.values.ensures) w))))

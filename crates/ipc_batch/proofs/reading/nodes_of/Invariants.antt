@@ -1,8 +1,0 @@
-use Rattle.std.proofs.Common.{◌≡◌}
-use Rattle.ipc_words.specs.Words.{structs_at}
-use Rattle.ipc_words.specs.Rows.{with_structs, structs_from}
-use Rattle.ipc_batch.specs.Batches.{node_at}
-use Rattle.ipc_batch.proofs.reading.nodes_of.Given as goal
-
-abbrev pub invariant-loop-i : goal.invariant-loop-i
-invariant-loop-i l = with_structs l.nodes.items (structs_from (node_at l.bytes) 16 l.items.count l.items.first l.i) ≡ structs_at (node_at l.bytes) 16 l.items.count l.items.first

@@ -1,6 +1,0 @@
-use Rattle.std.proofs.Common.{◌≡◌, drop}
-use Rattle.ipc_batch.specs.Batches.{each_within}
-use Rattle.ipc_batch.proofs.regions.each_within.Given as goal
-
-abbrev pub invariant-loop-region : goal.invariant-loop-region
-invariant-loop-region l = each_within l.body (drop l.region-index l.regions) ≡ each_within l.body l.regions

@@ -1,7 +1,0 @@
-use Rattle.std.proofs.Common.{◌≡◌, ◌+◌, ◌-◌}
-use Rattle.nest_memory.specs.Cut.{cut}
-use Rattle.ipc_layout.specs.Packed.{number_of}
-use Rattle.ipc_layout.proofs.bits.byte_of.Given as goal
-
-abbrev pub invariant-loop-i : goal.invariant-loop-i
-invariant-loop-i l = l.byte ≡ number_of (cut l.bits (l.first + (l.count - l.i)) l.i)

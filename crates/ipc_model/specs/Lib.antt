@@ -1,2 +1,0 @@
--- What contracts of the readers cite.
-pub mod Reading

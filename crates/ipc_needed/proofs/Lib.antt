@@ -1,3 +1,0 @@
-pub mod Walks
-pub mod Sents
-pub mod Putting

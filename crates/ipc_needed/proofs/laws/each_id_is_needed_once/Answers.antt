@@ -1,5 +1,0 @@
-use Rattle.ipc_needed.specs.ApartLaws.{needed_apart}
-use Rattle.ipc_needed.proofs.laws.each_id_is_needed_once.Goals as goal
-
-pub returns : goal.returns
-returns c = λ sent columns. needed_apart sent columns

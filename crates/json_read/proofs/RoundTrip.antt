@@ -1,0 +1,120 @@
+-- The tree that a slot is printed as is read as that slot.
+use Rattle.std.specs.Prelude.{◌≢◌, ◌||◌, bytes_eq, flat_map, unwrap_or, pos, ◌^◌, Option, Some, None, if◌then◌else◌}
+use Rattle.std.proofs.Common.{◌≡◌, ℕ, zero, suc, ◌+◌, ◌<◌, Bool, true, false, List, [], ◌∷◌, ◌++◌, ℤ, length, refl, sym, ap, ◌∙◌, subst, arith}
+use Rattle.std.proofs.lemmas.Slice.Eq.{bytes_eq-Decides}
+use Rattle.std.specs.Fmt.{signed_decimal}
+use Rattle.std.specs.Int.Signed.{mag}
+use Rattle.json.specs.Json as json
+use Rattle.json.specs.Json.{Json, Items, no_items, item, Members, no_members, member}
+use Rattle.json_read.specs.Apart.{NamesApart, FieldApart, FieldsApart}
+use Rattle.json_read.specs.Leaf.{number_in, item_numbers, bytes_of_hex}
+use Rattle.json_read.specs.Meant.{slot_of, item_slots, member_slots, field_slots, slot_named, type_named, array_slot, text_slot}
+use Rattle.json_read.specs.ReadsBack.{AreBytes, IsWritten, AreWritten}
+use Rattle.json_read.proofs.ReadBack.{bytes-back, decimal-back}
+use Rattle.json_read.proofs.Feeding.{eq-false, eq-same}
+use Rattle.nest_memory.specs.TypeTree as types
+use Rattle.nest_memory.specs.TypeTree.{Letters, TypeTree, FieldTree, field, FieldTrees, no_fields, more_fields, field_type}
+use Rattle.nest_model.specs.Slot as slots
+use Rattle.nest_model.specs.Slot.{Slot, Slots, no_slots, more_slots}
+use Rattle.json_write.specs.Json.{items_type, members_of, field_name, hex_byte}
+use Rattle.json_write.specs.OneText.{AreOf128Bits, IsSlotOf, AreItems, AreMembers, NoneNamed, AreNamedApart, form, rows, records}
+use Rattle.json_write.specs.Tree.{tree_of_slot, tree_items, tree_members}
+
+-- ---- types
+
+items-apart : (t : TypeTree) → NamesApart t → form t ≡ rows → NamesApart (items_type t)
+items-apart (types.list (field n t b es)) a e = a
+items-apart (types.fixed_size_list (field n t b es) s) a e = a
+items-apart (types.large_list (field n t b es)) a e = a
+items-apart (types.map (field n t b es) s) a e = a
+items-apart (types.dictionary k t b) a e = items-apart t a e
+items-apart (types.extension n t m) a e = items-apart t a e
+items-apart t a e = absurd cc
+
+members-apart : (t : TypeTree) → NamesApart t → form t ≡ records → AreNamedApart (members_of t) × FieldsApart (members_of t)
+members-apart (types.struct fs) a e = a
+members-apart (types.dictionary k t b) a e = members-apart t a e
+members-apart (types.extension n t m) a e = members-apart t a e
+members-apart t a e = absurd cc
+
+-- ---- fields by their names
+
+-- each of these fields is the first of its name among those
+AllTyped : FieldTrees → FieldTrees → Type 0
+AllTyped all no_fields = Unit {0}
+AllTyped all (more_fields f fs) = (type_named (field_name f) all ≡ field_type f) × AllTyped all fs
+
+one-before : (g : FieldTree) (all fs : FieldTrees) → NoneNamed (field_name g) fs → AllTyped all fs → AllTyped (more_fields g all) fs
+unfolding AllTyped
+one-before g all no_fields h t = tt
+one-before g all (more_fields f fs) h t =
+    (ap (λ b. if b then field_type g else type_named (field_name f) all) (eq-false (field_name g) (field_name f) h.0) ∙ t.0, one-before g all fs h.1 t.1)
+
+all-typed : (fs : FieldTrees) → AreNamedApart fs → AllTyped fs fs
+unfolding AllTyped
+all-typed no_fields a = tt
+all-typed (more_fields f fs) a =
+    (ap (λ b. if b then field_type f else type_named (field_name f) fs) (eq-same (field_name f) (field_name f) refl), one-before f fs fs a.0 (all-typed fs a.1))
+
+-- slots under the names of their fields
+named_slots : FieldTrees → Slots → List (Letters × Slot)
+named_slots fs no_slots = []
+named_slots no_fields (more_slots s ss) = []
+named_slots (more_fields f fs) (more_slots s ss) = (field_name f, s) ∷ named_slots fs ss
+
+one-more : (n : Letters) (s : Slot) (ps : List (Letters × Slot)) (fs : FieldTrees) → NoneNamed n fs → field_slots fs ((n, s) ∷ ps) ≡ field_slots fs ps
+one-more n s ps no_fields h = refl
+one-more n s ps (more_fields f fs) h = rw (eq-false n (field_name f) h.0, one-more n s ps fs h.1) refl
+
+slots-named : (fs : FieldTrees) (ss : Slots) → AreNamedApart fs → AreMembers fs ss → field_slots fs (named_slots fs ss) ≡ ss
+unfolding named_slots
+slots-named no_fields no_slots a h = refl
+slots-named no_fields (more_slots s ss) a h = absurd h
+slots-named (more_fields f fs) no_slots a h = absurd h
+slots-named (more_fields f fs) (more_slots s ss) a h =
+    rw (eq-same (field_name f) (field_name f) refl, one-more (field_name f) s (named_slots fs ss) fs a.0, slots-named fs ss a.1 h.1) refl
+
+-- ---- numbers and bytes
+
+items_in : Json → Items
+items_in (json.array js) = js
+items_in j = no_items
+
+decimal : (z : ℤ) → mag z < 2 ^ 128 → number_in (json.number (signed_decimal z)) ≡ z
+decimal z h = ap (λ o. unwrap_or o (pos 0)) (decimal-back z h)
+
+hex : (bs : List ℕ) → AreBytes bs → bytes_of_hex (flat_map hex_byte bs) ≡ bs
+hex bs h = (bytes-back bs h).1
+
+numbers-back : (z y : ℤ) (zs : List ℤ) → AreOf128Bits (z ∷ y ∷ zs) → item_numbers (items_in (tree_of_slot types.null (slots.number (z ∷ y ∷ zs)))) ≡ z ∷ y ∷ zs
+unfolding items_in
+numbers-back z y [] h = rw (decimal z h.0, decimal y h.1.0) refl
+numbers-back z y (w ∷ zs) h = rw (decimal z h.0, numbers-back y w zs h.1) refl
+
+mutual
+  unfolding AllTyped named_slots items_in
+
+  pub slot-back : (t : TypeTree) (s : Slot) → NamesApart t → IsSlotOf t s → IsWritten s → slot_of t (tree_of_slot t s) ≡ s
+  slot-back t slots.null a h b = refl
+  slot-back t (slots.truth x) a h b = refl
+  slot-back t (slots.number []) a h b = rw h refl
+  slot-back t (slots.number (z ∷ [])) a h b = ap (λ y. slots.number (y ∷ [])) (decimal z b.0)
+  slot-back t (slots.number (z ∷ y ∷ zs)) a h b = rw h (ap slots.number (numbers-back z y zs b))
+  slot-back t (slots.text bs) a h b = rw h refl
+  slot-back t (slots.bytes bs) a h b = rw (h, hex bs b) refl
+  slot-back t (slots.list ss) a h b = rw (h.0, items-back (items_type t) ss (items-apart t a h.0) h.1 b) refl
+  slot-back t (slots.record_of ss) a h b =
+      let p = members-apart t a h.0 in
+      rw (members-back (members_of t) (members_of t) ss (all-typed (members_of t) p.0) p.1 h.1 b, slots-named (members_of t) ss p.0 h.1) refl
+  slot-back t (slots.pick f u s) a h b = absurd b
+
+  items-back : (t : TypeTree) (ss : Slots) → NamesApart t → AreItems t ss → AreWritten ss → item_slots t (tree_items t ss) ≡ ss
+  items-back t no_slots a h b = refl
+  items-back t (more_slots s ss) a h b = rw (slot-back t s a h.0 b.0, items-back t ss a h.1 b.1) refl
+
+  members-back : (all fs : FieldTrees) (ss : Slots) → AllTyped all fs → FieldsApart fs → AreMembers fs ss → AreWritten ss → member_slots all (tree_members fs ss) ≡ named_slots fs ss
+  members-back all no_fields no_slots k a h b = refl
+  members-back all no_fields (more_slots s ss) k a h b = absurd h
+  members-back all (more_fields f fs) no_slots k a h b = absurd h
+  members-back all (more_fields (field n t x es) fs) (more_slots s ss) k a h b =
+      rw (k.0, slot-back t s a.0 h.0 b.0, members-back all fs ss k.1 a.1 h.1 b.1) refl

@@ -1,0 +1,107 @@
+-- What the types of lists and of structs are made of.
+use Rattle.std.specs.Prelude.{Option, Some, None, ◌⊎◌}
+use Rattle.std.proofs.Common.{◌≡◌, ℕ, zero, suc, true, false, List, [], ◌∷◌, ℤ, refl, sym, ap, ◌∙◌, subst, inl, inr}
+use Rattle.json.specs.Json.{Json, Items, Members}
+use Rattle.nest_any.specs.Lent.{builder_at}
+use Rattle.nest_any.specs.Refusals.{IsListBuilder, IsOfLists}
+use Rattle.nest_array.specs.SeenScalar.{shown_type}
+use Rattle.nest_build.specs.Children.{list_child}
+use Rattle.json_read.specs.Apart.{NamesApart, FieldApart, FieldsApart}
+use Rattle.json_read.specs.Leaf.{first_of}
+use Rattle.json_read.specs.Meant.{array_slot, array_fault, count_of, lies, size_fault}
+use Rattle.json_read.specs.declared.reason.Reason.{Reason}
+use Rattle.nest_memory.specs.Physical.{physical_type}
+use Rattle.nest_memory.specs.TypeTree as types
+use Rattle.nest_memory.specs.TypeTree.{TypeTree, FieldTree, field, FieldTrees, no_fields, more_fields, item_type, fields_of, fixed_size, size_of}
+use Rattle.nest_memory.specs.declared.datatypes.physical_type.PhysicalType.TheVariants as physical
+use Rattle.nest_model.specs.BuilderTree.{BuilderTree, BuilderTrees, flat, list, fixed_size_list, dictionary, struct, no_builders, more_builders, builder_type, builder_types}
+use Rattle.nest_model.specs.BuilderWhole.{IsWhole}
+use Rattle.nest_model.specs.Layout.{field_types}
+use Rattle.nest_model.specs.Slot as slots
+use Rattle.nest_model.specs.Slot.{Slots}
+use Rattle.json_write.specs.Json.{items_type, members_of}
+use Rattle.json_write.specs.OneText.{AreNamedApart, form}
+
+pub of-lists : (b : BuilderTree) → IsListBuilder b → IsOfLists (physical_type (builder_type b))
+of-lists (flat t xs) k = absurd k
+of-lists (list true t rows c) k = inr (inl k)
+of-lists (list false t rows c) k = inl k
+of-lists (fixed_size_list t bits c) k = inr (inr k)
+of-lists (dictionary i t keys c) k = absurd k
+of-lists (struct t bits cs) k = absurd k
+
+pub list-slot : (t : TypeTree) (zs : List ℤ) (ss : Slots) → IsOfLists (physical_type t) → array_slot (form t) zs ss ≡ slots.list ss
+list-slot (types.list f) zs ss h = refl
+list-slot (types.large_list f) zs ss h = refl
+list-slot (types.fixed_size_list f s) zs ss h = refl
+list-slot (types.extension n t m) zs ss h = list-slot t zs ss h
+list-slot t zs ss (inl e) = absurd cc
+list-slot t zs ss (inr (inl e)) = absurd cc
+list-slot t zs ss (inr (inr e)) = absurd cc
+
+first-none : (a : Option Reason) → a ≡ first_of a None
+first-none None = refl
+first-none (Some e) = refl
+
+pub list-fault : (t : TypeTree) (js : Items) (inside : Option Reason) (n : ℕ) → IsOfLists (physical_type t) → n ≡ count_of js → array_fault (lies t) (size_of (shown_type t)) js inside ≡ first_of inside (size_fault (fixed_size t) n)
+list-fault (types.list f) js inside n h e = first-none inside
+list-fault (types.large_list f) js inside n h e = first-none inside
+list-fault (types.fixed_size_list f s) js inside n h e = ap (λ m. first_of inside (size_fault (Some s) m)) (sym e)
+list-fault (types.extension m t d) js inside n h e = list-fault t js inside n h e
+list-fault t js inside n (inl h) e = absurd cc
+list-fault t js inside n (inr (inl h)) e = absurd cc
+list-fault t js inside n (inr (inr h)) e = absurd cc
+
+item-apart : (f : FieldTree) (u : TypeTree) → Some (types.field_type f) ≡ Some u → FieldApart f → (types.field_type f ≡ u) × NamesApart u
+item-apart (field n t b es) u e a =
+    let p : t ≡ u = cc in
+    (p, subst NamesApart p a)
+
+item-parts : (t u : TypeTree) → IsOfLists (physical_type t) → item_type t ≡ Some u → NamesApart t → (items_type t ≡ u) × NamesApart u
+item-parts (types.list f) u h e a = item-apart f u e a
+item-parts (types.large_list f) u h e a = item-apart f u e a
+item-parts (types.fixed_size_list f s) u h e a = item-apart f u e a
+item-parts (types.extension n t m) u h e a = item-parts t u h e a
+item-parts t u (inl h) e a = absurd cc
+item-parts t u (inr (inl h)) e a = absurd cc
+item-parts t u (inr (inr h)) e a = absurd cc
+
+-- the items of a list's type are of its child's
+pub child-parts : (b : BuilderTree) → IsListBuilder b → IsWhole b → NamesApart (builder_type b) → (items_type (builder_type b) ≡ builder_type (list_child b)) × NamesApart (builder_type (list_child b)) × IsWhole (list_child b)
+child-parts (flat t xs) k w a = absurd k
+child-parts (list large t rows c) k w a =
+    let p = item-parts t (builder_type c) (of-lists (list large t rows c) k) w.1 a in
+    (p.0, p.1, w.0)
+child-parts (fixed_size_list t bits c) k w a =
+    let p = item-parts t (builder_type c) (of-lists (fixed_size_list t bits c) k) w.1 a in
+    (p.0, p.1, w.0)
+child-parts (dictionary i t keys c) k w a = absurd k
+child-parts (struct t bits cs) k w a = absurd k
+
+pub struct-members : (t : TypeTree) → physical_type t ≡ physical.Struct → members_of t ≡ fields_of t
+struct-members (types.dictionary l t b) e = cc
+struct-members (types.extension n t m) e = struct-members t e
+struct-members (types.union fs ids mode) e = cc
+struct-members t e = refl
+
+pub struct-lies : (t : TypeTree) → physical_type t ≡ physical.Struct → lies t ≡ physical.Struct
+struct-lies (types.dictionary l t b) e = cc
+struct-lies (types.extension n t m) e = struct-lies t e
+struct-lies t e = e
+
+pub struct-apart : (t : TypeTree) → physical_type t ≡ physical.Struct → NamesApart t → AreNamedApart (fields_of t) × FieldsApart (fields_of t)
+struct-apart (types.struct fs) e a = a
+struct-apart (types.extension n t m) e a = struct-apart t e a
+struct-apart t e a = absurd cc
+
+field-apart : (f : FieldTree) (u : TypeTree) → u ≡ types.field_type f → FieldApart f → NamesApart u
+field-apart (field n t b es) u e a = subst NamesApart (sym e) a
+
+pub child-apart : (fs : FieldTrees) (cs : BuilderTrees) (i : ℕ) (c : BuilderTree) → builder_types cs ≡ field_types fs → FieldsApart fs → builder_at cs i ≡ Some c → NamesApart (builder_type c)
+child-apart fs no_builders i c e a p = absurd cc
+child-apart no_fields (more_builders d cs) i c e a p = absurd cc
+child-apart (more_fields f fs) (more_builders d cs) zero c e a p =
+    let q : d ≡ c = cc in
+    let r : builder_type d ≡ types.field_type f = cc in
+    field-apart f (builder_type c) (ap builder_type (sym q) ∙ r) a.0
+child-apart (more_fields f fs) (more_builders d cs) (suc i) c e a p = child-apart fs cs i c (let r : builder_types cs ≡ field_types fs = cc in r) a.1 p

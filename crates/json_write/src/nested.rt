@@ -1,0 +1,267 @@
+//! Slots of arrays of any kind: one cycle over children. A child weighs less than what holds it.
+ghost use Rattle.std.specs.Prelude.{◌≡◌, ◌+◌, ◌≤◌, ◌<◌, codes, false, if◌then◌else◌};
+ghost use Rattle.std.specs.Fmt.{WritesOnOk};
+ghost use Rattle.nest_array.specs.Seen.{layout_of, layouts_of};
+ghost use Rattle.nest_memory.specs.TypeOf.{field_list_of, field_of};
+ghost use Rattle.nest_model.specs.Fits.{EachCovers, EachType};
+ghost use Rattle.nest_model.specs.Layout.{layout_type};
+ghost use Rattle.nest_model.specs.Meaning.{each, len, run, slot};
+ghost use Rattle.nest_model.specs.Slot.{seal};
+ghost use Rattle.json_write.specs.Json.{field_name, json_items, json_list, json_members, shown};
+
+use crate::leaves::{
+    write_binary, write_block, write_native, write_natives, write_text, write_truth,
+};
+use crate::letters::{write_comma, write_quoted};
+use nest_array::{
+    AnyArray, DictionaryArray, FixedSizeListArray, LargeListArray, ListArray, MapArray,
+    StructArray, UnionArray,
+};
+use nest_memory::datatypes::Field;
+use std::fmt;
+use std::fmt::Formatter;
+
+/// Slot i.
+#[cycle(show)]
+pub(crate) fn write_slot<W: fmt::Write>(
+    f: &mut Formatter<W>,
+    array: &AnyArray,
+    i: usize,
+) -> fmt::Result
+    requires { i < len (layout_of array.now) }
+    ensures { WritesOnOk W.write_str_gives f.old result (shown (layout_of array.now) i) f.new }
+{
+    match array {
+        AnyArray::Null(array) => {
+            array.known();
+            f.write_str("null")
+        }
+        AnyArray::Boolean(array) => write_truth(f, array, i),
+        AnyArray::Primitive(array) => write_native(f, array, i),
+        AnyArray::Binary(array) => write_binary(f, array, i),
+        AnyArray::LargeBinary(array) => write_binary(f, array, i),
+        AnyArray::Utf8(array) => write_text(f, array, i),
+        AnyArray::LargeUtf8(array) => write_text(f, array, i),
+        AnyArray::FixedSizeBinary(array) => write_block(f, array, i),
+        AnyArray::FixedSizeList(array) => write_fixed_size_list(f, array, i),
+        AnyArray::List(array) => write_list(f, array, i),
+        AnyArray::LargeList(array) => write_large_list(f, array, i),
+        AnyArray::Struct(array) => write_record(f, array, i),
+        AnyArray::Map(array) => write_map(f, array, i),
+        AnyArray::Union(array) => write_pick(f, array, i),
+        AnyArray::Dictionary(array) => write_keyed(f, array, i),
+    }
+}
+
+/// The n slots from place o, in brackets.
+#[cycle(show)]
+pub(crate) fn write_run<W: fmt::Write>(
+    f: &mut Formatter<W>,
+    array: &AnyArray,
+    o: usize,
+    n: usize,
+) -> fmt::Result
+    requires { o + n ≤ len (layout_of array.now) }
+    ensures { WritesOnOk W.write_str_gives f.old result (json_list (layout_type (layout_of array.now)) (run (slot (layout_of array.now)) o n)) f.new }
+{
+    f.write_str("[")?;
+    write_items(f, array, o, n)?;
+    f.write_str("]")
+}
+
+/// The n slots from place o, with commas between.
+#[cycle(show)]
+pub(crate) fn write_items<W: fmt::Write>(
+    f: &mut Formatter<W>,
+    array: &AnyArray,
+    o: usize,
+    n: usize,
+) -> fmt::Result
+    requires { o + n ≤ len (layout_of array.now) }
+    ensures { WritesOnOk W.write_str_gives f.old result (json_items (layout_type (layout_of array.now)) false (seal (run (slot (layout_of array.now)) o n))) f.new }
+{
+    match array {
+        AnyArray::Primitive(array) => write_natives(f, array, o, n),
+        _ => write_each(f, array, o, n),
+    }
+}
+
+#[cycle(show)]
+fn write_each<W: fmt::Write>(
+    f: &mut Formatter<W>,
+    array: &AnyArray,
+    o: usize,
+    n: usize,
+) -> fmt::Result
+    requires { o + n ≤ len (layout_of array.now) }
+    ensures { WritesOnOk W.write_str_gives f.old result (json_items (layout_type (layout_of array.now)) false (seal (run (slot (layout_of array.now)) o n))) f.new }
+{
+    let _end = array.len();
+    for k in 0..n {
+        write_comma(f, k > 0)?;
+        write_slot(f, array, o + k)?;
+    }
+    Ok(())
+}
+
+pub(crate) fn name(field: &Field) -> &str
+    ensures { result.now ≡ field_name (field_of field.now) }
+{
+    &field.name
+}
+
+/// A row of items, or null.
+#[cycle(show)]
+fn write_row<W: fmt::Write>(
+    f: &mut Formatter<W>,
+    null: bool,
+    items: &AnyArray,
+    o: usize,
+    n: usize,
+) -> fmt::Result
+    requires { o + n ≤ len (layout_of items.now) }
+    ensures { WritesOnOk W.write_str_gives f.old result (if null then codes "null" else json_list (layout_type (layout_of items.now)) (run (slot (layout_of items.now)) o n)) f.new }
+{
+    if null {
+        f.write_str("null")
+    } else {
+        write_run(f, items, o, n)
+    }
+}
+
+#[cycle(show)]
+pub(crate) fn write_list<W: fmt::Write>(
+    f: &mut Formatter<W>,
+    array: &ListArray,
+    i: usize,
+) -> fmt::Result
+    requires { i < len array.now }
+    ensures { WritesOnOk W.write_str_gives f.old result (shown array.now i) f.new }
+{
+    array.known();
+    let row = array.window(i);
+    row.known();
+    write_row(f, array.is_null(i), row.array(), row.offset(), row.len())
+}
+
+#[cycle(show)]
+pub(crate) fn write_large_list<W: fmt::Write>(
+    f: &mut Formatter<W>,
+    array: &LargeListArray,
+    i: usize,
+) -> fmt::Result
+    requires { i < len array.now }
+    ensures { WritesOnOk W.write_str_gives f.old result (shown array.now i) f.new }
+{
+    array.known();
+    let row = array.window(i);
+    row.known();
+    write_row(f, array.is_null(i), row.array(), row.offset(), row.len())
+}
+
+#[cycle(show)]
+pub(crate) fn write_fixed_size_list<W: fmt::Write>(
+    f: &mut Formatter<W>,
+    array: &FixedSizeListArray,
+    i: usize,
+) -> fmt::Result
+    requires { i < len array.now }
+    ensures { WritesOnOk W.write_str_gives f.old result (shown array.now i) f.new }
+{
+    array.known();
+    let row = array.window(i);
+    row.known();
+    write_row(f, array.is_null(i), row.array(), row.offset(), row.len())
+}
+
+#[cycle(show)]
+pub(crate) fn write_map<W: fmt::Write>(
+    f: &mut Formatter<W>,
+    array: &MapArray,
+    i: usize,
+) -> fmt::Result
+    requires { i < len array.now }
+    ensures { WritesOnOk W.write_str_gives f.old result (shown array.now i) f.new }
+{
+    array.known();
+    let row = array.window(i);
+    row.known();
+    write_row(f, array.is_null(i), row.array(), row.offset(), row.len())
+}
+
+#[cycle(show)]
+pub(crate) fn write_record<W: fmt::Write>(
+    f: &mut Formatter<W>,
+    array: &StructArray,
+    i: usize,
+) -> fmt::Result
+    requires { i < len array.now }
+    ensures { WritesOnOk W.write_str_gives f.old result (shown array.now i) f.new }
+{
+    array.known();
+    if array.is_null(i) {
+        return f.write_str("null");
+    }
+    f.write_str("{")?;
+    write_members(f, array.fields(), array.values(), i)?;
+    f.write_str("}")
+}
+
+/// The slot of each child at place i, after its field's name.
+#[cycle(show)]
+fn write_members<W: fmt::Write>(
+    f: &mut Formatter<W>,
+    fields: &[Field],
+    children: &[AnyArray],
+    i: usize,
+) -> fmt::Result
+    requires typed { EachType (field_list_of fields.now) (layouts_of children.now) }
+    requires within { EachCovers (layouts_of children.now) (i + 1) }
+    ensures { WritesOnOk W.write_str_gives f.old result (json_members (field_list_of fields.now) false (each (layouts_of children.now) i)) f.new }
+{
+    let mut after = false;
+    for (field, child) in fields.iter().zip(children) {
+        write_comma(f, after)?;
+        write_quoted(f, name(field))?;
+        f.write_str(":")?;
+        write_slot(f, child, i)?;
+        after = true;
+    }
+    Ok(())
+}
+
+#[cycle(show)]
+pub(crate) fn write_pick<W: fmt::Write>(
+    f: &mut Formatter<W>,
+    array: &UnionArray,
+    i: usize,
+) -> fmt::Result
+    requires { i < len array.now }
+    ensures { WritesOnOk W.write_str_gives f.old result (shown array.now i) f.new }
+{
+    array.known();
+    let (k, place) = array.index(i);
+    let fields = UnionArray::get_fields(array.data_type());
+    let children = array.fields();
+    f.write_str("{")?;
+    write_quoted(f, name(&fields[k]))?;
+    f.write_str(":")?;
+    write_slot(f, &children[k], place)?;
+    f.write_str("}")
+}
+
+#[cycle(show)]
+pub(crate) fn write_keyed<W: fmt::Write>(
+    f: &mut Formatter<W>,
+    array: &DictionaryArray,
+    i: usize,
+) -> fmt::Result
+    requires { i < len array.now }
+    ensures { WritesOnOk W.write_str_gives f.old result (shown array.now i) f.new }
+{
+    array.known();
+    if array.is_null(i) {
+        return f.write_str("null");
+    }
+    write_slot(f, array.values(), array.key_value(i))
+}

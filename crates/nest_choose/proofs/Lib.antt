@@ -1,5 +1,0 @@
-mod Found
-mod Columns
-mod Steps
-mod Alike
-mod OnlyOne

@@ -1,5 +1,0 @@
-use Rattle.nest_choose.proofs.OnlyOne.{one-place}
-use Rattle.nest_choose.proofs.laws.one_place_is_first.Goals as goal
-
-pub returns : goal.returns
-returns c = λ xs ys d e. one-place xs ys d e

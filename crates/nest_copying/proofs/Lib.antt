@@ -1,4 +1,0 @@
-mod Joined
-pub mod Lists
-mod Sinks
-pub mod Steps

@@ -1,7 +1,0 @@
--- What contracts cite.
-pub mod Asking
-pub mod Copied
-pub mod Joining
--- Words of sinks, and of functions within.
-pub mod Sinks
-pub mod Walks

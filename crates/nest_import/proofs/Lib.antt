@@ -1,5 +1,0 @@
-mod Ahead
-mod Batching
-mod Fed
-mod Truths
-mod Turns

@@ -1,8 +1,0 @@
-use Rattle.std.proofs.Common.{map, take}
-use Rattle.std.specs.Fmt.{HasWritten, IsPlainFormatter}
-use Rattle.nest_memory.specs.TypeOf.{field_of}
-use Rattle.nest_lines.specs.Text.{text_of_columns}
-use Rattle.nest_lines.proofs.lines.write_columns.Given as goal
-
-abbrev pub invariant-loop-field : goal.invariant-loop-field
-invariant-loop-field g l = IsPlainFormatter l.initial.f → HasWritten g.W.Write.write_str_gives l.initial.f (text_of_columns (map field_of (take l.field-index l.fields))) l.f

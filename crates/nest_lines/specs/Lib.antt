@@ -1,3 +1,0 @@
--- What contracts cite.
-pub mod Text
-pub mod Examples

@@ -1,5 +1,0 @@
-use Rattle.nest_show.proofs.OneText.{one-text-one-slot}
-use Rattle.nest_show.proofs.laws.one_text_one_slot.Goals as goal
-
-pub returns : goal.returns
-returns c t s z o i j h l e = one-text-one-slot t s z o i j h l e

@@ -1,4 +1,0 @@
-mod Ranks
-mod Rows
-mod Taken
-mod Turns

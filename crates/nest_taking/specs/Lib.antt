@@ -1,4 +1,0 @@
--- What contracts cite.
-pub mod Places
-pub mod Takes
-pub mod Taking
