@@ -1,4 +1,4 @@
--- Entries that are copied one after another in the order of their ids.
+-- Entries that are cloned in the order of their ids.
 use Rattle.std.proofs.Common.{◌≡◌, List, [], ◌∷◌, ◌++◌, map, refl, sym, ap, subst, ◌∙◌, append_assoc}
 use Rattle.std.specs.Prelude.{ℤ}
 use Rattle.std.specs.Cmp.{int_cmp_total}
@@ -10,7 +10,7 @@ use Rattle.std.specs.Ordering.{int_cmp, ordering_reverse}
 use Rattle.std.specs.declared.cmp.Ordering.TheVariants.{Less, Greater}
 use Rattle.ipc.proofs.Entries.{viewed}
 
--- ---- the ids of entries of the code are those of what they are spelled as
+-- ---- the ids of entries
 
 module _ {V W : Type 0} (view : V → W) where
   viewed_keys : (es : List (ℤ × V)) → keys_of (viewed view es) ≡ keys_of es
@@ -20,15 +20,15 @@ module _ {V W : Type 0} (view : V → W) where
   pub viewed_ascend : (es : List (ℤ × V)) → IsStrictlySortedBy int_cmp (keys_of es) → IsStrictlySortedBy int_cmp (keys_of (viewed view es))
   viewed_ascend es h = subst (IsStrictlySortedBy int_cmp) (sym (viewed_keys es)) h
 
--- ---- one more of them
+-- ---- one more entry
 
 module _ {V : Type 0} where
-  -- what comes behind others has an id above each of theirs
+  -- an entry after others has an id above theirs
   below_at : (id : ℤ) (front rest : List (ℤ × V)) (e : ℤ × V) → AllByRecursion (λ (k : ℤ). int_cmp id k ≡ Less) (keys_of (front ++ e ∷ rest)) → int_cmp id e.0 ≡ Less
   below_at id [] rest e all = all.0
   below_at id (x ∷ front) rest e all = below_at id front rest e all.1
 
-  -- so it goes to their end
+  -- so it is inserted at their end
   goes_last : (front rest : List (ℤ × V)) (e : ℤ × V) → IsStrictlySortedBy int_cmp (keys_of (front ++ e ∷ rest)) → insert_entry int_cmp front e.0 e.1 ≡ front ++ e ∷ []
   unfolding IsStrictlySortedBy
   goes_last [] rest e ascend = refl

@@ -1,4 +1,4 @@
--- Entries of the code and as they are spelled: what is found among them, and one more.
+-- Entries that the code holds: finding one, and inserting one.
 use Rattle.std.proofs.Common.{◌≡◌, ℕ, ◌+◌, ◌<◌, Bool, true, false, cond, List, [], ◌∷◌, ◌++◌, length, get_or, take, drop, map, Option, Some, None, refl, sym, ap, ◌∙◌}
 use Rattle.std.specs.Prelude.{ℤ, is_some}
 use Rattle.std.specs.Borrow.{Bor}
@@ -10,9 +10,9 @@ use Rattle.std.specs.declared.cmp.Ordering.{Ordering}
 use Rattle.std.specs.declared.cmp.Ordering.TheVariants.{Less, Equal, Greater}
 use Rattle.std.proofs.lemmas.List.{map-append}
 use Rattle.nest_array.specs.declared.any.AnyArray.{AnyArray}
-use Rattle.ipc.specs.Puts.{whole}
-use Rattle.ipc.specs.Sent.{entry_of}
-use Rattle.ipc.specs.WrittenLists.{taken, split}
+use Rattle.ipc.specs.FileDictionaries.{whole}
+use Rattle.ipc.specs.EntriesOf.{entry_of}
+use Rattle.ipc.specs.EncodedBatches.{taken, split}
 
 module _ {V W : Type 0} (view : V → W) where
   abbrev pub viewed : List (ℤ × V) → List (ℤ × W)
@@ -44,11 +44,11 @@ module _ {V W : Type 0} (view : V → W) where
       match_both (int_cmp id e.0) ((id, new) ∷ e ∷ es) ((e.0, new) ∷ es) (e ∷ insert_entry int_cmp es id new)
       ∙ ap (λ (rest : List (ℤ × W)). match_ordering (int_cmp id e.0) ((id, view new) ∷ viewed (e ∷ es)) ((e.0, view new) ∷ viewed es) ((e.0, view e.1) ∷ rest)) (viewed_more es id new)
 
--- ---- what is needed, put whole
+-- ---- pending dictionaries as batches of all values
 
-pub whole_taken : (needed : List (ℤ × Bor AnyArray)) (i : ℕ) (x : ℤ × Bor AnyArray) → i < length needed → x ≡ get_or needed i x → map whole (map entry_of (take (i + 1) needed)) ≡ map whole (map entry_of (take i needed)) ++ whole (entry_of x) ∷ []
-whole_taken needed i x lt is = ap (map whole) (taken entry_of needed i x lt is) ∙ map-append whole (map entry_of (take i needed)) (entry_of x ∷ [])
+pub whole_taken : (pending : List (ℤ × Bor AnyArray)) (i : ℕ) (x : ℤ × Bor AnyArray) → i < length pending → x ≡ get_or pending i x → map whole (map entry_of (take (i + 1) pending)) ≡ map whole (map entry_of (take i pending)) ++ whole (entry_of x) ∷ []
+whole_taken pending i x lt is = ap (map whole) (taken entry_of pending i x lt is) ∙ map-append whole (map entry_of (take i pending)) (entry_of x ∷ [])
 
-pub whole_split : (needed : List (ℤ × Bor AnyArray)) (i : ℕ) (x : ℤ × Bor AnyArray) → i < length needed → x ≡ get_or needed i x
-    → map whole (map entry_of needed) ≡ map whole (map entry_of (take i needed)) ++ whole (entry_of x) ∷ map whole (map entry_of (drop (i + 1) needed))
-whole_split needed i x lt is = ap (map whole) (split entry_of needed i x lt is) ∙ map-append whole (map entry_of (take i needed)) (entry_of x ∷ map entry_of (drop (i + 1) needed))
+pub whole_split : (pending : List (ℤ × Bor AnyArray)) (i : ℕ) (x : ℤ × Bor AnyArray) → i < length pending → x ≡ get_or pending i x
+    → map whole (map entry_of pending) ≡ map whole (map entry_of (take i pending)) ++ whole (entry_of x) ∷ map whole (map entry_of (drop (i + 1) pending))
+whole_split pending i x lt is = ap (map whole) (split entry_of pending i x lt is) ∙ map-append whole (map entry_of (take i pending)) (entry_of x ∷ map entry_of (drop (i + 1) pending))

@@ -1,11 +1,11 @@
-//! What a stream has behind its schema.
+//! The record batches of a stream or a file.
 use nest_array::any::AnyArray;
 
-/// Some rows of the columns of a schema.
+/// A record batch: a number of rows, and a column for each field of its schema.
 #[derive(Drop)]
 pub struct Batch {
-    /// How many rows there are, also where there is no column.
+    /// The number of rows, also of a batch without columns.
     pub rows: usize,
-    /// A column for each field of the schema.
+    /// The columns, in the order of the fields of the schema.
     pub columns: Vec<AnyArray>,
 }

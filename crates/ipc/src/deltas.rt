@@ -1,76 +1,80 @@
-//! Values behind those that a dictionary has.
+//! Appends the values of a delta to a dictionary.
 ghost use Rattle.std.specs.Prelude.{◌≡◌, true, Some};
 ghost use Rattle.std.specs.Option.{option_map};
-ghost use Rattle.ipc_flatbuf.specs.Reading.{Gives};
+ghost use Rattle.ipc_flatbuf.specs.ReadResults.{ReturnsOrRunsOut};
 ghost use Rattle.nest_array.specs.Seen.{layout_of};
-ghost use Rattle.ipc.specs.Streams.{fault_of as fault_of_lem, joined_values as joined_values_lem, with_values, state_of};
+ghost use Rattle.ipc.specs.Streams.{join_error_of, spec_joined_values, spec_with_values, state_of};
 
-use crate::dense::dense_past;
-use crate::fresh::is_among;
-use crate::state::State;
-use ipc_flatbuf::Fault;
+use crate::appendable::contains_id;
+use crate::state::DictionaryState;
+use crate::union_offsets::union_offsets_overflow;
+use ipc_flatbuf::IpcReadError;
 use nest_array::any::AnyArray;
 use nest_concat::concatenate;
 use nest_memory::error::Error;
 use std::alloc::Global;
 
-// Why values are not joined.
-fn fault_of(error: Error) -> Fault
-    ensures { result ≡ fault_of_lem error }
+// Returns the error of a delta that cannot be appended.
+fn join_error(error: Error) -> IpcReadError
+    ensures { result ≡ join_error_of error }
 {
     match error {
-        Error::Memory(_) => Fault::Memory,
-        Error::OutOfSpec(_) => Fault::Delta,
-        Error::InvalidArgumentError(_) => Fault::Delta,
-        Error::Overflow => Fault::Delta,
-        Error::NotYetImplemented => Fault::Delta,
+        Error::Memory(_) => IpcReadError::Memory,
+        Error::OutOfSpec(_) => IpcReadError::Delta,
+        Error::InvalidArgumentError(_) => IpcReadError::Delta,
+        Error::Overflow => IpcReadError::Delta,
+        Error::NotYetImplemented => IpcReadError::Delta,
     }
 }
 
-// Values of one type, one array after another, where no offset of a dense union would pass its type.
-fn joined(alloc: Global, values: AnyArray, more: AnyArray) -> Result<AnyArray, Fault>
-    ensures { Gives layout_of result (joined_values_lem (Some (layout_of values)) (layout_of more)) }
+// Concatenates the values and the delta, if no offset of a dense union leaves 32 bits.
+fn joined(alloc: Global, values: AnyArray, more: AnyArray) -> Result<AnyArray, IpcReadError>
+    ensures { ReturnsOrRunsOut layout_of result (spec_joined_values (Some (layout_of values)) (layout_of more)) }
 {
-    if dense_past(&values, &more) {
-        return Err(Fault::Delta);
+    if union_offsets_overflow(&values, &more) {
+        return Err(IpcReadError::Delta);
     }
     let arrays = [values, more];
     match concatenate(alloc, &arrays) {
-        Err(error) => Err(fault_of(error)),
+        Err(error) => Err(join_error(error)),
         Ok(joined) => Ok(joined),
     }
 }
 
-// Values behind those that are there, if there are some.
-fn joined_values(alloc: Global, known: Option<&AnyArray>, more: AnyArray) -> Result<AnyArray, Fault>
-    ensures { Gives layout_of result (joined_values_lem (option_map (λ a. layout_of a.now) known.entry) (layout_of more)) }
+// Appends a delta to the values of an id, which must have some.
+fn join_values(
+    alloc: Global,
+    known: Option<&AnyArray>,
+    more: AnyArray,
+) -> Result<AnyArray, IpcReadError>
+    ensures { ReturnsOrRunsOut layout_of result (spec_joined_values (option_map (λ a. layout_of a.now) known.entry) (layout_of more)) }
 {
     match known {
-        None => Err(Fault::Delta),
+        None => Err(IpcReadError::Delta),
         Some(values) => match values.clone(alloc) {
-            Err(_) => Err(Fault::Memory),
+            Err(_) => Err(IpcReadError::Memory),
             Ok(values) => joined(alloc, values, more),
         },
     }
 }
 
-/// An id has more values from now on, behind those that it has.
+/// Appends a delta to the values of an id; `Delta`, if the id is not appendable or the values cannot be concatenated.
 pub(crate) fn more_values(
     alloc: Global,
-    state: &mut State,
+    state: &mut DictionaryState,
     id: i64,
     more: AnyArray,
-) -> Result<(), Fault>
+) -> Result<(), IpcReadError>
     ensures picked { state.new.picked ≡ state.old.picked }
-    ensures known { Gives (λ x. state_of state.new) result (with_values true (state_of state.old) id (layout_of more)) }
+    ensures known { ReturnsOrRunsOut (λ x. state_of state.new) result (spec_with_values true (state_of state.old) id (layout_of more)) }
 {
-    if !is_among(&state.fresh, id) {
-        return Err(Fault::Delta);
+    if !contains_id(&state.appendable, id) {
+        return Err(IpcReadError::Delta);
     }
-    match joined_values(alloc, state.known.get(&id), more) {
-        Err(fault) => Err(fault),
+    match join_values(alloc, state.known.get(&id), more) {
+        Err(error) => Err(error),
         Ok(values) => {
-            state.insert_more(id, values)?;
+            state.insert_delta(id, values)?;
             Ok(())
         }
     }

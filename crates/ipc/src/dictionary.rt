@@ -1,172 +1,186 @@
-//! Reads the batches of dictionaries.
+//! Reads dictionary batches. Source: Message.fbs, table DictionaryBatch.
 ghost use Rattle.std.specs.Prelude.{◌≡◌, ◌<◌, ◌^◌, length, is_some};
 ghost use Rattle.std.specs.List.{list_any};
 ghost use Rattle.std.specs.Option.{option_map};
-ghost use Rattle.ipc_flatbuf.specs.Reading.{Gives};
-ghost use Rattle.ipc_flatbuf.specs.Messages.{parts_of};
+ghost use Rattle.ipc_flatbuf.specs.ReadResults.{ReturnsOrRunsOut};
+ghost use Rattle.ipc_flatbuf.specs.Messages.{model_of};
 ghost use Rattle.nest_memory.specs.TypeOf.{type_of};
 ghost use Rattle.nest_array.specs.Seen.{layout_of};
-ghost use Rattle.ipc_arrays.specs.Columns.{rest_of};
-ghost use Rattle.ipc_schema.specs.PickedSchemas.{picked_of};
-ghost use Rattle.ipc_schema.specs.SeenOf.{values_of};
-ghost use Rattle.ipc.specs.Streams.{has_dictionary as has_dictionary_lem, named_in, data_place as data_place_lem, may_come as may_come_lem, only_column as only_column_lem, with_values as with_values_lem, column_in_batch, data_in, new_values_in, found_in, dictionary_in, known_at, state_of};
+ghost use Rattle.ipc_arrays.specs.Decoding.{rest_of};
+ghost use Rattle.ipc_schema.specs.ProjectedSchemas.{projected_schema_of};
+ghost use Rattle.ipc_schema.specs.DictionaryModels.{value_type_of};
+ghost use Rattle.ipc.specs.Streams.{spec_has_dictionary, named_in, spec_data_position, spec_check_order, spec_only_column, spec_with_values, column_in_batch, data_in, new_values_in, found_in, dictionary_in, known_at, state_of};
 
 use crate::deltas::more_values;
-use crate::state::{State, values_of as known_values};
+use crate::state::{DictionaryState, values_of as known_values};
+use ipc_arrays::{BatchCursor, ExpectedLength, check_exhausted, read_column};
 use ipc_flatbuf::batch::read_batch;
-use ipc_arrays::{Left, Wanted, none_left, read_column};
 use ipc_flatbuf::message::Message;
-use ipc_flatbuf::{Fault, Step};
-use ipc_schema::{PickedSchema, Values, outer_ids};
-use ipc_flatbuf::{Table, i64_field, offset_field, u8_field, visit_table};
+use ipc_flatbuf::{
+    FieldAction, IpcReadError, Table, i64_field, offset_field, read_table, u8_field,
+};
+use ipc_schema::{DictionaryValueType, ProjectedSchema, outermost_ids};
 use nest_array::any::AnyArray;
 use nest_memory::datatypes::DataType;
 use std::alloc::Global;
 
-fn has_dictionary(step: Step) -> bool
-    ensures { result ≡ has_dictionary_lem step }
+// Returns whether a step skips a column with a dictionary.
+fn has_dictionary(step: FieldAction) -> bool
+    ensures { result ≡ spec_has_dictionary step }
 {
     match step {
-        Step::Read => false,
-        Step::Skip(span) => span.has_dictionary,
+        FieldAction::Read => false,
+        FieldAction::Skip(span) => span.has_dictionary,
     }
 }
 
-fn pass_dictionary(steps: &[Step]) -> bool
-    ensures { result ≡ list_any has_dictionary_lem steps.now }
+// Returns whether some step does.
+fn skips_dictionary(steps: &[FieldAction]) -> bool
+    ensures { result ≡ list_any spec_has_dictionary steps.now }
 {
     steps.iter().any(|step| has_dictionary(*step))
 }
 
-// What an id names; nothing where a field that is passed over may have it.
-fn named(picked: &PickedSchema, id: i64) -> Result<Option<&Values>, Fault>
-    ensures { Gives (λ v. option_map (λ b. values_of b.now) v) result (named_in (picked_of picked.now) id) }
+// Returns the values that an id names, or `None` if the id may belong to a skipped column.
+fn values_named(
+    picked: &ProjectedSchema,
+    id: i64,
+) -> Result<Option<&DictionaryValueType>, IpcReadError>
+    ensures { ReturnsOrRunsOut (λ v. option_map (λ b. value_type_of b.now) v) result (named_in (projected_schema_of picked.now) id) }
 {
     match picked.dictionaries.named.get(&id) {
         Some(values) => Ok(Some(values)),
-        None if pass_dictionary(&picked.steps) => Ok(None),
-        None => Err(Fault::UnknownDictionary),
+        None if skips_dictionary(&picked.steps) => Ok(None),
+        None => Err(IpcReadError::UnknownDictionary),
     }
 }
 
-fn data_place(to: Option<usize>) -> Result<usize, Fault>
-    ensures { result ≡ data_place_lem to }
+// Returns the position of the record batch in a dictionary batch.
+fn data_position(to: Option<usize>) -> Result<usize, IpcReadError>
+    ensures { result ≡ spec_data_position to }
 {
     match to {
-        None => Err(Fault::NoData),
-        Some(place) => Ok(place),
+        None => Err(IpcReadError::MissingData),
+        Some(position) => Ok(position),
     }
 }
 
-// Whether a dictionary may come.
-fn may_come(once: bool, delta: bool, there: bool) -> Result<(), Fault>
-    ensures { result ≡ may_come_lem once delta there }
+// Checks that a delta extends an id, and that a file replaces none.
+fn check_order(once: bool, delta: bool, there: bool) -> Result<(), IpcReadError>
+    ensures { result ≡ spec_check_order once delta there }
 {
     if delta && !there {
-        return Err(Fault::MissingDictionary);
+        return Err(IpcReadError::MissingDictionary);
     }
     if once && !delta && there {
-        return Err(Fault::Replaced);
+        return Err(IpcReadError::DuplicateDictionary);
     }
     Ok(())
 }
 
-// The one column of a dictionary's batch.
+// Reads the only column of a dictionary's record batch.
 fn only_column(
     alloc: Global,
     data_type: &DataType,
     rows: usize,
     body: &[u8],
-    left: Left<'_>,
-) -> Result<AnyArray, Fault>
-    ensures { Gives layout_of result (only_column_lem (type_of data_type.now) rows body.now (rest_of left.entry)) }
+    left: BatchCursor<'_>,
+) -> Result<AnyArray, IpcReadError>
+    ensures { ReturnsOrRunsOut layout_of result (spec_only_column (type_of data_type.now) rows body.now (rest_of left.entry)) }
 {
-    match read_column(alloc, data_type, Wanted::Rows(rows), body, left) {
-        Err(fault) => Err(fault),
-        Ok((column, left)) => match none_left(left) {
-            Err(fault) => Err(fault),
+    match read_column(alloc, data_type, ExpectedLength::Rows(rows), body, left) {
+        Err(error) => Err(error),
+        Ok((column, left)) => match check_exhausted(left) {
+            Err(error) => Err(error),
             Ok(()) => Ok(column),
         },
     }
 }
 
-// The values of a batch, over the dictionaries inside of them that are known.
-fn column_of(
+// Reads the values of a dictionary over the dictionaries nested in them.
+fn read_column_over(
     alloc: Global,
-    state: &State,
-    values: &Values,
+    state: &DictionaryState,
+    values: &DictionaryValueType,
     message: Message<'_>,
-    place: usize,
+    position: usize,
     left: usize,
-) -> Result<AnyArray, Fault>
+) -> Result<AnyArray, IpcReadError>
     requires { length message.metadata.now < 2 ^ 31 }
-    ensures { Gives layout_of result (column_in_batch (state_of state.now) (parts_of message.entry) place left (values_of values.now)) }
+    ensures { ReturnsOrRunsOut layout_of result (column_in_batch (state_of state.now) (model_of message.entry) position left (value_type_of values.now)) }
 {
     let root = message.root;
-    let batch = read_batch(alloc, message.metadata, place, left, root.body_length)?;
-    let ids = outer_ids(alloc, &values.inside, &state.picked.dictionaries)?;
+    let batch = read_batch(alloc, message.metadata, position, left, root.body_length)?;
+    let ids = outermost_ids(alloc, &values.inside, &state.picked.dictionaries)?;
     let dictionaries = known_values(alloc, &state.known, &ids)?;
-    let left = Left {
+    let left = BatchCursor {
         nodes: &batch.nodes,
-        regions: &batch.regions,
+        buffers: &batch.buffers,
         dictionaries: &dictionaries,
     };
     only_column(alloc, &values.data_type, batch.rows, message.body, left)
 }
 
-fn is_known(state: &State, id: i64) -> bool
+// Returns whether an id has values.
+fn is_known(state: &DictionaryState, id: i64) -> bool
     ensures { result ≡ is_some (known_at (state_of state.now).known id) }
 {
     state.known.get(&id).is_some()
 }
 
-// Where the batch of an id's values stands, and whether they stand behind those that it has.
+// Returns the position of the record batch, and whether the dictionary batch is a delta.
 #[tactic(auto, unfolding(crate::specs::Streams::data_in))]
-fn data_of(once: bool, there: bool, metadata: &[u8], table: Table) -> Result<(usize, bool), Fault>
+fn data_of(
+    once: bool,
+    there: bool,
+    metadata: &[u8],
+    table: Table,
+) -> Result<(usize, bool), IpcReadError>
     requires length { length metadata.now < 2 ^ 31 }
     requires at { table.at < 2 ^ 32 }
     requires vtable { table.vtable < 2 ^ 32 }
     ensures { result ≡ data_in once there metadata.now table }
 {
-    let place = data_place(offset_field(metadata, table, 1)?)?;
+    let position = data_position(offset_field(metadata, table, 1)?)?;
     let delta = u8_field(metadata, table, 2)? > 0;
-    may_come(once, delta, there)?;
-    Ok((place, delta))
+    check_order(once, delta, there)?;
+    Ok((position, delta))
 }
 
-// The values that come for an id, and whether they stand behind those that it has.
+// Reads the values for an id, and whether they are a delta.
 fn new_values(
     alloc: Global,
     once: bool,
-    state: &State,
+    state: &DictionaryState,
     message: Message<'_>,
     table: Table,
     left: usize,
     id: i64,
-    values: &Values,
-) -> Result<(bool, AnyArray), Fault>
+    values: &DictionaryValueType,
+) -> Result<(bool, AnyArray), IpcReadError>
     requires length { length message.metadata.now < 2 ^ 31 }
     requires at { table.at < 2 ^ 32 }
     requires vtable { table.vtable < 2 ^ 32 }
-    ensures { Gives (λ x. (x.0, layout_of x.1)) result (new_values_in once (state_of state.now) (parts_of message.entry) table left id (values_of values.now)) }
+    ensures { ReturnsOrRunsOut (λ x. (x.0, layout_of x.1)) result (new_values_in once (state_of state.now) (model_of message.entry) table left id (value_type_of values.now)) }
 {
     let there = is_known(state, id);
-    let (place, delta) = data_of(once, there, message.metadata, table)?;
-    match column_of(alloc, state, values, message, place, left) {
-        Err(fault) => Err(fault),
+    let (position, delta) = data_of(once, there, message.metadata, table)?;
+    match read_column_over(alloc, state, values, message, position, left) {
+        Err(error) => Err(error),
         Ok(column) => Ok((delta, column)),
     }
 }
 
-fn with_values(
+// Sets or extends the values of an id.
+fn store_values(
     alloc: Global,
-    state: &mut State,
+    state: &mut DictionaryState,
     id: i64,
     delta: bool,
     values: AnyArray,
-) -> Result<(), Fault>
+) -> Result<(), IpcReadError>
     ensures picked { state.new.picked ≡ state.old.picked }
-    ensures known { Gives (λ x. state_of state.new) result (with_values_lem delta (state_of state.old) id (layout_of values)) }
+    ensures known { ReturnsOrRunsOut (λ x. state_of state.new) result (spec_with_values delta (state_of state.old) id (layout_of values)) }
 {
     if delta {
         return more_values(alloc, state, id, values);
@@ -175,52 +189,52 @@ fn with_values(
     Ok(())
 }
 
-// What comes for an id; nothing where it is of a field that is passed over.
+// Reads the values for an id, or returns `None` if the id belongs to a skipped column.
 fn found_values(
     alloc: Global,
     once: bool,
-    state: &State,
+    state: &DictionaryState,
     message: Message<'_>,
     table: Table,
     left: usize,
     id: i64,
-) -> Result<Option<(bool, AnyArray)>, Fault>
+) -> Result<Option<(bool, AnyArray)>, IpcReadError>
     requires length { length message.metadata.now < 2 ^ 31 }
     requires at { table.at < 2 ^ 32 }
     requires vtable { table.vtable < 2 ^ 32 }
-    ensures { Gives (λ found. option_map (λ x. (x.0, layout_of x.1)) found) result (found_in once (state_of state.now) (parts_of message.entry) table left id) }
+    ensures { ReturnsOrRunsOut (λ found. option_map (λ x. (x.0, layout_of x.1)) found) result (found_in once (state_of state.now) (model_of message.entry) table left id) }
 {
-    match named(&state.picked, id) {
-        Err(fault) => Err(fault),
+    match values_named(&state.picked, id) {
+        Err(error) => Err(error),
         Ok(None) => Ok(None),
         Ok(Some(values)) => {
             match new_values(alloc, once, state, message, table, left, id, values) {
-                Err(fault) => Err(fault),
+                Err(error) => Err(error),
                 Ok(new) => Ok(Some(new)),
             }
         }
     }
 }
 
-/// The dictionary of a message, which is known from then on: each id may come once, or it is replaced when it comes again; a delta
-/// stands behind what its id has. Of a field that is passed over it is passed over.
+/// Reads a dictionary batch into the state. A delta extends its id. With `once`, as in files, an id has at most one batch that is no
+/// delta; otherwise a second one replaces the first. The dictionary of a skipped column is skipped.
 #[tactic(auto, unfolding(crate::specs::Streams::dictionary_in))]
 pub(crate) fn read_dictionary(
     alloc: Global,
     once: bool,
-    state: &mut State,
+    state: &mut DictionaryState,
     message: Message<'_>,
-) -> Result<(), Fault>
+) -> Result<(), IpcReadError>
     requires { length message.metadata.now < 2 ^ 31 }
     ensures picked { state.new.picked ≡ state.old.picked }
-    ensures known { Gives (λ x. state_of state.new) result (dictionary_in once (state_of state.old) (parts_of message.entry)) }
+    ensures known { ReturnsOrRunsOut (λ x. state_of state.new) result (dictionary_in once (state_of state.old) (model_of message.entry)) }
 {
     let root = message.root;
-    let (table, left) = visit_table(message.metadata, root.header, root.left)?;
+    let (table, left) = read_table(message.metadata, root.header, root.left)?;
     let id = i64_field(message.metadata, table, 0, 0)?;
     match found_values(alloc, once, state, message, table, left, id) {
-        Err(fault) => Err(fault),
+        Err(error) => Err(error),
         Ok(None) => Ok(()),
-        Ok(Some((delta, values))) => with_values(alloc, state, id, delta, values),
+        Ok(Some((delta, values))) => store_values(alloc, state, id, delta, values),
     }
 }

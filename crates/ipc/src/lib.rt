@@ -1,30 +1,35 @@
-//! Streams and files of the Arrow IPC format: read as a schema and batches, and written.
+//! Reads and writes streams and files of the Arrow IPC format in memory.
+//!
+//! A stream is a schema, then record batches, each after the dictionary batches that it needs. A file holds the same messages between
+//! magic bytes, and a footer with the offset of each. Source: Columnar format, "IPC Streaming Format" and "IPC File Format".
+//!
+//! `ipc_io` does the same over `Read`, `Write` and `Seek`.
 #![tactic(auto)]
 
+mod appendable;
 mod batch;
 mod block;
 mod deltas;
-mod dense;
 mod dictionary;
 mod file;
 pub mod file_laws;
-mod fresh;
 pub mod laws;
 mod reader;
 mod reading;
 mod state;
 mod stream;
+mod union_offsets;
 mod writing;
 mod writing_files;
 
 pub use batch::Batch;
 pub use block::{read_batch_block, read_dictionary_block};
-pub use file::{File, FileReader, read_file, read_file_columns};
-pub use reader::StreamReader;
+pub use file::{File, SliceFileReader, read_file, read_file_projected};
+pub use reader::SliceStreamReader;
 pub use reading::{next_batch, read_message};
-pub use state::{Dictionaries, State};
-pub use stream::{Stream, read_stream, read_stream_columns};
-pub use writing::{put_batch, put_part, write_stream};
-pub use writing_files::{Blocks, put_part_blocks, write_file};
+pub use state::{DictionaryState, KnownDictionaries};
+pub use stream::{Stream, read_stream, read_stream_projected};
+pub use writing::{append_stream_batch, encode_stream_batch, write_stream};
+pub use writing_files::{FileBlocks, encode_file_batch, initial_state, write_file};
 
 pub mod dictionaries;

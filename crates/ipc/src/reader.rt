@@ -1,32 +1,34 @@
-//! Reads streams batch by batch.
+//! Reads a stream in memory one record batch at a time.
 ghost use Rattle.std.specs.Prelude.{◌≡◌, [], IfErr};
 ghost use Rattle.std.specs.Option.{option_map};
-ghost use Rattle.ipc_flatbuf.specs.Reading.{Gives};
-ghost use Rattle.ipc_schema.specs.Picks.{all, picks_of};
+ghost use Rattle.ipc_flatbuf.specs.ReadResults.{ReturnsOrRunsOut};
+ghost use Rattle.ipc_schema.specs.Projections.{all, projection_of};
 ghost use Rattle.ipc_schema.specs.Schemas.{schema_of};
-ghost use Rattle.ipc.specs.Streams.{arrays_of};
-ghost use Rattle.ipc.specs.Readers.{next_of, reader_in};
+ghost use Rattle.ipc.specs.Streams.{record_batch_of};
+ghost use Rattle.ipc.specs.SliceStreamReaders.{next_of, reader_in};
 
 use crate::batch::Batch;
 use crate::reading::next_batch;
-use crate::state::State;
-use ipc_flatbuf::Fault;
-use ipc_schema::{Columns, Schema, read_picked_schema};
+use crate::state::DictionaryState;
+use ipc_flatbuf::IpcReadError;
+use ipc_schema::{Projection, Schema, read_projected_schema};
 use std::alloc::Global;
 use std::marker::Model;
 
-/// A stream that is read batch by batch, with the memory of one batch and of the dictionaries that are known. Its answers are those of
-/// `read_stream`, up to the first fault.
+/// A reader of a stream in memory, which returns one record batch at a time.
+///
+/// It holds the schema, the dictionaries read so far and the rest of the bytes. Its batches are those that `read_stream` returns, up to
+/// the first error.
 #[derive(Drop)]
-pub struct StreamReader<'a> {
-    state: State,
+pub struct SliceStreamReader<'a> {
+    state: DictionaryState,
     left: &'a [u8],
 }
 
-impl<'a> Model for StreamReader<'a> {
-    ghost use Rattle.ipc.specs.Readers.{ReaderTree, coded_reader};
+impl<'a> Model for SliceStreamReader<'a> {
+    ghost use Rattle.ipc.specs.SliceStreamReaders.{SliceStreamReaderTree, coded_reader};
 
-    ghost Value = { ReaderTree };
+    ghost Value = { SliceStreamReaderTree };
 
     ghost coded = { coded_reader };
 
@@ -35,49 +37,60 @@ impl<'a> Model for StreamReader<'a> {
     ghost view = { λ r. record { state = state_of r.state; left = r.left.now } };
 }
 
-impl<'a> StreamReader<'a> {
-    /// The reader of the stream that the bytes begin with; its schema is read here.
-    pub fn new(alloc: Global, bytes: &'a [u8]) -> Result<StreamReader<'a>, Fault>
-        ensures { Gives (λ r. r) result (reader_in all bytes.now) }
+impl<'a> SliceStreamReader<'a> {
+    /// Reads the schema at the start of `bytes` and returns a reader of all columns.
+    ///
+    /// # Errors
+    /// The first error of the schema message, or `Memory`.
+    pub fn new(alloc: Global, bytes: &'a [u8]) -> Result<SliceStreamReader<'a>, IpcReadError>
+        ensures { ReturnsOrRunsOut (λ r. r) result (reader_in all bytes.now) }
     {
-        StreamReader::with_columns(alloc, bytes, Columns::All)
+        SliceStreamReader::with_projection(alloc, bytes, Projection::All)
     }
 
-    /// The reader of some columns; the others are passed over, also where their types are not read.
-    #[tactic(auto, unfolding(crate::specs::Readers::reader_in))]
-    pub fn with_columns(
+    /// Returns a reader of the projected columns. The other columns are skipped, even where their data types cannot be read.
+    ///
+    /// # Errors
+    /// Those of `new`, and an error of the projection.
+    #[tactic(auto, unfolding(crate::specs::SliceStreamReaders::reader_in))]
+    pub fn with_projection(
         alloc: Global,
         bytes: &'a [u8],
-        columns: Columns<'_>,
-    ) -> Result<StreamReader<'a>, Fault>
-        ensures { Gives (λ r. r) result (reader_in (picks_of columns.entry) bytes.now) }
+        columns: Projection<'_>,
+    ) -> Result<SliceStreamReader<'a>, IpcReadError>
+        ensures { ReturnsOrRunsOut (λ r. r) result (reader_in (projection_of columns.entry) bytes.now) }
     {
-        let (picked, left) = read_picked_schema(alloc, columns, bytes)?;
-        let state = State::new(alloc, picked);
-        Ok(StreamReader { state, left })
+        let (picked, left) = read_projected_schema(alloc, columns, bytes)?;
+        let state = DictionaryState::new(alloc, picked);
+        Ok(SliceStreamReader { state, left })
     }
 
-    /// The columns of all batches.
+    /// Returns the schema of the projected columns.
     pub fn schema(&self) -> &Schema
         ensures { schema_of result.now ≡ self.now.state.picked.schema }
     {
         &self.state.picked.schema
     }
 
-    /// The next batch, or its first fault; `None` at the end, and for good after the end or a fault.
-    #[tactic(auto, unfolding(crate::specs::Readers::next_of))]
-    pub fn next_batch(&mut self, alloc: Global) -> Result<Option<Batch>, Fault>
-        ensures next { Gives (λ b. (option_map arrays_of b, self.new)) result (next_of self.old) }
+    /// Returns the next record batch, or `None` at the end of the stream.
+    ///
+    /// Dictionary batches before it are read and remembered. After the end, or after an error, every call returns `None`.
+    ///
+    /// # Errors
+    /// The first error of the messages up to the batch, or `Memory`.
+    #[tactic(auto, unfolding(crate::specs::SliceStreamReaders::next_of))]
+    pub fn next_batch(&mut self, alloc: Global) -> Result<Option<Batch>, IpcReadError>
+        ensures next { ReturnsOrRunsOut (λ b. (option_map record_batch_of b, self.new)) result (next_of self.old) }
         ensures over { IfErr result (λ _. self.new.left ≡ []) }
         ensures schema { self.new.state.picked ≡ self.old.state.picked }
     {
         match next_batch(alloc, &mut self.state, self.left) {
-            Err(fault) => {
+            Err(error) => {
                 self.left = &[];
-                Err(fault)
+                Err(error)
             }
-            Ok((next, behind)) => {
-                self.left = if next.is_some() { behind } else { &[] };
+            Ok((next, rest)) => {
+                self.left = if next.is_some() { rest } else { &[] };
                 Ok(next)
             }
         }

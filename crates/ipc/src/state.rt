@@ -1,57 +1,43 @@
-//! What is known of a stream or a file where one of its messages begins.
+//! The state of a reader between two messages: the projected schema, and the dictionaries read so far.
 ghost use Rattle.std.specs.Prelude.{◌≡◌, IfOk, map, OnOk};
-ghost use Rattle.std.specs.BTreeMap.{insert_entry};
-ghost use Rattle.std.specs.Ordering.{int_cmp};
 ghost use Rattle.nest_array.specs.Seen.{layout_of};
-ghost use Rattle.ipc_flatbuf.specs.Reading.{Gives};
-ghost use Rattle.ipc_schema.specs.PickedSchemas.{picked_of};
-ghost use Rattle.ipc_arrays.specs.Keys.{dictionary_of};
-ghost use Rattle.ipc.specs.Readers.{state_in};
-ghost use Rattle.ipc.specs.Streams.{start, dictionaries_of, known_of, values_at, state_of, with_more, with_new};
+ghost use Rattle.ipc_flatbuf.specs.ReadResults.{ReturnsOrRunsOut};
+ghost use Rattle.ipc_schema.specs.ProjectedSchemas.{projected_schema_of};
+ghost use Rattle.ipc_arrays.specs.DictionaryKeys.{dictionary_of};
+ghost use Rattle.ipc.specs.SliceStreamReaders.{state_in};
+ghost use Rattle.ipc.specs.Streams.{start, known_dictionaries_of, known_of, values_at, state_of, with_delta, with_new};
 
-use crate::fresh::fresh_behind;
-use ipc_flatbuf::Fault;
-use ipc_schema::{Columns, PickedSchema, read_picked_schema};
+use crate::appendable::appendable_after;
+use crate::dictionaries::emitted::insert_clone;
+use ipc_flatbuf::IpcReadError;
+use ipc_schema::{ProjectedSchema, Projection, read_projected_schema};
 use nest_array::any::AnyArray;
 use std::alloc::{AllocError, Global};
 use std::collections::BTreeMap;
 
-/// The columns that are read, the values of each id of a dictionary that came so far, and the ids of those that are fresh: no
-/// dictionary inside of theirs was written anew since they were.
+/// The state of a reader between two messages.
+///
+/// A delta may extend an id only if no dictionary nested in its values was replaced since they were read, as keys in those values would
+/// then name other slots. Such ids are called appendable.
 #[derive(Drop)]
-pub struct State {
-    pub picked: PickedSchema,
+pub struct DictionaryState {
+    /// The projected schema.
+    pub picked: ProjectedSchema,
+    /// The values of each dictionary read so far, by id.
     pub known: BTreeMap<i64, AnyArray>,
-    pub fresh: Vec<i64>,
+    /// The ids that a delta may extend.
+    pub appendable: Vec<i64>,
 }
 
-/// What a state says of dictionaries: the values that each has, and which are fresh.
+/// The dictionaries of a `DictionaryState`: their values by id, and the appendable ids.
 #[derive(Drop)]
-pub struct Dictionaries {
+pub struct KnownDictionaries {
     known: BTreeMap<i64, AnyArray>,
-    fresh: Vec<i64>,
+    appendable: Vec<i64>,
 }
 
-// An id has a copy of values, which shares their buffers.
-fn insert_copy(
-    alloc: Global,
-    known: &mut BTreeMap<i64, AnyArray>,
-    id: i64,
-    values: &AnyArray,
-) -> Result<(), AllocError>
-    ensures { OnOk result (known_of known.new.entries ≡ insert_entry int_cmp (known_of known.old.entries) id (layout_of values.now)) }
-{
-    match values.clone(alloc) {
-        Err(_) => Err(AllocError),
-        Ok(values) => {
-            known.insert(id, values)?;
-            Ok(())
-        }
-    }
-}
-
-// A copy of the values of each id.
-fn copied(
+// Clones each entry; the clones share their buffers.
+fn clone_entries(
     alloc: Global,
     known: &BTreeMap<i64, AnyArray>,
 ) -> Result<BTreeMap<i64, AnyArray>, AllocError>
@@ -59,51 +45,57 @@ fn copied(
 {
     let mut copy = BTreeMap::new(alloc);
     for (id, values) in known.iter() {
-        insert_copy(alloc, &mut copy, *id, values)?;
+        insert_clone(alloc, &mut copy, *id, values)?;
     }
     Ok(copy)
 }
 
-impl State {
-    /// Behind a schema, where no dictionary came yet.
-    pub fn new(alloc: Global, picked: PickedSchema) -> State
-        ensures { state_of result ≡ start (picked_of picked) }
+impl DictionaryState {
+    /// Returns the state after a schema: no dictionary was read.
+    pub fn new(alloc: Global, picked: ProjectedSchema) -> DictionaryState
+        ensures { state_of result ≡ start (projected_schema_of picked) }
     {
-        State {
+        DictionaryState {
             picked,
             known: BTreeMap::new(alloc),
-            fresh: Vec::new(alloc),
+            appendable: Vec::new(alloc),
         }
     }
 
-    /// Behind the message of a schema that bytes begin with, of all its columns.
-    pub fn read(alloc: Global, bytes: &[u8]) -> Result<State, Fault>
-        ensures { Gives state_of result (state_in bytes.now) }
+    /// Reads the schema message at the start of `bytes` and returns the state after it, with all columns.
+    ///
+    /// # Errors
+    /// The first error of the message, or `Memory`.
+    pub fn read(alloc: Global, bytes: &[u8]) -> Result<DictionaryState, IpcReadError>
+        ensures { ReturnsOrRunsOut state_of result (state_in bytes.now) }
     {
-        let (picked, _) = read_picked_schema(alloc, Columns::All, bytes)?;
-        Ok(State::new(alloc, picked))
+        let (picked, _) = read_projected_schema(alloc, Projection::All, bytes)?;
+        Ok(DictionaryState::new(alloc, picked))
     }
 
-    /// A copy of what it says of dictionaries, which shares their buffers.
-    pub fn dictionaries(&self, alloc: Global) -> Result<Dictionaries, AllocError>
-        ensures { IfOk result (λ d. dictionaries_of d ≡ ((state_of self.now).known, (state_of self.now).fresh)) }
+    /// Returns a clone of the dictionaries, which shares their buffers; `restore` puts it back.
+    ///
+    /// # Errors
+    /// `AllocError`, where an allocation fails.
+    pub fn dictionaries(&self, alloc: Global) -> Result<KnownDictionaries, AllocError>
+        ensures { IfOk result (λ d. known_dictionaries_of d ≡ ((state_of self.now).known, (state_of self.now).appendable)) }
     {
-        let known = copied(alloc, &self.known)?;
-        let mut fresh = Vec::new(alloc);
-        fresh.extend_from_slice(&self.fresh)?;
-        Ok(Dictionaries { known, fresh })
+        let known = clone_entries(alloc, &self.known)?;
+        let mut appendable = Vec::new(alloc);
+        appendable.extend_from_slice(&self.appendable)?;
+        Ok(KnownDictionaries { known, appendable })
     }
 
-    /// It says this of dictionaries from now on.
-    pub fn restore(&mut self, dictionaries: Dictionaries)
-        ensures { state_of self.new ≡ record { picked = (state_of self.old).picked; known = (dictionaries_of dictionaries).0; fresh = (dictionaries_of dictionaries).1 } }
+    /// Replaces the dictionaries by those of an earlier call of `dictionaries`.
+    pub fn restore(&mut self, dictionaries: KnownDictionaries)
+        ensures { state_of self.new ≡ record { picked = (state_of self.old).picked; known = (known_dictionaries_of dictionaries).0; appendable = (known_dictionaries_of dictionaries).1 } }
     {
-        let Dictionaries { known, fresh } = dictionaries;
+        let KnownDictionaries { known, appendable } = dictionaries;
         self.known = known;
-        self.fresh = fresh;
+        self.appendable = appendable;
     }
 
-    /// New values of an id from now on.
+    /// Sets the values of an id: a new or replacement dictionary.
     pub(crate) fn insert(
         &mut self,
         alloc: Global,
@@ -114,22 +106,22 @@ impl State {
         ensures known { OnOk result (state_of self.new ≡ with_new (state_of self.old) id (layout_of values)) }
     {
         self.known.insert(id, values)?;
-        let fresh = fresh_behind(alloc, &self.picked, id, &self.fresh)?;
-        self.fresh = fresh;
+        let appendable = appendable_after(alloc, &self.picked, id, &self.appendable)?;
+        self.appendable = appendable;
         Ok(())
     }
 
-    /// More values of an id from now on: all that it has.
-    pub(crate) fn insert_more(&mut self, id: i64, values: AnyArray) -> Result<(), AllocError>
+    /// Sets the values of an id to these, which extend the ones it had: a delta dictionary.
+    pub(crate) fn insert_delta(&mut self, id: i64, values: AnyArray) -> Result<(), AllocError>
         ensures picked { self.new.picked ≡ self.old.picked }
-        ensures known { OnOk result (state_of self.new ≡ with_more (state_of self.old) id (layout_of values)) }
+        ensures known { OnOk result (state_of self.new ≡ with_delta (state_of self.old) id (layout_of values)) }
     {
         self.known.insert(id, values)?;
         Ok(())
     }
 }
 
-/// The values that arrays of keys name which have these ids.
+/// Returns the values of each of these ids, or `None` for an id that was not read.
 pub(crate) fn values_of<'a>(
     alloc: Global,
     known: &'a BTreeMap<i64, AnyArray>,

@@ -1,34 +1,34 @@
-//! Reads streams whole.
+//! Reads all record batches of a stream.
 ghost use Rattle.std.specs.Prelude.{◌≡◌, map};
-ghost use Rattle.ipc_flatbuf.specs.Reading.{Gives};
-ghost use Rattle.ipc_schema.specs.Picks.{picks_of};
-ghost use Rattle.ipc.specs.Streams.{arrays_of, batches_in, picked_stream_in, state_of, stream_in, stream_of};
+ghost use Rattle.ipc_flatbuf.specs.ReadResults.{ReturnsOrRunsOut};
+ghost use Rattle.ipc_schema.specs.Projections.{projection_of};
+ghost use Rattle.ipc.specs.Streams.{record_batch_of, batches_in, projected_stream_in, state_of, stream_in, stream_of};
 
 use crate::batch::Batch;
 use crate::reading::next_batch;
-use crate::state::State;
-use ipc_flatbuf::Fault;
-use ipc_schema::{Columns, Schema, read_picked_schema};
+use crate::state::DictionaryState;
+use ipc_flatbuf::IpcReadError;
+use ipc_schema::{Projection, Schema, read_projected_schema};
 use std::alloc::Global;
 
-/// What a stream has.
+/// A stream that has been read.
 #[derive(Drop)]
 pub struct Stream {
-    /// The columns of all batches.
+    /// The schema of the projected columns.
     pub schema: Schema,
-    /// The batches in their order.
+    /// The record batches, in the order of the stream.
     pub batches: Vec<Batch>,
-    /// How many bytes were read. What stands behind the end mark is not.
+    /// The number of bytes that the stream takes, with its end-of-stream marker.
     pub read: usize,
 }
 
-// The batches up to the end of a stream, and what stands behind it.
+// Returns the record batches up to the end of the stream, and the bytes after it.
 fn read_batches<'a>(
     alloc: Global,
-    state: &mut State,
+    state: &mut DictionaryState,
     bytes: &'a [u8],
-) -> Result<(Vec<Batch>, &'a [u8]), Fault>
-    ensures read { Gives (λ x. (map arrays_of x.0.items, x.1.now)) result (batches_in (state_of state.old) bytes.now) }
+) -> Result<(Vec<Batch>, &'a [u8]), IpcReadError>
+    ensures read { ReturnsOrRunsOut (λ x. (map record_batch_of x.0.items, x.1.now)) result (batches_in (state_of state.old) bytes.now) }
     ensures picked { state.new.picked ≡ state.old.picked }
 {
     let mut batches = Vec::new(alloc);
@@ -43,26 +43,31 @@ fn read_batches<'a>(
     }
 }
 
-/// The stream that the bytes begin with: its schema, and its batches up to the end mark or the end of the bytes; or the first
-/// fault in the order of reading.
-pub fn read_stream(alloc: Global, bytes: &[u8]) -> Result<Stream, Fault>
-    ensures { Gives stream_of result (stream_in bytes.now) }
+/// Reads the stream at the start of `bytes`, up to its end-of-stream marker or the end of the bytes.
+///
+/// # Errors
+/// The first error in the order of the bytes, or `Memory`.
+pub fn read_stream(alloc: Global, bytes: &[u8]) -> Result<Stream, IpcReadError>
+    ensures { ReturnsOrRunsOut stream_of result (stream_in bytes.now) }
 {
-    read_stream_columns(alloc, bytes, Columns::All)
+    read_stream_projected(alloc, bytes, Projection::All)
 }
 
-/// The stream that the bytes begin with, of the columns that are read: `columns` of other readers of the Arrow format. What other
-/// columns have is passed over, also where their types are not read; or the first fault in the order of reading.
-#[tactic(auto, unfolding(crate::specs::Streams::picked_stream_in))]
-pub fn read_stream_columns(
+/// Reads the projected columns of the stream at the start of `bytes`. The other columns are skipped, even where their data types cannot
+/// be read.
+///
+/// # Errors
+/// The first error in the order of the bytes, an error of the projection, or `Memory`.
+#[tactic(auto, unfolding(crate::specs::Streams::projected_stream_in))]
+pub fn read_stream_projected(
     alloc: Global,
     bytes: &[u8],
-    columns: Columns<'_>,
-) -> Result<Stream, Fault>
-    ensures { Gives stream_of result (picked_stream_in (picks_of columns.entry) bytes.now) }
+    columns: Projection<'_>,
+) -> Result<Stream, IpcReadError>
+    ensures { ReturnsOrRunsOut stream_of result (projected_stream_in (projection_of columns.entry) bytes.now) }
 {
-    let (picked, rest) = read_picked_schema(alloc, columns, bytes)?;
-    let mut state = State::new(alloc, picked);
+    let (picked, rest) = read_projected_schema(alloc, columns, bytes)?;
+    let mut state = DictionaryState::new(alloc, picked);
     let (batches, rest) = read_batches(alloc, &mut state, rest)?;
     let read = bytes.len() - rest.len();
     Ok(Stream {

@@ -1,59 +1,61 @@
 //! Writes files.
 ghost use Rattle.std.specs.Prelude.{◌≡◌, ◌+◌, ◌-◌, ◌<◌, ◌≤◌, ◌^◌, ◌++◌, ◌∷◌, [], None, map, length, pos, IfErr, IfOk, OnOk, Ok};
 ghost use Rattle.std.specs.List.{AllByRecursion, flat_map};
-ghost use Rattle.nest_memory.specs.TypeOf.{field_of};
-ghost use Rattle.nest_memory.specs.TypeTree.{field_type};
 ghost use Rattle.nest_array.specs.Seen.{layout_of};
-ghost use Rattle.ipc_flatbuf.specs.Reading.{Gives};
-ghost use Rattle.ipc_flatbuf.specs.declared.error.NoForm.TheVariants.{Memory, Size};
-ghost use Rattle.ipc_schema.specs.PickedSchemas.{picked_of};
+ghost use Rattle.ipc_flatbuf.specs.ReadResults.{ReturnsOrRunsOut};
+ghost use Rattle.ipc_flatbuf.specs.declared.error.IpcWriteError.TheVariants.{Memory, Size};
+ghost use Rattle.ipc_schema.specs.ProjectedSchemas.{projected_schema_of};
 ghost use Rattle.ipc_schema.specs.Schemas.{schema_of};
 ghost use Rattle.ipc_schema.specs.SchemaBytes.{schema_message};
-ghost use Rattle.ipc_arrays.specs.Written.{columns_body};
-ghost use Rattle.ipc.specs.Puts.{put_in};
-ghost use Rattle.ipc.specs.Sent.{entry_of, entries_of};
-ghost use Rattle.ipc.specs.Streams.{arrays_of, state_of, types_of};
+ghost use Rattle.ipc_arrays.specs.Encoding.{columns_body};
+ghost use Rattle.ipc.specs.FileDictionaries.{dictionary_batch_of};
+ghost use Rattle.ipc.specs.EntriesOf.{entry_of, entries_of};
+ghost use Rattle.ipc.specs.Streams.{record_batch_of, state_of, types_of, types_of_fields};
 ghost use Rattle.ipc.specs.Files.{file_in};
-ghost use Rattle.ipc.specs.Readers.{state_in};
-ghost use Rattle.ipc.specs.Written.{batch_bytes, dictionary_head, dictionary_bytes, needed_by, part_bytes, batches_bytes, messages_bytes, sent_behind, schema_refusal, else_for, IsRefused, IsReadAgain, IsPutAgain, IsPartAgain, AreAgain, AreSameBatches, shown_batches};
-ghost use Rattle.ipc.specs.WrittenFiles.{block_at, written_block, dictionary_blocks, puts_by, no_blocks, blocks_from, blocks_of, file_bytes, after, filed_behind, filed_start, state_by, state_behind, unread_refusal, unread_reason, arrays_block_refusal, put_refusal, puts_refusal, block_refusal, blocks_refusal, file_refusal, shown_file, filed, NothingGrows};
-ghost use Rattle.ipc.specs.WrittenLists.{with_part};
+ghost use Rattle.ipc.specs.SliceStreamReaders.{state_in};
+ghost use Rattle.ipc.specs.EncodedStreams.{batch_bytes, dictionary_head, dictionary_bytes, pending_by, encoded_batch, encoded_batches, encoded_messages, schema_error, IsErrorOrMemory, RecordBatchRoundTrips, DictionaryRoundTrips, BatchRoundTrips, BatchesRoundTrip, AreSameBatches};
+ghost use Rattle.ipc.specs.EncodedFiles.{block_at, written_block, dictionary_blocks, file_dictionary_batches, no_blocks, blocks_from, blocks_of, encoded_file, after, file_state_after, file_state_start, state_by, state_after, unreadable_error, spec_write_error_of, record_batch_block_error, dictionary_batch_error, dictionary_batches_error, file_batch_error, file_batches_error, file_error, decoded_file, file_state_of, messages_error, DecodesLikeStream};
+ghost use Rattle.ipc.specs.EncodedBatches.{with_part};
 
 use crate::batch::Batch;
+use crate::dictionaries::{
+    DictionaryBatch, any_replaced, dictionary_batches, pending_dictionaries, record_emitted,
+};
 use crate::dictionary::read_dictionary;
-use crate::state::State;
-use crate::writing::{are_columns, put_arrays, put_dictionary};
-use ipc_schema::footer::{Block, write_footer};
+use crate::state::DictionaryState;
+use crate::writing::{append_dictionary, are_columns, write_record_batch};
 use ipc_flatbuf::message::next_message;
-use ipc_flatbuf::{Fault, NoForm};
-use crate::dictionaries::{Put, any_anew, needed_of, puts_of, remember};
-use ipc_schema::{Schema, write_keyed_schema};
+use ipc_flatbuf::{IpcReadError, IpcWriteError};
+use ipc_schema::footer::{Block, write_footer};
+use ipc_schema::{Schema, write_schema_with_dictionaries};
 use nest_array::any::AnyArray;
 use nest_memory::datatypes::Field;
 use std::alloc::Global;
 use std::collections::BTreeMap;
 
-/// Where the dictionaries and the batches of a file lie.
+/// The blocks of a file: where its dictionary batches and record batches are. Source: File.fbs, table Footer.
 #[derive(Drop)]
-pub struct Blocks {
+pub struct FileBlocks {
+    /// The blocks of the dictionary batches.
     pub dictionaries: Vec<Block>,
+    /// The blocks of the record batches.
     pub batches: Vec<Block>,
 }
 
-impl Blocks {
-    /// None yet.
-    pub fn new(alloc: Global) -> Blocks
+impl FileBlocks {
+    /// Returns no blocks.
+    pub fn new(alloc: Global) -> FileBlocks
         ensures { blocks_of result ≡ no_blocks }
     {
-        Blocks {
+        FileBlocks {
             dictionaries: Vec::new(alloc),
             batches: Vec::new(alloc),
         }
     }
 }
 
-// Where a message lies that begins and ends at these places, with a body of so many bytes.
-fn block_between(start: usize, end: usize, body_length: usize) -> Result<Block, NoForm>
+// Returns the block of a message between these positions, the body of which has this length.
+fn block_between(start: usize, end: usize, body_length: usize) -> Result<Block, IpcWriteError>
     requires within { start + body_length ≤ end }
     requires small { end < 2 ^ 63 }
     ensures block { IfOk result (λ block. block ≡ record { offset = pos start; metadata_length = pos (end - start - body_length); body_length = pos body_length }) }
@@ -62,7 +64,7 @@ fn block_between(start: usize, end: usize, body_length: usize) -> Result<Block, 
 {
     let metadata_length = end - start - body_length;
     if metadata_length >= 1 << 31 {
-        return Err(NoForm::Size);
+        return Err(IpcWriteError::Size);
     }
     Ok(Block {
         offset: start as i64,
@@ -71,20 +73,20 @@ fn block_between(start: usize, end: usize, body_length: usize) -> Result<Block, 
     })
 }
 
-// Why nothing is put that a reader does not read.
-fn reason_of(fault: Fault) -> NoForm
-    ensures { result ≡ unread_reason fault }
+// Returns the error of a dictionary batch that a reader refuses.
+fn write_error_of(error: IpcReadError) -> IpcWriteError
+    ensures { result ≡ spec_write_error_of error }
 {
-    match fault {
-        Fault::Memory => NoForm::Memory,
-        _ => NoForm::Dictionaries,
+    match error {
+        IpcReadError::Memory => IpcWriteError::Memory,
+        _ => IpcWriteError::DictionaryReplacement,
     }
 }
 
-// A reader of a file reads the dictionary of the message that bytes begin with.
-fn read_put(alloc: Global, known: &mut State, bytes: &[u8]) -> Result<(), Fault>
+// Reads the dictionary batch at the start of `bytes` back, as a reader of the file does.
+fn read_back(alloc: Global, known: &mut DictionaryState, bytes: &[u8]) -> Result<(), IpcReadError>
     ensures picked { known.new.picked ≡ known.old.picked }
-    ensures known { Gives (λ x. state_of known.new) result (state_by (state_of known.old) bytes.now) }
+    ensures known { ReturnsOrRunsOut (λ x. state_of known.new) result (state_by (state_of known.old) bytes.now) }
 {
     let (next, _) = next_message(bytes)?;
     match next {
@@ -93,222 +95,238 @@ fn read_put(alloc: Global, known: &mut State, bytes: &[u8]) -> Result<(), Fault>
     }
 }
 
-// It knows that from then on, or the message is not to be put.
-fn know(alloc: Global, known: &mut State, bytes: &[u8]) -> Result<(), NoForm>
+// The same, with the error of the writer.
+fn learn(alloc: Global, known: &mut DictionaryState, bytes: &[u8]) -> Result<(), IpcWriteError>
     ensures picked { known.new.picked ≡ known.old.picked }
     ensures known { OnOk result (state_by (state_of known.old) bytes.now ≡ Ok (state_of known.new)) }
-    ensures err { IfErr result (IsRefused (unread_refusal (state_by (state_of known.old) bytes.now))) }
+    ensures err { IfErr result (IsErrorOrMemory (unreadable_error (state_by (state_of known.old) bytes.now))) }
 {
-    match read_put(alloc, known, bytes) {
-        Err(fault) => Err(reason_of(fault)),
+    match read_back(alloc, known, bytes) {
+        Err(error) => Err(write_error_of(error)),
         Ok(()) => Ok(()),
     }
 }
 
-// What is put of an id, which a reader knows from then on, and where it lies.
-fn put_dictionary_block(
+// Appends a dictionary batch that a reader of the file can read, and returns its block.
+fn write_dictionary_block(
     alloc: Global,
     out: &mut Vec<u8>,
-    known: &mut State,
-    put: &Put,
-) -> Result<Block, NoForm>
-    ensures bytes { OnOk result (out.new.items ≡ out.old.items ++ dictionary_bytes (put_in put.now)) }
-    ensures block { IfOk result (λ block. block ≡ block_at (length out.old.items) (dictionary_head (put_in put.now)) (columns_body ((put_in put.now).1.1 ∷ []))) }
-    ensures again { OnOk result (IsPutAgain (put_in put.now)) }
+    known: &mut DictionaryState,
+    put: &DictionaryBatch,
+) -> Result<Block, IpcWriteError>
+    ensures bytes { OnOk result (out.new.items ≡ out.old.items ++ dictionary_bytes (dictionary_batch_of put.now)) }
+    ensures block { IfOk result (λ block. block ≡ block_at (length out.old.items) (dictionary_head (dictionary_batch_of put.now)) (columns_body ((dictionary_batch_of put.now).1.1 ∷ []))) }
+    ensures again { OnOk result (DictionaryRoundTrips (dictionary_batch_of put.now)) }
     ensures picked { known.new.picked ≡ known.old.picked }
-    ensures known { OnOk result (state_of known.new ≡ state_behind (state_of known.old) (put_in put.now)) }
-    ensures form { OnOk result (put_refusal (state_of known.old) (put_in put.now) ≡ None) }
-    ensures err { IfErr result (IsRefused (put_refusal (state_of known.old) (put_in put.now))) }
+    ensures known { OnOk result (state_of known.new ≡ state_after (state_of known.old) (dictionary_batch_of put.now)) }
+    ensures form { OnOk result (dictionary_batch_error (state_of known.old) (dictionary_batch_of put.now) ≡ None) }
+    ensures err { IfErr result (IsErrorOrMemory (dictionary_batch_error (state_of known.old) (dictionary_batch_of put.now))) }
 {
     let start = out.len();
-    let body_length = put_dictionary(alloc, out, put.delta, put.id, &put.values)?;
+    let body_length = append_dictionary(alloc, out, put.delta, put.id, &put.values)?;
     let block = block_between(start, out.len(), body_length)?;
-    know(alloc, known, &out[start..])?;
+    learn(alloc, known, &out[start..])?;
     Ok(block)
 }
 
-// What is put of dictionaries, one after another, and where it lies.
-fn put_dictionary_blocks(
+// Appends dictionary batches, and their blocks.
+fn write_dictionary_blocks(
     alloc: Global,
     out: &mut Vec<u8>,
     blocks: &mut Vec<Block>,
-    known: &mut State,
-    puts: &[Put],
-) -> Result<(), NoForm>
-    ensures bytes { OnOk result (out.new.items ≡ out.old.items ++ flat_map dictionary_bytes (map put_in puts.now)) }
-    ensures blocks { OnOk result (blocks.new.items ≡ blocks.old.items ++ dictionary_blocks (length out.old.items) (map put_in puts.now)) }
-    ensures again { OnOk result (AllByRecursion IsPutAgain (map put_in puts.now)) }
+    known: &mut DictionaryState,
+    puts: &[DictionaryBatch],
+) -> Result<(), IpcWriteError>
+    ensures bytes { OnOk result (out.new.items ≡ out.old.items ++ flat_map dictionary_bytes (map dictionary_batch_of puts.now)) }
+    ensures blocks { OnOk result (blocks.new.items ≡ blocks.old.items ++ dictionary_blocks (length out.old.items) (map dictionary_batch_of puts.now)) }
+    ensures again { OnOk result (AllByRecursion DictionaryRoundTrips (map dictionary_batch_of puts.now)) }
     ensures picked { known.new.picked ≡ known.old.picked }
-    ensures known { OnOk result (state_of known.new ≡ after state_behind (state_of known.old) (map put_in puts.now)) }
-    ensures form { OnOk result (puts_refusal (state_of known.old) (map put_in puts.now) ≡ None) }
-    ensures err { IfErr result (IsRefused (puts_refusal (state_of known.old) (map put_in puts.now))) }
+    ensures known { OnOk result (state_of known.new ≡ after state_after (state_of known.old) (map dictionary_batch_of puts.now)) }
+    ensures form { OnOk result (dictionary_batches_error (state_of known.old) (map dictionary_batch_of puts.now) ≡ None) }
+    ensures err { IfErr result (IsErrorOrMemory (dictionary_batches_error (state_of known.old) (map dictionary_batch_of puts.now))) }
 {
     for put in puts {
-        let block = put_dictionary_block(alloc, out, known, put)?;
+        let block = write_dictionary_block(alloc, out, known, put)?;
         blocks.push(block)?;
     }
     Ok(())
 }
 
-// So many rows of columns, and where they lie.
-fn put_arrays_block(
+// Appends a record batch, and returns its block.
+fn write_record_batch_block(
     alloc: Global,
     out: &mut Vec<u8>,
     rows: usize,
     columns: &[AnyArray],
-) -> Result<Block, NoForm>
+) -> Result<Block, IpcWriteError>
     ensures bytes { OnOk result (out.new.items ≡ out.old.items ++ batch_bytes (record { rows = rows; columns = map layout_of columns.now })) }
     ensures block { IfOk result (λ block. block ≡ written_block (length out.old.items) (record { rows = rows; columns = map layout_of columns.now })) }
-    ensures again { OnOk result (IsReadAgain (record { rows = rows; columns = map layout_of columns.now })) }
-    ensures form { OnOk result (arrays_block_refusal (record { rows = rows; columns = map layout_of columns.now }) ≡ None) }
-    ensures err { IfErr result (IsRefused (arrays_block_refusal (record { rows = rows; columns = map layout_of columns.now }))) }
+    ensures again { OnOk result (RecordBatchRoundTrips (record { rows = rows; columns = map layout_of columns.now })) }
+    ensures form { OnOk result (record_batch_block_error (record { rows = rows; columns = map layout_of columns.now }) ≡ None) }
+    ensures err { IfErr result (IsErrorOrMemory (record_batch_block_error (record { rows = rows; columns = map layout_of columns.now }))) }
 {
     let start = out.len();
-    let body_length = put_arrays(alloc, out, rows, columns)?;
+    let body_length = write_record_batch(alloc, out, rows, columns)?;
     block_between(start, out.len(), body_length)
 }
 
-/// Appends a batch as `put_part` does, but of a dictionary that grew since it was put just what it grew by, as a delta: a file has
-/// none of them twice. Notes where all of it lies; `known` is what a reader of the file knows, before and behind it.
+/// Encodes a record batch of a file: appends its dictionary batches to `out`, then its message and body, and their blocks to `blocks`.
+///
+/// A file has no replacement dictionaries, so values that extend an emitted dictionary are appended as a delta. `known` is the state of a
+/// reader of the file before and after. Returns the pending dictionaries, which `record_emitted` adds to `emitted` once the bytes are out.
 ///
 /// # Errors
-/// `Columns`, where its columns are not those of the fields; then `Dictionaries`, where one would have to be written anew; then in
-/// the order of writing `Size` of a dictionary, `Dictionaries` where it grew by what no reader could join, as an offset or a key
-/// would pass its type; then `Size` of the batch. `Memory` can stand in the place of any. With an error `known` may say anything of
-/// dictionaries.
-#[tactic(auto, unfolding(crate::specs::Written::part_bytes))]
-pub fn put_part_blocks<'a>(
+/// `Columns`, if the columns are not those of the fields; `Dictionaries`, if a dictionary would be replaced; then in the order of writing:
+/// `Size` of a dictionary batch, `Dictionaries` if no reader could append the delta, as an offset or key would overflow; `Size` of the
+/// record batch. `Memory`, where an allocation fails. After an error `known` may have other dictionaries.
+#[tactic(auto, unfolding(crate::specs::EncodedStreams::encoded_batch))]
+pub fn encode_file_batch<'a>(
     alloc: Global,
     out: &mut Vec<u8>,
-    blocks: &mut Blocks,
+    blocks: &mut FileBlocks,
     fields: &[Field],
-    sent: &BTreeMap<i64, AnyArray>,
-    known: &mut State,
+    emitted: &BTreeMap<i64, AnyArray>,
+    known: &mut DictionaryState,
     batch: &'a Batch,
-) -> Result<Vec<(i64, &'a AnyArray)>, NoForm>
-    ensures bytes { OnOk result (out.new.items ≡ out.old.items ++ part_bytes puts_by (entries_of sent.now.entries) (arrays_of batch.now)) }
-    ensures needed { IfOk result (λ needed. map entry_of needed.items ≡ needed_by (entries_of sent.now.entries) (arrays_of batch.now)) }
-    ensures blocks { OnOk result (blocks_of blocks.new ≡ with_part (blocks_of blocks.old) (length out.old.items) (entries_of sent.now.entries) (arrays_of batch.now)) }
+) -> Result<Vec<(i64, &'a AnyArray)>, IpcWriteError>
+    ensures bytes { OnOk result (out.new.items ≡ out.old.items ++ encoded_batch file_dictionary_batches (entries_of emitted.now.entries) (record_batch_of batch.now)) }
+    ensures pending { IfOk result (λ pending. map entry_of pending.items ≡ pending_by (entries_of emitted.now.entries) (record_batch_of batch.now)) }
+    ensures blocks { OnOk result (blocks_of blocks.new ≡ with_part (blocks_of blocks.old) (length out.old.items) (entries_of emitted.now.entries) (record_batch_of batch.now)) }
     ensures picked { known.new.picked ≡ known.old.picked }
-    ensures known { OnOk result (state_of known.new ≡ (filed_behind (filed (entries_of sent.now.entries) (state_of known.old)) (arrays_of batch.now)).state) }
-    ensures again { OnOk result (IsPartAgain (puts_by (entries_of sent.now.entries) (arrays_of batch.now)) (arrays_of batch.now)) }
-    ensures form { OnOk result (block_refusal (map field_type (map field_of fields.now)) (filed (entries_of sent.now.entries) (state_of known.old)) (arrays_of batch.now) ≡ None) }
-    ensures err { IfErr result (IsRefused (block_refusal (map field_type (map field_of fields.now)) (filed (entries_of sent.now.entries) (state_of known.old)) (arrays_of batch.now))) }
+    ensures known { OnOk result (state_of known.new ≡ (file_state_after (file_state_of emitted.now.entries known.old) (record_batch_of batch.now)).state) }
+    ensures again { OnOk result (BatchRoundTrips (file_dictionary_batches (entries_of emitted.now.entries) (record_batch_of batch.now)) (record_batch_of batch.now)) }
+    ensures form { OnOk result (file_batch_error (types_of_fields fields.now) (file_state_of emitted.now.entries known.old) (record_batch_of batch.now) ≡ None) }
+    ensures err { IfErr result (IsErrorOrMemory (file_batch_error (types_of_fields fields.now) (file_state_of emitted.now.entries known.old) (record_batch_of batch.now))) }
 {
     if !are_columns(fields, batch.rows, &batch.columns) {
-        return Err(NoForm::Columns);
+        return Err(IpcWriteError::Columns);
     }
-    let needed = needed_of(alloc, sent, &batch.columns)?;
-    if any_anew(alloc, sent, &needed)? {
-        return Err(NoForm::Dictionaries);
+    let pending = pending_dictionaries(alloc, emitted, &batch.columns)?;
+    if any_replaced(alloc, emitted, &pending)? {
+        return Err(IpcWriteError::DictionaryReplacement);
     }
-    let puts = puts_of(alloc, sent, &needed)?;
-    put_dictionary_blocks(alloc, out, &mut blocks.dictionaries, known, &puts)?;
-    let block = put_arrays_block(alloc, out, batch.rows, &batch.columns)?;
+    let puts = dictionary_batches(alloc, emitted, &pending)?;
+    write_dictionary_blocks(alloc, out, &mut blocks.dictionaries, known, &puts)?;
+    let block = write_record_batch_block(alloc, out, batch.rows, &batch.columns)?;
     blocks.batches.push(block)?;
-    Ok(needed)
+    Ok(pending)
 }
 
-// The same, and what it needed is remembered.
-fn put_block(
+// The same, and records the pending dictionaries as emitted.
+fn write_block(
     alloc: Global,
     out: &mut Vec<u8>,
     fields: &[Field],
-    sent: &mut BTreeMap<i64, AnyArray>,
-    known: &mut State,
-    blocks: &mut Blocks,
+    emitted: &mut BTreeMap<i64, AnyArray>,
+    known: &mut DictionaryState,
+    blocks: &mut FileBlocks,
     batch: &Batch,
-) -> Result<(), NoForm>
-    ensures bytes { OnOk result (out.new.items ≡ out.old.items ++ part_bytes puts_by (entries_of sent.old.entries) (arrays_of batch.now)) }
-    ensures filed { OnOk result (filed (entries_of sent.new.entries) (state_of known.new) ≡ filed_behind (filed (entries_of sent.old.entries) (state_of known.old)) (arrays_of batch.now)) }
-    ensures blocks { OnOk result (blocks_of blocks.new ≡ with_part (blocks_of blocks.old) (length out.old.items) (entries_of sent.old.entries) (arrays_of batch.now)) }
-    ensures again { OnOk result (IsPartAgain (puts_by (entries_of sent.old.entries) (arrays_of batch.now)) (arrays_of batch.now)) }
-    ensures form { OnOk result (block_refusal (map field_type (map field_of fields.now)) (filed (entries_of sent.old.entries) (state_of known.old)) (arrays_of batch.now) ≡ None) }
-    ensures err { IfErr result (IsRefused (block_refusal (map field_type (map field_of fields.now)) (filed (entries_of sent.old.entries) (state_of known.old)) (arrays_of batch.now))) }
+) -> Result<(), IpcWriteError>
+    ensures bytes { OnOk result (out.new.items ≡ out.old.items ++ encoded_batch file_dictionary_batches (entries_of emitted.old.entries) (record_batch_of batch.now)) }
+    ensures file_state { OnOk result (file_state_of emitted.new.entries known.new ≡ file_state_after (file_state_of emitted.old.entries known.old) (record_batch_of batch.now)) }
+    ensures blocks { OnOk result (blocks_of blocks.new ≡ with_part (blocks_of blocks.old) (length out.old.items) (entries_of emitted.old.entries) (record_batch_of batch.now)) }
+    ensures again { OnOk result (BatchRoundTrips (file_dictionary_batches (entries_of emitted.old.entries) (record_batch_of batch.now)) (record_batch_of batch.now)) }
+    ensures form { OnOk result (file_batch_error (types_of_fields fields.now) (file_state_of emitted.old.entries known.old) (record_batch_of batch.now) ≡ None) }
+    ensures err { IfErr result (IsErrorOrMemory (file_batch_error (types_of_fields fields.now) (file_state_of emitted.old.entries known.old) (record_batch_of batch.now))) }
 {
-    let needed = put_part_blocks(alloc, out, blocks, fields, sent, known, batch)?;
-    remember(alloc, sent, &needed)?;
+    let pending = encode_file_batch(alloc, out, blocks, fields, emitted, known, batch)?;
+    record_emitted(alloc, emitted, &pending)?;
     Ok(())
 }
 
-// Batches with what is put before them, and where all of it lies.
-fn put_blocks(
+// Encodes record batches in order, and returns their blocks.
+fn write_blocks(
     alloc: Global,
     out: &mut Vec<u8>,
     fields: &[Field],
-    sent: &mut BTreeMap<i64, AnyArray>,
-    known: &mut State,
+    emitted: &mut BTreeMap<i64, AnyArray>,
+    known: &mut DictionaryState,
     batches: &[Batch],
-) -> Result<Blocks, NoForm>
-    ensures bytes { OnOk result (out.new.items ≡ out.old.items ++ batches_bytes puts_by (entries_of sent.old.entries) (map arrays_of batches.now)) }
-    ensures blocks { IfOk result (λ blocks. blocks_of blocks ≡ blocks_from (length out.old.items) (entries_of sent.old.entries) (map arrays_of batches.now)) }
-    ensures again { OnOk result (AreAgain puts_by (entries_of sent.old.entries) (map arrays_of batches.now)) }
-    ensures form { OnOk result (blocks_refusal (map field_type (map field_of fields.now)) (filed (entries_of sent.old.entries) (state_of known.old)) (map arrays_of batches.now) ≡ None) }
-    ensures err { IfErr result (IsRefused (blocks_refusal (map field_type (map field_of fields.now)) (filed (entries_of sent.old.entries) (state_of known.old)) (map arrays_of batches.now))) }
+) -> Result<FileBlocks, IpcWriteError>
+    ensures bytes { OnOk result (out.new.items ≡ out.old.items ++ encoded_batches file_dictionary_batches (entries_of emitted.old.entries) (map record_batch_of batches.now)) }
+    ensures blocks { IfOk result (λ blocks. blocks_of blocks ≡ blocks_from (length out.old.items) (entries_of emitted.old.entries) (map record_batch_of batches.now)) }
+    ensures again { OnOk result (BatchesRoundTrip file_dictionary_batches (entries_of emitted.old.entries) (map record_batch_of batches.now)) }
+    ensures form { OnOk result (file_batches_error (types_of_fields fields.now) (file_state_of emitted.old.entries known.old) (map record_batch_of batches.now) ≡ None) }
+    ensures err { IfErr result (IsErrorOrMemory (file_batches_error (types_of_fields fields.now) (file_state_of emitted.old.entries known.old) (map record_batch_of batches.now))) }
 {
-    let mut blocks = Blocks::new(alloc);
+    let mut blocks = FileBlocks::new(alloc);
     for batch in batches {
-        put_block(alloc, out, fields, sent, known, &mut blocks, batch)?;
+        write_block(alloc, out, fields, emitted, known, &mut blocks, batch)?;
     }
     Ok(blocks)
 }
 
-// What a reader knows behind the message of a schema, which is read.
-fn known_behind(alloc: Global, message: &[u8]) -> Result<State, NoForm>
+/// Returns the state of a reader after the schema message that `message` begins with, which was written here.
+///
+/// # Errors
+/// `Memory`.
+pub fn initial_state(alloc: Global, message: &[u8]) -> Result<DictionaryState, IpcWriteError>
     ensures state { IfOk result (λ s. state_in message.now ≡ Ok (state_of s)) }
     ensures err { IfErr result (λ why. why ≡ Memory) }
 {
-    match State::read(alloc, message) {
+    match DictionaryState::read(alloc, message) {
         Ok(state) => Ok(state),
-        Err(_) => Err(NoForm::Memory),
+        Err(_) => Err(IpcWriteError::Memory),
     }
 }
 
-// A schema and batches as messages, with their end mark, and where all of it lies behind the schema.
-#[tactic(auto, unfolding(crate::specs::Written::messages_bytes))]
-fn put_messages(
+// Appends the messages of a schema and record batches with the end-of-stream marker, and returns the blocks.
+#[tactic(auto, unfolding(crate::specs::EncodedStreams::encoded_messages))]
+fn write_messages(
     alloc: Global,
     out: &mut Vec<u8>,
     schema: &Schema,
     batches: &[Batch],
-) -> Result<Blocks, NoForm>
-    ensures bytes { OnOk result (out.new.items ≡ out.old.items ++ messages_bytes puts_by (schema_of schema.now) (map arrays_of batches.now)) }
-    ensures blocks { IfOk result (λ blocks. blocks_of blocks ≡ blocks_from (length out.old.items + length (schema_message (schema_of schema.now))) [] (map arrays_of batches.now)) }
-    ensures again { OnOk result (AreAgain puts_by [] (map arrays_of batches.now)) }
-    ensures schema { OnOk result (schema_refusal (schema_of schema.now) ≡ None) }
-    ensures form { OnOk result (blocks_refusal (types_of (schema_of schema.now)) (filed_start (schema_of schema.now)) (map arrays_of batches.now) ≡ None) }
-    ensures err { IfErr result (IsRefused (else_for (schema_refusal (schema_of schema.now)) (blocks_refusal (types_of (schema_of schema.now)) (filed_start (schema_of schema.now)) (map arrays_of batches.now)))) }
+) -> Result<FileBlocks, IpcWriteError>
+    ensures bytes { OnOk result (out.new.items ≡ out.old.items ++ encoded_messages file_dictionary_batches (schema_of schema.now) (map record_batch_of batches.now)) }
+    ensures blocks { IfOk result (λ blocks. blocks_of blocks ≡ blocks_from (length out.old.items + length (schema_message (schema_of schema.now))) [] (map record_batch_of batches.now)) }
+    ensures again { OnOk result (BatchesRoundTrip file_dictionary_batches [] (map record_batch_of batches.now)) }
+    ensures schema { OnOk result (schema_error (schema_of schema.now) ≡ None) }
+    ensures form { OnOk result (file_batches_error (types_of (schema_of schema.now)) (file_state_start (schema_of schema.now)) (map record_batch_of batches.now) ≡ None) }
+    ensures err { IfErr result (IsErrorOrMemory (messages_error (schema_of schema.now) (map record_batch_of batches.now))) }
 {
-    let message = write_keyed_schema(alloc, schema)?;
+    let message = write_schema_with_dictionaries(alloc, schema)?;
     out.extend_from_slice(&message)?;
-    let mut sent = BTreeMap::new(alloc);
-    let mut known = known_behind(alloc, &message)?;
-    let blocks = put_blocks(alloc, out, &schema.fields, &mut sent, &mut known, batches)?;
+    let mut emitted = BTreeMap::new(alloc);
+    let mut known = initial_state(alloc, &message)?;
+    let blocks = write_blocks(
+        alloc,
+        out,
+        &schema.fields,
+        &mut emitted,
+        &mut known,
+        batches,
+    )?;
     out.extend_from_slice(&[255, 255, 255, 255, 0, 0, 0, 0])?;
     Ok(blocks)
 }
 
-/// A schema and batches as a file: messages as of a stream with their end mark, and a footer that names each batch and each
-/// dictionary. Reading gives them back: an equal schema, and of each batch the same rows and the same arrays. Of a cut its window
-/// alone is written. A dictionary that grows from batch to batch is written once, then what it grew by, as deltas; all batches of
-/// a file are read over what it is at last.
+/// Writes a schema and record batches as a file: the messages of a stream, then a footer with a block for each batch.
+///
+/// The file round-trips: reading returns an equal schema, and batches with the same rows, data types and slots. A sliced array is written
+/// without the values outside the slice. A dictionary whose values are extended from batch to batch is written once, then as deltas; a
+/// reader of the file has all its values before the first record batch.
 ///
 /// # Errors
-/// The first reason in the order of writing: a field of the schema (`Extension`, `Float`, `Type`), its metadata (`Size`); then
-/// batch by batch `Columns`, where they are not those of the schema, `Dictionaries`, where one would have to be written anew or
-/// grew by what no reader could join, and `Size`; then `Size` of the footer. `Memory` can stand in the place of any.
-#[tactic(auto, unfolding(crate::specs::WrittenFiles::file_bytes))]
-pub fn write_file(alloc: Global, schema: &Schema, batches: &[Batch]) -> Result<Vec<u8>, NoForm>
-    ensures bytes { IfOk result (λ out. out.items ≡ file_bytes (schema_of schema.now) (map arrays_of batches.now)) }
-    ensures again { IfOk result (λ out. file_in out.items ≡ Ok (shown_file (schema_of schema.now) (map arrays_of batches.now))) }
-    ensures same { OnOk result (AreSameBatches (map arrays_of batches.now) (shown_file (schema_of schema.now) (map arrays_of batches.now)).batches) }
-    ensures plain { OnOk result (NothingGrows [] (map arrays_of batches.now) → (shown_file (schema_of schema.now) (map arrays_of batches.now)).batches ≡ shown_batches (map arrays_of batches.now)) }
-    ensures form { OnOk result (file_refusal (schema_of schema.now) (map arrays_of batches.now) ≡ None) }
-    ensures err { IfErr result (IsRefused (file_refusal (schema_of schema.now) (map arrays_of batches.now))) }
+/// The first error in the order of writing: a field of the schema (`Extension`, `Float`, `Type`), or the size of its message (`Size`); then
+/// batch by batch `Columns`, if the columns are not those of the schema; `Dictionaries`, if a dictionary would be replaced, or no reader
+/// could append the delta; `Size`; last `Size` of the footer. `Memory`, where an allocation fails.
+#[tactic(auto, unfolding(crate::specs::EncodedFiles::encoded_file))]
+pub fn write_file(
+    alloc: Global,
+    schema: &Schema,
+    batches: &[Batch],
+) -> Result<Vec<u8>, IpcWriteError>
+    ensures bytes { IfOk result (λ out. out.items ≡ encoded_file (schema_of schema.now) (map record_batch_of batches.now)) }
+    ensures again { IfOk result (λ out. file_in out.items ≡ Ok (decoded_file (schema_of schema.now) (map record_batch_of batches.now))) }
+    ensures same { OnOk result (AreSameBatches (map record_batch_of batches.now) (decoded_file (schema_of schema.now) (map record_batch_of batches.now)).batches) }
+    ensures plain { OnOk result (DecodesLikeStream (schema_of schema.now) (map record_batch_of batches.now)) }
+    ensures form { OnOk result (file_error (schema_of schema.now) (map record_batch_of batches.now) ≡ None) }
+    ensures err { IfErr result (IsErrorOrMemory (file_error (schema_of schema.now) (map record_batch_of batches.now))) }
 {
     let mut out = Vec::new(alloc);
     out.extend_from_slice(&[65, 82, 82, 79, 87, 49, 0, 0])?;
-    let blocks = put_messages(alloc, &mut out, schema, batches)?;
+    let blocks = write_messages(alloc, &mut out, schema, batches)?;
     write_footer(
         alloc,
         &mut out,

@@ -1,27 +1,27 @@
--- Copying values and bits, as loops do.
+-- Loops that copy values and bits.
 use Rattle.std.proofs.Common.{◌≡◌, ℕ, suc, ◌+◌, ◌-◌, ◌*◌, ◌<◌, ◌≤◌, List, [], ◌∷◌, ◌++◌, length, drop, map, refl, sym, ap, ◌∙◌, append_assoc, arith}
 use Rattle.std.specs.Prelude.{ℤ}
 use Rattle.std.proofs.Math.Nat.{suc-mul}
 use Rattle.std.proofs.lemmas.List.{append-nil, map-append}
 use Rattle.std.proofs.lemmas.List.FromFn.{length-map-range_with_len}
 use Rattle.nest_memory.specs.Bits.{bit, bits_from}
-use Rattle.ipc_arrays.specs.Stored.{Form, values_in}
+use Rattle.ipc_arrays.specs.FixedWidth.{ByteFormat, decoded_natives}
 
-pub values_more : {A : Type 0} (f : A → List ℤ) (form : Form) (front new : List A) (x : A) (slots i : ℕ) (from next : List ℕ) (total : List (List ℤ)) → i < slots → new ≡ front ++ x ∷ [] → f x ≡ form.numbers from → next ≡ drop form.size from
-    → map f front ++ values_in form (slots - i) from ≡ total → map f new ++ values_in form (slots - (i + 1)) next ≡ total
-unfolding values_in
-values_more {A} f form front new x slots i from next total lt e value far so_far =
+pub values_more : {A : Type 0} (f : A → List ℤ) (format : ByteFormat) (front new : List A) (x : A) (slots i : ℕ) (from next : List ℕ) (total : List (List ℤ)) → i < slots → new ≡ front ++ x ∷ [] → f x ≡ format.numbers from → next ≡ drop format.size from
+    → map f front ++ decoded_natives format (slots - i) from ≡ total → map f new ++ decoded_natives format (slots - (i + 1)) next ≡ total
+unfolding decoded_natives
+values_more {A} f format front new x slots i from next total lt e value far so_far =
     let k : slots - i ≡ suc (slots - (i + 1)) = omega arith in
-    let rest : List (List ℤ) = values_in form (slots - (i + 1)) (drop form.size from) in
-    let one : map f front ++ values_in form (slots - i) from ≡ map f front ++ (form.numbers from ∷ rest) = rw k refl in
-    let two : map f new ++ values_in form (slots - (i + 1)) next ≡ (map f front ++ f x ∷ []) ++ rest = rw (e, far, map-append f front (x ∷ [])) refl in
+    let rest : List (List ℤ) = decoded_natives format (slots - (i + 1)) (drop format.size from) in
+    let one : map f front ++ decoded_natives format (slots - i) from ≡ map f front ++ (format.numbers from ∷ rest) = rw k refl in
+    let two : map f new ++ decoded_natives format (slots - (i + 1)) next ≡ (map f front ++ f x ∷ []) ++ rest = rw (e, far, map-append f front (x ∷ [])) refl in
     two ∙ append_assoc (map f front) (f x ∷ []) rest ∙ ap (λ (z : List ℤ). map f front ++ (z ∷ rest)) value ∙ sym one ∙ so_far
 
-pub values_done : {A : Type 0} (f : A → List ℤ) (form : Form) (front : List A) (slots i : ℕ) (from : List ℕ) (total : List (List ℤ)) → slots ≤ i → map f front ++ values_in form (slots - i) from ≡ total → map f front ≡ total
-unfolding values_in
-values_done f form front slots i from total le so_far =
+pub values_done : {A : Type 0} (f : A → List ℤ) (format : ByteFormat) (front : List A) (slots i : ℕ) (from : List ℕ) (total : List (List ℤ)) → slots ≤ i → map f front ++ decoded_natives format (slots - i) from ≡ total → map f front ≡ total
+unfolding decoded_natives
+values_done f format front slots i from total le so_far =
     let k : slots - i ≡ 0 = omega arith in
-    let one : map f front ++ values_in form (slots - i) from ≡ map f front = rw k (append-nil (map f front)) in
+    let one : map f front ++ decoded_natives format (slots - i) from ≡ map f front = rw k (append-nil (map f front)) in
     sym one ∙ so_far
 
 pub room_left : (slots i size n m : ℕ) → i < slots → (slots - i) * size ≤ n → m + size ≡ n → (slots - (i + 1)) * size ≤ m

@@ -1,4 +1,4 @@
--- Windows over arrays, one after the other, as loops go through them.
+-- Loops over windows, and the bounds of windows over children.
 use Rattle.std.proofs.Common.{◌≡◌, ℕ, zero, suc, ◌+◌, ◌<◌, ◌≤◌, Bool, false, List, [], ◌∷◌, ◌++◌, length, get_or, take, Some, None, refl, sym, ap, subst, ◌∙◌, arith}
 use Rattle.std.specs.Prelude.{ℤ, Option}
 use Rattle.nest_memory.specs.Cut.{cut}
@@ -12,11 +12,11 @@ use Rattle.nest_model.specs.Runs.{length-cut}
 use Rattle.nest_array.specs.Seen.{layout_of, layouts_of}
 use Rattle.nest_array.specs.WindowParts.{WindowParts, window_parts}
 use Rattle.nest_array.specs.declared.any.AnyArray.{AnyArray}
-use Rattle.ipc_arrays.specs.AgainLaws.{some_begin}
-use Rattle.ipc_arrays.specs.ShownLaws.{validity_fits}
-use Rattle.ipc_arrays.specs.Stored.{offset_form, type_form}
-use Rattle.ipc_arrays.specs.StringLaws.{rebased_long}
-use Rattle.ipc_arrays.specs.Written.{each_window, whole_windows, windows_below, sparse_begin, own_buffers, shown_in, valid_bytes, offset_bytes, numbers_bytes, rebased}
+use Rattle.ipc_arrays.specs.RoundTripLaws.{some_begin}
+use Rattle.ipc_arrays.specs.NormalizedLaws.{validity_fits}
+use Rattle.ipc_arrays.specs.FixedWidth.{offset_format, type_format}
+use Rattle.ipc_arrays.specs.VariableSizeLaws.{rebased_long}
+use Rattle.ipc_arrays.specs.Encoding.{each_window, whole_windows, windows_below, sparse_begin, own_buffers, normalized_slice, normalized_validity_bytes, offset_bytes, numbers_bytes, rebased}
 
 pub next_place : (i : ℕ) → i + 1 ≡ suc i
 next_place i = omega arith
@@ -81,33 +81,33 @@ sparse_below a o n kind none = ap (λ (b : Layout). windows_below b o n) (kind �
 pub dense_below : (a : Layout) (os : List ℤ) (o n : ℕ) → UnionOf a → union_offsets_of a ≡ Some os → windows_below a o n ≡ whole_windows (children_of a)
 dense_below a os o n kind some = ap (λ (b : Layout). windows_below b o n) (kind ∙ ap (λ (os : Option (List ℤ)). union (layout_type a) (types_of a) (children_of a) os (start_of a)) some)
 
--- ---- parts of a window of each kind
+-- ---- the parts of a window, by type
 
 pub bits_long : (a : Layout) (bits : List Bool) → TopFits a → validity_of a ≡ Some bits → length bits ≡ len a
 bits_long a bits fits e = subst (λ (va : Validity). ValidityFits va (len a)) e (validity_fits a fits)
 
-pub own_sized : (a : Layout) (o n : ℕ) → a ≡ fixed_size_list (layout_type a) (child_of a) (validity_of a) → own_buffers (shown_in a o n) ≡ valid_bytes (cut_validity (validity_of a) o n) ∷ []
-own_sized a o n kind = ap (λ (b : Layout). own_buffers (shown_in b o n)) kind
+pub own_sized : (a : Layout) (o n : ℕ) → a ≡ fixed_size_list (layout_type a) (child_of a) (validity_of a) → own_buffers (normalized_slice a o n) ≡ normalized_validity_bytes (cut_validity (validity_of a) o n) ∷ []
+own_sized a o n kind = ap (λ (b : Layout). own_buffers (normalized_slice b o n)) kind
 
-pub own_record : (a : Layout) (o n : ℕ) → a ≡ struct (layout_type a) (children_of a) (validity_of a) → own_buffers (shown_in a o n) ≡ valid_bytes (cut_validity (validity_of a) o n) ∷ []
-own_record a o n kind = ap (λ (b : Layout). own_buffers (shown_in b o n)) kind
+pub own_record : (a : Layout) (o n : ℕ) → a ≡ struct (layout_type a) (children_of a) (validity_of a) → own_buffers (normalized_slice a o n) ≡ normalized_validity_bytes (cut_validity (validity_of a) o n) ∷ []
+own_record a o n kind = ap (λ (b : Layout). own_buffers (normalized_slice b o n)) kind
 
 pub own_list : (large : Bool) (a : Layout) (o n : ℕ) → a ≡ list_of large (layout_type a) (offsets_of a) (child_of a) (validity_of a)
-    → own_buffers (shown_in a o n) ≡ valid_bytes (cut_validity (validity_of a) o n) ∷ offset_bytes large (rebased (cut (offsets_of a) o (n + 1))) ∷ []
-own_list large a o n kind = ap (λ (b : Layout). own_buffers (shown_in b o n)) kind
+    → own_buffers (normalized_slice a o n) ≡ normalized_validity_bytes (cut_validity (validity_of a) o n) ∷ offset_bytes large (rebased (cut (offsets_of a) o (n + 1))) ∷ []
+own_list large a o n kind = ap (λ (b : Layout). own_buffers (normalized_slice b o n)) kind
 
 pub own_map : (a : Layout) (o n : ℕ) → a ≡ map_of (layout_type a) (offsets_of a) (child_of a) (validity_of a)
-    → own_buffers (shown_in a o n) ≡ valid_bytes (cut_validity (validity_of a) o n) ∷ offset_bytes false (rebased (cut (offsets_of a) o (n + 1))) ∷ []
-own_map a o n kind = ap (λ (b : Layout). own_buffers (shown_in b o n)) kind
+    → own_buffers (normalized_slice a o n) ≡ normalized_validity_bytes (cut_validity (validity_of a) o n) ∷ offset_bytes false (rebased (cut (offsets_of a) o (n + 1))) ∷ []
+own_map a o n kind = ap (λ (b : Layout). own_buffers (normalized_slice b o n)) kind
 
-pub own_sparse : (a : Layout) (o n : ℕ) → UnionOf a → union_offsets_of a ≡ None → own_buffers (shown_in a o n) ≡ numbers_bytes type_form (cut (types_of a) o n) ∷ []
-own_sparse a o n kind none = ap (λ (b : Layout). own_buffers (shown_in b o n)) (kind ∙ ap (λ (os : Option (List ℤ)). union (layout_type a) (types_of a) (children_of a) os (start_of a)) none)
+pub own_sparse : (a : Layout) (o n : ℕ) → UnionOf a → union_offsets_of a ≡ None → own_buffers (normalized_slice a o n) ≡ numbers_bytes type_format (cut (types_of a) o n) ∷ []
+own_sparse a o n kind none = ap (λ (b : Layout). own_buffers (normalized_slice b o n)) (kind ∙ ap (λ (os : Option (List ℤ)). union (layout_type a) (types_of a) (children_of a) os (start_of a)) none)
 
 pub own_dense : (a : Layout) (os : List ℤ) (o n : ℕ) → UnionOf a → union_offsets_of a ≡ Some os
-    → own_buffers (shown_in a o n) ≡ numbers_bytes type_form (cut (types_of a) o n) ∷ numbers_bytes (offset_form false) (cut os o n) ∷ []
-own_dense a os o n kind some = ap (λ (b : Layout). own_buffers (shown_in b o n)) (kind ∙ ap (λ (os : Option (List ℤ)). union (layout_type a) (types_of a) (children_of a) os (start_of a)) some)
+    → own_buffers (normalized_slice a o n) ≡ numbers_bytes type_format (cut (types_of a) o n) ∷ numbers_bytes (offset_format false) (cut os o n) ∷ []
+own_dense a os o n kind some = ap (λ (b : Layout). own_buffers (normalized_slice b o n)) (kind ∙ ap (λ (os : Option (List ℤ)). union (layout_type a) (types_of a) (children_of a) os (start_of a)) some)
 
--- offsets of rows, one more than slots
+-- lists have one more offset than slots
 pub rows_long : (large : Bool) (a : Layout) (o n : ℕ) → a ≡ list_of large (layout_type a) (offsets_of a) (child_of a) (validity_of a) → TopFits a → o + n ≤ len a → length (rebased (cut (offsets_of a) o (n + 1))) ≡ n + 1
 rows_long large a o n kind fits le =
     let f : TopFits (list_of large (layout_type a) (offsets_of a) (child_of a) (validity_of a)) = subst TopFits kind fits in

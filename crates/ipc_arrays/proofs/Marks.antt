@@ -1,4 +1,4 @@
--- Which types the ids of a union's fields are.
+-- The marks of the type ids of a union.
 use Rattle.std.proofs.Common.{◌≡◌, ℕ, suc, ◌+◌, ◌<◌, ◌≤◌, ℤ, pos, negsuc, Bool, true, false, eqb, List, [], ◌∷◌, ◌++◌, length, get_or, take, set, replicate, map, Ok, Err, Option, Some, None, refl, ap, sym, subst, ◌∙◌, arith, get_or-set_same, get_or-set_other, take-suc, inl, inr}
 use Rattle.std.specs.Prelude.{is_some, ◌&&◌, if◌then◌else◌, ◌⊎◌}
 use Rattle.std.specs.Ordering.{int_eq}
@@ -9,15 +9,15 @@ use Rattle.std.proofs.lemmas.List.{get_or_past, get_or-replicate}
 use Rattle.std.proofs.lemmas.List.Sums.{AllPass-from_list_all}
 use Rattle.nest_model.specs.Checks.{type_count}
 use Rattle.nest_model.specs.Part.{last_place, field_named}
-use Rattle.ipc_flatbuf.specs.declared.error.Fault.TheVariants.{UnionType}
+use Rattle.ipc_flatbuf.specs.declared.error.IpcReadError.TheVariants.{UnionType}
 use Rattle.nest_memory.specs.Native.{signed}
 use Rattle.nest_memory.specs.declared.datatypes.UnionMode.TheVariants.{Dense}
-use Rattle.ipc_arrays.specs.Stored.{offset_form, type_form, only}
-use Rattle.ipc_arrays.specs.declared.parts.Counts.{Counts}
-use Rattle.ipc_arrays.specs.Columns.{Rest, names, means, are_ids, mean_fields, natives_in, buffer_in, types_in, picks_in}
-use Rattle.ipc_arrays.specs.Meant.{IsMarked, is_marked}
+use Rattle.ipc_arrays.specs.FixedWidth.{offset_format, type_format, only}
+use Rattle.ipc_arrays.specs.declared.cursor.NodeCounts.{NodeCounts}
+use Rattle.ipc_arrays.specs.Decoding.{Rest, is_index_below, is_field_below, are_type_ids, are_known_types, decoded_values, decoded_buffer, decoded_types, decoded_union_parts}
+use Rattle.ipc_arrays.specs.UnionTypeIds.{MarksTypeIds, is_marked_type}
 
--- the last place of a number in a list with one number more
+-- the last index of a number in a list with one more number
 abbrev before : ℤ → ℤ → Option ℕ → Option ℕ
 before y z o = elim o as (λ _. Option ℕ) [ Some k ↦ Some (suc k) | None ↦ if int_eq y z then Some 0 else None ]
 
@@ -29,7 +29,7 @@ last_more : (xs : List ℤ) (x z : ℤ) → last_place (xs ++ x ∷ []) z ≡ (i
 last_more [] x z = refl
 last_more (y ∷ xs) x z = ap (before y z) (last_more xs x z) ∙ before_more y z (int_eq x z) (length xs) (last_place xs z)
 
--- ---- marks are written
+-- ---- setting marks
 
 abbrev pub HasMarks : List Bool → List ℤ → Type 0
 HasMarks marks ids = (k : ℕ) → get_or marks k false ≡ is_some (last_place ids (pos k))
@@ -56,11 +56,11 @@ mark_written marks ids i m z d l h e f b g k =
     ∙ ap is_some (sym (last_more (take i ids) z (pos k))) ∙ ap (λ y. is_some (last_place y (pos k))) (sym x)
 
 -- an id is a number below 128
-pub id_is : (z : ℤ) → names z type_count ≡ true → (m : ℕ) × (z ≡ pos m) × (m < 128)
+pub id_is : (z : ℤ) → is_index_below z type_count ≡ true → (m : ℕ) × (z ≡ pos m) × (m < 128)
 id_is (pos k) e = (k, refl, ltb-true _ _ e)
 id_is (negsuc k) e = cc
 
--- ---- a type means a field where it is marked
+-- ---- a marked type is that of a field
 
 found_on : (x z : ℤ) (ids : List ℤ) (b : Bool) (o : Option ℕ) (f : ℕ) → int_eq x z ≡ b → (b ≡ true → x ≡ z) → ((g : ℕ) → o ≡ Some g → (g < length ids) × (get_or ids g (pos 0) ≡ z)) → before x z o ≡ Some f → (f < length (x ∷ ids)) × (get_or (x ∷ ids) f (pos 0) ≡ z)
 found_on x z ids b (Some g) f q t h e = let p : f ≡ suc g = cc in let k = h g refl in subst (λ j. (j < length (x ∷ ids)) × (get_or (x ∷ ids) j (pos 0) ≡ z)) (sym p) (omega (arith, k.0), k.1)
@@ -74,53 +74,53 @@ found_at : (ids : List ℤ) (z : ℤ) (f : ℕ) → last_place ids z ≡ Some f 
 found_at [] z f e = cc
 found_at (x ∷ ids) z f e = found_on x z ids (int_eq x z) (last_place ids z) f refl (λ b. (Decides-int_eq x z).0 b) (λ g h. found_at ids z g h) e
 
-some_means : (o : Option ℕ) (n : ℕ) → ((f : ℕ) → o ≡ Some f → f < n) → is_some o ≡ means o n
+some_means : (o : Option ℕ) (n : ℕ) → ((f : ℕ) → o ≡ Some f → f < n) → is_some o ≡ is_field_below o n
 some_means None n h = refl
 some_means (Some f) n h = sym (lt-ltb _ _ (h f refl))
 
-no_means : (o : Option ℕ) (n : ℕ) → ((f : ℕ) → o ≡ Some f → ⊥) → false ≡ means o n
+no_means : (o : Option ℕ) (n : ℕ) → ((f : ℕ) → o ≡ Some f → ⊥) → false ≡ is_field_below o n
 no_means None n h = refl
 no_means (Some f) n h = absurd (h f refl)
 
-not_named : (z : ℤ) (k : ℕ) → names z type_count ≡ true → z ≡ negsuc k → ⊥
+not_named : (z : ℤ) (k : ℕ) → is_index_below z type_count ≡ true → z ≡ negsuc k → ⊥
 not_named (pos j) k e h = cc
 not_named (negsuc j) k e h = cc
 
-mark_means : (marks : List Bool) (ids : List ℤ) (n : ℕ) → IsMarked marks ids → are_ids (Some ids) n ≡ true → (z : ℤ) → is_marked marks z ≡ means (last_place ids z) n
-mark_means marks ids n h are (pos k) = h.each k ∙ some_means (last_place ids (pos k)) n (λ f e. let at = found_at ids (pos k) f e in omega (arith, at.0, eqb-true _ _ (and_parts (eqb (length ids) n) (list_all (λ id. names id type_count) ids) are).0))
+mark_means : (marks : List Bool) (ids : List ℤ) (n : ℕ) → MarksTypeIds marks ids → are_type_ids (Some ids) n ≡ true → (z : ℤ) → is_marked_type marks z ≡ is_field_below (last_place ids z) n
+mark_means marks ids n h are (pos k) = h.each k ∙ some_means (last_place ids (pos k)) n (λ f e. let at = found_at ids (pos k) f e in omega (arith, at.0, eqb-true _ _ (and_parts (eqb (length ids) n) (list_all (λ id. is_index_below id type_count) ids) are).0))
 mark_means marks ids n h are (negsuc k) =
     no_means (last_place ids (negsuc k)) n
-    (λ f e. let at = found_at ids (negsuc k) f e in not_named (get_or ids f (pos 0)) k (AllPass-from_list_all (λ z. names z type_count) ids (and_parts (eqb (length ids) n) (list_all (λ id. names id type_count) ids) are).1 f (pos 0) at.0) at.1)
+    (λ f e. let at = found_at ids (negsuc k) f e in not_named (get_or ids f (pos 0)) k (AllPass-from_list_all (λ z. is_index_below z type_count) ids (and_parts (eqb (length ids) n) (list_all (λ id. is_index_below id type_count) ids) are).1 f (pos 0) at.0) at.1)
 
 same_all : (p q : ℤ → Bool) → ((z : ℤ) → p z ≡ q z) → (zs : List ℤ) → list_all p zs ≡ list_all q zs
 same_all p q h [] = refl
 same_all p q h (z ∷ zs) = λ i. h z i && same_all p q h zs i
 
-pub marked_mean : (marks : List Bool) (ids : List ℤ) (n : ℕ) (ks : List ℤ) → IsMarked marks ids → are_ids (Some ids) n ≡ true → list_all (is_marked marks) ks ≡ mean_fields (Some ids) n ks
-marked_mean marks ids n ks h are = same_all (is_marked marks) (λ z. means (field_named (Some ids) z) n) (mark_means marks ids n h are) ks
+pub marked_mean : (marks : List Bool) (ids : List ℤ) (n : ℕ) (ks : List ℤ) → MarksTypeIds marks ids → are_type_ids (Some ids) n ≡ true → list_all (is_marked_type marks) ks ≡ are_known_types (Some ids) n ks
+marked_mean marks ids n ks h are = same_all (is_marked_type marks) (λ z. is_field_below (field_named (Some ids) z) n) (mark_means marks ids n h are) ks
 
-place_means : (n : ℕ) (z : ℤ) → names z n ≡ means (field_named None z) n
+place_means : (n : ℕ) (z : ℤ) → is_index_below z n ≡ is_field_below (field_named None z) n
 place_means n (pos k) = refl
 place_means n (negsuc k) = refl
 
-pub places_mean : (n : ℕ) (ks : List ℤ) → list_all (λ z. names z n) ks ≡ mean_fields None n ks
-places_mean n ks = same_all (λ z. names z n) (λ z. means (field_named None z) n) (place_means n) ks
+pub places_mean : (n : ℕ) (ks : List ℤ) → list_all (λ z. is_index_below z n) ks ≡ are_known_types None n ks
+places_mean n ks = same_all (λ z. is_index_below z n) (λ z. is_field_below (field_named None z) n) (place_means n) ks
 
--- ---- types that are read
+-- ---- reading types
 
 one_each : (zs : List ℤ) → map only (map signed zs) ≡ zs
 one_each [] = refl
 one_each (z ∷ zs) = ap (λ (ys : List ℤ). z ∷ ys) (one_each zs)
 
-pub types_read : (ids : Option (List ℤ)) (fields slots : ℕ) (bytes : List ℕ) (ks : List ℤ) → natives_in type_form slots bytes ≡ Ok (map signed ks) → mean_fields ids fields ks ≡ true → types_in ids fields slots bytes ≡ Ok ks
-unfolding types_in
+pub types_read : (ids : Option (List ℤ)) (fields slots : ℕ) (bytes : List ℕ) (ks : List ℤ) → decoded_values type_format slots bytes ≡ Ok (map signed ks) → are_known_types ids fields ks ≡ true → decoded_types ids fields slots bytes ≡ Ok ks
+unfolding decoded_types
 types_read ids fields slots bytes ks e h = rw (e, one_each ks, h) refl
 
-pub types_refused : (ids : Option (List ℤ)) (fields slots : ℕ) (bytes : List ℕ) (ks : List ℤ) → natives_in type_form slots bytes ≡ Ok (map signed ks) → mean_fields ids fields ks ≡ false → types_in ids fields slots bytes ≡ Err UnionType
-unfolding types_in
+pub types_refused : (ids : Option (List ℤ)) (fields slots : ℕ) (bytes : List ℕ) (ks : List ℤ) → decoded_values type_format slots bytes ≡ Ok (map signed ks) → are_known_types ids fields ks ≡ false → decoded_types ids fields slots bytes ≡ Err UnionType
+unfolding decoded_types
 types_refused ids fields slots bytes ks e h = rw (e, one_each ks, h) refl
 
-pub dense_read : (ids : Option (List ℤ)) (fields : ℕ) (counts : Counts) (body : List ℕ) (rest : Rest) (first second : List ℕ) (behind last : Rest) (ks os : List ℤ) → buffer_in body rest ≡ Ok (first, behind) → types_in ids fields counts.slots first ≡ Ok ks
-    → buffer_in body behind ≡ Ok (second, last) → natives_in (offset_form false) counts.slots second ≡ Ok (map signed os) → picks_in Dense ids fields counts body rest ≡ Ok (record { types = ks; offsets = Some os }, last)
-unfolding picks_in
-dense_read ids fields counts body rest first second behind last ks os e g h k = rw (e, g, h, k, one_each os) refl
+pub dense_read : (ids : Option (List ℤ)) (fields : ℕ) (counts : NodeCounts) (body : List ℕ) (rest : Rest) (first second : List ℕ) (tail last : Rest) (ks os : List ℤ) → decoded_buffer body rest ≡ Ok (first, tail) → decoded_types ids fields counts.slots first ≡ Ok ks
+    → decoded_buffer body tail ≡ Ok (second, last) → decoded_values (offset_format false) counts.slots second ≡ Ok (map signed os) → decoded_union_parts Dense ids fields counts body rest ≡ Ok (record { types = ks; offsets = Some os }, last)
+unfolding decoded_union_parts
+dense_read ids fields counts body rest first second tail last ks os e g h k = rw (e, g, h, k, one_each os) refl

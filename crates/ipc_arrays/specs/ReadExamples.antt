@@ -1,9 +1,9 @@
--- Columns with children as other writers lay them down, byte by byte, and what is refused of them.
+-- Nested and dictionary-encoded columns of other writers, byte by byte, and variants that are rejected.
 use Rattle.std.specs.Prelude.{◌≡◌, ℕ, ℤ, pos, negsuc, true, false, List, [], ◌∷◌, ◌++◌, map, replicate, Option, Some, None, Ok, Err, refl}
-use Rattle.ipc_flatbuf.specs.declared.error.Fault.{Fault}
-use Rattle.ipc_flatbuf.specs.declared.error.Fault.TheVariants.{TypeRange, ChildLength, NodeCount, BufferCount, BufferShort, OffsetPastChild, UnionType, UnionSlot, MissingDictionary, KeyRange}
-use Rattle.ipc_flatbuf.specs.declared.batch.parts.Node.{Node}
-use Rattle.ipc_flatbuf.specs.declared.batch.parts.Region.{Region}
+use Rattle.ipc_flatbuf.specs.declared.error.IpcReadError.{IpcReadError}
+use Rattle.ipc_flatbuf.specs.declared.error.IpcReadError.TheVariants.{TypeRange, ChildLength, NodeCount, BufferCount, BufferTooShort, OffsetPastChild, UnionType, UnionOffset, MissingDictionary, KeyRange}
+use Rattle.ipc_flatbuf.specs.declared.batch.parts.FieldNode.{FieldNode}
+use Rattle.ipc_flatbuf.specs.declared.batch.parts.BufferSpec.{BufferSpec}
 use Rattle.nest_memory.specs.Bits.{bit, bits_from}
 use Rattle.nest_memory.specs.Rising.{are_offsets}
 use Rattle.nest_memory.specs.TypeTree as types
@@ -12,28 +12,28 @@ use Rattle.nest_memory.specs.declared.datatypes.IntegerType.TheVariants as integ
 use Rattle.nest_memory.specs.declared.datatypes.UnionMode.TheVariants.{Dense, Sparse}
 use Rattle.nest_memory.specs.declared.datatypes.physical_type.PrimitiveType.TheVariants.{Int8, UInt16}
 use Rattle.nest_model.specs.Layout.{Layout, null, boolean, primitive, text, fixed_size_list, list as list_of, map as map_of, struct, union, dictionary, no_layouts, more_layouts}
-use Rattle.ipc_arrays.specs.Keys.{blanked}
-use Rattle.ipc_arrays.specs.Stored.{values_in}
-use Rattle.ipc_arrays.specs.Columns.{Rest, next_counts, bytes_of, next_bytes, bits_in, validity_in, node_in, buffer_in, head_in, natives_in, native_in, boolean_in, offsets_from, offsets_in, rows_in, types_in, picks_in, keys_by, next_values, known_in, dictionary_in, column_in}
-use Rattle.ipc_arrays.specs.declared.parts.Wanted.TheVariants.{Rows}
+use Rattle.ipc_arrays.specs.DictionaryKeys.{zero_at_nulls}
+use Rattle.ipc_arrays.specs.FixedWidth.{decoded_natives}
+use Rattle.ipc_arrays.specs.Decoding.{Rest, first_counts, buffer_slice, first_buffer, decoded_bits, decoded_validity, decoded_node, decoded_buffer, decoded_validity_buffer, decoded_values, decoded_primitive, decoded_boolean, checked_offsets, decoded_offsets, decoded_variable_size_head, decoded_types, decoded_union_parts, decoded_keys_as, first_values, decoded_dictionary_values, decoded_dictionary, decoded_column}
+use Rattle.ipc_arrays.specs.declared.cursor.ExpectedLength.TheVariants.{Rows}
 
--- a type and a number of rows, a body, and what the metadata says of it
-pub record Laid : Type 0 where
+-- a data type, a number of rows, and a body with its metadata
+pub record EncodedColumn : Type 0 where
   pub type : TypeTree
   pub rows : ℕ
   pub body : List ℕ
   pub rest : Rest
 
-abbrev pub IsRead : Laid → Layout → Type 0
-IsRead w column = column_in w.type (Rows w.rows) w.body w.rest ≡ Ok (column, record { nodes = []; regions = []; dictionaries = [] })
+abbrev pub IsRead : EncodedColumn → Layout → Type 0
+IsRead w column = decoded_column w.type (Rows w.rows) w.body w.rest ≡ Ok (column, record { nodes = []; buffers = []; dictionaries = [] })
 
-abbrev pub IsRefused : Laid → Fault → Type 0
-IsRefused w fault = column_in w.type (Rows w.rows) w.body w.rest ≡ Err fault
+abbrev pub IsRejected : EncodedColumn → IpcReadError → Type 0
+IsRejected w error = decoded_column w.type (Rows w.rows) w.body w.rest ≡ Err error
 
-abbrev node : ℕ → ℕ → Node
+abbrev node : ℕ → ℕ → FieldNode
 node slots nulls = record { length = pos slots; null_count = pos nulls }
 
-abbrev at : ℕ → ℕ → Region
+abbrev at : ℕ → ℕ → BufferSpec
 at place size = record { offset = pos place; length = pos size }
 
 -- a number in 32 bits
@@ -48,281 +48,281 @@ small numbers = primitive Int8 types.int8 (map (λ z. z ∷ []) numbers) None
 
 -- ---- lists
 
--- [8], [9, 10]: the items stand before the offsets, which begin at 1 and leave an item at the end
-abbrev pub lists : Laid
+-- [8], [9, 10]: the items are before the offsets, which begin at 1 and leave the last item unused
+abbrev pub lists : EncodedColumn
 lists = record {
   type = types.list (item types.int8);
   rows = 2;
   body = 7 ∷ 8 ∷ 9 ∷ 10 ∷ 11 ∷ 0 ∷ 0 ∷ 0 ∷ word 1 ++ word 2 ++ word 4;
-  rest = record { nodes = node 2 0 ∷ node 5 0 ∷ []; regions = at 0 0 ∷ at 8 12 ∷ at 0 0 ∷ at 0 5 ∷ []; dictionaries = [] };
+  rest = record { nodes = node 2 0 ∷ node 5 0 ∷ []; buffers = at 0 0 ∷ at 8 12 ∷ at 0 0 ∷ at 0 5 ∷ []; dictionaries = [] };
 }
 
 abbrev pub lists_read : Layout
 lists_read = list_of false lists.type (1 ∷ 2 ∷ 4 ∷ []) (small (pos 7 ∷ pos 8 ∷ pos 9 ∷ pos 10 ∷ pos 11 ∷ [])) None
 
 pub lists_are : IsRead lists lists_read
-unfolding values_in next_counts bytes_of next_bytes validity_in node_in buffer_in head_in natives_in native_in are_offsets offsets_from offsets_in rows_in
+unfolding decoded_natives first_counts buffer_slice first_buffer decoded_validity decoded_node decoded_buffer decoded_validity_buffer decoded_values decoded_primitive are_offsets checked_offsets decoded_offsets decoded_variable_size_head
 lists_are = refl
 
--- the same with an item less than the last offset
-abbrev pub short_lists : Laid
-short_lists = record lists { rest = record { nodes = node 2 0 ∷ node 3 0 ∷ []; regions = at 0 0 ∷ at 8 12 ∷ at 0 0 ∷ at 0 5 ∷ []; dictionaries = [] } }
+-- the same with one item too few
+abbrev pub short_lists : EncodedColumn
+short_lists = record lists { rest = record { nodes = node 2 0 ∷ node 3 0 ∷ []; buffers = at 0 0 ∷ at 8 12 ∷ at 0 0 ∷ at 0 5 ∷ []; dictionaries = [] } }
 
-pub short_lists_are : IsRefused short_lists OffsetPastChild
-unfolding values_in next_counts bytes_of next_bytes validity_in node_in buffer_in head_in natives_in native_in are_offsets offsets_from offsets_in rows_in
+pub short_lists_are : IsRejected short_lists OffsetPastChild
+unfolding decoded_natives first_counts buffer_slice first_buffer decoded_validity decoded_node decoded_buffer decoded_validity_buffer decoded_values decoded_primitive are_offsets checked_offsets decoded_offsets decoded_variable_size_head
 short_lists_are = refl
 
--- no node for the items
-abbrev pub bare_lists : Laid
-bare_lists = record lists { rest = record { nodes = node 2 0 ∷ []; regions = at 0 0 ∷ at 8 12 ∷ at 0 0 ∷ at 0 5 ∷ []; dictionaries = [] } }
+-- no field node for the items
+abbrev pub bare_lists : EncodedColumn
+bare_lists = record lists { rest = record { nodes = node 2 0 ∷ []; buffers = at 0 0 ∷ at 8 12 ∷ at 0 0 ∷ at 0 5 ∷ []; dictionaries = [] } }
 
-pub bare_lists_are : IsRefused bare_lists NodeCount
-unfolding values_in next_counts bytes_of next_bytes validity_in node_in buffer_in head_in natives_in native_in are_offsets offsets_from offsets_in rows_in
+pub bare_lists_are : IsRejected bare_lists NodeCount
+unfolding decoded_natives first_counts buffer_slice first_buffer decoded_validity decoded_node decoded_buffer decoded_validity_buffer decoded_values decoded_primitive are_offsets checked_offsets decoded_offsets decoded_variable_size_head
 bare_lists_are = refl
 
--- no list: no byte of an offset, though there are items
-abbrev pub no_lists : Laid
+-- no lists: an empty offsets buffer, though there are items
+abbrev pub no_lists : EncodedColumn
 no_lists = record {
   type = types.large_list (item types.int8);
   rows = 0;
   body = 5 ∷ 6 ∷ [];
-  rest = record { nodes = node 0 0 ∷ node 2 0 ∷ []; regions = at 0 0 ∷ at 0 0 ∷ at 0 0 ∷ at 0 2 ∷ []; dictionaries = [] };
+  rest = record { nodes = node 0 0 ∷ node 2 0 ∷ []; buffers = at 0 0 ∷ at 0 0 ∷ at 0 0 ∷ at 0 2 ∷ []; dictionaries = [] };
 }
 
 abbrev pub no_lists_read : Layout
 no_lists_read = list_of true no_lists.type (0 ∷ []) (small (pos 5 ∷ pos 6 ∷ [])) None
 
 pub no_lists_are : IsRead no_lists no_lists_read
-unfolding values_in next_counts bytes_of next_bytes validity_in node_in buffer_in head_in natives_in native_in are_offsets offsets_from offsets_in rows_in
+unfolding decoded_natives first_counts buffer_slice first_buffer decoded_validity decoded_node decoded_buffer decoded_validity_buffer decoded_values decoded_primitive are_offsets checked_offsets decoded_offsets decoded_variable_size_head
 no_lists_are = refl
 
--- null, [-1], by offsets of 64 bits
-abbrev pub large_lists : Laid
+-- null, [-1], with 64-bit offsets
+abbrev pub large_lists : EncodedColumn
 large_lists = record {
   type = types.large_list (item types.int8);
   rows = 2;
   body = 2 ∷ 255 ∷ replicate 6 0 ++ (replicate 8 0 ++ (replicate 8 0 ++ 1 ∷ replicate 7 0));
-  rest = record { nodes = node 2 1 ∷ node 1 0 ∷ []; regions = at 0 1 ∷ at 8 24 ∷ at 0 0 ∷ at 1 1 ∷ []; dictionaries = [] };
+  rest = record { nodes = node 2 1 ∷ node 1 0 ∷ []; buffers = at 0 1 ∷ at 8 24 ∷ at 0 0 ∷ at 1 1 ∷ []; dictionaries = [] };
 }
 
 abbrev pub large_lists_read : Layout
 large_lists_read = list_of true large_lists.type (0 ∷ 0 ∷ 1 ∷ []) (small (negsuc 0 ∷ [])) (Some (false ∷ true ∷ []))
 
 pub large_lists_are : IsRead large_lists large_lists_read
-unfolding bit bits_from values_in next_counts bytes_of next_bytes bits_in validity_in node_in buffer_in head_in natives_in native_in are_offsets offsets_from offsets_in rows_in
+unfolding bit bits_from decoded_natives first_counts buffer_slice first_buffer decoded_bits decoded_validity decoded_node decoded_buffer decoded_validity_buffer decoded_values decoded_primitive are_offsets checked_offsets decoded_offsets decoded_variable_size_head
 large_lists_are = refl
 
 -- [1, 2], null, over four items
-abbrev pub pairs : Laid
-pairs = record {
+abbrev pub sized_list : EncodedColumn
+sized_list = record {
   type = types.fixed_size_list (item types.int8) 2;
   rows = 2;
   body = 1 ∷ 2 ∷ 3 ∷ 4 ∷ [];
-  rest = record { nodes = node 2 1 ∷ node 4 0 ∷ []; regions = at 0 1 ∷ at 0 0 ∷ at 0 4 ∷ []; dictionaries = [] };
+  rest = record { nodes = node 2 1 ∷ node 4 0 ∷ []; buffers = at 0 1 ∷ at 0 0 ∷ at 0 4 ∷ []; dictionaries = [] };
 }
 
-abbrev pub pairs_read : Layout
-pairs_read = fixed_size_list pairs.type (small (pos 1 ∷ pos 2 ∷ pos 3 ∷ pos 4 ∷ [])) (Some (true ∷ false ∷ []))
+abbrev pub sized_list_read : Layout
+sized_list_read = fixed_size_list sized_list.type (small (pos 1 ∷ pos 2 ∷ pos 3 ∷ pos 4 ∷ [])) (Some (true ∷ false ∷ []))
 
-pub pairs_are : IsRead pairs pairs_read
-unfolding bit bits_from values_in next_counts bytes_of next_bytes bits_in validity_in node_in buffer_in head_in natives_in native_in
-pairs_are = refl
+pub sized_list_are : IsRead sized_list sized_list_read
+unfolding bit bits_from decoded_natives first_counts buffer_slice first_buffer decoded_bits decoded_validity decoded_node decoded_buffer decoded_validity_buffer decoded_values decoded_primitive
+sized_list_are = refl
 
--- an item more than the lists have
-abbrev pub long_pairs : Laid
-long_pairs = record pairs { rest = record { nodes = node 2 1 ∷ node 5 0 ∷ []; regions = at 0 1 ∷ at 0 0 ∷ at 0 4 ∷ []; dictionaries = [] } }
+-- one item too many
+abbrev pub long_sized_list : EncodedColumn
+long_sized_list = record sized_list { rest = record { nodes = node 2 1 ∷ node 5 0 ∷ []; buffers = at 0 1 ∷ at 0 0 ∷ at 0 4 ∷ []; dictionaries = [] } }
 
-pub long_pairs_are : IsRefused long_pairs ChildLength
-unfolding bit bits_from values_in next_counts bytes_of next_bytes bits_in validity_in node_in buffer_in head_in natives_in native_in
-long_pairs_are = refl
+pub long_sized_list_are : IsRejected long_sized_list ChildLength
+unfolding bit bits_from decoded_natives first_counts buffer_slice first_buffer decoded_bits decoded_validity decoded_node decoded_buffer decoded_validity_buffer decoded_values decoded_primitive
+long_sized_list_are = refl
 
--- lists of no item each
-abbrev pub no_pairs : Laid
-no_pairs = record pairs { type = types.fixed_size_list (item types.int8) 0 }
+-- lists of size 0
+abbrev pub no_sized_list : EncodedColumn
+no_sized_list = record sized_list { type = types.fixed_size_list (item types.int8) 0 }
 
-pub no_pairs_are : IsRefused no_pairs TypeRange
-unfolding next_counts node_in
-no_pairs_are = refl
+pub no_sized_list_are : IsRejected no_sized_list TypeRange
+unfolding first_counts decoded_node
+no_sized_list_are = refl
 
--- ---- records and maps
+-- ---- structs and maps
 
 -- (false, 6), (true, 7)
-abbrev pub records : Laid
-records = record {
+abbrev pub structs : EncodedColumn
+structs = record {
   type = types.struct (more_fields (item types.boolean) (more_fields (item types.int8) no_fields));
   rows = 2;
   body = 2 ∷ 6 ∷ 7 ∷ [];
-  rest = record { nodes = node 2 0 ∷ node 2 0 ∷ node 2 0 ∷ []; regions = at 0 0 ∷ at 0 0 ∷ at 0 1 ∷ at 0 0 ∷ at 1 2 ∷ []; dictionaries = [] };
+  rest = record { nodes = node 2 0 ∷ node 2 0 ∷ node 2 0 ∷ []; buffers = at 0 0 ∷ at 0 0 ∷ at 0 1 ∷ at 0 0 ∷ at 1 2 ∷ []; dictionaries = [] };
 }
 
-abbrev pub records_read : Layout
-records_read = struct records.type (more_layouts (boolean types.boolean (false ∷ true ∷ []) None) (more_layouts (small (pos 6 ∷ pos 7 ∷ [])) no_layouts)) None
+abbrev pub structs_read : Layout
+structs_read = struct structs.type (more_layouts (boolean types.boolean (false ∷ true ∷ []) None) (more_layouts (small (pos 6 ∷ pos 7 ∷ [])) no_layouts)) None
 
-pub records_are : IsRead records records_read
-unfolding bit bits_from values_in next_counts bytes_of next_bytes bits_in validity_in node_in buffer_in head_in natives_in native_in boolean_in
-records_are = refl
+pub structs_are : IsRead structs structs_read
+unfolding bit bits_from decoded_natives first_counts buffer_slice first_buffer decoded_bits decoded_validity decoded_node decoded_buffer decoded_validity_buffer decoded_values decoded_primitive decoded_boolean
+structs_are = refl
 
--- its first child is too long, its second
-abbrev pub first_long : Laid
-first_long = record records { rest = record { nodes = node 2 0 ∷ node 3 0 ∷ node 2 0 ∷ []; regions = at 0 0 ∷ at 0 0 ∷ at 0 1 ∷ at 0 0 ∷ at 1 2 ∷ []; dictionaries = [] } }
+-- the first child is too long, or the second
+abbrev pub first_long : EncodedColumn
+first_long = record structs { rest = record { nodes = node 2 0 ∷ node 3 0 ∷ node 2 0 ∷ []; buffers = at 0 0 ∷ at 0 0 ∷ at 0 1 ∷ at 0 0 ∷ at 1 2 ∷ []; dictionaries = [] } }
 
-abbrev pub second_long : Laid
-second_long = record records { rest = record { nodes = node 2 0 ∷ node 2 0 ∷ node 3 0 ∷ []; regions = at 0 0 ∷ at 0 0 ∷ at 0 1 ∷ at 0 0 ∷ at 1 2 ∷ []; dictionaries = [] } }
+abbrev pub second_long : EncodedColumn
+second_long = record structs { rest = record { nodes = node 2 0 ∷ node 2 0 ∷ node 3 0 ∷ []; buffers = at 0 0 ∷ at 0 0 ∷ at 0 1 ∷ at 0 0 ∷ at 1 2 ∷ []; dictionaries = [] } }
 
-pub first_long_is : IsRefused first_long ChildLength
-unfolding bit bits_from values_in next_counts bytes_of next_bytes bits_in validity_in node_in buffer_in head_in natives_in native_in boolean_in
+pub first_long_is : IsRejected first_long ChildLength
+unfolding bit bits_from decoded_natives first_counts buffer_slice first_buffer decoded_bits decoded_validity decoded_node decoded_buffer decoded_validity_buffer decoded_values decoded_primitive decoded_boolean
 first_long_is = refl
 
-pub second_long_is : IsRefused second_long ChildLength
-unfolding bit bits_from values_in next_counts bytes_of next_bytes bits_in validity_in node_in buffer_in head_in natives_in native_in boolean_in
+pub second_long_is : IsRejected second_long ChildLength
+unfolding bit bits_from decoded_natives first_counts buffer_slice first_buffer decoded_bits decoded_validity decoded_node decoded_buffer decoded_validity_buffer decoded_values decoded_primitive decoded_boolean
 second_long_is = refl
 
--- records without a field
-abbrev pub no_records : Laid
-no_records = record records { type = types.struct no_fields }
+-- a struct without fields
+abbrev pub no_structs : EncodedColumn
+no_structs = record structs { type = types.struct no_fields }
 
-pub no_records_are : IsRefused no_records TypeRange
-unfolding next_counts node_in
-no_records_are = refl
+pub no_structs_are : IsRejected no_structs TypeRange
+unfolding first_counts decoded_node
+no_structs_are = refl
 
--- a map from false to 6 and from true to 7, and one without an entry
-abbrev pub maps : Laid
+-- a map from false to 6 and from true to 7, and an empty map
+abbrev pub maps : EncodedColumn
 maps = record {
-  type = types.map (item records.type) false;
+  type = types.map (item structs.type) false;
   rows = 2;
   body = 2 ∷ 6 ∷ 7 ∷ 0 ∷ word 0 ++ word 2 ++ word 2;
-  rest = record { nodes = node 2 0 ∷ node 2 0 ∷ node 2 0 ∷ node 2 0 ∷ []; regions = at 0 0 ∷ at 4 12 ∷ at 0 0 ∷ at 0 0 ∷ at 0 1 ∷ at 0 0 ∷ at 1 2 ∷ []; dictionaries = [] };
+  rest = record { nodes = node 2 0 ∷ node 2 0 ∷ node 2 0 ∷ node 2 0 ∷ []; buffers = at 0 0 ∷ at 4 12 ∷ at 0 0 ∷ at 0 0 ∷ at 0 1 ∷ at 0 0 ∷ at 1 2 ∷ []; dictionaries = [] };
 }
 
 abbrev pub maps_read : Layout
-maps_read = map_of maps.type (0 ∷ 2 ∷ 2 ∷ []) records_read None
+maps_read = map_of maps.type (0 ∷ 2 ∷ 2 ∷ []) structs_read None
 
 pub maps_are : IsRead maps maps_read
-unfolding bit bits_from values_in next_counts bytes_of next_bytes bits_in validity_in node_in buffer_in head_in natives_in native_in boolean_in are_offsets offsets_from offsets_in rows_in
+unfolding bit bits_from decoded_natives first_counts buffer_slice first_buffer decoded_bits decoded_validity decoded_node decoded_buffer decoded_validity_buffer decoded_values decoded_primitive decoded_boolean are_offsets checked_offsets decoded_offsets decoded_variable_size_head
 maps_are = refl
 
--- an entry less than the last offset
-abbrev pub short_maps : Laid
-short_maps = record maps { rest = record { nodes = node 2 0 ∷ node 1 0 ∷ node 1 0 ∷ node 1 0 ∷ []; regions = at 0 0 ∷ at 4 12 ∷ at 0 0 ∷ at 0 0 ∷ at 0 1 ∷ at 0 0 ∷ at 1 2 ∷ []; dictionaries = [] } }
+-- one entry too few
+abbrev pub short_maps : EncodedColumn
+short_maps = record maps { rest = record { nodes = node 2 0 ∷ node 1 0 ∷ node 1 0 ∷ node 1 0 ∷ []; buffers = at 0 0 ∷ at 4 12 ∷ at 0 0 ∷ at 0 0 ∷ at 0 1 ∷ at 0 0 ∷ at 1 2 ∷ []; dictionaries = [] } }
 
-pub short_maps_are : IsRefused short_maps OffsetPastChild
-unfolding bit bits_from values_in next_counts bytes_of next_bytes bits_in validity_in node_in buffer_in head_in natives_in native_in boolean_in are_offsets offsets_from offsets_in rows_in
+pub short_maps_are : IsRejected short_maps OffsetPastChild
+unfolding bit bits_from decoded_natives first_counts buffer_slice first_buffer decoded_bits decoded_validity decoded_node decoded_buffer decoded_validity_buffer decoded_values decoded_primitive decoded_boolean are_offsets checked_offsets decoded_offsets decoded_variable_size_head
 short_maps_are = refl
 
--- entries that are no pairs
-abbrev pub no_maps : Laid
+-- entries that are not a key and a value
+abbrev pub no_maps : EncodedColumn
 no_maps = record maps { type = types.map (item types.int8) false }
 
-pub no_maps_are : IsRefused no_maps TypeRange
-unfolding next_counts node_in
+pub no_maps_are : IsRejected no_maps TypeRange
+unfolding first_counts decoded_node
 no_maps_are = refl
 
 -- ---- unions
 
--- 6, true, 7: the ids of the fields are 5 and 2, so type 2 means the second; the first child has a slot more than there are types. What the
--- node says of nulls is not used.
-abbrev pub choices : Laid
-choices = record {
+-- 6, true, 7: the ids of the fields are 5 and 2, so type 2 is the second field. The first child is longer than the union. The null count
+-- of the field node is not used.
+abbrev pub sparse_union : EncodedColumn
+sparse_union = record {
   type = types.union (more_fields (item types.boolean) (more_fields (item types.int8) no_fields)) (Some (pos 5 ∷ pos 2 ∷ [])) Sparse;
   rows = 3;
   body = 2 ∷ 5 ∷ 2 ∷ 2 ∷ 6 ∷ 0 ∷ 7 ∷ [];
-  rest = record { nodes = node 3 2 ∷ node 4 0 ∷ node 3 0 ∷ []; regions = at 0 3 ∷ at 0 0 ∷ at 3 1 ∷ at 0 0 ∷ at 4 3 ∷ []; dictionaries = [] };
+  rest = record { nodes = node 3 2 ∷ node 4 0 ∷ node 3 0 ∷ []; buffers = at 0 3 ∷ at 0 0 ∷ at 3 1 ∷ at 0 0 ∷ at 4 3 ∷ []; dictionaries = [] };
 }
 
-abbrev pub choices_read : Layout
-choices_read = union choices.type (pos 2 ∷ pos 5 ∷ pos 2 ∷ []) (more_layouts (boolean types.boolean (false ∷ true ∷ false ∷ false ∷ []) None) (more_layouts (small (pos 6 ∷ pos 0 ∷ pos 7 ∷ [])) no_layouts)) None 0
+abbrev pub sparse_union_read : Layout
+sparse_union_read = union sparse_union.type (pos 2 ∷ pos 5 ∷ pos 2 ∷ []) (more_layouts (boolean types.boolean (false ∷ true ∷ false ∷ false ∷ []) None) (more_layouts (small (pos 6 ∷ pos 0 ∷ pos 7 ∷ [])) no_layouts)) None 0
 
-pub choices_are : IsRead choices choices_read
-unfolding bit bits_from values_in next_counts bytes_of next_bytes bits_in validity_in node_in buffer_in head_in natives_in native_in boolean_in types_in picks_in
-choices_are = refl
+pub sparse_union_are : IsRead sparse_union sparse_union_read
+unfolding bit bits_from decoded_natives first_counts buffer_slice first_buffer decoded_bits decoded_validity decoded_node decoded_buffer decoded_validity_buffer decoded_values decoded_primitive decoded_boolean decoded_types decoded_union_parts
+sparse_union_are = refl
 
--- a child with a slot less than there are types
-abbrev pub short_choices : Laid
-short_choices = record choices { rest = record { nodes = node 3 2 ∷ node 4 0 ∷ node 2 0 ∷ []; regions = at 0 3 ∷ at 0 0 ∷ at 3 1 ∷ at 0 0 ∷ at 4 3 ∷ []; dictionaries = [] } }
+-- a child that is too short
+abbrev pub short_sparse_union : EncodedColumn
+short_sparse_union = record sparse_union { rest = record { nodes = node 3 2 ∷ node 4 0 ∷ node 2 0 ∷ []; buffers = at 0 3 ∷ at 0 0 ∷ at 3 1 ∷ at 0 0 ∷ at 4 3 ∷ []; dictionaries = [] } }
 
-pub short_choices_are : IsRefused short_choices ChildLength
-unfolding bit bits_from values_in next_counts bytes_of next_bytes bits_in validity_in node_in buffer_in head_in natives_in native_in boolean_in types_in picks_in
-short_choices_are = refl
+pub short_sparse_union_are : IsRejected short_sparse_union ChildLength
+unfolding bit bits_from decoded_natives first_counts buffer_slice first_buffer decoded_bits decoded_validity decoded_node decoded_buffer decoded_validity_buffer decoded_values decoded_primitive decoded_boolean decoded_types decoded_union_parts
+short_sparse_union_are = refl
 
--- the type 1 is the position of a field, but no id
-abbrev pub odd_choices : Laid
-odd_choices = record choices { body = 2 ∷ 1 ∷ 2 ∷ 2 ∷ 6 ∷ 0 ∷ 7 ∷ [] }
+-- the type 1 is the index of a field, but not an id
+abbrev pub odd_sparse_union : EncodedColumn
+odd_sparse_union = record sparse_union { body = 2 ∷ 1 ∷ 2 ∷ 2 ∷ 6 ∷ 0 ∷ 7 ∷ [] }
 
-pub odd_choices_are : IsRefused odd_choices UnionType
-unfolding bit bits_from values_in next_counts bytes_of next_bytes bits_in validity_in node_in buffer_in head_in natives_in native_in boolean_in types_in picks_in
-odd_choices_are = refl
+pub odd_sparse_union_are : IsRejected odd_sparse_union UnionType
+unfolding bit bits_from decoded_natives first_counts buffer_slice first_buffer decoded_bits decoded_validity decoded_node decoded_buffer decoded_validity_buffer decoded_values decoded_primitive decoded_boolean decoded_types decoded_union_parts
+odd_sparse_union_are = refl
 
--- an id less than fields
-abbrev pub unnamed_choices : Laid
-unnamed_choices = record choices { type = types.union (more_fields (item types.boolean) (more_fields (item types.int8) no_fields)) (Some (pos 5 ∷ [])) Sparse }
+-- one id too few
+abbrev pub unnamed_sparse_union : EncodedColumn
+unnamed_sparse_union = record sparse_union { type = types.union (more_fields (item types.boolean) (more_fields (item types.int8) no_fields)) (Some (pos 5 ∷ [])) Sparse }
 
-pub unnamed_choices_are : IsRefused unnamed_choices TypeRange
-unfolding next_counts node_in
-unnamed_choices_are = refl
+pub unnamed_sparse_union_are : IsRejected unnamed_sparse_union TypeRange
+unfolding first_counts decoded_node
+unnamed_sparse_union_are = refl
 
--- an id that is negative
-abbrev pub negative_choices : Laid
-negative_choices = record choices { type = types.union (more_fields (item types.boolean) (more_fields (item types.int8) no_fields)) (Some (pos 5 ∷ negsuc 0 ∷ [])) Sparse }
+-- a negative id
+abbrev pub negative_sparse_union : EncodedColumn
+negative_sparse_union = record sparse_union { type = types.union (more_fields (item types.boolean) (more_fields (item types.int8) no_fields)) (Some (pos 5 ∷ negsuc 0 ∷ [])) Sparse }
 
-pub negative_choices_are : IsRefused negative_choices TypeRange
-unfolding next_counts node_in
-negative_choices_are = refl
+pub negative_sparse_union_are : IsRejected negative_sparse_union TypeRange
+unfolding first_counts decoded_node
+negative_sparse_union_are = refl
 
--- 7, true, 6, by offsets that don't rise
-abbrev pub picks : Laid
-picks = record {
+-- 7, true, 6, with offsets that do not increase
+abbrev pub dense_union : EncodedColumn
+dense_union = record {
   type = types.union (more_fields (item types.boolean) (more_fields (item types.int8) no_fields)) None Dense;
   rows = 3;
   body = 1 ∷ 0 ∷ 1 ∷ 1 ∷ word 1 ++ word 0 ++ (word 0 ++ 6 ∷ 7 ∷ []);
-  rest = record { nodes = node 3 0 ∷ node 1 0 ∷ node 2 0 ∷ []; regions = at 0 3 ∷ at 4 12 ∷ at 0 0 ∷ at 3 1 ∷ at 0 0 ∷ at 16 2 ∷ []; dictionaries = [] };
+  rest = record { nodes = node 3 0 ∷ node 1 0 ∷ node 2 0 ∷ []; buffers = at 0 3 ∷ at 4 12 ∷ at 0 0 ∷ at 3 1 ∷ at 0 0 ∷ at 16 2 ∷ []; dictionaries = [] };
 }
 
-abbrev pub picks_read : Layout
-picks_read = union picks.type (pos 1 ∷ pos 0 ∷ pos 1 ∷ []) (more_layouts (boolean types.boolean (true ∷ []) None) (more_layouts (small (pos 6 ∷ pos 7 ∷ [])) no_layouts)) (Some (pos 1 ∷ pos 0 ∷ pos 0 ∷ [])) 0
+abbrev pub dense_union_read : Layout
+dense_union_read = union dense_union.type (pos 1 ∷ pos 0 ∷ pos 1 ∷ []) (more_layouts (boolean types.boolean (true ∷ []) None) (more_layouts (small (pos 6 ∷ pos 7 ∷ [])) no_layouts)) (Some (pos 1 ∷ pos 0 ∷ pos 0 ∷ [])) 0
 
-pub picks_are : IsRead picks picks_read
-unfolding bit bits_from values_in next_counts bytes_of next_bytes bits_in validity_in node_in buffer_in head_in natives_in native_in boolean_in types_in picks_in
-picks_are = refl
+pub dense_union_are : IsRead dense_union dense_union_read
+unfolding bit bits_from decoded_natives first_counts buffer_slice first_buffer decoded_bits decoded_validity decoded_node decoded_buffer decoded_validity_buffer decoded_values decoded_primitive decoded_boolean decoded_types decoded_union_parts
+dense_union_are = refl
 
--- the first offset names the slot behind the last of its field
-abbrev pub past_picks : Laid
-past_picks = record picks { body = 1 ∷ 0 ∷ 1 ∷ 1 ∷ word 2 ++ word 0 ++ (word 0 ++ 6 ∷ 7 ∷ []) }
+-- the first offset is the length of its child
+abbrev pub past_dense_union : EncodedColumn
+past_dense_union = record dense_union { body = 1 ∷ 0 ∷ 1 ∷ 1 ∷ word 2 ++ word 0 ++ (word 0 ++ 6 ∷ 7 ∷ []) }
 
-pub past_picks_are : IsRefused past_picks UnionSlot
-unfolding bit bits_from values_in next_counts bytes_of next_bytes bits_in validity_in node_in buffer_in head_in natives_in native_in boolean_in types_in picks_in
-past_picks_are = refl
+pub past_dense_union_are : IsRejected past_dense_union UnionOffset
+unfolding bit bits_from decoded_natives first_counts buffer_slice first_buffer decoded_bits decoded_validity decoded_node decoded_buffer decoded_validity_buffer decoded_values decoded_primitive decoded_boolean decoded_types decoded_union_parts
+past_dense_union_are = refl
 
--- the second names a slot of the other field alone
-abbrev pub other_picks : Laid
-other_picks = record picks { body = 1 ∷ 0 ∷ 1 ∷ 1 ∷ word 1 ++ word 1 ++ (word 0 ++ 6 ∷ 7 ∷ []) }
+-- the second offset is within the other child only
+abbrev pub other_dense_union : EncodedColumn
+other_dense_union = record dense_union { body = 1 ∷ 0 ∷ 1 ∷ 1 ∷ word 1 ++ word 1 ++ (word 0 ++ 6 ∷ 7 ∷ []) }
 
-pub other_picks_are : IsRefused other_picks UnionSlot
-unfolding bit bits_from values_in next_counts bytes_of next_bytes bits_in validity_in node_in buffer_in head_in natives_in native_in boolean_in types_in picks_in
-other_picks_are = refl
+pub other_dense_union_are : IsRejected other_dense_union UnionOffset
+unfolding bit bits_from decoded_natives first_counts buffer_slice first_buffer decoded_bits decoded_validity decoded_node decoded_buffer decoded_validity_buffer decoded_values decoded_primitive decoded_boolean decoded_types decoded_union_parts
+other_dense_union_are = refl
 
--- -1
-abbrev pub negative_picks : Laid
-negative_picks = record picks { body = 1 ∷ 0 ∷ 1 ∷ 1 ∷ replicate 4 255 ++ word 0 ++ (word 0 ++ 6 ∷ 7 ∷ []) }
+-- an offset of -1
+abbrev pub negative_dense_union : EncodedColumn
+negative_dense_union = record dense_union { body = 1 ∷ 0 ∷ 1 ∷ 1 ∷ replicate 4 255 ++ word 0 ++ (word 0 ++ 6 ∷ 7 ∷ []) }
 
-pub negative_picks_are : IsRefused negative_picks UnionSlot
-unfolding bit bits_from values_in next_counts bytes_of next_bytes bits_in validity_in node_in buffer_in head_in natives_in native_in boolean_in types_in picks_in
-negative_picks_are = refl
+pub negative_dense_union_are : IsRejected negative_dense_union UnionOffset
+unfolding bit bits_from decoded_natives first_counts buffer_slice first_buffer decoded_bits decoded_validity decoded_node decoded_buffer decoded_validity_buffer decoded_values decoded_primitive decoded_boolean decoded_types decoded_union_parts
+negative_dense_union_are = refl
 
--- the type 2 means none of two fields
-abbrev pub odd_picks : Laid
-odd_picks = record picks { body = 2 ∷ 0 ∷ 1 ∷ 1 ∷ word 1 ++ word 0 ++ (word 0 ++ 6 ∷ 7 ∷ []) }
+-- the type 2 is that of neither field
+abbrev pub odd_dense_union : EncodedColumn
+odd_dense_union = record dense_union { body = 2 ∷ 0 ∷ 1 ∷ 1 ∷ word 1 ++ word 0 ++ (word 0 ++ 6 ∷ 7 ∷ []) }
 
-pub odd_picks_are : IsRefused odd_picks UnionType
-unfolding bit bits_from values_in next_counts bytes_of next_bytes bits_in validity_in node_in buffer_in head_in natives_in native_in boolean_in types_in picks_in
-odd_picks_are = refl
+pub odd_dense_union_are : IsRejected odd_dense_union UnionType
+unfolding bit bits_from decoded_natives first_counts buffer_slice first_buffer decoded_bits decoded_validity decoded_node decoded_buffer decoded_validity_buffer decoded_values decoded_primitive decoded_boolean decoded_types decoded_union_parts
+odd_dense_union_are = refl
 
--- no buffer of offsets
-abbrev pub bare_picks : Laid
-bare_picks = record picks { rest = record { nodes = node 3 0 ∷ node 1 0 ∷ node 2 0 ∷ []; regions = at 0 3 ∷ []; dictionaries = [] } }
+-- no offsets buffer
+abbrev pub bare_dense_union : EncodedColumn
+bare_dense_union = record dense_union { rest = record { nodes = node 3 0 ∷ node 1 0 ∷ node 2 0 ∷ []; buffers = at 0 3 ∷ []; dictionaries = [] } }
 
-pub bare_picks_are : IsRefused bare_picks BufferCount
-unfolding bit bits_from values_in next_counts bytes_of next_bytes bits_in validity_in node_in buffer_in head_in natives_in native_in boolean_in types_in picks_in
-bare_picks_are = refl
+pub bare_dense_union_are : IsRejected bare_dense_union BufferCount
+unfolding bit bits_from decoded_natives first_counts buffer_slice first_buffer decoded_bits decoded_validity decoded_node decoded_buffer decoded_validity_buffer decoded_values decoded_primitive decoded_boolean decoded_types decoded_union_parts
+bare_dense_union_are = refl
 
 -- ---- dictionaries
 
@@ -330,117 +330,117 @@ bare_picks_are = refl
 abbrev pub words : Layout
 words = text false types.utf8 (0 ∷ 2 ∷ 3 ∷ []) (104 ∷ 105 ∷ 106 ∷ []) None
 
--- "j", null, "hi": a 9 lies under the null
-abbrev pub keyed : Laid
-keyed = record {
+-- "j", null, "hi": the key of the null slot is 9
+abbrev pub dictionary_column : EncodedColumn
+dictionary_column = record {
   type = types.dictionary integers.Int8 types.utf8 false;
   rows = 3;
   body = 5 ∷ 1 ∷ 9 ∷ 0 ∷ [];
-  rest = record { nodes = node 3 1 ∷ []; regions = at 0 1 ∷ at 1 3 ∷ []; dictionaries = Some words ∷ [] };
+  rest = record { nodes = node 3 1 ∷ []; buffers = at 0 1 ∷ at 1 3 ∷ []; dictionaries = Some words ∷ [] };
 }
 
-abbrev pub keyed_read : Layout
-keyed_read = dictionary keyed.type (primitive Int8 types.int8 ((pos 1 ∷ []) ∷ (pos 0 ∷ []) ∷ (pos 0 ∷ []) ∷ []) (Some (true ∷ false ∷ true ∷ []))) words
+abbrev pub dictionary_read : Layout
+dictionary_read = dictionary dictionary_column.type (primitive Int8 types.int8 ((pos 1 ∷ []) ∷ (pos 0 ∷ []) ∷ (pos 0 ∷ []) ∷ []) (Some (true ∷ false ∷ true ∷ []))) words
 
-pub keyed_are : IsRead keyed keyed_read
-unfolding bit bits_from values_in next_counts bytes_of next_bytes bits_in validity_in node_in buffer_in head_in natives_in blanked keys_by next_values known_in dictionary_in
-keyed_are = refl
+pub dictionary_are : IsRead dictionary_column dictionary_read
+unfolding bit bits_from decoded_natives first_counts buffer_slice first_buffer decoded_bits decoded_validity decoded_node decoded_buffer decoded_validity_buffer decoded_values zero_at_nulls decoded_keys_as first_values decoded_dictionary_values decoded_dictionary
+dictionary_are = refl
 
--- keys of 16 bits without a sign, of values whose type extends the type of texts
-abbrev pub wide_keyed : Laid
-wide_keyed = record {
+-- keys of `UInt16`, over values of an extension of UTF-8
+abbrev pub wide_dictionary : EncodedColumn
+wide_dictionary = record {
   type = types.dictionary integers.UInt16 (types.extension (119 ∷ []) types.utf8 None) true;
   rows = 2;
   body = 1 ∷ 0 ∷ 0 ∷ 0 ∷ [];
-  rest = record { nodes = node 2 0 ∷ []; regions = at 0 0 ∷ at 0 4 ∷ []; dictionaries = Some words ∷ [] };
+  rest = record { nodes = node 2 0 ∷ []; buffers = at 0 0 ∷ at 0 4 ∷ []; dictionaries = Some words ∷ [] };
 }
 
-abbrev pub wide_keyed_read : Layout
-wide_keyed_read = dictionary wide_keyed.type (primitive UInt16 types.uint16 ((pos 1 ∷ []) ∷ (pos 0 ∷ []) ∷ []) None) words
+abbrev pub wide_dictionary_read : Layout
+wide_dictionary_read = dictionary wide_dictionary.type (primitive UInt16 types.uint16 ((pos 1 ∷ []) ∷ (pos 0 ∷ []) ∷ []) None) words
 
-pub wide_keyed_are : IsRead wide_keyed wide_keyed_read
-unfolding values_in next_counts bytes_of next_bytes validity_in node_in buffer_in head_in natives_in blanked keys_by next_values known_in dictionary_in
-wide_keyed_are = refl
+pub wide_dictionary_are : IsRead wide_dictionary wide_dictionary_read
+unfolding decoded_natives first_counts buffer_slice first_buffer decoded_validity decoded_node decoded_buffer decoded_validity_buffer decoded_values zero_at_nulls decoded_keys_as first_values decoded_dictionary_values decoded_dictionary
+wide_dictionary_are = refl
 
--- two nulls over no value
-abbrev pub null_keyed : Laid
-null_keyed = record {
+-- two nulls over no values
+abbrev pub null_dictionary : EncodedColumn
+null_dictionary = record {
   type = types.dictionary integers.Int8 types.null false;
   rows = 2;
   body = 0 ∷ 7 ∷ 255 ∷ [];
-  rest = record { nodes = node 2 2 ∷ []; regions = at 0 1 ∷ at 1 2 ∷ []; dictionaries = Some (null types.null 0) ∷ [] };
+  rest = record { nodes = node 2 2 ∷ []; buffers = at 0 1 ∷ at 1 2 ∷ []; dictionaries = Some (null types.null 0) ∷ [] };
 }
 
-abbrev pub null_keyed_read : Layout
-null_keyed_read = dictionary null_keyed.type (primitive Int8 types.int8 ((pos 0 ∷ []) ∷ (pos 0 ∷ []) ∷ []) (Some (false ∷ false ∷ []))) (null types.null 0)
+abbrev pub null_dictionary_read : Layout
+null_dictionary_read = dictionary null_dictionary.type (primitive Int8 types.int8 ((pos 0 ∷ []) ∷ (pos 0 ∷ []) ∷ []) (Some (false ∷ false ∷ []))) (null types.null 0)
 
-pub null_keyed_are : IsRead null_keyed null_keyed_read
-unfolding bit bits_from values_in next_counts bytes_of next_bytes bits_in validity_in node_in buffer_in head_in natives_in blanked keys_by next_values known_in dictionary_in
-null_keyed_are = refl
+pub null_dictionary_are : IsRead null_dictionary null_dictionary_read
+unfolding bit bits_from decoded_natives first_counts buffer_slice first_buffer decoded_bits decoded_validity decoded_node decoded_buffer decoded_validity_buffer decoded_values zero_at_nulls decoded_keys_as first_values decoded_dictionary_values decoded_dictionary
+null_dictionary_are = refl
 
--- a record of two keys: the first names one of the first values
-abbrev pub both_keyed : Laid
-both_keyed = record {
+-- a struct of two dictionary-encoded arrays, each with its own values
+abbrev pub both_dictionary : EncodedColumn
+both_dictionary = record {
   type = types.struct (more_fields (item (types.dictionary integers.Int8 types.utf8 false)) (more_fields (item (types.dictionary integers.Int8 types.null false)) no_fields));
   rows = 1;
   body = 1 ∷ 0 ∷ [];
-  rest = record { nodes = node 1 0 ∷ node 1 0 ∷ node 1 0 ∷ []; regions = at 0 0 ∷ at 0 0 ∷ at 0 1 ∷ at 0 0 ∷ at 1 1 ∷ []; dictionaries = Some words ∷ Some (null types.null 1) ∷ [] };
+  rest = record { nodes = node 1 0 ∷ node 1 0 ∷ node 1 0 ∷ []; buffers = at 0 0 ∷ at 0 0 ∷ at 0 1 ∷ at 0 0 ∷ at 1 1 ∷ []; dictionaries = Some words ∷ Some (null types.null 1) ∷ [] };
 }
 
-abbrev pub both_keyed_read : Layout
-both_keyed_read =
-    struct both_keyed.type
+abbrev pub both_dictionary_read : Layout
+both_dictionary_read =
+    struct both_dictionary.type
     (more_layouts (dictionary (types.dictionary integers.Int8 types.utf8 false) (small (pos 1 ∷ [])) words)
     (more_layouts (dictionary (types.dictionary integers.Int8 types.null false) (small (pos 0 ∷ [])) (null types.null 1)) no_layouts)) None
 
-pub both_keyed_are : IsRead both_keyed both_keyed_read
-unfolding values_in next_counts bytes_of next_bytes validity_in node_in buffer_in head_in natives_in blanked keys_by next_values known_in dictionary_in
-both_keyed_are = refl
+pub both_dictionary_are : IsRead both_dictionary both_dictionary_read
+unfolding decoded_natives first_counts buffer_slice first_buffer decoded_validity decoded_node decoded_buffer decoded_validity_buffer decoded_values zero_at_nulls decoded_keys_as first_values decoded_dictionary_values decoded_dictionary
+both_dictionary_are = refl
 
--- a key past the values, one that is negative
-abbrev pub past_keyed : Laid
-past_keyed = record keyed { body = 5 ∷ 2 ∷ 9 ∷ 0 ∷ [] }
+-- a key that is out of range, and one that is negative
+abbrev pub past_dictionary : EncodedColumn
+past_dictionary = record dictionary_column { body = 5 ∷ 2 ∷ 9 ∷ 0 ∷ [] }
 
-abbrev pub negative_keyed : Laid
-negative_keyed = record keyed { body = 5 ∷ 255 ∷ 9 ∷ 0 ∷ [] }
+abbrev pub negative_dictionary : EncodedColumn
+negative_dictionary = record dictionary_column { body = 5 ∷ 255 ∷ 9 ∷ 0 ∷ [] }
 
-pub past_keyed_are : IsRefused past_keyed KeyRange
-unfolding bit bits_from values_in next_counts bytes_of next_bytes bits_in validity_in node_in buffer_in head_in natives_in blanked keys_by next_values known_in dictionary_in
-past_keyed_are = refl
+pub past_dictionary_are : IsRejected past_dictionary KeyRange
+unfolding bit bits_from decoded_natives first_counts buffer_slice first_buffer decoded_bits decoded_validity decoded_node decoded_buffer decoded_validity_buffer decoded_values zero_at_nulls decoded_keys_as first_values decoded_dictionary_values decoded_dictionary
+past_dictionary_are = refl
 
-pub negative_keyed_are : IsRefused negative_keyed KeyRange
-unfolding bit bits_from values_in next_counts bytes_of next_bytes bits_in validity_in node_in buffer_in head_in natives_in blanked keys_by next_values known_in dictionary_in
-negative_keyed_are = refl
+pub negative_dictionary_are : IsRejected negative_dictionary KeyRange
+unfolding bit bits_from decoded_natives first_counts buffer_slice first_buffer decoded_bits decoded_validity decoded_node decoded_buffer decoded_validity_buffer decoded_values zero_at_nulls decoded_keys_as first_values decoded_dictionary_values decoded_dictionary
+negative_dictionary_are = refl
 
--- values that are missing, no list of them, values of another type, past which a key is too
-abbrev with_dictionaries : List (Option Layout) → Laid
-with_dictionaries others = record keyed { rest = record { nodes = node 3 1 ∷ []; regions = at 0 1 ∷ at 1 3 ∷ []; dictionaries = others } }
+-- values that are missing, a list of values that is empty, and values of another type, with a key out of range
+abbrev with_dictionaries : List (Option Layout) → EncodedColumn
+with_dictionaries others = record dictionary_column { rest = record { nodes = node 3 1 ∷ []; buffers = at 0 1 ∷ at 1 3 ∷ []; dictionaries = others } }
 
-abbrev pub missing_keyed : Laid
-missing_keyed = with_dictionaries (None ∷ Some words ∷ [])
+abbrev pub missing_dictionary : EncodedColumn
+missing_dictionary = with_dictionaries (None ∷ Some words ∷ [])
 
-abbrev pub bare_keyed : Laid
-bare_keyed = with_dictionaries []
+abbrev pub bare_dictionary : EncodedColumn
+bare_dictionary = with_dictionaries []
 
-abbrev pub unlike_keyed : Laid
-unlike_keyed = with_dictionaries (Some (small (pos 1 ∷ [])) ∷ [])
+abbrev pub unlike_dictionary : EncodedColumn
+unlike_dictionary = with_dictionaries (Some (small (pos 1 ∷ [])) ∷ [])
 
-pub missing_keyed_are : IsRefused missing_keyed MissingDictionary
-unfolding bit bits_from values_in next_counts bytes_of next_bytes bits_in validity_in node_in buffer_in head_in natives_in blanked keys_by next_values known_in dictionary_in
-missing_keyed_are = refl
+pub missing_dictionary_are : IsRejected missing_dictionary MissingDictionary
+unfolding bit bits_from decoded_natives first_counts buffer_slice first_buffer decoded_bits decoded_validity decoded_node decoded_buffer decoded_validity_buffer decoded_values zero_at_nulls decoded_keys_as first_values decoded_dictionary_values decoded_dictionary
+missing_dictionary_are = refl
 
-pub bare_keyed_are : IsRefused bare_keyed MissingDictionary
-unfolding bit bits_from values_in next_counts bytes_of next_bytes bits_in validity_in node_in buffer_in head_in natives_in blanked keys_by next_values known_in dictionary_in
-bare_keyed_are = refl
+pub bare_dictionary_are : IsRejected bare_dictionary MissingDictionary
+unfolding bit bits_from decoded_natives first_counts buffer_slice first_buffer decoded_bits decoded_validity decoded_node decoded_buffer decoded_validity_buffer decoded_values zero_at_nulls decoded_keys_as first_values decoded_dictionary_values decoded_dictionary
+bare_dictionary_are = refl
 
-pub unlike_keyed_are : IsRefused unlike_keyed MissingDictionary
-unfolding bit bits_from values_in next_counts bytes_of next_bytes bits_in validity_in node_in buffer_in head_in natives_in blanked keys_by next_values known_in dictionary_in
-unlike_keyed_are = refl
+pub unlike_dictionary_are : IsRejected unlike_dictionary MissingDictionary
+unfolding bit bits_from decoded_natives first_counts buffer_slice first_buffer decoded_bits decoded_validity decoded_node decoded_buffer decoded_validity_buffer decoded_values zero_at_nulls decoded_keys_as first_values decoded_dictionary_values decoded_dictionary
+unlike_dictionary_are = refl
 
--- a byte of keys too few, of values that are missing
-abbrev pub short_keyed : Laid
-short_keyed = record keyed { rest = record { nodes = node 3 1 ∷ []; regions = at 0 1 ∷ at 1 2 ∷ []; dictionaries = None ∷ [] } }
+-- one byte of keys too few, with values that are missing
+abbrev pub short_dictionary : EncodedColumn
+short_dictionary = record dictionary_column { rest = record { nodes = node 3 1 ∷ []; buffers = at 0 1 ∷ at 1 2 ∷ []; dictionaries = None ∷ [] } }
 
-pub short_keyed_are : IsRefused short_keyed BufferShort
-unfolding bit bits_from values_in next_counts bytes_of next_bytes bits_in validity_in node_in buffer_in head_in natives_in blanked keys_by next_values known_in dictionary_in
-short_keyed_are = refl
+pub short_dictionary_are : IsRejected short_dictionary BufferTooShort
+unfolding bit bits_from decoded_natives first_counts buffer_slice first_buffer decoded_bits decoded_validity decoded_node decoded_buffer decoded_validity_buffer decoded_values zero_at_nulls decoded_keys_as first_values decoded_dictionary_values decoded_dictionary
+short_dictionary_are = refl

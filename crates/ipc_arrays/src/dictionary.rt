@@ -1,8 +1,10 @@
-//! Arrays of keys, whose values came in another message.
+//! Dictionary-encoded arrays (Arrow: "Dictionary-encoded Layout").
+//!
+//! A record batch holds the keys, which the format calls indices. The values are in dictionary batches, and the caller passes them.
 ghost use Rattle.std.specs.Prelude.{◌≡◌, ◌<◌, ◌^◌, ◌+◌, ◌++◌, length, map, IfErr, IfOk, IsSome, OnOk};
 ghost use Rattle.std.specs.List.{AllByRecursion};
 ghost use Rattle.std.specs.Option.{option_map};
-ghost use Rattle.ipc_flatbuf.specs.Reading.{Gives};
+ghost use Rattle.ipc_flatbuf.specs.ReadResults.{ReturnsOrRunsOut};
 ghost use Rattle.nest_memory.specs.Physical.{physical_type, primitive_tree};
 ghost use Rattle.nest_memory.specs.TypeOf.{type_of};
 ghost use Rattle.nest_memory.specs.declared.datatypes.physical_type.PhysicalType.TheVariants as physical;
@@ -11,21 +13,21 @@ ghost use Rattle.nest_model.specs.Fits.{ValidityFits};
 ghost use Rattle.nest_model.specs.Layout as layouts;
 ghost use Rattle.nest_array.specs.Seen.{layout_of};
 ghost use Rattle.nest_array.specs.SeenKeys.{keys_layout};
-ghost use Rattle.ipc_arrays.specs.Columns.{rest_of, keys_by, keys_in, over_values, dictionary_in};
-ghost use Rattle.ipc_arrays.specs.Keys.{blank_at, blanked, AreKeysOf};
-ghost use Rattle.ipc_arrays.specs.Placed.{body_of, padded};
-ghost use Rattle.ipc_arrays.specs.Stored.{values_bytes};
-ghost use Rattle.ipc_arrays.specs.StoredLaws.{IsSpelled};
-ghost use Rattle.ipc_arrays.specs.Written.{shown_keys, key_buffers, flat_buffers, IsPast, IsLonger};
-ghost use Rattle.ipc_arrays.specs.WrittenLaws.{IsWritable, KeysSpelled};
+ghost use Rattle.ipc_arrays.specs.Decoding.{rest_of, decoded_keys_as, decoded_keys, dictionary_over, decoded_dictionary};
+ghost use Rattle.ipc_arrays.specs.DictionaryKeys.{key_or_zero, zero_at_nulls, AreKeysOf};
+ghost use Rattle.ipc_arrays.specs.BodyBuffers.{body_of, padded};
+ghost use Rattle.ipc_arrays.specs.FixedWidth.{values_bytes};
+ghost use Rattle.ipc_arrays.specs.FixedWidthLaws.{ValueRoundTrips};
+ghost use Rattle.ipc_arrays.specs.Encoding.{normalized_keys, key_buffers, flat_buffers, AppendsBuffers, IsLayoutError};
+ghost use Rattle.ipc_arrays.specs.EncodingLaws.{IsWritable, KeysRoundTrip};
 
 use crate::bytes::{buffer_of, pad};
-use crate::native::{fitting, read_values, values_size};
-use crate::parts::{Counts, Left, known_values, next_buffer};
-use crate::layout::{Placed, place_buffers};
-use crate::stored::Stored;
-use crate::validity::{put_validity, read_head, validity_size};
-use ipc_flatbuf::{Fault, NoForm};
+use crate::cursor::{BatchCursor, NodeCounts, next_buffer, next_dictionary_values};
+use crate::fixed_width::FixedWidth;
+use crate::layout::{BodyLayout, layout_buffers};
+use crate::native::{primitive_array, read_values, values_size};
+use crate::validity::{read_validity_buffer, validity_size, write_validity};
+use ipc_flatbuf::{IpcReadError, IpcWriteError};
 use nest_array::any::AnyArray;
 use nest_array::dictionary::DictionaryArray;
 use nest_array::dictionary::keys::AnyKeys;
@@ -36,12 +38,12 @@ use nest_memory::datatypes::{DataType, IntegerType};
 use nest_memory::error::{Error, Spec};
 use std::alloc::{AllocError, Global};
 
-// The key of a slot, or what stands for one under a null.
-fn key_of<T: Stored>(values: &[T], validity: Option<&Bitmap>, i: usize) -> T
+// Returns the key of a slot, or 0 if the slot is null.
+fn key_of<T: FixedWidth>(values: &[T], validity: Option<&Bitmap>, i: usize) -> T
     requires within { i < length values.now }
     requires fits { ValidityFits (option_map (λ b. b.now) validity) (length values.now) }
     requires keys { IsSome (key_kind T.PRIMITIVE) }
-    ensures { T.numbers result ≡ blank_at (option_map (λ b. b.now) validity.entry) (map T.numbers values.now) i }
+    ensures { T.numbers result ≡ key_or_zero (option_map (λ b. b.now) validity.entry) (map T.numbers values.now) i }
 {
     match validity {
         Some(bits) if !bits.get_bit(i) => T::zero(),
@@ -49,16 +51,16 @@ fn key_of<T: Stored>(values: &[T], validity: Option<&Bitmap>, i: usize) -> T
     }
 }
 
-// ---- read
+// ---- reading
 
-fn blank_each<T: Stored>(
+fn zero_each_null<T: FixedWidth>(
     alloc: Global,
     values: &[T],
     validity: Option<&Bitmap>,
 ) -> Result<Vec<T>, AllocError>
     requires fits { ValidityFits (option_map (λ b. b.now) validity) (length values.now) }
     requires keys { IsSome (key_kind T.PRIMITIVE) }
-    ensures blank { IfOk result (λ v. map T.numbers v.items ≡ blanked (option_map (λ b. b.now) validity.entry) (map T.numbers values.now)) }
+    ensures zero { IfOk result (λ v. map T.numbers v.items ≡ zero_at_nulls (option_map (λ b. b.now) validity.entry) (map T.numbers values.now)) }
     ensures slots { IfOk result (λ v. length v.items ≡ length values.now) }
 {
     let mut keys = Vec::with_capacity(alloc, values.len())?;
@@ -68,55 +70,55 @@ fn blank_each<T: Stored>(
     Ok(keys)
 }
 
-// What lies under a null is no key.
-fn blank<T: Stored>(
+// Sets the key of each null slot to 0.
+fn zero_nulls<T: FixedWidth>(
     alloc: Global,
     values: Vec<T>,
     validity: &Option<Bitmap>,
 ) -> Result<Vec<T>, AllocError>
     requires fits { ValidityFits validity.now (length values.items) }
     requires keys { IsSome (key_kind T.PRIMITIVE) }
-    ensures blank { IfOk result (λ v. map T.numbers v.items ≡ blanked validity.now (map T.numbers values.items)) }
+    ensures zero { IfOk result (λ v. map T.numbers v.items ≡ zero_at_nulls validity.now (map T.numbers values.items)) }
     ensures slots { IfOk result (λ v. length v.items ≡ length values.items) }
 {
     match validity {
         None => Ok(values),
-        Some(bits) => blank_each(alloc, &values, Some(bits)),
+        Some(bits) => zero_each_null(alloc, &values, Some(bits)),
     }
 }
 
-// The array of keys, whose data type says no more than their kind.
-fn plain<T: Stored>(keys: Buffer<T>, validity: Option<Bitmap>) -> PrimitiveArray<T>
+// Returns the primitive array of these keys.
+fn keys_array<T: FixedWidth>(keys: Buffer<T>, validity: Option<Bitmap>) -> PrimitiveArray<T>
     requires { ValidityFits validity (length keys) }
     ensures { result ≡ layouts.primitive T.PRIMITIVE (primitive_tree T.PRIMITIVE) (map T.numbers keys) validity }
 {
-    fitting(DataType::from(T::PRIMITIVE), keys, validity)
+    primitive_array(DataType::from(T::PRIMITIVE), keys, validity)
 }
 
-#[tactic(auto, unfolding(crate::specs::Columns::keys_by))]
-fn read_keys_of<'a, T: Stored>(
+#[tactic(auto, unfolding(crate::specs::Decoding::decoded_keys_as))]
+fn read_keys_of<'a, T: FixedWidth>(
     alloc: Global,
-    counts: Counts,
+    counts: NodeCounts,
     body: &'a [u8],
-    left: Left<'a>,
-) -> Result<(PrimitiveArray<T>, Left<'a>), Fault>
+    cursor: BatchCursor<'a>,
+) -> Result<(PrimitiveArray<T>, BatchCursor<'a>), IpcReadError>
     requires { IsSome (key_kind T.PRIMITIVE) }
-    ensures { Gives (λ x. (x.0, rest_of x.1)) result (keys_by T.form T.PRIMITIVE counts body.now (rest_of left.entry)) }
+    ensures { ReturnsOrRunsOut (λ x. (x.0, rest_of x.1)) result (decoded_keys_as T.format T.PRIMITIVE counts body.now (rest_of cursor.entry)) }
 {
-    let (validity, left) = read_head(alloc, counts, body, left)?;
-    let (bytes, left) = next_buffer(body, left)?;
+    let (validity, cursor) = read_validity_buffer(alloc, counts, body, cursor)?;
+    let (bytes, cursor) = next_buffer(body, cursor)?;
     let values = read_values::<T>(alloc, counts.slots, bytes)?;
-    let keys = blank(alloc, values, &validity)?;
+    let keys = zero_nulls(alloc, values, &validity)?;
     let keys = buffer_of(alloc, keys)?;
-    Ok((plain(keys, validity), left))
+    Ok((keys_array(keys, validity), cursor))
 }
 
-// The keys of a type in the variant of their width.
+// Reads keys and wraps them in the variant of their type.
 macro_rules! keys_as {
-    ($variant:ident, $key:ty, $alloc:ident, $counts:ident, $body:ident, $left:ident) => {
-        match read_keys_of::<$key>($alloc, $counts, $body, $left) {
-            Err(fault) => Err(fault),
-            Ok((keys, left)) => Ok((AnyKeys::$variant(keys), left)),
+    ($variant:ident, $key:ty, $alloc:ident, $counts:ident, $body:ident, $cursor:ident) => {
+        match read_keys_of::<$key>($alloc, $counts, $body, $cursor) {
+            Err(error) => Err(error),
+            Ok((keys, cursor)) => Ok((AnyKeys::$variant(keys), cursor)),
         }
     };
 }
@@ -124,111 +126,119 @@ macro_rules! keys_as {
 fn read_keys<'a>(
     alloc: Global,
     kind: IntegerType,
-    counts: Counts,
+    counts: NodeCounts,
     body: &'a [u8],
-    left: Left<'a>,
-) -> Result<(AnyKeys, Left<'a>), Fault>
-    ensures { Gives (λ x. (keys_layout x.0, rest_of x.1)) result (keys_in kind counts body.now (rest_of left.entry)) }
+    cursor: BatchCursor<'a>,
+) -> Result<(AnyKeys, BatchCursor<'a>), IpcReadError>
+    ensures { ReturnsOrRunsOut (λ x. (keys_layout x.0, rest_of x.1)) result (decoded_keys kind counts body.now (rest_of cursor.entry)) }
 {
     match kind {
-        IntegerType::Int8 => keys_as!(Int8, i8, alloc, counts, body, left),
-        IntegerType::Int16 => keys_as!(Int16, i16, alloc, counts, body, left),
-        IntegerType::Int32 => keys_as!(Int32, i32, alloc, counts, body, left),
-        IntegerType::Int64 => keys_as!(Int64, i64, alloc, counts, body, left),
-        IntegerType::UInt8 => keys_as!(UInt8, u8, alloc, counts, body, left),
-        IntegerType::UInt16 => keys_as!(UInt16, u16, alloc, counts, body, left),
-        IntegerType::UInt32 => keys_as!(UInt32, u32, alloc, counts, body, left),
-        IntegerType::UInt64 => keys_as!(UInt64, u64, alloc, counts, body, left),
+        IntegerType::Int8 => keys_as!(Int8, i8, alloc, counts, body, cursor),
+        IntegerType::Int16 => keys_as!(Int16, i16, alloc, counts, body, cursor),
+        IntegerType::Int32 => keys_as!(Int32, i32, alloc, counts, body, cursor),
+        IntegerType::Int64 => keys_as!(Int64, i64, alloc, counts, body, cursor),
+        IntegerType::UInt8 => keys_as!(UInt8, u8, alloc, counts, body, cursor),
+        IntegerType::UInt16 => keys_as!(UInt16, u16, alloc, counts, body, cursor),
+        IntegerType::UInt32 => keys_as!(UInt32, u32, alloc, counts, body, cursor),
+        IntegerType::UInt64 => keys_as!(UInt64, u64, alloc, counts, body, cursor),
     }
 }
 
-// The constructor tells what is at fault with keys and values.
-fn named(
+// Maps the error of the constructor to that of the format.
+fn try_dictionary(
     alloc: Global,
     data_type: DataType,
     keys: AnyKeys,
     values: AnyArray,
-) -> Result<DictionaryArray, Fault>
+) -> Result<DictionaryArray, IpcReadError>
     requires { AreKeysOf (type_of data_type) (keys_layout keys) }
-    ensures { Gives (λ a. a) result (over_values (type_of data_type) (keys_layout keys) (layout_of values)) }
+    ensures { ReturnsOrRunsOut (λ a. a) result (dictionary_over (type_of data_type) (keys_layout keys) (layout_of values)) }
 {
     keys.known();
     match DictionaryArray::try_new(alloc, data_type, keys, values) {
         Ok(array) => Ok(array),
-        Err(Error::OutOfSpec(Spec::ChildType)) => Err(Fault::MissingDictionary),
-        Err(Error::OutOfSpec(Spec::KeyRange)) => Err(Fault::KeyRange),
-        Err(_) => Err(Fault::Memory),
+        Err(Error::OutOfSpec(Spec::ChildType)) => Err(IpcReadError::MissingDictionary),
+        Err(Error::OutOfSpec(Spec::KeyRange)) => Err(IpcReadError::KeyRange),
+        Err(_) => Err(IpcReadError::Memory),
     }
 }
 
-// The array of these keys and of values that others may have too.
-fn keyed(
+// Returns the array of these keys over a shared copy of the values.
+fn dictionary_of_keys(
     alloc: Global,
     data_type: &DataType,
     keys: AnyKeys,
     values: &AnyArray,
-) -> Result<DictionaryArray, Fault>
+) -> Result<DictionaryArray, IpcReadError>
     requires { AreKeysOf (type_of data_type.now) (keys_layout keys) }
-    ensures { Gives (λ a. a) result (over_values (type_of data_type.now) (keys_layout keys) (layout_of values.now)) }
+    ensures { ReturnsOrRunsOut (λ a. a) result (dictionary_over (type_of data_type.now) (keys_layout keys) (layout_of values.now)) }
 {
     match values.clone(alloc) {
         Err(_) => {
             drop(keys);
-            Err(Fault::Memory)
+            Err(IpcReadError::Memory)
         }
         Ok(values) => match data_type.clone(alloc) {
             Err(_) => {
                 drop(values);
                 drop(keys);
-                Err(Fault::Memory)
+                Err(IpcReadError::Memory)
             }
-            Ok(data_type) => named(alloc, data_type, keys, values),
+            Ok(data_type) => try_dictionary(alloc, data_type, keys, values),
         },
     }
 }
 
-/// The next array, of keys that name the next values.
-#[tactic(auto, unfolding(crate::specs::Columns::dictionary_in))]
+/// Reads the buffers of a dictionary-encoded array, validity and keys, and takes the next dictionary values.
+///
+/// # Errors
+///
+/// `IpcReadError::MissingDictionary` if the values are missing or have another type, `IpcReadError::KeyRange` if a valid key is not an
+/// index of a value, and those of the buffers.
+#[tactic(auto, unfolding(crate::specs::Decoding::decoded_dictionary))]
 pub(crate) fn read_dictionary<'a>(
     alloc: Global,
     kind: IntegerType,
     data_type: &DataType,
-    counts: Counts,
+    counts: NodeCounts,
     body: &'a [u8],
-    left: Left<'a>,
-) -> Result<(DictionaryArray, Left<'a>), Fault>
+    cursor: BatchCursor<'a>,
+) -> Result<(DictionaryArray, BatchCursor<'a>), IpcReadError>
     requires { physical_type (type_of data_type.now) ≡ physical.Dictionary kind }
-    ensures { Gives (λ x. (x.0, rest_of x.1)) result (dictionary_in kind (type_of data_type.now) counts body.now (rest_of left.entry)) }
+    ensures { ReturnsOrRunsOut (λ x. (x.0, rest_of x.1)) result (decoded_dictionary kind (type_of data_type.now) counts body.now (rest_of cursor.entry)) }
 {
-    match read_keys(alloc, kind, counts, body, left) {
-        Err(fault) => Err(fault),
-        Ok((keys, left)) => match known_values(left) {
-            Err(fault) => {
+    match read_keys(alloc, kind, counts, body, cursor) {
+        Err(error) => Err(error),
+        Ok((keys, cursor)) => match next_dictionary_values(cursor) {
+            Err(error) => {
                 drop(keys);
-                Err(fault)
+                Err(error)
             }
-            Ok((values, left)) => match keyed(alloc, data_type, keys, values) {
-                Err(fault) => Err(fault),
-                Ok(array) => Ok((array, left)),
+            Ok((values, cursor)) => match dictionary_of_keys(alloc, data_type, keys, values) {
+                Err(error) => Err(error),
+                Ok(array) => Ok((array, cursor)),
             },
         },
     }
 }
 
-// ---- written
+// ---- writing
 
-fn place_keys<T: Stored>(placed: &mut Placed, keys: &PrimitiveArray<T>) -> Result<(), NoForm>
-    requires { placed.old.length < 2 ^ 63 }
-    ensures nodes { placed.new.nodes ≡ placed.old.nodes }
-    ensures ok { OnOk result (IsLonger placed.old placed.new (key_buffers (shown_keys keys.now))) }
-    ensures err { IfErr result (λ why. IsPast why (placed.old.length + length (body_of (key_buffers (shown_keys keys.now))))) }
+fn layout_keys<T: FixedWidth>(
+    layout: &mut BodyLayout,
+    keys: &PrimitiveArray<T>,
+) -> Result<(), IpcWriteError>
+    requires { layout.old.length < 2 ^ 63 }
+    ensures nodes { layout.new.nodes ≡ layout.old.nodes }
+    ensures ok { OnOk result (AppendsBuffers layout.old layout.new (key_buffers (normalized_keys keys.now))) }
+    ensures err { IfErr result (λ error. IsLayoutError error layout.old (key_buffers (normalized_keys keys.now))) }
 {
     keys.known();
     let size = values_size::<T>(keys.len())?;
-    place_buffers(placed, &[validity_size(keys.validity()), size])
+    layout_buffers(layout, &[validity_size(keys.validity()), size])
 }
 
-// The same for keys of each width.
+// Applies an expression to the keys of every variant.
 macro_rules! each_width {
     ($any:expr, $keys:ident => $body:expr) => {
         match $any {
@@ -244,35 +254,38 @@ macro_rules! each_width {
     };
 }
 
-fn place_widths(placed: &mut Placed, keys: &AnyKeys) -> Result<(), NoForm>
-    requires { placed.old.length < 2 ^ 63 }
-    ensures nodes { placed.new.nodes ≡ placed.old.nodes }
-    ensures ok { OnOk result (IsLonger placed.old placed.new (key_buffers (shown_keys (keys_layout keys.now)))) }
-    ensures err { IfErr result (λ why. IsPast why (placed.old.length + length (body_of (key_buffers (shown_keys (keys_layout keys.now)))))) }
+fn layout_any_keys(layout: &mut BodyLayout, keys: &AnyKeys) -> Result<(), IpcWriteError>
+    requires { layout.old.length < 2 ^ 63 }
+    ensures nodes { layout.new.nodes ≡ layout.old.nodes }
+    ensures ok { OnOk result (AppendsBuffers layout.old layout.new (key_buffers (normalized_keys (keys_layout keys.now)))) }
+    ensures err { IfErr result (λ error. IsLayoutError error layout.old (key_buffers (normalized_keys (keys_layout keys.now)))) }
 {
-    each_width!(keys, keys => place_keys(placed, keys))
+    each_width!(keys, keys => layout_keys(layout, keys))
 }
 
-/// Where the buffers of keys stand.
-pub(crate) fn place_dictionary(placed: &mut Placed, array: &DictionaryArray) -> Result<(), NoForm>
-    requires { placed.old.length < 2 ^ 63 }
-    ensures nodes { placed.new.nodes ≡ placed.old.nodes }
-    ensures ok { OnOk result (IsLonger placed.old placed.new (flat_buffers array.now)) }
-    ensures err { IfErr result (λ why. IsPast why (placed.old.length + length (body_of (flat_buffers array.now)))) }
+/// Lays out the buffers of a dictionary-encoded array.
+pub(crate) fn layout_dictionary(
+    layout: &mut BodyLayout,
+    array: &DictionaryArray,
+) -> Result<(), IpcWriteError>
+    requires { layout.old.length < 2 ^ 63 }
+    ensures nodes { layout.new.nodes ≡ layout.old.nodes }
+    ensures ok { OnOk result (AppendsBuffers layout.old layout.new (flat_buffers array.now)) }
+    ensures err { IfErr result (λ error. IsLayoutError error layout.old (flat_buffers array.now)) }
 {
     array.known();
-    place_widths(placed, array.keys())
+    layout_any_keys(layout, array.keys())
 }
 
-fn put_each_key<T: Stored>(
+fn write_each_key<T: FixedWidth>(
     out: &mut Vec<u8>,
     values: &[T],
     validity: Option<&Bitmap>,
 ) -> Result<(), AllocError>
     requires fits { ValidityFits (option_map (λ b. b.now) validity) (length values.now) }
     requires keys { IsSome (key_kind T.PRIMITIVE) }
-    ensures ok { OnOk result (out.new.items ≡ out.old.items ++ values_bytes T.form (blanked (option_map (λ b. b.now) validity.entry) (map T.numbers values.now))) }
-    ensures spelled { OnOk result (AllByRecursion (IsSpelled T.form) (blanked (option_map (λ b. b.now) validity.entry) (map T.numbers values.now))) }
+    ensures ok { OnOk result (out.new.items ≡ out.old.items ++ values_bytes T.format (zero_at_nulls (option_map (λ b. b.now) validity.entry) (map T.numbers values.now))) }
+    ensures round_trips { OnOk result (AllByRecursion (ValueRoundTrips T.format) (zero_at_nulls (option_map (λ b. b.now) validity.entry) (map T.numbers values.now))) }
 {
     for i in 0..values.len() {
         key_of(values, validity, i).put(out)?;
@@ -280,46 +293,46 @@ fn put_each_key<T: Stored>(
     Ok(())
 }
 
-#[tactic(auto, unfolding(crate::specs::Placed::padded))]
-fn put_padded<T: Stored>(
+#[tactic(auto, unfolding(crate::specs::BodyBuffers::padded))]
+fn write_padded<T: FixedWidth>(
     out: &mut Vec<u8>,
     values: &[T],
     validity: Option<&Bitmap>,
 ) -> Result<(), AllocError>
     requires fits { ValidityFits (option_map (λ b. b.now) validity) (length values.now) }
     requires keys { IsSome (key_kind T.PRIMITIVE) }
-    ensures ok { OnOk result (out.new.items ≡ out.old.items ++ padded (values_bytes T.form (blanked (option_map (λ b. b.now) validity.entry) (map T.numbers values.now)))) }
-    ensures spelled { OnOk result (AllByRecursion (IsSpelled T.form) (blanked (option_map (λ b. b.now) validity.entry) (map T.numbers values.now))) }
+    ensures ok { OnOk result (out.new.items ≡ out.old.items ++ padded (values_bytes T.format (zero_at_nulls (option_map (λ b. b.now) validity.entry) (map T.numbers values.now)))) }
+    ensures round_trips { OnOk result (AllByRecursion (ValueRoundTrips T.format) (zero_at_nulls (option_map (λ b. b.now) validity.entry) (map T.numbers values.now))) }
 {
     out.reserve(values.len().saturating_mul(T::size()))?;
     let start = out.len();
-    put_each_key(out, values, validity)?;
+    write_each_key(out, values, validity)?;
     pad(out, start)
 }
 
-fn put_keys<T: Stored>(out: &mut Vec<u8>, keys: &PrimitiveArray<T>) -> Result<(), AllocError>
+fn write_keys<T: FixedWidth>(out: &mut Vec<u8>, keys: &PrimitiveArray<T>) -> Result<(), AllocError>
     requires { IsSome (key_kind T.PRIMITIVE) }
-    ensures ok { OnOk result (out.new.items ≡ out.old.items ++ body_of (key_buffers (shown_keys keys.now))) }
-    ensures spelled { OnOk result (KeysSpelled keys.now) }
+    ensures ok { OnOk result (out.new.items ≡ out.old.items ++ body_of (key_buffers (normalized_keys keys.now))) }
+    ensures round_trips { OnOk result (KeysRoundTrip keys.now) }
 {
     keys.known();
     let validity = keys.validity();
-    put_validity(out, validity)?;
-    put_padded(out, keys.values().as_slice(), validity)
+    write_validity(out, validity)?;
+    write_padded(out, keys.values().as_slice(), validity)
 }
 
-fn put_widths(out: &mut Vec<u8>, keys: &AnyKeys) -> Result<(), AllocError>
-    ensures ok { OnOk result (out.new.items ≡ out.old.items ++ body_of (key_buffers (shown_keys (keys_layout keys.now)))) }
-    ensures spelled { OnOk result (KeysSpelled (keys_layout keys.now)) }
+fn write_any_keys(out: &mut Vec<u8>, keys: &AnyKeys) -> Result<(), AllocError>
+    ensures ok { OnOk result (out.new.items ≡ out.old.items ++ body_of (key_buffers (normalized_keys (keys_layout keys.now)))) }
+    ensures round_trips { OnOk result (KeysRoundTrip (keys_layout keys.now)) }
 {
-    each_width!(keys, keys => put_keys(out, keys))
+    each_width!(keys, keys => write_keys(out, keys))
 }
 
-/// Appends the buffers of keys; the values that they name are written in another message.
-pub(crate) fn put_dictionary(out: &mut Vec<u8>, array: &DictionaryArray) -> Result<(), AllocError>
+/// Appends the buffers of a dictionary-encoded array. The values belong to a dictionary batch.
+pub(crate) fn write_dictionary(out: &mut Vec<u8>, array: &DictionaryArray) -> Result<(), AllocError>
     ensures ok { OnOk result (out.new.items ≡ out.old.items ++ body_of (flat_buffers array.now)) }
     ensures writable { OnOk result (IsWritable array.now) }
 {
     array.known();
-    put_widths(out, array.keys())
+    write_any_keys(out, array.keys())
 }

@@ -1,114 +1,113 @@
-//! Examples of what is read and written, as functions with empty bodies.
+//! Theorems and worked examples about columns and their bytes, stated as the contracts of functions that do nothing.
 ghost use Rattle.std.specs.Prelude.{◌≡◌, ℕ, [], ◌∷◌, List, map, true, Ok};
 ghost use Rattle.nest_memory.specs.TypeTree.{TypeTree};
 ghost use Rattle.nest_model.specs.Layout.{Layout};
-ghost use Rattle.ipc_arrays.specs.Columns.{column_in, columns_in};
-ghost use Rattle.ipc_arrays.specs.declared.parts.Wanted.TheVariants.{Rows};
-ghost use Rattle.ipc_arrays.specs.Keyless.{are_keyless};
-ghost use Rattle.ipc_arrays.specs.Placed.{regions_from};
-ghost use Rattle.ipc_arrays.specs.declared.parts.Wanted.TheVariants.{Rows};
-ghost use Rattle.ipc_arrays.specs.Rekeyed.{AreAlike, AreWrittenAlike};
-ghost use Rattle.ipc_arrays.specs.Written.{column_node, shown, written, buffers_of, columns_body, dictionaries_of};
-ghost use Rattle.ipc_arrays.specs.Examples.{worked_type, worked_body, worked_rest, worked_column, nothing, IsSpelledSo, IsWrittenSo, nulls, truths, wide, halves, days, months, sized, strings, texts, cut_strings};
-ghost use Rattle.ipc_arrays.specs.Picked.{AheadTree, picked_in, all_read};
-ghost use Rattle.ipc_arrays.specs.PickedExamples.{ArePassed, AreAround};
+ghost use Rattle.ipc_arrays.specs.Decoding.{decoded_column, decoded_columns};
+ghost use Rattle.ipc_arrays.specs.declared.cursor.ExpectedLength.TheVariants.{Rows};
+ghost use Rattle.ipc_arrays.specs.NoDictionaries.{are_dictionary_free};
+ghost use Rattle.ipc_arrays.specs.BodyBuffers.{buffer_specs};
+ghost use Rattle.ipc_arrays.specs.declared.cursor.ExpectedLength.TheVariants.{Rows};
+ghost use Rattle.ipc_arrays.specs.ReplacedValues.{AreSameUpToValues, AreEncodedAlike};
+ghost use Rattle.ipc_arrays.specs.Encoding.{field_node_of, normalized, written_arrays, buffers_of, columns_body, dictionaries_of};
+ghost use Rattle.ipc_arrays.specs.Examples.{worked_type, worked_body, worked_rest, worked_column, nothing, DecodesAsStated, EncodesAsStated, null_column, boolean_column, int128_column, int256_column, days_ms_column, months_days_ns_column, fixed_size_binary_column, binary_column, large_utf8_column, sliced_binary_column};
+ghost use Rattle.ipc_arrays.specs.Projection.{ProjectionState, decoded_projection, every_column};
+ghost use Rattle.ipc_arrays.specs.ProjectionExamples.{SkippedColumnsAreChecked, ColumnsAroundAreRead};
 
-/// The body of another writer, byte by byte, spells a column of the numbers 7 and null.
-pub fn a_column_is_read()
-    ensures { column_in worked_type (Rows 2) worked_body worked_rest ≡ Ok (worked_column, nothing) }
+/// The body of another writer, byte by byte, decodes to an `Int32` column of 7 and null.
+pub fn int32_column_is_read()
+    ensures { decoded_column worked_type (Rows 2) worked_body worked_rest ≡ Ok (worked_column, nothing) }
 {}
 
-/// The numbers 7 and null are written as that node, those two buffers and that body.
-pub fn a_column_is_written()
-    ensures nodes { map column_node (written (worked_column ∷ [])) ≡ worked_rest.nodes }
-    ensures regions { regions_from 0 (buffers_of (written (worked_column ∷ []))) ≡ worked_rest.regions }
+/// An `Int32` column of 7 and null is written as that field node, those two buffers and that body.
+pub fn int32_column_is_written()
+    ensures nodes { map field_node_of (written_arrays (worked_column ∷ [])) ≡ worked_rest.nodes }
+    ensures buffers { buffer_specs 0 (buffers_of (written_arrays (worked_column ∷ []))) ≡ worked_rest.buffers }
     ensures body { columns_body (worked_column ∷ []) ≡ worked_body }
 {}
 
-/// Three nulls have a node and no buffer.
-pub fn nulls_are_read_and_written()
-    ensures read { IsSpelledSo nulls }
-    ensures written { IsWrittenSo nulls }
+/// A null array has a field node and no buffers.
+pub fn null_array_round_trips()
+    ensures read { DecodesAsStated null_column }
+    ensures written { EncodesAsStated null_column }
 {}
 
-/// Ten truths, of which one is null: bits from the lowest of the first byte on.
-pub fn truths_are_read_and_written()
-    ensures read { IsSpelledSo truths }
-    ensures written { IsWrittenSo truths }
+/// A boolean array of ten values, one of them null: bits are in least significant bit order.
+pub fn boolean_array_round_trips()
+    ensures read { DecodesAsStated boolean_column }
+    ensures written { EncodesAsStated boolean_column }
 {}
 
-/// A value of 128 bits, little-endian, in two's complement.
-pub fn wide_values_are_read_and_written()
-    ensures read { IsSpelledSo wide }
-    ensures written { IsWrittenSo wide }
+/// A 128-bit value is in two's complement, little-endian.
+pub fn int128_array_round_trips()
+    ensures read { DecodesAsStated int128_column }
+    ensures written { EncodesAsStated int128_column }
 {}
 
-/// A value of 256 bits: the low half stands first.
-pub fn halves_are_read_and_written()
-    ensures read { IsSpelledSo halves }
-    ensures written { IsWrittenSo halves }
+/// A 256-bit value has its low 128 bits first.
+pub fn int256_array_round_trips()
+    ensures read { DecodesAsStated int256_column }
+    ensures written { EncodesAsStated int256_column }
 {}
 
-/// A day and two milliseconds: days stand first.
-pub fn days_are_read_and_written()
-    ensures read { IsSpelledSo days }
-    ensures written { IsWrittenSo days }
+/// A `DAY_TIME` interval has its days first, then its milliseconds.
+pub fn days_ms_array_round_trips()
+    ensures read { DecodesAsStated days_ms_column }
+    ensures written { EncodesAsStated days_ms_column }
 {}
 
-/// A month, two days and a nanosecond less: months stand first, nanoseconds last.
-pub fn months_are_read_and_written()
-    ensures read { IsSpelledSo months }
-    ensures written { IsWrittenSo months }
+/// A `MONTH_DAY_NANO` interval has its months first, then its days, then its nanoseconds.
+pub fn months_days_ns_array_round_trips()
+    ensures read { DecodesAsStated months_days_ns_column }
+    ensures written { EncodesAsStated months_days_ns_column }
 {}
 
-/// Two byte strings of three bytes each.
-pub fn sized_strings_are_read_and_written()
-    ensures read { IsSpelledSo sized }
-    ensures written { IsWrittenSo sized }
+/// A fixed-size binary array of two values of three bytes.
+pub fn fixed_size_binary_array_round_trips()
+    ensures read { DecodesAsStated fixed_size_binary_column }
+    ensures written { EncodesAsStated fixed_size_binary_column }
 {}
 
-/// Two byte strings by offsets of 32 bits.
-pub fn strings_are_read_and_written()
-    ensures read { IsSpelledSo strings }
-    ensures written { IsWrittenSo strings }
+/// A binary array of two values, with 32-bit offsets.
+pub fn binary_array_round_trips()
+    ensures read { DecodesAsStated binary_column }
+    ensures written { EncodesAsStated binary_column }
 {}
 
-/// A text by offsets of 64 bits.
-pub fn texts_are_read_and_written()
-    ensures read { IsSpelledSo texts }
-    ensures written { IsWrittenSo texts }
+/// A UTF-8 array with 64-bit offsets.
+pub fn large_utf8_array_round_trips()
+    ensures read { DecodesAsStated large_utf8_column }
+    ensures written { EncodesAsStated large_utf8_column }
 {}
 
-/// Byte strings whose offsets begin past 0, over bytes of which some are no string's: what is written begins at 0, and has just the bytes
-/// that are covered.
-pub fn offsets_are_written_from_0()
-    ensures { columns_body (cut_strings ∷ []) ≡ strings.body }
+/// A sliced binary array is written with offsets from 0 on, and with only the bytes between its first and last offset.
+pub fn offsets_are_rebased_to_zero()
+    ensures { columns_body (sliced_binary_column ∷ []) ≡ binary_column.body }
 {}
 
-/// What is written depends on what is shown alone: arrays that differ outside of their cuts give equal nodes and bytes.
-pub fn what_is_shown_alone_is_written()
-    ensures { (one other : List Layout) → map shown one ≡ map shown other → (written one ≡ written other) × (columns_body one ≡ columns_body other) }
+/// Columns that are equal once normalized have equal field nodes and bodies, whatever lies outside of their slices.
+pub fn equal_normalized_columns_have_equal_bytes()
+    ensures { (one other : List Layout) → map normalized one ≡ map normalized other → (written_arrays one ≡ written_arrays other) × (columns_body one ≡ columns_body other) }
 {}
 
-/// The values of dictionaries are written elsewhere: arrays that differ in those alone have equal nodes and buffers, also where others stand
-/// behind the values of one.
-pub fn values_are_not_written()
-    ensures { (columns others : List Layout) → AreAlike columns others → AreWrittenAlike columns others }
+/// The values of dictionaries are not in the body: columns that differ only in them, even if one has more, have equal field nodes
+/// and buffers.
+pub fn dictionary_values_are_not_in_the_body()
+    ensures { (columns others : List Layout) → AreSameUpToValues columns others → AreEncodedAlike columns others }
 {}
 
-/// Columns without dictionaries name no values.
-pub fn keyless_columns_name_no_values()
-    ensures { (columns : List Layout) → are_keyless columns ≡ true → dictionaries_of (written columns) ≡ [] }
+/// Columns without dictionary-encoded arrays need no dictionary values.
+pub fn columns_without_dictionaries_need_no_values()
+    ensures { (columns : List Layout) → are_dictionary_free columns ≡ true → dictionaries_of (written_arrays columns) ≡ [] }
 {}
 
-/// What is passed over takes its nodes, its buffers, and for each array of views as many buffers more as the batch counts; what lacks is
-/// refused. Columns around it are read, and all nodes and buffers are used up.
-pub fn columns_are_passed()
-    ensures passed { ArePassed }
-    ensures around { AreAround }
+/// A skipped column consumes its field nodes, its buffers and the variadic buffers of its view arrays, and an error is returned if one
+/// is missing. The columns around it are read.
+pub fn skipped_columns_are_checked()
+    ensures passed { SkippedColumnsAreChecked }
+    ensures around { ColumnsAroundAreRead }
 {}
 
-/// Where each step reads, the columns by steps are the columns, or the same fault.
-pub fn all_steps_read_the_columns()
-    ensures { (types : List TypeTree) (rows : ℕ) (body : List ℕ) (ahead : AheadTree) → picked_in (all_read types) types rows body ahead ≡ columns_in types rows body ahead.rest }
+/// A projection of every column returns the result of `read_columns`, be it the columns or the error.
+pub fn full_projection_reads_every_column()
+    ensures { (types : List TypeTree) (rows : ℕ) (body : List ℕ) (ahead : ProjectionState) → decoded_projection (every_column types) types rows body ahead ≡ decoded_columns types rows body ahead.rest }
 {}

@@ -1,94 +1,97 @@
-//! What a batch's metadata says of columns that are written.
+//! Computes the field nodes and buffers of columns, before their body is written.
 ghost use Rattle.std.specs.Prelude.{◌≡◌, ◌<◌, ◌≤◌, ◌^◌, ◌⊎◌, ◌+◌, ◌*◌, ◌++◌, List, ℕ, [], ◌∷◌, pos, map, length, IfOk, IfErr, OnOk, true, None};
 ghost use Rattle.std.specs.Int.{div_ceil};
 ghost use Rattle.std.specs.Option.{option_map};
-ghost use Rattle.ipc_flatbuf.specs.declared.error.NoForm.TheVariants.{Memory, Size};
+ghost use Rattle.ipc_flatbuf.specs.declared.error.IpcWriteError.TheVariants.{Memory, Size};
 ghost use Rattle.nest_model.specs.Cut.{cut_layout};
-ghost use Rattle.nest_model.specs.Nullness.{null_count as null_count_lem};
+ghost use Rattle.nest_model.specs.Nullness.{null_count};
 ghost use Rattle.nest_array.specs.Seen.{layout_of};
-ghost use Rattle.ipc_arrays.specs.Keyless.{has_no_keys};
-ghost use Rattle.ipc_arrays.specs.Kinds.{is_null, is_plain, is_written};
-ghost use Rattle.ipc_arrays.specs.Placed.{body_of};
-ghost use Rattle.ipc_arrays.specs.ShownLaws.{is_nulls as is_nulls_lem};
-ghost use Rattle.ipc_arrays.specs.WrittenLaws.{unset};
-ghost use Rattle.ipc_arrays.specs.Written.{column_node, valid_bytes, own_buffers, flat_buffers, arrays_of, written_windows, shown_window, is_flat, kind_has_form, no_form, IsPast, AreTooLong, IsUnwritten, IsLonger, IsMore, IsPlaced};
+ghost use Rattle.ipc_arrays.specs.NoDictionaries.{is_not_dictionary};
+ghost use Rattle.ipc_arrays.specs.ArrayKinds.{is_null_array, is_not_dictionary_array, is_flat_array};
+ghost use Rattle.ipc_arrays.specs.NormalizedLaws.{is_null_layout};
+ghost use Rattle.ipc_arrays.specs.EncodingLaws.{null_bits};
+ghost use Rattle.ipc_arrays.specs.Encoding.{field_node_of, normalized_validity_bytes, own_buffers, flat_buffers, preorder, window_arrays, normalized_window, is_flat, is_supported, size_error, IsBufferError, IsLayoutError, IsArrayError, IsWriteError, AppendsBuffers, AppendsArrays, IsLayoutOf};
 
-use crate::boolean::place_boolean;
-use crate::dictionary::place_dictionary;
-use crate::fixed_size_binary::place_fixed_size_binary;
-use crate::list::place_rows;
-use crate::native::place_primitive;
-use crate::strings::{place_binary, place_text};
-use crate::union::place_picks;
-use crate::validity::{cut_validity, validity_size};
-use crate::windows::{below, whole};
-use ipc_flatbuf::{NoForm, Node, Region};
+use crate::boolean::layout_boolean;
+use crate::dictionary::layout_dictionary;
+use crate::fixed_size_binary::layout_fixed_size_binary;
+use crate::list::layout_list_buffers;
+use crate::native::layout_primitive;
+use crate::strings::{layout_binary, layout_utf8};
+use crate::union::layout_union_buffers;
+use crate::validity::{slice_validity, validity_size};
+use crate::windows::{full_windows, windows_of_children};
+use ipc_flatbuf::{BufferSpec, FieldNode, IpcWriteError};
 use nest_array::any::AnyArray;
 use nest_array::window::Window;
 use nest_memory::bitmap::immutable::Bitmap;
 use std::alloc::Global;
 
-/// What a batch's metadata says of its columns.
+/// The metadata of the body of a record batch (Message.fbs, table RecordBatch).
 #[derive(Drop)]
-pub struct Placed {
-    /// How many slots each column has, and how many of them are null.
-    pub nodes: Vec<Node>,
-    /// Where the columns' buffers stand in the body.
-    pub regions: Vec<Region>,
-    /// How many bytes the body has.
+pub struct BodyLayout {
+    /// The length and null count of each array, in pre-order.
+    pub nodes: Vec<FieldNode>,
+    /// The offset and length, in bytes, of each buffer in the body.
+    pub buffers: Vec<BufferSpec>,
+    /// The length of the body in bytes.
     pub length: usize,
 }
 
-// One buffer more, of so many bytes.
-fn place_buffer(placed: &mut Placed, size: usize) -> Result<(), NoForm>
-    requires { placed.old.length < 2 ^ 63 }
-    ensures nodes { placed.new.nodes ≡ placed.old.nodes }
-    ensures region { OnOk result (placed.new.regions.items ≡ placed.old.regions.items ++ record { offset = pos placed.old.length; length = pos size } ∷ []) }
-    ensures length { OnOk result (placed.new.length ≡ placed.old.length + 8 * div_ceil size 8) }
-    ensures small { OnOk result (placed.new.length < 2 ^ 63) }
-    ensures err { IfErr result (λ why. IsPast why (placed.old.length + 8 * div_ceil size 8)) }
+// Adds a buffer of `size` bytes.
+fn layout_buffer(layout: &mut BodyLayout, size: usize) -> Result<(), IpcWriteError>
+    requires { layout.old.length < 2 ^ 63 }
+    ensures nodes { layout.new.nodes ≡ layout.old.nodes }
+    ensures region { OnOk result (layout.new.buffers.items ≡ layout.old.buffers.items ++ record { offset = pos layout.old.length; length = pos size } ∷ []) }
+    ensures length { OnOk result (layout.new.length ≡ layout.old.length + 8 * div_ceil size 8) }
+    ensures small { OnOk result (layout.new.length < 2 ^ 63) }
+    ensures err { IfErr result (λ error. IsBufferError error (layout.old.length + 8 * div_ceil size 8)) }
 {
     if size >= 1 << 63 {
-        return Err(NoForm::Size);
+        return Err(IpcWriteError::Size);
     }
-    let end = placed.length + 8 * size.div_ceil(8);
+    let end = layout.length + 8 * size.div_ceil(8);
     if end >= 1 << 63 {
-        return Err(NoForm::Size);
+        return Err(IpcWriteError::Size);
     }
-    placed.regions.push(Region {
-        offset: placed.length as i64,
+    layout.buffers.push(BufferSpec {
+        offset: layout.length as i64,
         length: size as i64,
     })?;
-    placed.length = end;
+    layout.length = end;
     Ok(())
 }
 
-/// Buffers more, of so many bytes each.
-pub(crate) fn place_buffers(placed: &mut Placed, sizes: &[usize]) -> Result<(), NoForm>
-    requires { placed.old.length < 2 ^ 63 }
-    ensures nodes { placed.new.nodes ≡ placed.old.nodes }
-    ensures ok { OnOk result ((buffers : List (List ℕ)) → map length buffers ≡ sizes.now → IsLonger placed.old placed.new buffers) }
-    ensures err { IfErr result (λ why. (buffers : List (List ℕ)) → map length buffers ≡ sizes.now → IsPast why (placed.old.length + length (body_of buffers))) }
+/// Adds a buffer of each size, in bytes, at the next multiple of 8.
+///
+/// # Errors
+///
+/// `IpcWriteError::Size` if the body would pass 2^63 - 1 bytes, and `IpcWriteError::Memory` if an allocation fails.
+pub(crate) fn layout_buffers(layout: &mut BodyLayout, sizes: &[usize]) -> Result<(), IpcWriteError>
+    requires { layout.old.length < 2 ^ 63 }
+    ensures nodes { layout.new.nodes ≡ layout.old.nodes }
+    ensures ok { OnOk result ((buffers : List (List ℕ)) → map length buffers ≡ sizes.now → AppendsBuffers layout.old layout.new buffers) }
+    ensures err { IfErr result (λ error. (buffers : List (List ℕ)) → map length buffers ≡ sizes.now → IsLayoutError error layout.old buffers) }
 {
     for size in sizes {
-        place_buffer(placed, *size)?;
+        layout_buffer(layout, *size)?;
     }
     Ok(())
 }
 
-// Whether it has no values, but a number of nulls.
-fn is_nulls(array: &AnyArray) -> bool
-    ensures { result ≡ is_nulls_lem (layout_of array.now) }
+// Returns whether this is a null array.
+fn has_null_layout(array: &AnyArray) -> bool
+    ensures { result ≡ is_null_layout (layout_of array.now) }
 {
-    kind(array);
+    known_kind(array);
     match array {
         AnyArray::Null(_) => true,
         _ => false,
     }
 }
 
-fn unset_bits(validity: &Option<Bitmap>) -> usize
-    ensures { result ≡ unset validity.now }
+fn count_unset_bits(validity: &Option<Bitmap>) -> usize
+    ensures { result ≡ null_bits validity.now }
 {
     match validity {
         None => 0,
@@ -96,141 +99,149 @@ fn unset_bits(validity: &Option<Bitmap>) -> usize
     }
 }
 
-// How many slots of a window are null; of unions none is.
-fn null_count(window: &Window<'_>) -> Result<usize, NoForm>
-    ensures ok { IfOk result (λ n. n ≡ null_count_lem (shown_window window.now)) }
-    ensures few { IfOk result (λ n. n ≤ window.now.count) }
-    ensures err { IfErr result (λ why. why ≡ Memory) }
+// Returns the null count of a window; it is 0 for a union.
+fn count_nulls(window: &Window<'_>) -> Result<usize, IpcWriteError>
+    ensures ok { IfOk result (λ count. count ≡ null_count (normalized_window window.now)) }
+    ensures few { IfOk result (λ count. count ≤ window.now.count) }
+    ensures err { IfErr result (λ error. error ≡ Memory) }
 {
     window.known();
     let array = window.array();
     array.known();
-    kind(array);
-    if is_nulls(array) {
+    known_kind(array);
+    if has_null_layout(array) {
         return Ok(window.len());
     }
-    let validity = cut_validity(window)?;
-    Ok(unset_bits(&validity))
+    let validity = slice_validity(window)?;
+    Ok(count_unset_bits(&validity))
 }
 
-fn place_node(placed: &mut Placed, window: &Window<'_>) -> Result<(), NoForm>
-    ensures regions { placed.new.regions ≡ placed.old.regions }
-    ensures length { placed.new.length ≡ placed.old.length }
-    ensures ok { OnOk result (placed.new.nodes.items ≡ placed.old.nodes.items ++ column_node (shown_window window.now) ∷ []) }
+fn layout_node(layout: &mut BodyLayout, window: &Window<'_>) -> Result<(), IpcWriteError>
+    ensures buffers { layout.new.buffers ≡ layout.old.buffers }
+    ensures length { layout.new.length ≡ layout.old.length }
+    ensures ok { OnOk result (layout.new.nodes.items ≡ layout.old.nodes.items ++ field_node_of (normalized_window window.now) ∷ []) }
     ensures slots { OnOk result (window.now.count < 2 ^ 63) }
-    ensures err { IfErr result (λ why. IsPast why window.now.count) }
+    ensures err { IfErr result (λ error. IsBufferError error window.now.count) }
 {
     window.known();
     let length = window.len();
     if length >= 1 << 63 {
-        return Err(NoForm::Size);
+        return Err(IpcWriteError::Size);
     }
-    let nulls = null_count(window)?;
-    placed.nodes.push(Node {
+    let nulls = count_nulls(window)?;
+    layout.nodes.push(FieldNode {
         length: length as i64,
         null_count: nulls as i64,
     })?;
     Ok(())
 }
 
-fn place_parts(placed: &mut Placed, column: &AnyArray) -> Result<(), NoForm>
-    requires small { placed.old.length < 2 ^ 63 }
+fn layout_flat_array(layout: &mut BodyLayout, column: &AnyArray) -> Result<(), IpcWriteError>
+    requires small { layout.old.length < 2 ^ 63 }
     requires flat { is_flat (layout_of column.now) ≡ true }
-    ensures nodes { placed.new.nodes ≡ placed.old.nodes }
-    ensures ok { OnOk result (IsLonger placed.old placed.new (flat_buffers (layout_of column.now))) }
-    ensures err { IfErr result (λ why. IsPast why (placed.old.length + length (body_of (flat_buffers (layout_of column.now))))) }
+    ensures nodes { layout.new.nodes ≡ layout.old.nodes }
+    ensures ok { OnOk result (AppendsBuffers layout.old layout.new (flat_buffers (layout_of column.now))) }
+    ensures err { IfErr result (λ error. IsLayoutError error layout.old (flat_buffers (layout_of column.now))) }
 {
-    kind(column);
+    known_kind(column);
     match column {
         AnyArray::Null(array) => {
             array.known();
-            place_buffers(placed, &[])
+            layout_buffers(layout, &[])
         }
-        AnyArray::Boolean(array) => place_boolean(placed, array),
-        AnyArray::Primitive(array) => place_primitive(placed, array),
-        AnyArray::FixedSizeBinary(array) => place_fixed_size_binary(placed, array),
-        AnyArray::Binary(array) => place_binary(placed, array),
-        AnyArray::LargeBinary(array) => place_binary(placed, array),
-        AnyArray::Utf8(array) => place_text(placed, array),
-        AnyArray::LargeUtf8(array) => place_text(placed, array),
-        AnyArray::Dictionary(array) => place_dictionary(placed, array),
+        AnyArray::Boolean(array) => layout_boolean(layout, array),
+        AnyArray::Primitive(array) => layout_primitive(layout, array),
+        AnyArray::FixedSizeBinary(array) => layout_fixed_size_binary(layout, array),
+        AnyArray::Binary(array) => layout_binary(layout, array),
+        AnyArray::LargeBinary(array) => layout_binary(layout, array),
+        AnyArray::Utf8(array) => layout_utf8(layout, array),
+        AnyArray::LargeUtf8(array) => layout_utf8(layout, array),
+        AnyArray::Dictionary(array) => layout_dictionary(layout, array),
         _ => unreachable!(),
     }
 }
 
-/// The slots of a window as an array of their own.
-pub(crate) fn cut_of(alloc: Global, window: &Window<'_>) -> Result<AnyArray, NoForm>
+/// Returns the slots of a window as an array.
+pub(crate) fn slice_window(alloc: Global, window: &Window<'_>) -> Result<AnyArray, IpcWriteError>
     ensures ok { IfOk result (λ a. layout_of a ≡ cut_layout window.now.array window.now.offset window.now.count) }
-    ensures err { IfErr result (λ why. why ≡ Memory) }
+    ensures err { IfErr result (λ error. error ≡ Memory) }
 {
     window.known();
     match window.array().clone(alloc) {
         Ok(array) => Ok(array.sliced(window.offset(), window.len())),
-        Err(_) => Err(NoForm::Memory),
+        Err(_) => Err(IpcWriteError::Memory),
     }
 }
 
-fn place_flat(alloc: Global, placed: &mut Placed, window: &Window<'_>) -> Result<(), NoForm>
-    requires small { placed.old.length < 2 ^ 63 }
+fn layout_flat_window(
+    alloc: Global,
+    layout: &mut BodyLayout,
+    window: &Window<'_>,
+) -> Result<(), IpcWriteError>
+    requires small { layout.old.length < 2 ^ 63 }
     requires flat { is_flat window.now.array ≡ true }
-    ensures nodes { placed.new.nodes ≡ placed.old.nodes }
-    ensures ok { OnOk result (IsLonger placed.old placed.new (own_buffers (shown_window window.now))) }
-    ensures err { IfErr result (λ why. IsPast why (placed.old.length + length (body_of (own_buffers (shown_window window.now))))) }
+    ensures nodes { layout.new.nodes ≡ layout.old.nodes }
+    ensures ok { OnOk result (AppendsBuffers layout.old layout.new (own_buffers (normalized_window window.now))) }
+    ensures err { IfErr result (λ error. IsLayoutError error layout.old (own_buffers (normalized_window window.now))) }
 {
-    match cut_of(alloc, window) {
-        Err(why) => Err(why),
+    match slice_window(alloc, window) {
+        Err(error) => Err(error),
         Ok(array) => {
-            let result = place_parts(placed, &array);
+            let result = layout_flat_array(layout, &array);
             drop(array);
             result
         }
     }
 }
 
-fn place_validity(placed: &mut Placed, validity: Option<&Bitmap>) -> Result<(), NoForm>
-    requires { placed.old.length < 2 ^ 63 }
-    ensures nodes { placed.new.nodes ≡ placed.old.nodes }
-    ensures ok { OnOk result (IsLonger placed.old placed.new (valid_bytes (option_map (λ b. b.now) validity.entry) ∷ [])) }
-    ensures err { IfErr result (λ why. IsPast why (placed.old.length + length (body_of (valid_bytes (option_map (λ b. b.now) validity.entry) ∷ [])))) }
+fn layout_validity(layout: &mut BodyLayout, validity: Option<&Bitmap>) -> Result<(), IpcWriteError>
+    requires { layout.old.length < 2 ^ 63 }
+    ensures nodes { layout.new.nodes ≡ layout.old.nodes }
+    ensures ok { OnOk result (AppendsBuffers layout.old layout.new (normalized_validity_bytes (option_map (λ b. b.now) validity.entry) ∷ [])) }
+    ensures err { IfErr result (λ error. IsLayoutError error layout.old (normalized_validity_bytes (option_map (λ b. b.now) validity.entry) ∷ [])) }
 {
-    place_buffers(placed, &[validity_size(validity)])
+    layout_buffers(layout, &[validity_size(validity)])
 }
 
-// Where a window's own buffers stand.
-fn place_own(alloc: Global, placed: &mut Placed, window: &Window<'_>) -> Result<(), NoForm>
-    requires small { placed.old.length < 2 ^ 63 }
+// Lays out the buffers of a window, without those of its children.
+fn layout_own_buffers(
+    alloc: Global,
+    layout: &mut BodyLayout,
+    window: &Window<'_>,
+) -> Result<(), IpcWriteError>
+    requires small { layout.old.length < 2 ^ 63 }
     requires slots { window.now.count < 2 ^ 63 }
-    ensures nodes { placed.new.nodes ≡ placed.old.nodes }
-    ensures ok { OnOk result (IsLonger placed.old placed.new (own_buffers (shown_window window.now))) }
-    ensures err { IfErr result (λ why. IsPast why (placed.old.length + length (body_of (own_buffers (shown_window window.now))))) }
+    ensures nodes { layout.new.nodes ≡ layout.old.nodes }
+    ensures ok { OnOk result (AppendsBuffers layout.old layout.new (own_buffers (normalized_window window.now))) }
+    ensures err { IfErr result (λ error. IsLayoutError error layout.old (own_buffers (normalized_window window.now))) }
 {
     window.known();
-    let n = window.len();
-    let validity = cut_validity(window)?;
+    let count = window.len();
+    let validity = slice_validity(window)?;
     let array = window.array();
-    kind(array);
+    known_kind(array);
     match array {
         AnyArray::FixedSizeList(array) => {
             array.known();
-            place_validity(placed, validity.as_ref())
+            layout_validity(layout, validity.as_ref())
         }
         AnyArray::Struct(array) => {
             array.known();
-            place_validity(placed, validity.as_ref())
+            layout_validity(layout, validity.as_ref())
         }
         AnyArray::List(array) => {
             array.known();
-            place_rows::<i32>(placed, validity.as_ref(), n)
+            layout_list_buffers::<i32>(layout, validity.as_ref(), count)
         }
         AnyArray::LargeList(array) => {
             array.known();
-            place_rows::<i64>(placed, validity.as_ref(), n)
+            layout_list_buffers::<i64>(layout, validity.as_ref(), count)
         }
         AnyArray::Map(array) => {
             array.known();
-            place_rows::<i32>(placed, validity.as_ref(), n)
+            layout_list_buffers::<i32>(layout, validity.as_ref(), count)
         }
-        AnyArray::Union(array) => place_picks(placed, array, window.offset(), n),
+        AnyArray::Union(array) => layout_union_buffers(layout, array, window.offset(), count),
         AnyArray::Null(_)
         | AnyArray::Boolean(_)
         | AnyArray::Primitive(_)
@@ -239,42 +250,50 @@ fn place_own(alloc: Global, placed: &mut Placed, window: &Window<'_>) -> Result<
         | AnyArray::LargeBinary(_)
         | AnyArray::Utf8(_)
         | AnyArray::LargeUtf8(_)
-        | AnyArray::Dictionary(_) => place_flat(alloc, placed, window),
+        | AnyArray::Dictionary(_) => layout_flat_window(alloc, layout, window),
     }
 }
 
-/// What the metadata says of a window's array and of those below it.
-#[cycle(place)]
-fn place_window(alloc: Global, placed: &mut Placed, window: &Window<'_>) -> Result<(), NoForm>
-    requires { placed.old.length < 2 ^ 63 }
-    ensures ok { OnOk result (IsMore placed.old placed.new (arrays_of (shown_window window.now))) }
-    ensures err { IfErr result (λ why. AreTooLong why placed.old.length (arrays_of (shown_window window.now))) }
+/// Lays out a window and its descendants.
+#[cycle(layout)]
+fn layout_window(
+    alloc: Global,
+    layout: &mut BodyLayout,
+    window: &Window<'_>,
+) -> Result<(), IpcWriteError>
+    requires { layout.old.length < 2 ^ 63 }
+    ensures ok { OnOk result (AppendsArrays layout.old layout.new (preorder (normalized_window window.now))) }
+    ensures err { IfErr result (λ error. IsArrayError error layout.old.length (preorder (normalized_window window.now))) }
 {
     window.known();
-    place_node(placed, window)?;
-    place_own(alloc, placed, window)?;
-    let children = below(alloc, window)?;
-    place_windows(alloc, placed, &children)
+    layout_node(layout, window)?;
+    layout_own_buffers(alloc, layout, window)?;
+    let children = windows_of_children(alloc, window)?;
+    layout_windows(alloc, layout, &children)
 }
 
-#[cycle(place)]
-fn place_windows(alloc: Global, placed: &mut Placed, windows: &[Window<'_>]) -> Result<(), NoForm>
-    requires { placed.old.length < 2 ^ 63 }
-    ensures ok { OnOk result (IsMore placed.old placed.new (written_windows windows.now)) }
-    ensures err { IfErr result (λ why. AreTooLong why placed.old.length (written_windows windows.now)) }
+#[cycle(layout)]
+fn layout_windows(
+    alloc: Global,
+    layout: &mut BodyLayout,
+    windows: &[Window<'_>],
+) -> Result<(), IpcWriteError>
+    requires { layout.old.length < 2 ^ 63 }
+    ensures ok { OnOk result (AppendsArrays layout.old layout.new (window_arrays windows.now)) }
+    ensures err { IfErr result (λ error. IsArrayError error layout.old.length (window_arrays windows.now)) }
 {
     for window in windows {
-        place_window(alloc, placed, window)?;
+        layout_window(alloc, layout, window)?;
     }
     Ok(())
 }
 
-/// What the variant of an array says of its kind.
-pub(crate) fn kind(array: &AnyArray)
-    ensures form { kind_has_form (layout_of array.now) ≡ true }
-    ensures flat { is_flat (layout_of array.now) ≡ is_written array.now }
-    ensures nulls { is_nulls_lem (layout_of array.now) ≡ is_null array.now }
-    ensures keys { has_no_keys (layout_of array.now) ≡ is_plain array.now }
+/// States what the variant of an array implies for its layout. Does nothing at run time.
+pub(crate) fn known_kind(array: &AnyArray)
+    ensures supported { is_supported (layout_of array.now) ≡ true }
+    ensures flat { is_flat (layout_of array.now) ≡ is_flat_array array.now }
+    ensures nulls { is_null_layout (layout_of array.now) ≡ is_null_array array.now }
+    ensures keys { is_not_dictionary (layout_of array.now) ≡ is_not_dictionary_array array.now }
 {
     match array {
         AnyArray::Null(array) => array.known(),
@@ -295,20 +314,23 @@ pub(crate) fn kind(array: &AnyArray)
     }
 }
 
-/// Where the buffers of columns stand in the body of their batch, and what its metadata says of the columns and of the arrays
-/// below them. Refused where one of those has more than 2^63 - 1 slots or the body more than 2^63 - 1 bytes (`Size`), or for want of
-/// memory.
-pub fn place_columns(alloc: Global, columns: &[AnyArray]) -> Result<Placed, NoForm>
-    ensures ok { IfOk result (IsPlaced (map layout_of columns.now)) }
-    ensures form { OnOk result (no_form (map layout_of columns.now) ≡ None) }
-    ensures err { IfErr result (IsUnwritten (map layout_of columns.now)) }
+/// Computes the field nodes and buffers of columns, as [`write_columns`] writes them.
+///
+/// # Errors
+///
+/// `IpcWriteError::Size` if an array has more than 2^63 - 1 slots or the body more than 2^63 - 1 bytes, and `IpcWriteError::Memory` if
+/// an allocation fails.
+pub fn layout_columns(alloc: Global, columns: &[AnyArray]) -> Result<BodyLayout, IpcWriteError>
+    ensures ok { IfOk result (IsLayoutOf (map layout_of columns.now)) }
+    ensures form { OnOk result (size_error (map layout_of columns.now) ≡ None) }
+    ensures err { IfErr result (IsWriteError (map layout_of columns.now)) }
 {
-    let windows = whole(alloc, columns)?;
-    let mut placed = Placed {
+    let windows = full_windows(alloc, columns)?;
+    let mut layout = BodyLayout {
         nodes: Vec::new(alloc),
-        regions: Vec::new(alloc),
+        buffers: Vec::new(alloc),
         length: 0,
     };
-    place_windows(alloc, &mut placed, &windows)?;
-    Ok(placed)
+    layout_windows(alloc, &mut layout, &windows)?;
+    Ok(layout)
 }

@@ -1,24 +1,28 @@
-//! Arrays as record batches of the Arrow IPC format have them: nodes, buffers and a body.
+//! Reads arrays from, and writes arrays to, the bodies of record batches of the Arrow IPC format.
+//!
+//! A record batch has metadata and a body. The metadata lists a `FieldNode` for each array and a `Buffer` for each region of the body,
+//! in pre-order, depth first (Arrow: "Serialization and Interprocess Communication", "RecordBatch message"). [`read_columns`] decodes
+//! columns from them, [`layout_columns`] computes the metadata of columns, and [`write_columns`] appends their body.
 #![tactic(auto)]
 
 mod bits;
 mod boolean;
 mod bytes;
 mod columns;
+mod cursor;
 mod dictionary;
 mod fixed_size_binary;
 mod fixed_size_list;
-mod keyless;
+mod fixed_width;
 pub mod laws;
+mod layout;
 mod list;
 mod map;
 mod native;
-mod parts;
+mod no_dictionaries;
 mod projected;
-mod layout;
 pub mod read_examples;
 mod reading;
-mod stored;
 mod strings;
 mod struct_;
 mod union;
@@ -27,12 +31,11 @@ mod windows;
 pub mod write_examples;
 mod writing;
 
-pub use columns::{Typed, none_left, read_columns};
-pub use keyless::are_keyless;
-pub use parts::{Counts, Left, Wanted};
-pub use projected::{Ahead, read_picked};
-pub use layout::{Placed, place_columns};
+pub use columns::{HasDataType, check_exhausted, read_columns};
+pub use cursor::{BatchCursor, ExpectedLength, NodeCounts};
+pub use fixed_width::{FixedWidth, FixedWidthOffset};
+pub use layout::{BodyLayout, layout_columns};
+pub use no_dictionaries::have_no_dictionaries;
+pub use projected::{ProjectionCursor, read_projected};
 pub use reading::read_column;
-pub use stored::{Stored, StoredOffset};
-pub use writing::put_columns;
-
+pub use writing::write_columns;

@@ -1,6 +1,6 @@
-//! Lists, by offsets of both widths: offsets, and the items between them.
-ghost use Rattle.std.specs.Prelude.{◌≡◌, false, true, Some, ◌<◌, ◌≤◌, ◌^◌, ◌+◌, ◌-◌, ◌∷◌, ◌++◌, [], ℕ, List, length, IfErr, IfOk, OnOk};
-ghost use Rattle.ipc_flatbuf.specs.Reading.{Gives};
+//! List arrays with 32-bit and 64-bit offsets.
+ghost use Rattle.std.specs.Prelude.{◌≡◌, false, true, Some, ◌<◌, ◌≤◌, ◌^◌, ◌+◌, ◌-◌, ◌++◌, ℕ, List, length, IfErr, IfOk, OnOk};
+ghost use Rattle.ipc_flatbuf.specs.ReadResults.{ReturnsOrRunsOut};
 ghost use Rattle.nest_memory.specs.Physical.{physical_type};
 ghost use Rattle.nest_memory.specs.TypeOf.{type_of, field_of};
 ghost use Rattle.nest_memory.specs.TypeTree as types;
@@ -10,26 +10,26 @@ ghost use Rattle.nest_model.specs.Fits.{ValidityFits};
 ghost use Rattle.nest_model.specs.Layout.{layout_type};
 ghost use Rattle.nest_model.specs.Part.{count_rows, begin};
 ghost use Rattle.nest_array.specs.Seen.{layout_of};
-ghost use Rattle.ipc_arrays.specs.Columns.{rest_of, list_over as list_over_lem};
-ghost use Rattle.ipc_arrays.specs.ReadParts.{list_read};
+ghost use Rattle.ipc_arrays.specs.Decoding.{rest_of, list_over};
+ghost use Rattle.ipc_arrays.specs.NestedDecoding.{list_decoding};
 ghost use Rattle.std.specs.Option.{option_map};
-ghost use Rattle.ipc_flatbuf.specs.declared.error.NoForm.TheVariants.{Memory};
+ghost use Rattle.ipc_flatbuf.specs.declared.error.IpcWriteError.TheVariants.{Memory};
 ghost use Rattle.nest_memory.specs.Cut.{cut};
 ghost use Rattle.nest_memory.specs.Rising.{last_of};
 ghost use Rattle.nest_model.specs.Meaning.{len};
 ghost use Rattle.nest_array.specs.WindowParts.{window_parts};
-ghost use Rattle.ipc_arrays.specs.Placed.{body_of};
-ghost use Rattle.ipc_arrays.specs.Written.{rebased, valid_bytes, offset_bytes, IsPast, IsLonger};
-ghost use Rattle.ipc_arrays.specs.WrittenLaws.{OffsetsSpelled};
+ghost use Rattle.ipc_arrays.specs.BodyBuffers.{body_of};
+ghost use Rattle.ipc_arrays.specs.Encoding.{AppendsBuffers, list_buffers, rebased, IsLayoutError};
+ghost use Rattle.ipc_arrays.specs.EncodingLaws.{OffsetsRoundTrip};
 
+use crate::cursor::{BatchCursor, ExpectedLength, NodeCounts};
+use crate::fixed_width::FixedWidthOffset;
+use crate::layout::{BodyLayout, layout_buffers};
 use crate::native::values_size;
-use crate::parts::{Counts, Left, Wanted};
-use crate::layout::{Placed, place_buffers};
 use crate::reading::read_item;
-use crate::stored::StoredOffset;
-use crate::strings::{RowsHead, put_offsets, read_rows};
-use crate::validity::{put_validity, validity_size};
-use ipc_flatbuf::{Fault, NoForm};
+use crate::strings::{VariableSizeHead, read_variable_size_head, write_offsets};
+use crate::validity::{validity_size, write_validity};
+use ipc_flatbuf::{IpcReadError, IpcWriteError};
 use nest_array::any::AnyArray;
 use nest_array::list::ListArray;
 use nest_array::list::large::LargeListArray;
@@ -40,123 +40,127 @@ use nest_memory::offset::Offset;
 use nest_memory::offsets::OffsetsBuffer;
 use std::alloc::{AllocError, Global};
 
-// The array over items that were read.
-fn list_over<'a>(
+// Returns the list array over these items.
+fn list_of_items<'a>(
     alloc: Global,
     data_type: &DataType,
-    rows: RowsHead<i32>,
+    rows: VariableSizeHead<i32>,
     items: AnyArray,
-    left: Left<'a>,
-) -> Result<(ListArray, Left<'a>), Fault>
+    cursor: BatchCursor<'a>,
+) -> Result<(ListArray, BatchCursor<'a>), IpcReadError>
     requires kind { physical_type (type_of data_type.now) ≡ physical.List }
     requires item { item_type (type_of data_type.now) ≡ Some (layout_type (layout_of items)) }
     requires valid { ValidityFits rows.validity (count_rows rows.offsets) }
-    ensures { Gives (λ x. (x.0, rest_of x.1)) result (list_over_lem false (type_of data_type.now) (record { offsets = rows.offsets; validity = rows.validity }) (layout_of items, rest_of left.entry)) }
+    ensures { ReturnsOrRunsOut (λ x. (x.0, rest_of x.1)) result (list_over false (type_of data_type.now) (record { offsets = rows.offsets; validity = rows.validity }) (layout_of items, rest_of cursor.entry)) }
 {
     if rows.offsets.last() > items.len() {
         drop(items);
         drop(rows);
-        return Err(Fault::OffsetPastChild);
+        return Err(IpcReadError::OffsetPastChild);
     }
     match data_type.clone(alloc) {
         Err(_) => {
             drop(items);
             drop(rows);
-            Err(Fault::Memory)
+            Err(IpcReadError::Memory)
         }
         Ok(data_type) => {
             match ListArray::new(alloc, data_type, rows.offsets, items, rows.validity) {
-                Err(_) => Err(Fault::Memory),
-                Ok(array) => Ok((array, left)),
+                Err(_) => Err(IpcReadError::Memory),
+                Ok(array) => Ok((array, cursor)),
             }
         }
     }
 }
 
-// The same by offsets of 64 bits.
-fn large_list_over<'a>(
+// The same with 64-bit offsets.
+fn large_list_of_items<'a>(
     alloc: Global,
     data_type: &DataType,
-    rows: RowsHead<i64>,
+    rows: VariableSizeHead<i64>,
     items: AnyArray,
-    left: Left<'a>,
-) -> Result<(LargeListArray, Left<'a>), Fault>
+    cursor: BatchCursor<'a>,
+) -> Result<(LargeListArray, BatchCursor<'a>), IpcReadError>
     requires kind { physical_type (type_of data_type.now) ≡ physical.LargeList }
     requires item { item_type (type_of data_type.now) ≡ Some (layout_type (layout_of items)) }
     requires valid { ValidityFits rows.validity (count_rows rows.offsets) }
-    ensures { Gives (λ x. (x.0, rest_of x.1)) result (list_over_lem true (type_of data_type.now) (record { offsets = rows.offsets; validity = rows.validity }) (layout_of items, rest_of left.entry)) }
+    ensures { ReturnsOrRunsOut (λ x. (x.0, rest_of x.1)) result (list_over true (type_of data_type.now) (record { offsets = rows.offsets; validity = rows.validity }) (layout_of items, rest_of cursor.entry)) }
 {
     if rows.offsets.last() > items.len() {
         drop(items);
         drop(rows);
-        return Err(Fault::OffsetPastChild);
+        return Err(IpcReadError::OffsetPastChild);
     }
     match data_type.clone(alloc) {
         Err(_) => {
             drop(items);
             drop(rows);
-            Err(Fault::Memory)
+            Err(IpcReadError::Memory)
         }
         Ok(data_type) => {
             match LargeListArray::new(alloc, data_type, rows.offsets, items, rows.validity) {
-                Err(_) => Err(Fault::Memory),
-                Ok(array) => Ok((array, left)),
+                Err(_) => Err(IpcReadError::Memory),
+                Ok(array) => Ok((array, cursor)),
             }
         }
     }
 }
 
-/// The array of a type of lists with these numbers.
+/// Reads a list array: validity and offsets, then the child.
+///
+/// # Errors
+///
+/// `IpcReadError::OffsetPastChild` if the last offset is greater than the length of the child, and those of the buffers.
 #[cycle(read)]
-#[tactic(auto, unfolding(crate::specs::ReadParts::list_read))]
+#[tactic(auto, unfolding(crate::specs::NestedDecoding::list_decoding))]
 pub(crate) fn read_list<'a>(
     alloc: Global,
     data_type: &DataType,
     field: &Field,
-    counts: Counts,
+    counts: NodeCounts,
     body: &'a [u8],
-    left: Left<'a>,
-) -> Result<(ListArray, Left<'a>), Fault>
+    cursor: BatchCursor<'a>,
+) -> Result<(ListArray, BatchCursor<'a>), IpcReadError>
     requires { logical_type (type_of data_type.now) ≡ types.list (field_of field.now) }
-    ensures { Gives (λ x. (x.0, rest_of x.1)) result (list_read false (type_of data_type.now) (field_of field.now) counts body.now (rest_of left.entry)) }
+    ensures { ReturnsOrRunsOut (λ x. (x.0, rest_of x.1)) result (list_decoding false (type_of data_type.now) (field_of field.now) counts body.now (rest_of cursor.entry)) }
 {
-    let (rows, left) = read_rows::<i32>(alloc, counts, body, left)?;
-    match read_item(alloc, field, Wanted::Any, body, left) {
-        Ok((items, left)) => list_over(alloc, data_type, rows, items, left),
-        Err(fault) => {
+    let (rows, cursor) = read_variable_size_head::<i32>(alloc, counts, body, cursor)?;
+    match read_item(alloc, field, ExpectedLength::Any, body, cursor) {
+        Ok((items, cursor)) => list_of_items(alloc, data_type, rows, items, cursor),
+        Err(error) => {
             drop(rows);
-            Err(fault)
+            Err(error)
         }
     }
 }
 
-/// The same by offsets of 64 bits.
+/// Reads a list array with 64-bit offsets; the errors are those of [`read_list`].
 #[cycle(read)]
-#[tactic(auto, unfolding(crate::specs::ReadParts::list_read))]
+#[tactic(auto, unfolding(crate::specs::NestedDecoding::list_decoding))]
 pub(crate) fn read_large_list<'a>(
     alloc: Global,
     data_type: &DataType,
     field: &Field,
-    counts: Counts,
+    counts: NodeCounts,
     body: &'a [u8],
-    left: Left<'a>,
-) -> Result<(LargeListArray, Left<'a>), Fault>
+    cursor: BatchCursor<'a>,
+) -> Result<(LargeListArray, BatchCursor<'a>), IpcReadError>
     requires { logical_type (type_of data_type.now) ≡ types.large_list (field_of field.now) }
-    ensures { Gives (λ x. (x.0, rest_of x.1)) result (list_read true (type_of data_type.now) (field_of field.now) counts body.now (rest_of left.entry)) }
+    ensures { ReturnsOrRunsOut (λ x. (x.0, rest_of x.1)) result (list_decoding true (type_of data_type.now) (field_of field.now) counts body.now (rest_of cursor.entry)) }
 {
-    let (rows, left) = read_rows::<i64>(alloc, counts, body, left)?;
-    match read_item(alloc, field, Wanted::Any, body, left) {
-        Ok((items, left)) => large_list_over(alloc, data_type, rows, items, left),
-        Err(fault) => {
+    let (rows, cursor) = read_variable_size_head::<i64>(alloc, counts, body, cursor)?;
+    match read_item(alloc, field, ExpectedLength::Any, body, cursor) {
+        Ok((items, cursor)) => large_list_of_items(alloc, data_type, rows, items, cursor),
+        Err(error) => {
             drop(rows);
-            Err(fault)
+            Err(error)
         }
     }
 }
 
-// ---- how they are written
+// ---- writing
 
-// The offset at place i.
+// Returns offset `i`.
 fn offset_at<O: Offset>(offsets: &OffsetsBuffer<O>, i: usize) -> usize
     requires { i ≤ count_rows offsets.now }
     ensures { result ≡ begin offsets.now i }
@@ -169,70 +173,70 @@ fn offset_at<O: Offset>(offsets: &OffsetsBuffer<O>, i: usize) -> usize
     }
 }
 
-/// The window over the items of n slots from place o.
-pub(crate) fn covered_items<'a, O: Offset>(
+/// Returns the items of `count` slots from index `offset` on, as a window over the child.
+pub(crate) fn item_window<'a, O: Offset>(
     offsets: &OffsetsBuffer<O>,
     items: &'a AnyArray,
-    o: usize,
-    n: usize,
+    offset: usize,
+    count: usize,
 ) -> Window<'a>
-    requires slots { o + n ≤ count_rows offsets.now }
+    requires slots { offset + count ≤ count_rows offsets.now }
     requires within { last_of offsets.now ≤ len (layout_of items.now) }
-    ensures { result ≡ window_parts (layout_of items.now) (begin offsets.now o) (begin offsets.now (o + n) - begin offsets.now o) }
+    ensures { result ≡ window_parts (layout_of items.now) (begin offsets.now offset) (begin offsets.now (offset + count) - begin offsets.now offset) }
 {
     offsets.known();
-    let first = offset_at(offsets, o);
-    let end = offset_at(offsets, o + n);
+    let first = offset_at(offsets, offset);
+    let end = offset_at(offsets, offset + count);
     Window::new(items, first, end - first)
 }
 
-/// Where the buffers of so many rows stand: their validity, and one offset more than rows.
-pub(crate) fn place_rows<O: StoredOffset>(
-    placed: &mut Placed,
+/// Lays out the validity and the `slots + 1` offsets of a list or map array.
+pub(crate) fn layout_list_buffers<O: FixedWidthOffset>(
+    layout: &mut BodyLayout,
     validity: Option<&Bitmap>,
     slots: usize,
-) -> Result<(), NoForm>
-    requires small { placed.old.length < 2 ^ 63 }
+) -> Result<(), IpcWriteError>
+    requires small { layout.old.length < 2 ^ 63 }
     requires slots { slots < 2 ^ 63 }
-    ensures nodes { placed.new.nodes ≡ placed.old.nodes }
-    ensures ok { OnOk result ((os : List ℕ) → length os ≡ slots + 1 → IsLonger placed.old placed.new (valid_bytes (option_map (λ b. b.now) validity.entry) ∷ offset_bytes O.IS_LARGE os ∷ [])) }
-    ensures err { IfErr result (λ why. (os : List ℕ) → length os ≡ slots + 1 → IsPast why (placed.old.length + length (body_of (valid_bytes (option_map (λ b. b.now) validity.entry) ∷ offset_bytes O.IS_LARGE os ∷ [])))) }
+    ensures nodes { layout.new.nodes ≡ layout.old.nodes }
+    ensures ok { OnOk result ((os : List ℕ) → length os ≡ slots + 1 → AppendsBuffers layout.old layout.new (list_buffers O.IS_LARGE os (option_map (λ b. b.now) validity.entry))) }
+    ensures err { IfErr result (λ error. (os : List ℕ) → length os ≡ slots + 1 → IsLayoutError error layout.old (list_buffers O.IS_LARGE os (option_map (λ b. b.now) validity.entry))) }
 {
     let size = values_size::<O>(slots + 1)?;
-    place_buffers(placed, &[validity_size(validity), size])
+    layout_buffers(layout, &[validity_size(validity), size])
 }
 
-fn cut_offsets<O: StoredOffset>(
+fn slice_offsets<O: FixedWidthOffset>(
     offsets: &OffsetsBuffer<O>,
-    o: usize,
-    n: usize,
-) -> Result<OffsetsBuffer<O>, NoForm>
-    requires { o + n ≤ count_rows offsets.now }
-    ensures ok { IfOk result (λ os. os ≡ cut offsets.now o (n + 1)) }
-    ensures err { IfErr result (λ why. why ≡ Memory) }
+    offset: usize,
+    count: usize,
+) -> Result<OffsetsBuffer<O>, IpcWriteError>
+    requires { offset + count ≤ count_rows offsets.now }
+    ensures ok { IfOk result (λ os. os ≡ cut offsets.now offset (count + 1)) }
+    ensures err { IfErr result (λ error. error ≡ Memory) }
 {
     offsets.known();
     match offsets.clone() {
-        Ok(offsets) => Ok(offsets.sliced(o, n + 1)),
-        Err(_) => Err(NoForm::Memory),
+        Ok(offsets) => Ok(offsets.sliced(offset, count + 1)),
+        Err(_) => Err(IpcWriteError::Memory),
     }
 }
 
-/// Appends the buffers of the n rows from place o: their validity, and their offsets less the first one.
-pub(crate) fn put_rows<O: StoredOffset>(
+/// Appends the validity and the offsets of the `count` slots from index `offset` on. Offsets are rebased to start at 0.
+pub(crate) fn write_list_buffers<O: FixedWidthOffset>(
     out: &mut Vec<u8>,
     validity: Option<&Bitmap>,
     offsets: &OffsetsBuffer<O>,
-    o: usize,
-    n: usize,
-) -> Result<(), NoForm>
-    requires { o + n ≤ count_rows offsets.now }
-    ensures ok { OnOk result (out.new.items ≡ out.old.items ++ body_of (valid_bytes (option_map (λ b. b.now) validity.entry) ∷ offset_bytes O.IS_LARGE (rebased (cut offsets.now o (n + 1))) ∷ [])) }
-    ensures spelled { OnOk result (OffsetsSpelled O.IS_LARGE (cut offsets.now o (n + 1))) }
-    ensures err { IfErr result (λ why. why ≡ Memory) }
+    offset: usize,
+    count: usize,
+) -> Result<(), IpcWriteError>
+    requires { offset + count ≤ count_rows offsets.now }
+    ensures ok { OnOk result (out.new.items ≡ out.old.items ++ body_of (list_buffers O.IS_LARGE (rebased (cut offsets.now offset (count + 1))) (option_map (λ b. b.now) validity.entry))) }
+    ensures round_trips { OnOk result (OffsetsRoundTrip O.IS_LARGE (cut offsets.now offset (count + 1))) }
+    ensures err { IfErr result (λ error. error ≡ Memory) }
 {
-    let rows = cut_offsets(offsets, o, n)?;
-    put_validity(out, validity)?;
-    put_offsets(out, &rows)?;
+    let rows = slice_offsets(offsets, offset, count)?;
+    write_validity(out, validity)?;
+    write_offsets(out, &rows)?;
     Ok(())
 }

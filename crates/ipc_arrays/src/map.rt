@@ -1,7 +1,7 @@
-//! Maps: offsets, and the entries between them, each a record of a key and a value.
+//! Map arrays: lists whose items are structs of a key and a value.
 ghost use Rattle.std.specs.Prelude.{◌≡◌, Some, IfOk, IsTrue};
-ghost use Rattle.ipc_flatbuf.specs.Reading.{Gives, check};
-ghost use Rattle.ipc_flatbuf.specs.declared.error.Fault.TheVariants.{TypeRange};
+ghost use Rattle.ipc_flatbuf.specs.ReadResults.{ReturnsOrRunsOut, check};
+ghost use Rattle.ipc_flatbuf.specs.declared.error.IpcReadError.TheVariants.{TypeRange};
 ghost use Rattle.nest_memory.specs.Physical.{physical_type};
 ghost use Rattle.nest_memory.specs.TypeOf.{type_of, field_of};
 ghost use Rattle.nest_memory.specs.TypeTree as types;
@@ -11,56 +11,56 @@ ghost use Rattle.nest_model.specs.Fits.{ValidityFits};
 ghost use Rattle.nest_model.specs.Layout.{layout_type};
 ghost use Rattle.nest_model.specs.Part.{count_rows};
 ghost use Rattle.nest_array.specs.Seen.{layout_of};
-ghost use Rattle.ipc_arrays.specs.Columns.{rest_of, map_over as map_over_lem};
-ghost use Rattle.ipc_arrays.specs.ReadParts.{map_read};
+ghost use Rattle.ipc_arrays.specs.Decoding.{rest_of, map_over};
+ghost use Rattle.ipc_arrays.specs.NestedDecoding.{map_decoding};
 
-use crate::parts::{Counts, Left, Wanted};
+use crate::cursor::{BatchCursor, ExpectedLength, NodeCounts};
 use crate::reading::read_item;
-use crate::strings::{RowsHead, read_rows};
-use ipc_flatbuf::Fault;
+use crate::strings::{VariableSizeHead, read_variable_size_head};
+use ipc_flatbuf::IpcReadError;
 use nest_array::any::AnyArray;
 use nest_array::map::MapArray;
 use nest_memory::datatypes::{DataType, Field};
 use std::alloc::Global;
 
-// The array over entries that were read.
-fn map_over<'a>(
+// Returns the map array over these entries.
+fn map_of_entries<'a>(
     alloc: Global,
     data_type: &DataType,
-    rows: RowsHead<i32>,
+    rows: VariableSizeHead<i32>,
     entries: AnyArray,
-    left: Left<'a>,
-) -> Result<(MapArray, Left<'a>), Fault>
+    cursor: BatchCursor<'a>,
+) -> Result<(MapArray, BatchCursor<'a>), IpcReadError>
     requires kind { physical_type (type_of data_type.now) ≡ physical.Map }
     requires pairs { IsTrue (has_pairs (type_of data_type.now)) }
     requires item { item_type (type_of data_type.now) ≡ Some (layout_type (layout_of entries)) }
     requires valid { ValidityFits rows.validity (count_rows rows.offsets) }
-    ensures { Gives (λ x. (x.0, rest_of x.1)) result (map_over_lem (type_of data_type.now) (record { offsets = rows.offsets; validity = rows.validity }) (layout_of entries, rest_of left.entry)) }
+    ensures { ReturnsOrRunsOut (λ x. (x.0, rest_of x.1)) result (map_over (type_of data_type.now) (record { offsets = rows.offsets; validity = rows.validity }) (layout_of entries, rest_of cursor.entry)) }
 {
     if rows.offsets.last() > entries.len() {
         drop(entries);
         drop(rows);
-        return Err(Fault::OffsetPastChild);
+        return Err(IpcReadError::OffsetPastChild);
     }
     match data_type.clone(alloc) {
         Err(_) => {
             drop(entries);
             drop(rows);
-            Err(Fault::Memory)
+            Err(IpcReadError::Memory)
         }
         Ok(data_type) => {
             match MapArray::new(alloc, data_type, rows.offsets, entries, rows.validity) {
-                Err(_) => Err(Fault::Memory),
-                Ok(array) => Ok((array, left)),
+                Err(_) => Err(IpcReadError::Memory),
+                Ok(array) => Ok((array, cursor)),
             }
         }
     }
 }
 
-// That the entries are records of a key and a value.
-fn pairs(data_type: &DataType, field: &Field, sorted: bool) -> Result<(), Fault>
+// Checks that the entries are structs of a key and a value.
+fn check_entries(data_type: &DataType, field: &Field, sorted: bool) -> Result<(), IpcReadError>
     requires { logical_type (type_of data_type.now) ≡ types.map (field_of field.now) sorted }
-    ensures told { result ≡ check (is_pair (field_type (field_of field.now))) TypeRange }
+    ensures checked { result ≡ check (is_pair (field_type (field_of field.now))) TypeRange }
     ensures pairs { IfOk result (λ _. IsTrue (has_pairs (type_of data_type.now))) }
 {
     let _ = sorted;
@@ -68,32 +68,37 @@ fn pairs(data_type: &DataType, field: &Field, sorted: bool) -> Result<(), Fault>
     if data_type.has_pairs() {
         Ok(())
     } else {
-        Err(Fault::TypeRange)
+        Err(IpcReadError::TypeRange)
     }
 }
 
-/// The array of a type of maps with these numbers. Of entries that are no pairs there is none.
+/// Reads a map array: validity and offsets, then the entries.
+///
+/// # Errors
+///
+/// `IpcReadError::TypeRange` if the entries are not structs of a key and a value, `IpcReadError::OffsetPastChild` if the last offset is
+/// greater than the number of entries, and those of the buffers.
 #[cycle(read)]
-#[tactic(auto, unfolding(crate::specs::ReadParts::map_read))]
+#[tactic(auto, unfolding(crate::specs::NestedDecoding::map_decoding))]
 pub(crate) fn read_map<'a>(
     alloc: Global,
     data_type: &DataType,
     field: &Field,
     sorted: bool,
-    counts: Counts,
+    counts: NodeCounts,
     body: &'a [u8],
-    left: Left<'a>,
-) -> Result<(MapArray, Left<'a>), Fault>
+    cursor: BatchCursor<'a>,
+) -> Result<(MapArray, BatchCursor<'a>), IpcReadError>
     requires { logical_type (type_of data_type.now) ≡ types.map (field_of field.now) sorted }
-    ensures { Gives (λ x. (x.0, rest_of x.1)) result (map_read (type_of data_type.now) (field_of field.now) sorted counts body.now (rest_of left.entry)) }
+    ensures { ReturnsOrRunsOut (λ x. (x.0, rest_of x.1)) result (map_decoding (type_of data_type.now) (field_of field.now) sorted counts body.now (rest_of cursor.entry)) }
 {
-    pairs(data_type, field, sorted)?;
-    let (rows, left) = read_rows::<i32>(alloc, counts, body, left)?;
-    match read_item(alloc, field, Wanted::Any, body, left) {
-        Ok((entries, left)) => map_over(alloc, data_type, rows, entries, left),
-        Err(fault) => {
+    check_entries(data_type, field, sorted)?;
+    let (rows, cursor) = read_variable_size_head::<i32>(alloc, counts, body, cursor)?;
+    match read_item(alloc, field, ExpectedLength::Any, body, cursor) {
+        Ok((entries, cursor)) => map_of_entries(alloc, data_type, rows, entries, cursor),
+        Err(error) => {
             drop(rows);
-            Err(fault)
+            Err(error)
         }
     }
 }

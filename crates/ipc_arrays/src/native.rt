@@ -1,8 +1,8 @@
-//! Arrays of native values.
+//! Primitive arrays: values of a fixed width.
 ghost use Rattle.std.specs.Prelude.{◌≡◌, ◌<◌, ◌≤◌, ◌^◌, ◌+◌, ◌*◌, ◌++◌, length, map, IfOk, IfErr, OnOk, Ok};
 ghost use Rattle.std.specs.List.{AllByRecursion};
-ghost use Rattle.ipc_flatbuf.specs.Reading.{Gives};
-ghost use Rattle.ipc_flatbuf.specs.declared.error.NoForm.TheVariants.{Size};
+ghost use Rattle.ipc_flatbuf.specs.ReadResults.{ReturnsOrRunsOut};
+ghost use Rattle.ipc_flatbuf.specs.declared.error.IpcWriteError.TheVariants.{Size};
 ghost use Rattle.nest_memory.specs.Physical.{physical_type};
 ghost use Rattle.nest_memory.specs.TypeOf.{type_of};
 ghost use Rattle.nest_memory.specs.declared.datatypes.physical_type.PhysicalType.TheVariants as physical;
@@ -11,19 +11,19 @@ ghost use Rattle.nest_model.specs.Fits.{Fits};
 ghost use Rattle.nest_model.specs.Layout as layouts;
 ghost use Rattle.nest_model.specs.Meaning.{len};
 ghost use Rattle.nest_flat.specs.AnyPrimitive.{primitive_layout};
-ghost use Rattle.ipc_arrays.specs.Columns.{rest_of, natives_in, native_in, of_form};
-ghost use Rattle.ipc_arrays.specs.Placed.{padded, body_of};
-ghost use Rattle.ipc_arrays.specs.Stored.{form_of, values_in, values_bytes};
-ghost use Rattle.ipc_arrays.specs.StoredLaws.{IsSpelled};
-ghost use Rattle.ipc_arrays.specs.Written.{flat_buffers, IsPast, IsLonger};
-ghost use Rattle.ipc_arrays.specs.WrittenLaws.{IsWritable};
+ghost use Rattle.ipc_arrays.specs.Decoding.{rest_of, decoded_values, decoded_primitive, decoded_fixed_width};
+ghost use Rattle.ipc_arrays.specs.BodyBuffers.{padded, body_of};
+ghost use Rattle.ipc_arrays.specs.FixedWidth.{format_of, decoded_natives, values_bytes};
+ghost use Rattle.ipc_arrays.specs.FixedWidthLaws.{ValueRoundTrips};
+ghost use Rattle.ipc_arrays.specs.Encoding.{flat_buffers, AppendsBuffers, IsLayoutError};
+ghost use Rattle.ipc_arrays.specs.EncodingLaws.{IsWritable};
 
 use crate::bytes::{buffer_of, is_enough, pad};
-use crate::parts::{Counts, Left, next_buffer};
-use crate::layout::{Placed, place_buffers};
-use crate::stored::Stored;
-use crate::validity::{put_validity, read_head, validity_size};
-use ipc_flatbuf::{Fault, NoForm};
+use crate::cursor::{BatchCursor, NodeCounts, next_buffer};
+use crate::fixed_width::FixedWidth;
+use crate::layout::{BodyLayout, layout_buffers};
+use crate::validity::{read_validity_buffer, validity_size, write_validity};
+use ipc_flatbuf::{IpcReadError, IpcWriteError};
 use nest_flat::any_primitive::AnyPrimitive;
 use nest_flat::primitive::PrimitiveArray;
 use nest_memory::bitmap::immutable::Bitmap;
@@ -33,10 +33,14 @@ use nest_memory::datatypes::physical_type::PrimitiveType;
 use nest_memory::types::{days_ms, i256, months_days_ns};
 use std::alloc::{AllocError, Global};
 
-// Each value is put together from its bytes, which may begin anywhere.
-fn copy_values<T: Stored>(alloc: Global, slots: usize, bytes: &[u8]) -> Result<Vec<T>, AllocError>
-    requires { slots * T.form.size ≤ length bytes.now }
-    ensures values { IfOk result (λ v. map T.numbers v.items ≡ values_in T.form slots bytes.now) }
+// Values are decoded from bytes, since a buffer may be unaligned.
+fn copy_values<T: FixedWidth>(
+    alloc: Global,
+    slots: usize,
+    bytes: &[u8],
+) -> Result<Vec<T>, AllocError>
+    requires { slots * T.format.size ≤ length bytes.now }
+    ensures values { IfOk result (λ v. map T.numbers v.items ≡ decoded_natives T.format slots bytes.now) }
     ensures slots { IfOk result (λ v. length v.items ≡ slots) }
 {
     let mut values = Vec::with_capacity(alloc, slots)?;
@@ -49,24 +53,28 @@ fn copy_values<T: Stored>(alloc: Global, slots: usize, bytes: &[u8]) -> Result<V
     Ok(values)
 }
 
-/// The values of so many slots.
-#[tactic(auto, unfolding(crate::specs::Columns::natives_in))]
-pub(crate) fn read_values<T: Stored>(
+/// Reads `slots` values of a fixed width.
+///
+/// # Errors
+///
+/// `IpcReadError::BufferTooShort` if there are too few bytes, and `IpcReadError::Memory` if an allocation fails.
+#[tactic(auto, unfolding(crate::specs::Decoding::decoded_values))]
+pub(crate) fn read_values<T: FixedWidth>(
     alloc: Global,
     slots: usize,
     bytes: &[u8],
-) -> Result<Vec<T>, Fault>
-    ensures read { Gives (λ v. map T.numbers v.items) result (natives_in T.form slots bytes.now) }
+) -> Result<Vec<T>, IpcReadError>
+    ensures read { ReturnsOrRunsOut (λ v. map T.numbers v.items) result (decoded_values T.format slots bytes.now) }
     ensures slots { IfOk result (λ v. length v.items ≡ slots) }
 {
     if !is_enough(bytes.len(), slots, T::size()) {
-        return Err(Fault::BufferShort);
+        return Err(IpcReadError::BufferTooShort);
     }
     Ok(copy_values(alloc, slots, bytes)?)
 }
 
-/// The array of parts that fit.
-pub(crate) fn fitting<T: Stored>(
+/// Returns the primitive array of these parts.
+pub(crate) fn primitive_array<T: FixedWidth>(
     data_type: DataType,
     values: Buffer<T>,
     validity: Option<Bitmap>,
@@ -80,74 +88,78 @@ pub(crate) fn fitting<T: Stored>(
     }
 }
 
-fn array_of<T: Stored>(
+fn array_of<T: FixedWidth>(
     alloc: Global,
     data_type: &DataType,
     values: Buffer<T>,
     validity: Option<Bitmap>,
-) -> Result<PrimitiveArray<T>, Fault>
+) -> Result<PrimitiveArray<T>, IpcReadError>
     requires { Fits (layouts.primitive T.PRIMITIVE (type_of data_type.now) (map T.numbers values) validity) }
-    ensures { Gives (λ a. a) result (Ok (layouts.primitive T.PRIMITIVE (type_of data_type.now) (map T.numbers values) validity)) }
+    ensures { ReturnsOrRunsOut (λ a. a) result (Ok (layouts.primitive T.PRIMITIVE (type_of data_type.now) (map T.numbers values) validity)) }
 {
     match data_type.clone(alloc) {
-        Err(_) => Err(Fault::Memory),
-        Ok(data_type) => Ok(fitting(data_type, values, validity)),
+        Err(_) => Err(IpcReadError::Memory),
+        Ok(data_type) => Ok(primitive_array(data_type, values, validity)),
     }
 }
 
-#[tactic(auto, unfolding(crate::specs::Columns::native_in))]
-fn read_native<'a, T: Stored>(
+#[tactic(auto, unfolding(crate::specs::Decoding::decoded_primitive))]
+fn read_native<'a, T: FixedWidth>(
     alloc: Global,
     data_type: &DataType,
-    counts: Counts,
+    counts: NodeCounts,
     body: &'a [u8],
-    left: Left<'a>,
-) -> Result<(PrimitiveArray<T>, Left<'a>), Fault>
+    cursor: BatchCursor<'a>,
+) -> Result<(PrimitiveArray<T>, BatchCursor<'a>), IpcReadError>
     requires { physical_type (type_of data_type.now) ≡ physical.Primitive T.PRIMITIVE }
-    ensures { Gives (λ x. (x.0, rest_of x.1)) result (native_in T.form T.PRIMITIVE (type_of data_type.now) counts body.now (rest_of left.entry)) }
+    ensures { ReturnsOrRunsOut (λ x. (x.0, rest_of x.1)) result (decoded_primitive T.format T.PRIMITIVE (type_of data_type.now) counts body.now (rest_of cursor.entry)) }
 {
-    let (validity, left) = read_head(alloc, counts, body, left)?;
-    let (bytes, left) = next_buffer(body, left)?;
+    let (validity, cursor) = read_validity_buffer(alloc, counts, body, cursor)?;
+    let (bytes, cursor) = next_buffer(body, cursor)?;
     let values = read_values::<T>(alloc, counts.slots, bytes)?;
     let values = buffer_of(alloc, values)?;
     let array = array_of(alloc, data_type, values, validity)?;
-    Ok((array, left))
+    Ok((array, cursor))
 }
 
-// The array of a type in the variant of its kind.
+// Reads a primitive array and wraps it in its variant.
 macro_rules! read_as {
-    ($variant:ident, $native:ty, $alloc:ident, $type:ident, $counts:ident, $body:ident, $left:ident) => {
-        match read_native::<$native>($alloc, $type, $counts, $body, $left) {
-            Err(fault) => Err(fault),
-            Ok((array, left)) => Ok((AnyPrimitive::$variant(array), left)),
+    ($variant:ident, $native:ty, $alloc:ident, $type:ident, $counts:ident, $body:ident, $cursor:ident) => {
+        match read_native::<$native>($alloc, $type, $counts, $body, $cursor) {
+            Err(error) => Err(error),
+            Ok((array, cursor)) => Ok((AnyPrimitive::$variant(array), cursor)),
         }
     };
 }
 
-/// The next array, of native values of a kind.
+/// Reads the buffers of a primitive array: validity and values.
+///
+/// # Errors
+///
+/// `IpcReadError::UnsupportedType` if values of this type cannot be read, and those of the buffers.
 pub(crate) fn read_primitive<'a>(
     alloc: Global,
     kind: PrimitiveType,
     data_type: &DataType,
-    counts: Counts,
+    counts: NodeCounts,
     body: &'a [u8],
-    left: Left<'a>,
-) -> Result<(AnyPrimitive, Left<'a>), Fault>
+    cursor: BatchCursor<'a>,
+) -> Result<(AnyPrimitive, BatchCursor<'a>), IpcReadError>
     requires { physical_type (type_of data_type.now) ≡ physical.Primitive kind }
-    ensures { Gives (λ x. (primitive_layout x.0, rest_of x.1)) result (of_form (form_of kind) kind (type_of data_type.now) counts body.now (rest_of left.entry)) }
+    ensures { ReturnsOrRunsOut (λ x. (primitive_layout x.0, rest_of x.1)) result (decoded_fixed_width (format_of kind) kind (type_of data_type.now) counts body.now (rest_of cursor.entry)) }
 {
     match kind {
-        PrimitiveType::Int8 => read_as!(Int8, i8, alloc, data_type, counts, body, left),
-        PrimitiveType::Int16 => read_as!(Int16, i16, alloc, data_type, counts, body, left),
-        PrimitiveType::Int32 => read_as!(Int32, i32, alloc, data_type, counts, body, left),
-        PrimitiveType::Int64 => read_as!(Int64, i64, alloc, data_type, counts, body, left),
-        PrimitiveType::Int128 => read_as!(Int128, i128, alloc, data_type, counts, body, left),
-        PrimitiveType::Int256 => read_as!(Int256, i256, alloc, data_type, counts, body, left),
-        PrimitiveType::UInt8 => read_as!(UInt8, u8, alloc, data_type, counts, body, left),
-        PrimitiveType::UInt16 => read_as!(UInt16, u16, alloc, data_type, counts, body, left),
-        PrimitiveType::UInt32 => read_as!(UInt32, u32, alloc, data_type, counts, body, left),
-        PrimitiveType::UInt64 => read_as!(UInt64, u64, alloc, data_type, counts, body, left),
-        PrimitiveType::DaysMs => read_as!(DaysMs, days_ms, alloc, data_type, counts, body, left),
+        PrimitiveType::Int8 => read_as!(Int8, i8, alloc, data_type, counts, body, cursor),
+        PrimitiveType::Int16 => read_as!(Int16, i16, alloc, data_type, counts, body, cursor),
+        PrimitiveType::Int32 => read_as!(Int32, i32, alloc, data_type, counts, body, cursor),
+        PrimitiveType::Int64 => read_as!(Int64, i64, alloc, data_type, counts, body, cursor),
+        PrimitiveType::Int128 => read_as!(Int128, i128, alloc, data_type, counts, body, cursor),
+        PrimitiveType::Int256 => read_as!(Int256, i256, alloc, data_type, counts, body, cursor),
+        PrimitiveType::UInt8 => read_as!(UInt8, u8, alloc, data_type, counts, body, cursor),
+        PrimitiveType::UInt16 => read_as!(UInt16, u16, alloc, data_type, counts, body, cursor),
+        PrimitiveType::UInt32 => read_as!(UInt32, u32, alloc, data_type, counts, body, cursor),
+        PrimitiveType::UInt64 => read_as!(UInt64, u64, alloc, data_type, counts, body, cursor),
+        PrimitiveType::DaysMs => read_as!(DaysMs, days_ms, alloc, data_type, counts, body, cursor),
         PrimitiveType::MonthDayNano => {
             read_as!(
                 MonthDayNano,
@@ -156,36 +168,39 @@ pub(crate) fn read_primitive<'a>(
                 data_type,
                 counts,
                 body,
-                left
+                cursor
             )
         }
-        _ => Err(Fault::UnsupportedType),
+        _ => Err(IpcReadError::UnsupportedType),
     }
 }
 
-/// How many bytes so many values have in a body; refused where no `usize` counts them.
-pub(crate) fn values_size<T: Stored>(slots: usize) -> Result<usize, NoForm>
-    ensures ok { IfOk result (λ n. n ≡ slots * T.form.size) }
-    ensures err { IfErr result (λ why. (why ≡ Size) × (2 ^ 63 ≤ slots * T.form.size)) }
+/// Returns the size in bytes of `slots` values, or `IpcWriteError::Size` if it does not fit in a `usize`.
+pub(crate) fn values_size<T: FixedWidth>(slots: usize) -> Result<usize, IpcWriteError>
+    ensures ok { IfOk result (λ n. n ≡ slots * T.format.size) }
+    ensures err { IfErr result (λ error. (error ≡ Size) × (2 ^ 63 ≤ slots * T.format.size)) }
 {
     match slots.checked_mul(T::size()) {
         Some(size) => Ok(size),
-        None => Err(NoForm::Size),
+        None => Err(IpcWriteError::Size),
     }
 }
 
-fn place_native<T: Stored>(placed: &mut Placed, array: &PrimitiveArray<T>) -> Result<(), NoForm>
-    requires { placed.old.length < 2 ^ 63 }
-    ensures nodes { placed.new.nodes ≡ placed.old.nodes }
-    ensures ok { OnOk result (IsLonger placed.old placed.new (flat_buffers array.now)) }
-    ensures err { IfErr result (λ why. IsPast why (placed.old.length + length (body_of (flat_buffers array.now)))) }
+fn layout_native<T: FixedWidth>(
+    layout: &mut BodyLayout,
+    array: &PrimitiveArray<T>,
+) -> Result<(), IpcWriteError>
+    requires { layout.old.length < 2 ^ 63 }
+    ensures nodes { layout.new.nodes ≡ layout.old.nodes }
+    ensures ok { OnOk result (AppendsBuffers layout.old layout.new (flat_buffers array.now)) }
+    ensures err { IfErr result (λ error. IsLayoutError error layout.old (flat_buffers array.now)) }
 {
     array.known();
     let size = values_size::<T>(array.len())?;
-    place_buffers(placed, &[validity_size(array.validity()), size])
+    layout_buffers(layout, &[validity_size(array.validity()), size])
 }
 
-// The same for the array of each kind.
+// Applies an expression to the array of every variant.
 macro_rules! each_kind {
     ($any:expr, $array:ident => $body:expr) => {
         match $any {
@@ -205,19 +220,22 @@ macro_rules! each_kind {
     };
 }
 
-/// Where the buffers of an array of any kind of native values stand.
-pub(crate) fn place_primitive(placed: &mut Placed, array: &AnyPrimitive) -> Result<(), NoForm>
-    requires { placed.old.length < 2 ^ 63 }
-    ensures nodes { placed.new.nodes ≡ placed.old.nodes }
-    ensures ok { OnOk result (IsLonger placed.old placed.new (flat_buffers (primitive_layout array.now))) }
-    ensures err { IfErr result (λ why. IsPast why (placed.old.length + length (body_of (flat_buffers (primitive_layout array.now))))) }
+/// Lays out the buffers of a primitive array.
+pub(crate) fn layout_primitive(
+    layout: &mut BodyLayout,
+    array: &AnyPrimitive,
+) -> Result<(), IpcWriteError>
+    requires { layout.old.length < 2 ^ 63 }
+    ensures nodes { layout.new.nodes ≡ layout.old.nodes }
+    ensures ok { OnOk result (AppendsBuffers layout.old layout.new (flat_buffers (primitive_layout array.now))) }
+    ensures err { IfErr result (λ error. IsLayoutError error layout.old (flat_buffers (primitive_layout array.now))) }
 {
-    each_kind!(array, array => place_native(placed, array))
+    each_kind!(array, array => layout_native(layout, array))
 }
 
-fn put_each<T: Stored>(out: &mut Vec<u8>, values: &[T]) -> Result<(), AllocError>
-    ensures ok { OnOk result (out.new.items ≡ out.old.items ++ values_bytes T.form (map T.numbers values.now)) }
-    ensures spelled { OnOk result (AllByRecursion (IsSpelled T.form) (map T.numbers values.now)) }
+fn write_each<T: FixedWidth>(out: &mut Vec<u8>, values: &[T]) -> Result<(), AllocError>
+    ensures ok { OnOk result (out.new.items ≡ out.old.items ++ values_bytes T.format (map T.numbers values.now)) }
+    ensures round_trips { OnOk result (AllByRecursion (ValueRoundTrips T.format) (map T.numbers values.now)) }
 {
     for value in values {
         value.put(out)?;
@@ -225,31 +243,34 @@ fn put_each<T: Stored>(out: &mut Vec<u8>, values: &[T]) -> Result<(), AllocError
     Ok(())
 }
 
-/// Appends native values as a buffer.
-#[tactic(auto, unfolding(crate::specs::Placed::padded))]
-pub(crate) fn put_values<T: Stored>(out: &mut Vec<u8>, values: &[T]) -> Result<(), AllocError>
-    ensures ok { OnOk result (out.new.items ≡ out.old.items ++ padded (values_bytes T.form (map T.numbers values.now))) }
-    ensures spelled { OnOk result (AllByRecursion (IsSpelled T.form) (map T.numbers values.now)) }
+/// Appends values of a fixed width as a padded buffer.
+#[tactic(auto, unfolding(crate::specs::BodyBuffers::padded))]
+pub(crate) fn write_values<T: FixedWidth>(out: &mut Vec<u8>, values: &[T]) -> Result<(), AllocError>
+    ensures ok { OnOk result (out.new.items ≡ out.old.items ++ padded (values_bytes T.format (map T.numbers values.now))) }
+    ensures round_trips { OnOk result (AllByRecursion (ValueRoundTrips T.format) (map T.numbers values.now)) }
 {
     out.reserve(values.len().saturating_mul(T::size()))?;
     let start = out.len();
-    put_each(out, values)?;
+    write_each(out, values)?;
     pad(out, start)
 }
 
-fn put_native<T: Stored>(out: &mut Vec<u8>, array: &PrimitiveArray<T>) -> Result<(), AllocError>
+fn write_native<T: FixedWidth>(
+    out: &mut Vec<u8>,
+    array: &PrimitiveArray<T>,
+) -> Result<(), AllocError>
     ensures ok { OnOk result (out.new.items ≡ out.old.items ++ body_of (flat_buffers array.now)) }
     ensures writable { OnOk result (IsWritable array.now) }
 {
     array.known();
-    put_validity(out, array.validity())?;
-    put_values(out, array.values().as_slice())
+    write_validity(out, array.validity())?;
+    write_values(out, array.values().as_slice())
 }
 
-/// Appends the buffers of an array of any kind of native values.
-pub(crate) fn put_primitive(out: &mut Vec<u8>, array: &AnyPrimitive) -> Result<(), AllocError>
+/// Appends the buffers of a primitive array.
+pub(crate) fn write_primitive(out: &mut Vec<u8>, array: &AnyPrimitive) -> Result<(), AllocError>
     ensures ok { OnOk result (out.new.items ≡ out.old.items ++ body_of (flat_buffers (primitive_layout array.now))) }
     ensures writable { OnOk result (IsWritable (primitive_layout array.now)) }
 {
-    each_kind!(array, array => put_native(out, array))
+    each_kind!(array, array => write_native(out, array))
 }

@@ -1,136 +1,139 @@
-//! Reads some columns of a batch.
+//! Reads projected columns of a record batch and skips the others.
 ghost use Rattle.std.specs.Prelude.{map};
-ghost use Rattle.ipc_flatbuf.specs.Reading.{Gives, Spells};
-ghost use Rattle.ipc_flatbuf.specs.declared.error.Fault.TheVariants.{NodeCount, BufferCount};
+ghost use Rattle.ipc_flatbuf.specs.ReadResults.{ReturnsOrRunsOut, Returns};
+ghost use Rattle.ipc_flatbuf.specs.declared.error.IpcReadError.TheVariants.{NodeCount, BufferCount};
 ghost use Rattle.nest_array.specs.Seen.{layout_of};
-ghost use Rattle.ipc_arrays.specs.Columns.{rest_of};
-ghost use Rattle.ipc_arrays.specs.Picked.{behind, views_in, passed_in, steps_in, picked_in, ahead_of};
+ghost use Rattle.ipc_arrays.specs.Decoding.{rest_of};
+ghost use Rattle.ipc_arrays.specs.Projection.{skip_first, skipped_views, skipped_column, decoded_steps, decoded_projection, projection_state};
 
-use crate::columns::{Typed, none_left};
-use crate::parts::{Left, Wanted};
+use crate::columns::{HasDataType, check_exhausted};
+use crate::cursor::{BatchCursor, ExpectedLength};
 use crate::reading::read_column;
-use ipc_flatbuf::{Fault, Node, Region, Span, Step};
-use ipc_flatbuf::natural;
+use ipc_flatbuf::{BufferSpec, FieldAction, FieldNode, IpcReadError, SkippedField, non_negative};
 use nest_array::any::AnyArray;
 use std::alloc::Global;
 
-/// The nodes and buffers of a batch that no array has taken yet, and how many buffers more each array of views has that was not
-/// passed yet, `variadicBufferCounts` of `Message.fbs` of the Arrow format.
+/// A cursor over a record batch of which some columns are skipped.
+///
+/// `more` holds the `variadicBufferCounts` (Message.fbs, table RecordBatch) of the view arrays that have not been skipped yet.
 #[derive(Clone, Copy)]
-pub struct Ahead<'a> {
-    pub left: Left<'a>,
+pub struct ProjectionCursor<'a> {
+    pub left: BatchCursor<'a>,
     pub more: &'a [i64],
 }
 
-#[tactic(auto, unfolding(crate::specs::Picked::behind))]
-fn nodes_behind(count: usize, nodes: &[Node]) -> Result<&[Node], Fault>
-    ensures { Spells (λ s. s.now) result (behind NodeCount count nodes.now) }
+#[tactic(auto, unfolding(crate::specs::Projection::skip_first))]
+fn skip_nodes(count: usize, nodes: &[FieldNode]) -> Result<&[FieldNode], IpcReadError>
+    ensures { Returns (λ s. s.now) result (skip_first NodeCount count nodes.now) }
 {
     if count <= nodes.len() {
         Ok(&nodes[count..])
     } else {
-        Err(Fault::NodeCount)
+        Err(IpcReadError::NodeCount)
     }
 }
 
-#[tactic(auto, unfolding(crate::specs::Picked::behind))]
-fn regions_behind(count: usize, regions: &[Region]) -> Result<&[Region], Fault>
-    ensures { Spells (λ s. s.now) result (behind BufferCount count regions.now) }
+#[tactic(auto, unfolding(crate::specs::Projection::skip_first))]
+fn skip_buffers(count: usize, buffers: &[BufferSpec]) -> Result<&[BufferSpec], IpcReadError>
+    ensures { Returns (λ s. s.now) result (skip_first BufferCount count buffers.now) }
 {
-    if count <= regions.len() {
-        Ok(&regions[count..])
+    if count <= buffers.len() {
+        Ok(&buffers[count..])
     } else {
-        Err(Fault::BufferCount)
+        Err(IpcReadError::BufferCount)
     }
 }
 
-// Behind the buffers of the next array of views that the batch counts.
-#[tactic(auto, unfolding(crate::specs::Picked::views_in))]
-fn view_behind<'a>(
+// Skips the variadic buffers of one view array.
+#[tactic(auto, unfolding(crate::specs::Projection::skipped_views))]
+fn skip_view<'a>(
     more: &'a [i64],
-    regions: &'a [Region],
-) -> Result<(&'a [Region], &'a [i64]), Fault>
-    ensures { Spells (λ x. (x.0.now, x.1.now)) result (views_in 1 more.now regions.now) }
+    buffers: &'a [BufferSpec],
+) -> Result<(&'a [BufferSpec], &'a [i64]), IpcReadError>
+    ensures { Returns (λ x. (x.0.now, x.1.now)) result (skipped_views 1 more.now buffers.now) }
 {
     match more {
-        [] => Err(Fault::BufferCount),
+        [] => Err(IpcReadError::BufferCount),
         [count, others @ ..] => {
-            let count = natural(Fault::BufferCount, *count)?;
-            Ok((regions_behind(count, regions)?, others))
+            let count = non_negative(IpcReadError::BufferCount, *count)?;
+            Ok((skip_buffers(count, buffers)?, others))
         }
     }
 }
 
-// Behind those of so many.
-fn views_behind<'a>(
+// Skips the variadic buffers of `views` view arrays.
+fn skip_views<'a>(
     views: usize,
     more: &'a [i64],
-    regions: &'a [Region],
-) -> Result<(&'a [Region], &'a [i64]), Fault>
-    ensures { Spells (λ x. (x.0.now, x.1.now)) result (views_in views more.now regions.now) }
+    buffers: &'a [BufferSpec],
+) -> Result<(&'a [BufferSpec], &'a [i64]), IpcReadError>
+    ensures { Returns (λ x. (x.0.now, x.1.now)) result (skipped_views views more.now buffers.now) }
 {
-    let mut left = regions;
+    let mut left = buffers;
     let mut counts = more;
     for _i in 0..views {
-        let (behind, others) = view_behind(counts, left)?;
-        left = behind;
+        let (tail, others) = skip_view(counts, left)?;
+        left = tail;
         counts = others;
     }
     Ok((left, counts))
 }
 
-// Behind a column that is passed over.
-#[tactic(auto, unfolding(crate::specs::Picked::passed_in))]
-fn pass(span: Span, ahead: Ahead<'_>) -> Result<Ahead<'_>, Fault>
-    ensures { Spells ahead_of result (passed_in span (ahead_of ahead.entry)) }
+// Skips a column.
+#[tactic(auto, unfolding(crate::specs::Projection::skipped_column))]
+fn pass(
+    span: SkippedField,
+    ahead: ProjectionCursor<'_>,
+) -> Result<ProjectionCursor<'_>, IpcReadError>
+    ensures { Returns projection_state result (skipped_column span (projection_state ahead.entry)) }
 {
-    let nodes = nodes_behind(span.nodes, ahead.left.nodes)?;
-    let regions = regions_behind(span.buffers, ahead.left.regions)?;
-    let (regions, more) = views_behind(span.views, ahead.more, regions)?;
+    let nodes = skip_nodes(span.nodes, ahead.left.nodes)?;
+    let buffers = skip_buffers(span.buffers, ahead.left.buffers)?;
+    let (buffers, more) = skip_views(span.views, ahead.more, buffers)?;
     let dictionaries = ahead.left.dictionaries;
-    let left = Left {
+    let left = BatchCursor {
         nodes,
-        regions,
+        buffers,
         dictionaries,
     };
-    Ok(Ahead { left, more })
+    Ok(ProjectionCursor { left, more })
 }
 
-fn read_steps<'a, A: Typed>(
+fn read_steps<'a, A: HasDataType>(
     alloc: Global,
-    steps: &[Step],
-    typed: &[A],
+    steps: &[FieldAction],
+    types: &[A],
     rows: usize,
     body: &'a [u8],
-    ahead: Ahead<'a>,
-) -> Result<(Vec<AnyArray>, Left<'a>), Fault>
-    ensures { Gives (λ x. (map layout_of x.0.items, rest_of x.1)) result (steps_in steps.now (map A.tree typed.now) rows body.now (ahead_of ahead.entry)) }
+    ahead: ProjectionCursor<'a>,
+) -> Result<(Vec<AnyArray>, BatchCursor<'a>), IpcReadError>
+    ensures { ReturnsOrRunsOut (λ x. (map layout_of x.0.items, rest_of x.1)) result (decoded_steps steps.now (map A.tree types.now) rows body.now (projection_state ahead.entry)) }
 {
     let mut columns = Vec::new(alloc);
     let mut at = ahead;
     for step in steps {
         match *step {
-            Step::Skip(span) => match pass(span, at) {
-                Err(fault) => return Err(fault),
-                Ok(behind) => at = behind,
+            FieldAction::Skip(span) => match pass(span, at) {
+                Err(error) => return Err(error),
+                Ok(tail) => at = tail,
             },
-            Step::Read => {
+            FieldAction::Read => {
                 let k = columns.len();
-                if k >= typed.len() {
+                if k >= types.len() {
                     return Ok((columns, at.left));
                 }
                 match read_column(
                     alloc,
-                    typed[k].data_type(),
-                    Wanted::Rows(rows),
+                    types[k].data_type(),
+                    ExpectedLength::Rows(rows),
                     body,
                     at.left,
                 ) {
-                    Err(fault) => return Err(fault),
+                    Err(error) => return Err(error),
                     Ok((column, left)) => {
                         columns.push(column)?;
                         let more = at.more;
-                        at = Ahead { left, more };
+                        at = ProjectionCursor { left, more };
                     }
                 }
             }
@@ -139,23 +142,29 @@ fn read_steps<'a, A: Typed>(
     Ok((columns, at.left))
 }
 
-/// The columns of a batch of so many rows that are read, one for each step that reads; the others are passed over. All nodes and
-/// buffers are used up. As many steps read as there are data types.
-#[tactic(auto, unfolding(crate::specs::Picked::picked_in))]
-pub fn read_picked<A: Typed>(
+/// Reads the projected columns of a record batch of `rows` rows, one for each of `types`, and skips the others.
+///
+/// Each step reads or skips the next column. Reading ends when there are no more steps, or no more `types` for a step that reads.
+///
+/// # Errors
+///
+/// The first error of [`read_column`] or of a skipped column, whose nodes, buffers or variadic counts may be missing
+/// (`IpcReadError::NodeCount`, `IpcReadError::BufferCount`); then those of [`check_exhausted`].
+#[tactic(auto, unfolding(crate::specs::Projection::decoded_projection))]
+pub fn read_projected<A: HasDataType>(
     alloc: Global,
-    steps: &[Step],
-    typed: &[A],
+    steps: &[FieldAction],
+    types: &[A],
     rows: usize,
     body: &[u8],
-    ahead: Ahead<'_>,
-) -> Result<Vec<AnyArray>, Fault>
-    ensures { Gives (λ v. map layout_of v.items) result (picked_in steps.now (map A.tree typed.now) rows body.now (ahead_of ahead.entry)) }
+    ahead: ProjectionCursor<'_>,
+) -> Result<Vec<AnyArray>, IpcReadError>
+    ensures { ReturnsOrRunsOut (λ v. map layout_of v.items) result (decoded_projection steps.now (map A.tree types.now) rows body.now (projection_state ahead.entry)) }
 {
-    match read_steps(alloc, steps, typed, rows, body, ahead) {
-        Err(fault) => Err(fault),
-        Ok((columns, rest)) => match none_left(rest) {
-            Err(fault) => Err(fault),
+    match read_steps(alloc, steps, types, rows, body, ahead) {
+        Err(error) => Err(error),
+        Ok((columns, rest)) => match check_exhausted(rest) {
+            Err(error) => Err(error),
             Ok(()) => Ok(columns),
         },
     }

@@ -1,80 +1,80 @@
-//! Examples of columns with children, as functions with empty bodies.
-ghost use Rattle.ipc_flatbuf.specs.declared.error.Fault.TheVariants.{BufferCount, BufferShort, ChildLength, KeyRange, MissingDictionary, NodeCount, OffsetPastChild, TypeRange, UnionSlot, UnionType};
-ghost use Rattle.ipc_arrays.specs.ReadExamples.{IsRead, IsRefused, lists, lists_read, short_lists, bare_lists, no_lists, no_lists_read, large_lists, large_lists_read, pairs, pairs_read, long_pairs, no_pairs, records, records_read, first_long, second_long, no_records, maps, maps_read, short_maps, no_maps, choices, choices_read, short_choices, odd_choices, unnamed_choices, negative_choices, picks, picks_read, past_picks, other_picks, negative_picks, odd_picks, bare_picks, keyed, keyed_read, wide_keyed, wide_keyed_read, null_keyed, null_keyed_read, both_keyed, both_keyed_read, past_keyed, negative_keyed, missing_keyed, bare_keyed, unlike_keyed, short_keyed};
+//! Worked examples of nested and dictionary-encoded columns that are read, stated as contracts.
+ghost use Rattle.ipc_flatbuf.specs.declared.error.IpcReadError.TheVariants.{BufferCount, BufferTooShort, ChildLength, KeyRange, MissingDictionary, NodeCount, OffsetPastChild, TypeRange, UnionOffset, UnionType};
+ghost use Rattle.ipc_arrays.specs.ReadExamples.{IsRead, IsRejected, lists, lists_read, short_lists, bare_lists, no_lists, no_lists_read, large_lists, large_lists_read, sized_list, sized_list_read, long_sized_list, no_sized_list, structs, structs_read, first_long, second_long, no_structs, maps, maps_read, short_maps, no_maps, sparse_union, sparse_union_read, short_sparse_union, odd_sparse_union, unnamed_sparse_union, negative_sparse_union, dense_union, dense_union_read, past_dense_union, other_dense_union, negative_dense_union, odd_dense_union, bare_dense_union, dictionary_column, dictionary_read, wide_dictionary, wide_dictionary_read, null_dictionary, null_dictionary_read, both_dictionary, both_dictionary_read, past_dictionary, negative_dictionary, missing_dictionary, bare_dictionary, unlike_dictionary, short_dictionary};
 
-/// Lists whose items stand before their offsets, which begin at 1 and leave an item at the end; with an item too few, or no node of items, they
-/// are refused.
-pub fn lists_are_read()
+/// A list is read whose items come before its offsets, which begin at 1 and leave the last item unused. It is rejected if an item
+/// is missing, or the field node of the items.
+pub fn list_is_read()
     ensures read { IsRead lists lists_read }
-    ensures short { IsRefused short_lists OffsetPastChild }
-    ensures bare { IsRefused bare_lists NodeCount }
+    ensures short { IsRejected short_lists OffsetPastChild }
+    ensures bare { IsRejected bare_lists NodeCount }
 {}
 
-/// No list, by no byte, over items; a null and a list, by offsets of 64 bits.
-pub fn large_lists_are_read()
+/// An empty list array with an empty offsets buffer is read, and an array of a null and a list with 64-bit offsets.
+pub fn large_list_is_read()
     ensures none { IsRead no_lists no_lists_read }
     ensures some { IsRead large_lists large_lists_read }
 {}
 
-/// Lists of two items each, of which one is null; with an item too many, and of no item each, they are refused.
-pub fn pairs_are_read()
-    ensures read { IsRead pairs pairs_read }
-    ensures long { IsRefused long_pairs ChildLength }
-    ensures zero { IsRefused no_pairs TypeRange }
+/// A fixed-size list is read. It is rejected with an item too many, and if the size is 0.
+pub fn fixed_size_list_is_read()
+    ensures read { IsRead sized_list sized_list_read }
+    ensures long { IsRejected long_sized_list ChildLength }
+    ensures zero { IsRejected no_sized_list TypeRange }
 {}
 
-/// Records of a truth and a number; refused where either child has another length, and without a field.
-pub fn records_are_read()
-    ensures read { IsRead records records_read }
-    ensures first { IsRefused first_long ChildLength }
-    ensures second { IsRefused second_long ChildLength }
-    ensures bare { IsRefused no_records TypeRange }
+/// A struct of a boolean and a number is read. It is rejected if a child has another length, and without fields.
+pub fn struct_is_read()
+    ensures read { IsRead structs structs_read }
+    ensures first { IsRejected first_long ChildLength }
+    ensures second { IsRejected second_long ChildLength }
+    ensures bare { IsRejected no_structs TypeRange }
 {}
 
-/// Two maps, of which one has no entry; refused with an entry too few, and where entries are no pairs.
-pub fn maps_are_read()
+/// A map array is read. It is rejected if an entry is missing, and if the entries are not structs of a key and a value.
+pub fn map_is_read()
     ensures read { IsRead maps maps_read }
-    ensures short { IsRefused short_maps OffsetPastChild }
-    ensures unlike { IsRefused no_maps TypeRange }
+    ensures short { IsRejected short_maps OffsetPastChild }
+    ensures unlike { IsRejected no_maps TypeRange }
 {}
 
-/// A sparse union by ids that are out of order, over a child that is longer; refused where a child is shorter, where a type is a position but
-/// no id, with too few ids, and with an id that is negative.
-pub fn sparse_unions_are_read()
-    ensures read { IsRead choices choices_read }
-    ensures short { IsRefused short_choices ChildLength }
-    ensures odd { IsRefused odd_choices UnionType }
-    ensures unnamed { IsRefused unnamed_choices TypeRange }
-    ensures negative { IsRefused negative_choices TypeRange }
+/// A sparse union is read whose ids are out of order and of which one child is longer. It is rejected if a child is too short, if a
+/// type is a field's index but not an id, if there are too few ids, and if an id is negative.
+pub fn sparse_union_is_read()
+    ensures read { IsRead sparse_union sparse_union_read }
+    ensures short { IsRejected short_sparse_union ChildLength }
+    ensures odd { IsRejected odd_sparse_union UnionType }
+    ensures unnamed { IsRejected unnamed_sparse_union TypeRange }
+    ensures negative { IsRejected negative_sparse_union TypeRange }
 {}
 
-/// A dense union by offsets that do not rise; refused where an offset is past its field, also where it names a slot of another field, where it
-/// is negative, where a type means no field, and without offsets.
-pub fn dense_unions_are_read()
-    ensures read { IsRead picks picks_read }
-    ensures past { IsRefused past_picks UnionSlot }
-    ensures other { IsRefused other_picks UnionSlot }
-    ensures negative { IsRefused negative_picks UnionSlot }
-    ensures odd { IsRefused odd_picks UnionType }
-    ensures bare { IsRefused bare_picks BufferCount }
+/// A dense union is read whose offsets are not increasing. It is rejected if an offset is past the end of its child, even if within
+/// another child, if one is negative, if a type has no field, and without offsets.
+pub fn dense_union_is_read()
+    ensures read { IsRead dense_union dense_union_read }
+    ensures past { IsRejected past_dense_union UnionOffset }
+    ensures other { IsRejected other_dense_union UnionOffset }
+    ensures negative { IsRejected negative_dense_union UnionOffset }
+    ensures odd { IsRejected odd_dense_union UnionType }
+    ensures bare { IsRejected bare_dense_union BufferCount }
 {}
 
-/// Keys of texts, of which one is null, over another number than 0, which is read as 0; keys of another width, of values whose type extends that of
-/// texts; nulls over no value, whose keys would name none; a record of two keys, each of which takes its own values.
-pub fn keys_are_read()
-    ensures read { IsRead keyed keyed_read }
-    ensures wide { IsRead wide_keyed wide_keyed_read }
-    ensures null { IsRead null_keyed null_keyed_read }
-    ensures both { IsRead both_keyed both_keyed_read }
+/// A dictionary-encoded UTF-8 array is read, and the key of its null slot becomes 0. So are keys of another width over an extension
+/// type, nulls over no values, and a struct of two dictionaries, each with its own values.
+pub fn dictionary_is_read()
+    ensures read { IsRead dictionary_column dictionary_read }
+    ensures wide { IsRead wide_dictionary wide_dictionary_read }
+    ensures null { IsRead null_dictionary null_dictionary_read }
+    ensures both { IsRead both_dictionary both_dictionary_read }
 {}
 
-/// Keys are refused where one that is valid is past the values or negative, where the values are missing or, looked at before the keys are, of
-/// another type, and where there are too few bytes of keys, before the values are looked for.
-pub fn keys_are_refused()
-    ensures past { IsRefused past_keyed KeyRange }
-    ensures negative { IsRefused negative_keyed KeyRange }
-    ensures missing { IsRefused missing_keyed MissingDictionary }
-    ensures bare { IsRefused bare_keyed MissingDictionary }
-    ensures unlike { IsRefused unlike_keyed MissingDictionary }
-    ensures short { IsRefused short_keyed BufferShort }
+/// A dictionary-encoded array is rejected if a valid key is out of range or negative, and if the values are missing or of another type.
+/// A short buffer is reported before missing values, and a wrong type before the keys.
+pub fn invalid_dictionary_is_rejected()
+    ensures past { IsRejected past_dictionary KeyRange }
+    ensures negative { IsRejected negative_dictionary KeyRange }
+    ensures missing { IsRejected missing_dictionary MissingDictionary }
+    ensures bare { IsRejected bare_dictionary MissingDictionary }
+    ensures unlike { IsRejected unlike_dictionary MissingDictionary }
+    ensures short { IsRejected short_dictionary BufferTooShort }
 {}

@@ -1,24 +1,24 @@
-//! Records of a child for each field.
+//! Struct arrays.
 ghost use Rattle.std.specs.Prelude.{◌≡◌, Ok, nat_lt, ◌≤◌, ◌+◌, IfOk};
-ghost use Rattle.ipc_flatbuf.specs.Reading.{Gives, check};
-ghost use Rattle.ipc_flatbuf.specs.declared.error.Fault.TheVariants.{TypeRange};
+ghost use Rattle.ipc_flatbuf.specs.ReadResults.{ReturnsOrRunsOut, check};
+ghost use Rattle.ipc_flatbuf.specs.declared.error.IpcReadError.TheVariants.{TypeRange};
 ghost use Rattle.nest_memory.specs.TypeOf.{type_of, field_list_of};
 ghost use Rattle.nest_memory.specs.TypeTree as types;
 ghost use Rattle.nest_memory.specs.TypeTree.{count_fields, logical_type};
 ghost use Rattle.nest_model.specs.Fits.{Fits};
 ghost use Rattle.nest_model.specs.Layout as layouts;
 ghost use Rattle.nest_array.specs.Seen.{layouts_of};
-ghost use Rattle.ipc_arrays.specs.Columns.{rest_of};
-ghost use Rattle.ipc_arrays.specs.ReadParts.{struct_read};
-ghost use Rattle.nest_model.specs.Accessors.{children_of as children_of_lem};
+ghost use Rattle.ipc_arrays.specs.Decoding.{rest_of};
+ghost use Rattle.ipc_arrays.specs.NestedDecoding.{struct_decoding};
+ghost use Rattle.nest_model.specs.Accessors.{children_of};
 ghost use Rattle.nest_model.specs.Meaning.{len};
-ghost use Rattle.ipc_arrays.specs.Written.{each_window};
+ghost use Rattle.ipc_arrays.specs.Encoding.{each_window};
 
-use crate::parts::{Counts, Left, Wanted};
+use crate::cursor::{BatchCursor, ExpectedLength, NodeCounts};
 use crate::reading::read_items;
-use crate::validity::read_head;
-use crate::windows::each;
-use ipc_flatbuf::Fault;
+use crate::validity::read_validity_buffer;
+use crate::windows::aligned_windows;
+use ipc_flatbuf::IpcReadError;
 use nest_array::any::AnyArray;
 use nest_array::struct_::StructArray;
 use nest_array::window::Window;
@@ -26,78 +26,82 @@ use nest_memory::bitmap::immutable::Bitmap;
 use nest_memory::datatypes::{DataType, Field};
 use std::alloc::{AllocError, Global};
 
-// The array of parts that fit.
+// Returns the array of these parts.
 fn array_of(
     alloc: Global,
     data_type: &DataType,
     children: Vec<AnyArray>,
     validity: Option<Bitmap>,
-) -> Result<StructArray, Fault>
+) -> Result<StructArray, IpcReadError>
     requires { Fits (layouts.struct (type_of data_type.now) (layouts_of children.items) validity) }
-    ensures { Gives (λ a. a) result (Ok (layouts.struct (type_of data_type.now) (layouts_of children.items) validity)) }
+    ensures { ReturnsOrRunsOut (λ a. a) result (Ok (layouts.struct (type_of data_type.now) (layouts_of children.items) validity)) }
 {
     match data_type.clone(alloc) {
         Err(_) => {
             drop(children);
             drop(validity);
-            Err(Fault::Memory)
+            Err(IpcReadError::Memory)
         }
         Ok(data_type) => Ok(StructArray::new(data_type, children, validity)),
     }
 }
 
-// That there is a field.
-fn some_fields(fields: &Vec<Field>) -> Result<(), Fault>
+// Checks that there is at least one field.
+fn check_has_fields(fields: &Vec<Field>) -> Result<(), IpcReadError>
     ensures { result ≡ check (nat_lt 0 (count_fields (field_list_of fields.now.items))) TypeRange }
 {
     if fields.is_empty() {
-        Err(Fault::TypeRange)
+        Err(IpcReadError::TypeRange)
     } else {
         Ok(())
     }
 }
 
-/// The array of a type of records with these numbers; without a field there is none.
+/// Reads a struct array: validity, then a child for each field.
+///
+/// # Errors
+///
+/// `IpcReadError::TypeRange` if there is no field, `IpcReadError::ChildLength` if a child has another length, and those of the buffers.
 #[cycle(read)]
-#[tactic(auto, unfolding(crate::specs::ReadParts::struct_read))]
+#[tactic(auto, unfolding(crate::specs::NestedDecoding::struct_decoding))]
 pub(crate) fn read_struct<'a>(
     alloc: Global,
     data_type: &DataType,
     fields: &Vec<Field>,
-    counts: Counts,
+    counts: NodeCounts,
     body: &'a [u8],
-    left: Left<'a>,
-) -> Result<(StructArray, Left<'a>), Fault>
+    cursor: BatchCursor<'a>,
+) -> Result<(StructArray, BatchCursor<'a>), IpcReadError>
     requires { logical_type (type_of data_type.now) ≡ types.struct (field_list_of fields.now.items) }
-    ensures { Gives (λ x. (x.0, rest_of x.1)) result (struct_read (type_of data_type.now) (field_list_of fields.now.items) counts body.now (rest_of left.entry)) }
+    ensures { ReturnsOrRunsOut (λ x. (x.0, rest_of x.1)) result (struct_decoding (type_of data_type.now) (field_list_of fields.now.items) counts body.now (rest_of cursor.entry)) }
 {
-    some_fields(fields)?;
-    let (validity, left) = read_head(alloc, counts, body, left)?;
+    check_has_fields(fields)?;
+    let (validity, cursor) = read_validity_buffer(alloc, counts, body, cursor)?;
     let count = counts.slots as u128;
-    match read_items(alloc, fields, Wanted::Exactly(count), body, left) {
-        Ok((children, left)) => {
+    match read_items(alloc, fields, ExpectedLength::Exactly(count), body, cursor) {
+        Ok((children, cursor)) => {
             let array = array_of(alloc, data_type, children, validity)?;
-            Ok((array, left))
+            Ok((array, cursor))
         }
-        Err(fault) => {
+        Err(error) => {
             drop(validity);
-            Err(fault)
+            Err(error)
         }
     }
 }
 
-// ---- how they are written
+// ---- writing
 
-/// The windows over the same slots of each child.
-pub(crate) fn children_of(
+/// Returns a window over the `count` slots from index `offset` on for each child.
+pub(crate) fn child_windows(
     alloc: Global,
     array: &StructArray,
-    o: usize,
-    n: usize,
+    offset: usize,
+    count: usize,
 ) -> Result<Vec<Window<'_>>, AllocError>
-    requires { o + n ≤ len array.now }
-    ensures { IfOk result (λ v. v.items ≡ each_window (children_of_lem array.now) o n) }
+    requires { offset + count ≤ len array.now }
+    ensures { IfOk result (λ v. v.items ≡ each_window (children_of array.now) offset count) }
 {
     array.known();
-    each(alloc, array.values(), o, n)
+    aligned_windows(alloc, array.values(), offset, count)
 }

@@ -1,32 +1,36 @@
-//! Validities: what arrays begin with.
+//! Validity buffers.
 ghost use Rattle.std.specs.Prelude.{◌≡◌, ◌≤◌, ◌+◌, ◌++◌, length, Some, IfErr, IfOk, OnOk};
 ghost use Rattle.std.specs.Option.{option_map};
-ghost use Rattle.ipc_flatbuf.specs.Reading.{Gives};
-ghost use Rattle.ipc_flatbuf.specs.declared.error.NoForm.TheVariants.{Memory};
+ghost use Rattle.ipc_flatbuf.specs.ReadResults.{ReturnsOrRunsOut};
+ghost use Rattle.ipc_flatbuf.specs.declared.error.IpcWriteError.TheVariants.{Memory};
 ghost use Rattle.nest_memory.specs.Cut.{cut};
 ghost use Rattle.nest_model.specs.Accessors.{validity_of};
 ghost use Rattle.nest_model.specs.Fits.{ValidityFits};
-ghost use Rattle.nest_model.specs.Part.{cut_validity as cut_validity_lem};
-ghost use Rattle.ipc_arrays.specs.Columns.{rest_of, validity_in, head_in, without_nulls as without_nulls_lem};
-ghost use Rattle.ipc_arrays.specs.Placed.{padded};
-ghost use Rattle.ipc_arrays.specs.Written.{valid_bytes};
+ghost use Rattle.nest_model.specs.Part.{cut_validity};
+ghost use Rattle.ipc_arrays.specs.Decoding.{rest_of, decoded_validity, decoded_validity_buffer, validity_if_nulls};
+ghost use Rattle.ipc_arrays.specs.BodyBuffers.{padded};
+ghost use Rattle.ipc_arrays.specs.Encoding.{normalized_validity_bytes};
 
-use crate::bits::{put_bitmap, read_bits};
-use crate::parts::{Counts, Left, next_buffer};
-use ipc_flatbuf::{Fault, NoForm};
+use crate::bits::{read_bits, write_bitmap};
+use crate::cursor::{BatchCursor, NodeCounts, next_buffer};
+use ipc_flatbuf::{IpcReadError, IpcWriteError};
 use nest_array::window::Window;
 use nest_memory::bitmap::immutable::Bitmap;
 use std::alloc::{AllocError, Global};
 
-fn without_nulls(nulls: usize, bits: Bitmap) -> Option<Bitmap>
-    ensures { result ≡ without_nulls_lem nulls bits }
+fn keep_if_nulls(nulls: usize, bits: Bitmap) -> Option<Bitmap>
+    ensures { result ≡ validity_if_nulls nulls bits }
 {
     if nulls == 0 { None } else { Some(bits) }
 }
 
-#[tactic(auto, unfolding(crate::specs::Columns::validity_in))]
-fn read_validity(alloc: Global, counts: Counts, bytes: &[u8]) -> Result<Option<Bitmap>, Fault>
-    ensures read { Gives (λ v. v) result (validity_in counts bytes.now) }
+#[tactic(auto, unfolding(crate::specs::Decoding::decoded_validity))]
+fn read_validity(
+    alloc: Global,
+    counts: NodeCounts,
+    bytes: &[u8],
+) -> Result<Option<Bitmap>, IpcReadError>
+    ensures read { ReturnsOrRunsOut (λ v. v) result (decoded_validity counts bytes.now) }
     ensures fits { IfOk result (λ v. ValidityFits v counts.slots) }
 {
     if bytes.len() == 0 && counts.nulls == 0 {
@@ -34,55 +38,59 @@ fn read_validity(alloc: Global, counts: Counts, bytes: &[u8]) -> Result<Option<B
     }
     let bits = read_bits(alloc, counts.slots, bytes)?;
     if bits.unset_bits() != counts.nulls {
-        return Err(Fault::NullCount);
+        return Err(IpcReadError::NullCount);
     }
-    Ok(without_nulls(counts.nulls, bits))
+    Ok(keep_if_nulls(counts.nulls, bits))
 }
 
-/// The validity of an array with these numbers.
-#[tactic(auto, unfolding(crate::specs::Columns::head_in))]
-pub(crate) fn read_head<'a>(
+/// Reads the validity buffer of an array, and returns `None` if no slot is null.
+///
+/// # Errors
+///
+/// `IpcReadError::NullCount` if the buffer has another number of nulls than the field node, and those of the buffer.
+#[tactic(auto, unfolding(crate::specs::Decoding::decoded_validity_buffer))]
+pub(crate) fn read_validity_buffer<'a>(
     alloc: Global,
-    counts: Counts,
+    counts: NodeCounts,
     body: &'a [u8],
-    left: Left<'a>,
-) -> Result<(Option<Bitmap>, Left<'a>), Fault>
-    ensures read { Gives (λ x. (x.0, rest_of x.1)) result (head_in counts body.now (rest_of left.entry)) }
+    cursor: BatchCursor<'a>,
+) -> Result<(Option<Bitmap>, BatchCursor<'a>), IpcReadError>
+    ensures read { ReturnsOrRunsOut (λ x. (x.0, rest_of x.1)) result (decoded_validity_buffer counts body.now (rest_of cursor.entry)) }
     ensures fits { IfOk result (λ x. ValidityFits x.0 counts.slots) }
 {
-    let (bits, left) = next_buffer(body, left)?;
+    let (bits, cursor) = next_buffer(body, cursor)?;
     let validity = read_validity(alloc, counts, bits)?;
-    Ok((validity, left))
+    Ok((validity, cursor))
 }
 
-fn cut_bits(bits: &Bitmap, o: usize, n: usize) -> Result<Option<Bitmap>, NoForm>
-    requires { o + n ≤ length bits.now }
-    ensures ok { IfOk result (λ v. v ≡ Some (cut bits.now o n)) }
-    ensures err { IfErr result (λ why. why ≡ Memory) }
+fn slice_bits(bits: &Bitmap, offset: usize, count: usize) -> Result<Option<Bitmap>, IpcWriteError>
+    requires { offset + count ≤ length bits.now }
+    ensures ok { IfOk result (λ v. v ≡ Some (cut bits.now offset count)) }
+    ensures err { IfErr result (λ error. error ≡ Memory) }
 {
     match bits.clone() {
-        Ok(bits) => Ok(Some(bits.sliced(o, n))),
-        Err(_) => Err(NoForm::Memory),
+        Ok(bits) => Ok(Some(bits.sliced(offset, count))),
+        Err(_) => Err(IpcWriteError::Memory),
     }
 }
 
-/// The validity of a window's slots.
-pub(crate) fn cut_validity(window: &Window<'_>) -> Result<Option<Bitmap>, NoForm>
-    ensures ok { IfOk result (λ v. v ≡ cut_validity_lem (validity_of window.now.array) window.now.offset window.now.count) }
-    ensures err { IfErr result (λ why. why ≡ Memory) }
+/// Returns the validity of the slots of a window.
+pub(crate) fn slice_validity(window: &Window<'_>) -> Result<Option<Bitmap>, IpcWriteError>
+    ensures ok { IfOk result (λ v. v ≡ cut_validity (validity_of window.now.array) window.now.offset window.now.count) }
+    ensures err { IfErr result (λ error. error ≡ Memory) }
 {
     window.known();
     let array = window.array();
     array.known();
     match array.validity() {
         None => Ok(None),
-        Some(bits) => cut_bits(bits, window.offset(), window.len()),
+        Some(bits) => slice_bits(bits, window.offset(), window.len()),
     }
 }
 
-/// How many bytes a validity has in a body: none where no slot is null.
+/// Returns the size in bytes of a validity buffer, which is 0 if no slot is null.
 pub(crate) fn validity_size(validity: Option<&Bitmap>) -> usize
-    ensures { result ≡ length (valid_bytes (option_map (λ b. b.now) validity.entry)) }
+    ensures { result ≡ length (normalized_validity_bytes (option_map (λ b. b.now) validity.entry)) }
 {
     match validity {
         Some(bits) if bits.unset_bits() != 0 => bits.len().div_ceil(8),
@@ -90,13 +98,13 @@ pub(crate) fn validity_size(validity: Option<&Bitmap>) -> usize
     }
 }
 
-/// Appends a validity as a buffer, which has no byte where no slot is null.
-#[tactic(auto, unfolding(crate::specs::Placed::padded))]
-pub(crate) fn put_validity(out: &mut Vec<u8>, validity: Option<&Bitmap>) -> Result<(), AllocError>
-    ensures { OnOk result (out.new.items ≡ out.old.items ++ padded (valid_bytes (option_map (λ b. b.now) validity.entry))) }
+/// Appends a validity buffer, which is empty if no slot is null.
+#[tactic(auto, unfolding(crate::specs::BodyBuffers::padded))]
+pub(crate) fn write_validity(out: &mut Vec<u8>, validity: Option<&Bitmap>) -> Result<(), AllocError>
+    ensures { OnOk result (out.new.items ≡ out.old.items ++ padded (normalized_validity_bytes (option_map (λ b. b.now) validity.entry))) }
 {
     match validity {
-        Some(bits) if bits.unset_bits() != 0 => put_bitmap(out, bits),
+        Some(bits) if bits.unset_bits() != 0 => write_bitmap(out, bits),
         _ => Ok(()),
     }
 }

@@ -1,20 +1,23 @@
-//! Windows over the children of arrays that are written.
+//! Windows over the children of the arrays that are written.
 ghost use Rattle.std.specs.Prelude.{◌≡◌, ◌+◌, ◌∷◌, [], IfOk};
 ghost use Rattle.nest_model.specs.Fits.{EachCovers};
 ghost use Rattle.nest_array.specs.Seen.{layouts_of};
-ghost use Rattle.ipc_arrays.specs.Written.{each_window, whole_windows, windows_below};
+ghost use Rattle.ipc_arrays.specs.Encoding.{each_window, whole_windows, windows_below};
 
-use crate::fixed_size_list::items_of;
-use crate::list::covered_items;
-use crate::layout::kind;
-use crate::struct_::children_of;
-use crate::union::fields_of;
+use crate::fixed_size_list::fixed_size_item_window;
+use crate::layout::known_kind;
+use crate::list::item_window;
+use crate::struct_::child_windows;
+use crate::union::field_windows;
 use nest_array::any::AnyArray;
 use nest_array::window::Window;
 use std::alloc::{AllocError, Global};
 
-/// The windows over whole arrays.
-pub(crate) fn whole(alloc: Global, arrays: &[AnyArray]) -> Result<Vec<Window<'_>>, AllocError>
+/// Returns a window over all slots of each array.
+pub(crate) fn full_windows(
+    alloc: Global,
+    arrays: &[AnyArray],
+) -> Result<Vec<Window<'_>>, AllocError>
     ensures { IfOk result (λ v. v.items ≡ whole_windows (layouts_of arrays.now)) }
 {
     let mut windows = Vec::with_capacity(alloc, arrays.len())?;
@@ -24,24 +27,24 @@ pub(crate) fn whole(alloc: Global, arrays: &[AnyArray]) -> Result<Vec<Window<'_>
     Ok(windows)
 }
 
-/// The windows over the same slots of each array.
-pub(crate) fn each(
+/// Returns a window over the `count` slots from index `offset` on of each array.
+pub(crate) fn aligned_windows(
     alloc: Global,
     arrays: &[AnyArray],
-    o: usize,
-    n: usize,
+    offset: usize,
+    count: usize,
 ) -> Result<Vec<Window<'_>>, AllocError>
-    requires { EachCovers (layouts_of arrays.now) (o + n) }
-    ensures { IfOk result (λ v. v.items ≡ each_window (layouts_of arrays.now) o n) }
+    requires { EachCovers (layouts_of arrays.now) (offset + count) }
+    ensures { IfOk result (λ v. v.items ≡ each_window (layouts_of arrays.now) offset count) }
 {
     let mut windows = Vec::with_capacity(alloc, arrays.len())?;
     for array in arrays {
-        windows.push_reserved(Window::new(array, o, n));
+        windows.push_reserved(Window::new(array, offset, count));
     }
     Ok(windows)
 }
 
-fn one(alloc: Global, window: Window<'_>) -> Result<Vec<Window<'_>>, AllocError>
+fn single_window(alloc: Global, window: Window<'_>) -> Result<Vec<Window<'_>>, AllocError>
     ensures { IfOk result (λ v. v.items ≡ window.entry ∷ []) }
 {
     let mut windows = Vec::with_capacity(alloc, 1)?;
@@ -49,37 +52,49 @@ fn one(alloc: Global, window: Window<'_>) -> Result<Vec<Window<'_>>, AllocError>
     Ok(windows)
 }
 
-/// The windows over the children of a window's array that are written below it.
-pub(crate) fn below<'a>(alloc: Global, window: &Window<'a>) -> Result<Vec<Window<'a>>, AllocError>
+/// Returns the windows over the children that are written for a window.
+pub(crate) fn windows_of_children<'a>(
+    alloc: Global,
+    window: &Window<'a>,
+) -> Result<Vec<Window<'a>>, AllocError>
     ensures { IfOk result (λ v. v.items ≡ windows_below window.now.array window.now.offset window.now.count) }
 {
     window.known();
-    let o = window.offset();
-    let n = window.len();
+    let offset = window.offset();
+    let count = window.len();
     let array = window.array();
-    kind(array);
+    known_kind(array);
     match array {
         AnyArray::FixedSizeList(array) => {
             array.known();
-            one(alloc, items_of(array, o, n))
+            single_window(alloc, fixed_size_item_window(array, offset, count))
         }
         AnyArray::List(array) => {
             array.known();
-            one(alloc, covered_items(array.offsets(), array.values(), o, n))
+            single_window(
+                alloc,
+                item_window(array.offsets(), array.values(), offset, count),
+            )
         }
         AnyArray::LargeList(array) => {
             array.known();
-            one(alloc, covered_items(array.offsets(), array.values(), o, n))
+            single_window(
+                alloc,
+                item_window(array.offsets(), array.values(), offset, count),
+            )
         }
         AnyArray::Map(array) => {
             array.known();
-            one(alloc, covered_items(array.offsets(), array.field(), o, n))
+            single_window(
+                alloc,
+                item_window(array.offsets(), array.field(), offset, count),
+            )
         }
         AnyArray::Struct(array) => {
             array.known();
-            children_of(alloc, array, o, n)
+            child_windows(alloc, array, offset, count)
         }
-        AnyArray::Union(array) => fields_of(alloc, array, o, n),
+        AnyArray::Union(array) => field_windows(alloc, array, offset, count),
         AnyArray::Null(_)
         | AnyArray::Boolean(_)
         | AnyArray::Primitive(_)

@@ -1,76 +1,76 @@
-//! Examples of what is written of columns with children and of dictionaries, as functions with empty bodies.
+//! Worked examples of nested and dictionary-encoded columns that are written, stated as contracts.
 ghost use Rattle.std.specs.Prelude.{◌≡◌, [], ◌∷◌, true, false};
-ghost use Rattle.ipc_arrays.specs.Keyless.{are_keyless};
-ghost use Rattle.ipc_arrays.specs.WriteExamples.{IsWrittenAs, IsKeyedAs, cut_row, cut_rows, cut_map, sized_rows, record_row, sparse_picks, no_picks, dense_pick, keyed_words, cut_words, dated_words, listed_words, keyed_records, plain_records, AreAlikeWords};
+ghost use Rattle.ipc_arrays.specs.NoDictionaries.{are_dictionary_free};
+ghost use Rattle.ipc_arrays.specs.WriteExamples.{IsWrittenAs, IsDictionaryWrittenAs, sliced_list, sliced_nested_list, sliced_map, fixed_size_lists, struct_column, sliced_sparse_union, empty_sparse_union, sliced_dense_union, dictionary_words, sliced_words, date_key_words, listed_words, structs_with_dictionary, structs_without_dictionary, ExtendedWordsMatch};
 
-/// Of a list that is cut, the items that its offsets cover, and offsets from 0 on; no validity where nothing is null.
-pub fn a_cut_row_is_written()
-    ensures { IsWrittenAs cut_row }
+/// Of a sliced list, only the items between its offsets are written, with offsets from 0 on, and no validity if no slot is null.
+pub fn sliced_list_is_written()
+    ensures { IsWrittenAs sliced_list }
 {}
 
-/// So of a list of lists: an array before its items, and these before theirs.
-pub fn cut_rows_are_written()
-    ensures { IsWrittenAs cut_rows }
+/// The same holds for a list of lists: each array is written before its child.
+pub fn sliced_nested_list_is_written()
+    ensures { IsWrittenAs sliced_nested_list }
 {}
 
-/// Of a map that is cut, the entries that its offsets cover.
-pub fn a_cut_map_is_written()
-    ensures { IsWrittenAs cut_map }
+/// Of a sliced map, only the entries between its offsets are written.
+pub fn sliced_map_is_written()
+    ensures { IsWrittenAs sliced_map }
 {}
 
-/// Two lists of one size, of which one is null: its items are written all the same.
-pub fn sized_rows_are_written()
-    ensures { IsWrittenAs sized_rows }
+/// The items of a null slot of a fixed-size list are written.
+pub fn fixed_size_list_is_written()
+    ensures { IsWrittenAs fixed_size_lists }
 {}
 
-/// A record, before its fields.
-pub fn a_record_is_written()
-    ensures { IsWrittenAs record_row }
+/// A struct is written before its children.
+pub fn struct_is_written()
+    ensures { IsWrittenAs struct_column }
 {}
 
-/// Of a sparse union that is cut, its fields cut to the same slots.
-pub fn sparse_picks_are_written()
-    ensures { IsWrittenAs sparse_picks }
+/// Of a sliced sparse union, the same slots of each child are written.
+pub fn sliced_sparse_union_is_written()
+    ensures { IsWrittenAs sliced_sparse_union }
 {}
 
-/// Of a sparse union of no slot, fields of none.
-pub fn no_picks_are_written()
-    ensures { IsWrittenAs no_picks }
+/// Of an empty sparse union, no slots of its children are written.
+pub fn empty_sparse_union_is_written()
+    ensures { IsWrittenAs empty_sparse_union }
 {}
 
-/// Of a dense union that is cut, whole fields, and offsets as they stand.
-pub fn a_dense_pick_is_written()
-    ensures { IsWrittenAs dense_pick }
+/// Of a sliced dense union, whole children are written, and its offsets unchanged.
+pub fn sliced_dense_union_is_written()
+    ensures { IsWrittenAs sliced_dense_union }
 {}
 
-/// Of a dictionary its keys, where 0 stands under a null; read back over its values.
-pub fn keys_are_written()
-    ensures { IsKeyedAs keyed_words }
+/// Of a dictionary-encoded array, the keys are written, 0 for a null slot. It round-trips over its values.
+pub fn dictionary_is_written()
+    ensures { IsDictionaryWrittenAs dictionary_words }
 {}
 
-/// Of one that is cut, the keys of its slots; its values are whole.
-pub fn cut_keys_are_written()
-    ensures { IsKeyedAs cut_words }
+/// Of a sliced one, the keys of its slots are written. Its values are unchanged.
+pub fn sliced_dictionary_is_written()
+    ensures { IsDictionaryWrittenAs sliced_words }
 {}
 
-/// Keys that are dates are read back as the whole numbers that they are.
-pub fn dated_keys_are_written()
-    ensures { IsKeyedAs dated_words }
+/// Keys whose array has a date type round-trip as keys of the integer type.
+pub fn date_typed_keys_are_written()
+    ensures { IsDictionaryWrittenAs date_key_words }
 {}
 
-/// Of one in a list that is cut, the keys of its items.
-pub fn listed_keys_are_written()
-    ensures { IsKeyedAs listed_words }
+/// Of one in a sliced list, the keys of its items are written.
+pub fn dictionary_in_sliced_list_is_written()
+    ensures { IsDictionaryWrittenAs listed_words }
 {}
 
-/// Lists of words by keys are alike over the same words that lie elsewhere, and where more stand behind them, but not over fewer words, nor
-/// over words in another order.
-pub fn lists_of_the_same_words_are_alike()
-    ensures { AreAlikeWords }
+/// A list of dictionary-encoded words matches the same list over an equal or an extended dictionary, but not over a shorter or a
+/// reordered one.
+pub fn dictionary_values_may_be_extended()
+    ensures { ExtendedWordsMatch }
 {}
 
-/// A dictionary among the fields of records in a list is found; without it those are keyless.
-pub fn a_dictionary_below_is_found()
-    ensures keyed { are_keyless (keyed_records ∷ []) ≡ false }
-    ensures plain { are_keyless (plain_records ∷ []) ≡ true }
+/// A dictionary-encoded field of structs in a list is found.
+pub fn nested_dictionary_is_found()
+    ensures found { are_dictionary_free (structs_with_dictionary ∷ []) ≡ false }
+    ensures absent { are_dictionary_free (structs_without_dictionary ∷ []) ≡ true }
 {}

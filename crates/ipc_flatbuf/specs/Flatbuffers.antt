@@ -1,118 +1,118 @@
--- What bytes spell at a place, in the words of flatbuffers, in which the metadata of "Serialization and Interprocess Communication" is
--- written. Each word is a partial function: the value, or the fault. Places count from the first byte.
+-- The values that bytes decode to as flatbuffers (FlatBuffers internals; Columnar format, Serialization and Interprocess
+-- Communication). Each function returns the value or the error. Positions count from the first byte; left is the budget.
 use Rattle.std.specs.Prelude.{ℕ, zero, suc, ◌+◌, ◌-◌, ◌*◌, ◌^◌, ◌%◌, ◌&&◌, ℤ, pos, negsuc, List, [], ◌∷◌, length, take, drop, Option, Some, None, Result, Ok, Err, nat_lt, nat_le, ◌==◌, if◌then◌else◌}
 use Rattle.std.specs.Int.{Width, w16, w32, byte_len, from_le_bytes, cast_signed}
 use Rattle.std.specs.Str.{is_utf8}
-use Rattle.ipc_flatbuf.specs.Reading.{◌>>=◌}
-use Rattle.ipc_flatbuf.specs.declared.error.Fault.{Fault}
-use Rattle.ipc_flatbuf.specs.declared.error.Fault.TheVariants.{Flatbuffer, Shared, MetadataText}
+use Rattle.ipc_flatbuf.specs.ReadResults.{◌>>=◌}
+use Rattle.ipc_flatbuf.specs.declared.error.IpcReadError.{IpcReadError}
+use Rattle.ipc_flatbuf.specs.declared.error.IpcReadError.TheVariants.{Flatbuffer, ApparentSize, MetadataUtf8}
 use Rattle.ipc_flatbuf.specs.declared.tables.Table.{Table}
-use Rattle.ipc_flatbuf.specs.declared.vectors.Items.{Items}
+use Rattle.ipc_flatbuf.specs.declared.vectors.VectorItems.{VectorItems}
 
--- the number of this width at a place
-abbrev pub number_at : Width → List ℕ → ℕ → Result ℕ Fault
-number_at w bytes place = if nat_le (place + byte_len w) (length bytes) then Ok (from_le_bytes w (drop place bytes)) else Err Flatbuffer
+-- the little-endian number of width w at a position
+abbrev pub number_at : Width → List ℕ → ℕ → Result ℕ IpcReadError
+number_at w bytes position = if nat_le (position + byte_len w) (length bytes) then Ok (from_le_bytes w (drop position bytes)) else Err Flatbuffer
 
-abbrev pub signed_at : Width → List ℕ → ℕ → Result ℤ Fault
-signed_at w bytes place = number_at w bytes place >>= λ n. Ok (cast_signed w n)
+abbrev pub signed_at : Width → List ℕ → ℕ → Result ℤ IpcReadError
+signed_at w bytes position = number_at w bytes position >>= λ n. Ok (cast_signed w n)
 
--- a number without sign, or the fault
-abbrev pub natural : Fault → ℤ → Result ℕ Fault
-natural fault (pos n) = Ok n
-natural fault (negsuc n) = Err fault
+-- the number, or the error where it is negative
+abbrev pub spec_non_negative : IpcReadError → ℤ → Result ℕ IpcReadError
+spec_non_negative error (pos n) = Ok n
+spec_non_negative error (negsuc n) = Err error
 
--- the place that the offset at a place points to
-unfoldable pub offset_at : List ℕ → ℕ → Result ℕ Fault
-offset_at bytes place = number_at w32 bytes place >>= λ n. Ok (place + n)
+-- the target of the offset at a position
+unfoldable pub spec_offset_at : List ℕ → ℕ → Result ℕ IpcReadError
+spec_offset_at bytes position = number_at w32 bytes position >>= λ n. Ok (position + n)
 
--- the place that lies so many bytes before a place, in two's complement
-unfoldable pub back_from : ℕ → ℕ → Result ℕ Fault
-back_from place n =
-    if nat_lt n (2 ^ 31) then (if nat_le n place then Ok (place - n) else Err Flatbuffer)
-    else Ok (place + (2 ^ 32 - n))
+-- the position n bytes before a position; n is in two's complement
+unfoldable pub spec_back_from : ℕ → ℕ → Result ℕ IpcReadError
+spec_back_from position n =
+    if nat_lt n (2 ^ 31) then (if nat_le n position then Ok (position - n) else Err Flatbuffer)
+    else Ok (position + (2 ^ 32 - n))
 
--- the table at a place, with its vtable
-unfoldable pub table_at : List ℕ → ℕ → Result Table Fault
-table_at bytes place = do
-  back ← number_at w32 bytes place
-  vtable ← back_from place back
+-- the table at a position, with its vtable
+unfoldable pub spec_table_at : List ℕ → ℕ → Result Table IpcReadError
+spec_table_at bytes position = do
+  back ← number_at w32 bytes position
+  vtable ← spec_back_from position back
   size ← number_at w16 bytes vtable
-  if nat_le 4 size && size % 2 == 0 && nat_le (vtable + size) (length bytes) then Ok (record { at = place; vtable = vtable; size = size }) else Err Flatbuffer
+  if nat_le 4 size && size % 2 == 0 && nat_le (vtable + size) (length bytes) then Ok (record { at = position; vtable = vtable; size = size }) else Err Flatbuffer
 
--- the place of a field of a table, where it has the field
-unfoldable pub field_place : List ℕ → Table → ℕ → Result (Option ℕ) Fault
-field_place bytes table id =
+-- the position of a field of a table, None where it is absent
+unfoldable pub spec_field_position : List ℕ → Table → ℕ → Result (Option ℕ) IpcReadError
+spec_field_position bytes table id =
     if nat_lt (2 * id + 4) table.size then (number_at w16 bytes (table.vtable + (2 * id + 4)) >>= λ n. if n == 0 then Ok None else (if nat_lt n 4 then Err Flatbuffer else Ok (Some (table.at + n)))) else Ok None
 
--- what reading at the place of a field gives, where there is the field
-abbrev pub or_default : {A : Type 0} → A → (ℕ → Result A Fault) → Option ℕ → Result A Fault
+-- the value at the position of a field, or the default where it is absent
+abbrev pub or_default : {A : Type 0} → A → (ℕ → Result A IpcReadError) → Option ℕ → Result A IpcReadError
 or_default default read None = Ok default
-or_default default read (Some place) = read place
+or_default default read (Some position) = read position
 
-abbrev pub field : {A : Type 0} → (ℕ → Result A Fault) → A → List ℕ → Table → ℕ → Result A Fault
-field read default bytes table id = field_place bytes table id >>= or_default default read
+abbrev pub field : {A : Type 0} → (ℕ → Result A IpcReadError) → A → List ℕ → Table → ℕ → Result A IpcReadError
+field read default bytes table id = spec_field_position bytes table id >>= or_default default read
 
--- the place that the offset in a field points to
-abbrev pub offset_field : List ℕ → Table → ℕ → Result (Option ℕ) Fault
-offset_field bytes table id = field (λ place. offset_at bytes place >>= λ to. Ok (Some to)) None bytes table id
+-- the target of the offset in a field
+abbrev pub spec_offset_field : List ℕ → Table → ℕ → Result (Option ℕ) IpcReadError
+spec_offset_field bytes table id = field (λ position. spec_offset_at bytes position >>= λ to. Ok (Some to)) None bytes table id
 
--- what is left to spend
-unfoldable pub spend : ℕ → ℕ → Result ℕ Fault
-spend left cost = if nat_le cost left then Ok (left - cost) else Err Shared
+-- the budget after a cost
+unfoldable pub spec_charge_budget : ℕ → ℕ → Result ℕ IpcReadError
+spec_charge_budget left cost = if nat_le cost left then Ok (left - cost) else Err ApparentSize
 
--- the table at a place, and what is left
-unfoldable pub visit_table : List ℕ → ℕ → ℕ → Result (Table × ℕ) Fault
-visit_table bytes place left = do
-  table ← table_at bytes place
-  rest ← spend left 8
+-- the table at a position, and the budget left
+unfoldable pub spec_read_table : List ℕ → ℕ → ℕ → Result (Table × ℕ) IpcReadError
+spec_read_table bytes position left = do
+  table ← spec_table_at bytes position
+  rest ← spec_charge_budget left 8
   Ok (table, rest)
 
--- the items of the vector at a place, each of so many bytes
-unfoldable pub visit_vector : ℕ → List ℕ → ℕ → ℕ → Result (Items × ℕ) Fault
-visit_vector size bytes place left = do
-  count ← number_at w32 bytes place
-  if nat_le (place + 4 + count * size) (length bytes) then (spend left (4 + count * size) >>= λ rest. Ok (record { first = place + 4; count = count }, rest)) else Err Flatbuffer
+-- the vector at a position, whose items have size bytes each, and the budget left
+unfoldable pub spec_read_vector : ℕ → List ℕ → ℕ → ℕ → Result (VectorItems × ℕ) IpcReadError
+spec_read_vector size bytes position left = do
+  count ← number_at w32 bytes position
+  if nat_le (position + 4 + count * size) (length bytes) then (spec_charge_budget left (4 + count * size) >>= λ rest. Ok (record { first = position + 4; count = count }, rest)) else Err Flatbuffer
 
--- bytes that are UTF-8
-abbrev pub text_of : List ℕ → ℕ → Result (List ℕ × ℕ) Fault
-text_of text left = if is_utf8 text then Ok (text, left) else Err MetadataText
+-- the bytes, where they are UTF-8
+abbrev pub spec_utf8_of : List ℕ → ℕ → Result (List ℕ × ℕ) IpcReadError
+spec_utf8_of text left = if is_utf8 text then Ok (text, left) else Err MetadataUtf8
 
--- the text of the string at a place
-unfoldable pub visit_string : List ℕ → ℕ → ℕ → Result (List ℕ × ℕ) Fault
-visit_string bytes place left = do
-  items ← visit_vector 1 bytes place left
-  text_of (take items.0.count (drop items.0.first bytes)) items.1
+-- the string at a position, and the budget left
+unfoldable pub spec_read_string : List ℕ → ℕ → ℕ → Result (List ℕ × ℕ) IpcReadError
+spec_read_string bytes position left = do
+  items ← spec_read_vector 1 bytes position left
+  spec_utf8_of (take items.0.count (drop items.0.first bytes)) items.1
 
--- the tables that so many offsets in a row point to, each read by read
-unfoldable pub tables_at : {A : Type 0} → (ℕ → ℕ → Result (A × ℕ) Fault) → List ℕ → ℕ → ℕ → ℕ → Result (List A × ℕ) Fault
-tables_at read bytes zero place left = Ok ([], left)
-tables_at read bytes (suc n) place left = do
-  to ← offset_at bytes place
+-- the values of the tables that n offsets refer to, each read by read
+unfoldable pub tables_at : {A : Type 0} → (ℕ → ℕ → Result (A × ℕ) IpcReadError) → List ℕ → ℕ → ℕ → ℕ → Result (List A × ℕ) IpcReadError
+tables_at read bytes zero position left = Ok ([], left)
+tables_at read bytes (suc n) position left = do
+  to ← spec_offset_at bytes position
   first ← read to left
-  others ← tables_at read bytes n (place + 4) first.1
+  others ← tables_at read bytes n (position + 4) first.1
   Ok (first.0 ∷ others.0, others.1)
 
 -- an absent vector is empty
-unfoldable pub items_at : ℕ → List ℕ → Option ℕ → ℕ → Result (Items × ℕ) Fault
-items_at size bytes None left = Ok (record { first = 0; count = 0 }, left)
-items_at size bytes (Some place) left = visit_vector size bytes place left
+unfoldable pub spec_items_at : ℕ → List ℕ → Option ℕ → ℕ → Result (VectorItems × ℕ) IpcReadError
+spec_items_at size bytes None left = Ok (record { first = 0; count = 0 }, left)
+spec_items_at size bytes (Some position) left = spec_read_vector size bytes position left
 
 -- an absent string is empty
-unfoldable pub text_at : List ℕ → Option ℕ → ℕ → Result (List ℕ × ℕ) Fault
-text_at bytes None left = Ok ([], left)
-text_at bytes (Some place) left = visit_string bytes place left
+unfoldable pub spec_str_at : List ℕ → Option ℕ → ℕ → Result (List ℕ × ℕ) IpcReadError
+spec_str_at bytes None left = Ok ([], left)
+spec_str_at bytes (Some position) left = spec_read_string bytes position left
 
--- the structs that stand in a row, each of so many bytes
-unfoldable pub structs_at : {A : Type 0} → (ℕ → Result A Fault) → ℕ → ℕ → ℕ → Result (List A) Fault
-structs_at read size zero place = Ok []
-structs_at read size (suc n) place = do
-  first ← read place
-  others ← structs_at read size n (place + size)
+-- n structs in a row, of size bytes each
+unfoldable pub structs_at : {A : Type 0} → (ℕ → Result A IpcReadError) → ℕ → ℕ → ℕ → Result (List A) IpcReadError
+structs_at read size zero position = Ok []
+structs_at read size (suc n) position = do
+  first ← read position
+  others ← structs_at read size n (position + size)
   Ok (first ∷ others)
 
--- the structs of a vector
-unfoldable pub vector_at : {A : Type 0} → (ℕ → Result A Fault) → ℕ → List ℕ → Option ℕ → ℕ → Result (List A × ℕ) Fault
-vector_at read size bytes place left = do
-  items ← items_at size bytes place left
+-- the structs of a vector, and the budget left
+unfoldable pub vector_at : {A : Type 0} → (ℕ → Result A IpcReadError) → ℕ → List ℕ → Option ℕ → ℕ → Result (List A × ℕ) IpcReadError
+vector_at read size bytes position left = do
+  items ← spec_items_at size bytes position left
   structs ← structs_at read size items.0.count items.0.first
   Ok (structs, items.1)

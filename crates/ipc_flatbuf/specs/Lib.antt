@@ -1,18 +1,18 @@
--- What contracts of the readers cite.
-pub mod Reading
--- What contracts cite, and laws for the crates above.
+-- Definitions that contracts cite, and laws for the crates above.
+-- results of reading, flatbuffers
+pub mod ReadResults
 pub mod Flatbuffers
-pub mod Bytes
-pub mod Writers
+pub mod PartBytes
+pub mod WriteErrors
 pub mod FlatbufferLaws
-pub mod PartLaws
+pub mod TemplateLaws
 pub mod VectorLaws
-pub mod VectorBytes
--- What contracts cite, and laws for the crates above.
+pub mod VectorLoops
+-- messages
 pub mod Messages
 pub mod MessageBytes
 pub mod MessageLaws
--- What contracts cite.
+-- record batches and dictionary batches
 pub mod Batches
 pub mod VariadicBuffers
 pub mod BatchBytes

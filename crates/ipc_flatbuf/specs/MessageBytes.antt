@@ -1,37 +1,38 @@
--- The bytes of a message that is written: the root's vtable stands before it, and the header behind it; all parts are multiples of 8 bytes.
+-- The bytes of a message: the vtable of the root, the root table, then the part with the header table.
+-- Each part is a multiple of 8 bytes (Columnar format, Encapsulated message format).
 use Rattle.std.specs.Prelude.{ℕ, ◌+◌, ◌-◌, ◌%◌, pos, List, [], ◌∷◌, ◌++◌, length}
-use Rattle.ipc_flatbuf.specs.Bytes.{i64_bytes, u32_bytes, zeros}
-use Rattle.ipc_flatbuf.specs.declared.message.types.Kind.{Kind}
-use Rattle.ipc_flatbuf.specs.declared.message.types.Kind.TheVariants.{Schema, DictionaryBatch, RecordBatch}
+use Rattle.ipc_flatbuf.specs.PartBytes.{i64_bytes, u32_bytes, zeros}
+use Rattle.ipc_flatbuf.specs.declared.message.types.MessageKind.{MessageKind}
+use Rattle.ipc_flatbuf.specs.declared.message.types.MessageKind.TheVariants.{Schema, DictionaryBatch, RecordBatch}
 
--- `MessageHeader` of `Message.fbs`
-abbrev pub tag_of : Kind → ℕ
-tag_of Schema = 1
-tag_of DictionaryBatch = 2
-tag_of RecordBatch = 3
+-- the tag of the header (Message.fbs, union MessageHeader)
+abbrev pub spec_tag_of : MessageKind → ℕ
+spec_tag_of Schema = 1
+spec_tag_of DictionaryBatch = 2
+spec_tag_of RecordBatch = 3
 
--- the root, V5, at 24; the table of its kind stands head bytes into the part at 48
-unfoldable pub root_bytes : Kind → ℕ → ℕ → List ℕ → List ℕ
+-- the root table is at 24, with version V5; the header table is head bytes into the part at 48
+unfoldable pub root_bytes : MessageKind → ℕ → ℕ → List ℕ → List ℕ
 root_bytes kind body_length head part =
     (24 ∷ 0 ∷ 0 ∷ 0 ∷ 0 ∷ 0 ∷ 0 ∷ 0 ∷ 12 ∷ 0 ∷ 24 ∷ 0 ∷ 16 ∷ 0 ∷ 18 ∷ 0 ∷ 4 ∷ 0 ∷ 8 ∷ 0 ∷ 0 ∷ 0 ∷ 0 ∷ 0 ∷ 16 ∷ 0 ∷ 0 ∷ 0 ∷ [])
-    ++ (u32_bytes (20 + head) ++ (i64_bytes (pos body_length) ++ ((4 ∷ 0 ∷ tag_of kind ∷ 0 ∷ 0 ∷ 0 ∷ 0 ∷ 0 ∷ []) ++ part)))
+    ++ (u32_bytes (20 + head) ++ (i64_bytes (pos body_length) ++ ((4 ∷ 0 ∷ spec_tag_of kind ∷ 0 ∷ 0 ∷ 0 ∷ 0 ∷ 0 ∷ []) ++ part)))
 
--- as many zeros as lead to a multiple of 8
+-- the zeros up to the next multiple of 8
 abbrev pub padding : ℕ → List ℕ
 padding n = zeros ((8 - n % 8) % 8)
 
--- the continuation, the length, the metadata up to a multiple of 8
+-- the continuation indicator, the length, the metadata and its padding
 unfoldable pub framed_bytes : List ℕ → List ℕ
 framed_bytes metadata = (255 ∷ 255 ∷ 255 ∷ 255 ∷ []) ++ (u32_bytes (length metadata + length (padding (length metadata))) ++ (metadata ++ padding (length metadata)))
 
--- how many bytes the metadata of a message has, padding included: 8 stand before it
+-- the length of the metadata of a message with its padding; 8 bytes precede it
 abbrev pub metadata_size : List ℕ → ℕ
 metadata_size message = length message - 8
 
--- the end of a stream: the continuation, and 0 in the place of a length
-abbrev pub end_mark : List ℕ
-end_mark = 255 ∷ 255 ∷ 255 ∷ 255 ∷ 0 ∷ 0 ∷ 0 ∷ 0 ∷ []
+-- the end-of-stream marker: the continuation indicator, and 0 as the length
+abbrev pub end_of_stream : List ℕ
+end_of_stream = 255 ∷ 255 ∷ 255 ∷ 255 ∷ 0 ∷ 0 ∷ 0 ∷ 0 ∷ []
 
--- a message, whose body is to stand behind it
-unfoldable pub message_bytes : Kind → ℕ → ℕ → List ℕ → List ℕ
+-- a message without its body
+unfoldable pub message_bytes : MessageKind → ℕ → ℕ → List ℕ → List ℕ
 message_bytes kind body_length head part = framed_bytes (root_bytes kind body_length head part)

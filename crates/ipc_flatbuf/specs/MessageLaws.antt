@@ -1,4 +1,4 @@
--- What is written of a message spells it.
+-- Messages round-trip.
 use Rattle.std.proofs.Common.{true, false, leb, eqb, ◌≡◌, ℕ, ◌+◌, ◌-◌, ◌*◌, ◌%◌, ◌^◌, ◌<◌, ◌≤◌, List, [], ◌∷◌, ◌++◌, length, drop, Some, None, Ok, refl, sym, append_assoc, arith}
 use Rattle.std.specs.Prelude.{pos}
 use Rattle.std.specs.Int.{w8, w16, w32, w64, from_le_bytes, cast_signed}
@@ -6,56 +6,56 @@ use Rattle.std.proofs.lemmas.Bool.{le-leb, ne_eqb}
 use Rattle.std.proofs.lemmas.Nat.{from_le_bytes-to_le_bytes_4}
 use Rattle.std.proofs.lemmas.List.{length-append, length-take, take_at, drop_at}
 use Rattle.std.proofs.lemmas.Int.{ints}
-use Rattle.ipc_flatbuf.specs.Flatbuffers.{number_at, signed_at, offset_at, field_place, visit_table}
-use Rattle.ipc_flatbuf.specs.Bytes.{u32_bytes, i64_bytes}
+use Rattle.ipc_flatbuf.specs.Flatbuffers.{number_at, signed_at, spec_offset_at, spec_field_position, spec_read_table}
+use Rattle.ipc_flatbuf.specs.PartBytes.{u32_bytes, i64_bytes}
 use Rattle.ipc_flatbuf.specs.FlatbufferLaws.{From, From-length, number_in}
-use Rattle.ipc_flatbuf.specs.PartLaws.{From_at, i16_in, i64_in, offset_in, table_in, visit_in, field_in}
-use Rattle.ipc_flatbuf.specs.declared.message.types.Kind.{Kind}
-use Rattle.ipc_flatbuf.specs.declared.message.types.Kind.TheVariants.{Schema, DictionaryBatch, RecordBatch}
-use Rattle.ipc_flatbuf.specs.declared.message.types.Version.TheVariants.{V5}
-use Rattle.ipc_flatbuf.specs.declared.message.types.Root.{Root}
-use Rattle.ipc_flatbuf.specs.Messages.{Parts, root_at, kind_of, front, behind_mark, sized_at, parts_at, message_at}
-use Rattle.ipc_flatbuf.specs.MessageBytes.{tag_of, root_bytes, padding, framed_bytes, metadata_size, end_mark, message_bytes}
+use Rattle.ipc_flatbuf.specs.TemplateLaws.{From_at, i16_in, i64_in, offset_in, table_in, visit_in, field_in}
+use Rattle.ipc_flatbuf.specs.declared.message.types.MessageKind.{MessageKind}
+use Rattle.ipc_flatbuf.specs.declared.message.types.MessageKind.TheVariants.{Schema, DictionaryBatch, RecordBatch}
+use Rattle.ipc_flatbuf.specs.declared.message.types.MetadataVersion.TheVariants.{V5}
+use Rattle.ipc_flatbuf.specs.declared.message.types.MessageRoot.{MessageRoot}
+use Rattle.ipc_flatbuf.specs.Messages.{MessageModel, root_at, spec_kind_of, spec_first_bytes, spec_after_continuation, spec_sized_message, spec_message_of_size, message_at}
+use Rattle.ipc_flatbuf.specs.MessageBytes.{spec_tag_of, root_bytes, padding, framed_bytes, metadata_size, end_of_stream, message_bytes}
 
-kind_back : (kind : Kind) → kind_of (tag_of kind) ≡ Ok kind
-kind_back Schema = refl
-kind_back DictionaryBatch = refl
-kind_back RecordBatch = refl
+kind_round_trips : (kind : MessageKind) → spec_kind_of (spec_tag_of kind) ≡ Ok kind
+kind_round_trips Schema = refl
+kind_round_trips DictionaryBatch = refl
+kind_round_trips RecordBatch = refl
 
--- the root that is written, in metadata of so many bytes
-abbrev pub root_of : Kind → ℕ → ℕ → ℕ → Root
+-- the root table of metadata of size bytes
+abbrev pub root_of : MessageKind → ℕ → ℕ → ℕ → MessageRoot
 root_of kind body_length head size = record { version = V5; kind = kind; header = 48 + head; left = 64 * size - 8; body_length = body_length }
 
--- what stands behind the root doesn't change it
-pub root_again : (kind : Kind) (body_length head : ℕ) (part whole after : List ℕ) → body_length < 2 ^ 63 → head < 2 ^ 31 → From whole 0 (root_bytes kind body_length head part ++ after) → length whole < 2 ^ 32 → root_at whole ≡ Ok (root_of kind body_length head (length whole))
+-- the root round-trips, whatever follows it
+pub root_round_trips : (kind : MessageKind) (body_length head : ℕ) (part whole after : List ℕ) → body_length < 2 ^ 63 → head < 2 ^ 31 → From whole 0 (root_bytes kind body_length head part ++ after) → length whole < 2 ^ 32 → root_at whole ≡ Ok (root_of kind body_length head (length whole))
 unfolding root_at root_bytes u32_bytes i64_bytes
-root_again kind body_length head part whole after fits near h small =
+root_round_trips kind body_length head part whole after fits near h small =
     let all : List ℕ = root_bytes kind body_length head part ++ after in
     let long : 48 ≤ length all = omega arith in
     let ends = From-length whole 0 all h in
     let left : ℕ = 64 * length whole in
-    let root : offset_at whole 0 ≡ Ok 24 = offset_in whole 0 all 0 0 24 h (omega arith) refl (omega arith) refl in
+    let root : spec_offset_at whole 0 ≡ Ok 24 = offset_in whole 0 all 0 0 24 h (omega arith) refl (omega arith) refl in
     let inner : List ℕ = drop 8 all in
     let here : From whole 8 inner = From_at whole 0 8 8 all inner h (omega arith) refl refl in
-    let v : visit_table whole 24 left ≡ Ok (table_in 8 16 12, left - 8) = visit_in whole 8 inner 16 12 left here (omega arith) (omega arith) (omega arith) (omega arith) refl refl refl (omega arith) in
-    let f0 : field_place whole (table_in 8 16 12) 0 ≡ Ok (Some 40) = field_in whole 8 inner 16 12 0 16 here (omega arith) (omega arith) (omega arith) refl in
-    let f1 : field_place whole (table_in 8 16 12) 1 ≡ Ok (Some 42) = field_in whole 8 inner 16 12 1 18 here (omega arith) (omega arith) (omega arith) refl in
-    let f2 : field_place whole (table_in 8 16 12) 2 ≡ Ok (Some 28) = field_in whole 8 inner 16 12 2 4 here (omega arith) (omega arith) (omega arith) refl in
-    let f3 : field_place whole (table_in 8 16 12) 3 ≡ Ok (Some 32) = field_in whole 8 inner 16 12 3 8 here (omega arith) (omega arith) (omega arith) refl in
+    let v : spec_read_table whole 24 left ≡ Ok (table_in 8 16 12, left - 8) = visit_in whole 8 inner 16 12 left here (omega arith) (omega arith) (omega arith) (omega arith) refl refl refl (omega arith) in
+    let f0 : spec_field_position whole (table_in 8 16 12) 0 ≡ Ok (Some 40) = field_in whole 8 inner 16 12 0 16 here (omega arith) (omega arith) (omega arith) refl in
+    let f1 : spec_field_position whole (table_in 8 16 12) 1 ≡ Ok (Some 42) = field_in whole 8 inner 16 12 1 18 here (omega arith) (omega arith) (omega arith) refl in
+    let f2 : spec_field_position whole (table_in 8 16 12) 2 ≡ Ok (Some 28) = field_in whole 8 inner 16 12 2 4 here (omega arith) (omega arith) (omega arith) refl in
+    let f3 : spec_field_position whole (table_in 8 16 12) 3 ≡ Ok (Some 32) = field_in whole 8 inner 16 12 3 8 here (omega arith) (omega arith) (omega arith) refl in
     let version : signed_at w16 whole 40 ≡ Ok (pos 4) = i16_in whole 0 all 40 40 (pos 4) h (omega arith) refl (omega (arith, ints)) refl in
-    let tag : number_at w8 whole 42 ≡ Ok (tag_of kind) = number_in w8 whole 0 all 42 42 h (omega arith) refl in
-    let to : offset_at whole 28 ≡ Ok (28 + (20 + head)) = offset_in whole 0 all 28 28 (20 + head) h (omega arith) refl (omega arith) refl in
+    let tag : number_at w8 whole 42 ≡ Ok (spec_tag_of kind) = number_in w8 whole 0 all 42 42 h (omega arith) refl in
+    let to : spec_offset_at whole 28 ≡ Ok (28 + (20 + head)) = offset_in whole 0 all 28 28 (20 + head) h (omega arith) refl (omega arith) refl in
     let header : 28 + (20 + head) ≡ 48 + head = omega arith in
     let body : signed_at w64 whole 32 ≡ Ok (pos body_length) = i64_in whole 0 all 32 32 (pos body_length) h (omega arith) refl (omega (arith, ints)) refl in
-    rw (root, v, f0, version, f1, tag, kind_back kind, f2, to, f3, body, header) refl
+    rw (root, v, f0, version, f1, tag, kind_round_trips kind, f2, to, f3, body, header) refl
 
--- the part behind the root
-pub part_again : (kind : Kind) (body_length head : ℕ) (part whole after : List ℕ) → From whole 0 (root_bytes kind body_length head part ++ after) → From whole 48 (part ++ after)
+-- the part that follows the root
+pub part_follows_root : (kind : MessageKind) (body_length head : ℕ) (part whole after : List ℕ) → From whole 0 (root_bytes kind body_length head part ++ after) → From whole 48 (part ++ after)
 unfolding root_bytes u32_bytes i64_bytes
-part_again kind body_length head part whole after h =
+part_follows_root kind body_length head part whole after h =
     From_at whole 0 48 48 (root_bytes kind body_length head part ++ after) (part ++ after) h (omega arith) refl refl
 
-pub root_long : (kind : Kind) (body_length head : ℕ) (part : List ℕ) → length (root_bytes kind body_length head part) ≡ 48 + length part
+pub root_long : (kind : MessageKind) (body_length head : ℕ) (part : List ℕ) → length (root_bytes kind body_length head part) ≡ 48 + length part
 unfolding root_bytes u32_bytes i64_bytes
 root_long kind body_length head part = omega arith
 
@@ -68,8 +68,8 @@ pub framed_long : (metadata : List ℕ) → length (framed_bytes metadata) ≡ 8
 unfolding framed_bytes u32_bytes
 framed_long metadata = omega (arith, padding_long (length metadata), length-append metadata (padding (length metadata)))
 
-front_is : (first rest : List ℕ) → front (length first) (first ++ rest) ≡ Ok (first, rest)
-unfolding front
+front_is : (first rest : List ℕ) → spec_first_bytes (length first) (first ++ rest) ≡ Ok (first, rest)
+unfolding spec_first_bytes
 front_is first rest =
     let fits : leb (length first) (length (first ++ rest)) ≡ true = le-leb _ _ (omega (arith, length-append first rest)) in
     rw (fits, take_at first rest (length first) refl, drop_at first rest (length first) refl) refl
@@ -78,8 +78,8 @@ front_is first rest =
 abbrev pub padded : List ℕ → List ℕ
 padded metadata = metadata ++ padding (length metadata)
 
--- the parts that are written
-abbrev pub written_parts : Kind → ℕ → List ℕ → List ℕ → Parts
+-- the message that is written
+abbrev pub written_parts : MessageKind → ℕ → List ℕ → List ℕ → MessageModel
 written_parts kind head part body =
     let metadata = padded (root_bytes kind (length body) head part) in
     record { root = root_of kind (length body) head (length metadata); metadata = metadata; body = body }
@@ -87,61 +87,61 @@ written_parts kind head part body =
 pub padded_long : (metadata : List ℕ) → length (padded metadata) ≡ length metadata + length (padding (length metadata))
 padded_long metadata = length-append metadata (padding (length metadata))
 
-mark_is : (bytes : List ℕ) → behind_mark ((255 ∷ 255 ∷ 255 ∷ 255 ∷ []) ++ bytes) ≡ Ok bytes
-unfolding behind_mark
+mark_is : (bytes : List ℕ) → spec_after_continuation ((255 ∷ 255 ∷ 255 ∷ 255 ∷ []) ++ bytes) ≡ Ok bytes
+unfolding spec_after_continuation
 mark_is bytes = rw (front_is (255 ∷ 255 ∷ 255 ∷ 255 ∷ []) bytes) refl
 
-sized_is : (n : ℕ) (bytes : List ℕ) (parts : Parts × List ℕ) → 0 < n → n < 2 ^ 31 → parts_at n bytes ≡ Ok parts → sized_at (u32_bytes n ++ bytes) ≡ Ok (Some parts.0, parts.1)
-unfolding sized_at
+sized_is : (n : ℕ) (bytes : List ℕ) (parts : MessageModel × List ℕ) → 0 < n → n < 2 ^ 31 → spec_message_of_size n bytes ≡ Ok parts → spec_sized_message (u32_bytes n ++ bytes) ≡ Ok (Some parts.0, parts.1)
+unfolding spec_sized_message
 sized_is n bytes parts some small is =
-    let first : front 4 (u32_bytes n ++ bytes) ≡ Ok (u32_bytes n, bytes) = unfold u32_bytes in front_is (u32_bytes n) bytes in
+    let first : spec_first_bytes 4 (u32_bytes n ++ bytes) ≡ Ok (u32_bytes n, bytes) = unfold u32_bytes in front_is (u32_bytes n) bytes in
     let number : from_le_bytes w32 (u32_bytes n) ≡ n = unfold u32_bytes in from_le_bytes-to_le_bytes_4 n (omega arith) in
     let signed : cast_signed w32 n ≡ pos n = omega (arith, ints) in
     let not_zero : eqb n 0 ≡ false = grind arith in
     rw (first, number, signed, not_zero, is) refl
 
-parts_is : (n : ℕ) (metadata body rest : List ℕ) (root : Root) → n ≡ length metadata → root_at metadata ≡ Ok root → root.body_length ≡ length body → parts_at n (metadata ++ (body ++ rest)) ≡ Ok (record { root = root; metadata = metadata; body = body }, rest)
-unfolding parts_at
+parts_is : (n : ℕ) (metadata body rest : List ℕ) (root : MessageRoot) → n ≡ length metadata → root_at metadata ≡ Ok root → root.body_length ≡ length body → spec_message_of_size n (metadata ++ (body ++ rest)) ≡ Ok (record { root = root; metadata = metadata; body = body }, rest)
+unfolding spec_message_of_size
 parts_is n metadata body rest root size is long = rw (size, front_is metadata (body ++ rest), is, long, front_is body rest) refl
 
--- metadata in its frame is read, where it has a root, with the body behind it
-pub framed_again : (metadata body rest : List ℕ) (root : Root) → 0 < length metadata → metadata_size (framed_bytes metadata) < 2 ^ 31 → root_at (padded metadata) ≡ Ok root → root.body_length ≡ length body
+-- encapsulated metadata with a valid root is read, with the body that follows it
+pub framed_round_trips : (metadata body rest : List ℕ) (root : MessageRoot) → 0 < length metadata → metadata_size (framed_bytes metadata) < 2 ^ 31 → root_at (padded metadata) ≡ Ok root → root.body_length ≡ length body
     → message_at (framed_bytes metadata ++ (body ++ rest)) ≡ Ok (Some (record { root = root; metadata = padded metadata; body = body }), rest)
 unfolding message_at framed_bytes
-framed_again metadata body rest root some small is long =
+framed_round_trips metadata body rest root some small is long =
     let n : ℕ = length metadata + length (padding (length metadata)) in
     let behind : List ℕ = padded metadata ++ (body ++ rest) in
     let few : n < 2 ^ 31 = omega (arith, framed_long metadata, padding_long (length metadata)) in
-    let parts : parts_at n behind ≡ Ok (record { root = root; metadata = padded metadata; body = body }, rest) = parts_is n (padded metadata) body rest root (sym (padded_long metadata)) is long in
+    let parts : spec_message_of_size n behind ≡ Ok (record { root = root; metadata = padded metadata; body = body }, rest) = parts_is n (padded metadata) body rest root (sym (padded_long metadata)) is long in
     let sized = sized_is n behind (record { root = root; metadata = padded metadata; body = body }, rest) (omega arith) few parts in
     let regrouped : (u32_bytes n ++ padded metadata) ++ (body ++ rest) ≡ u32_bytes n ++ behind = append_assoc (u32_bytes n) (padded metadata) (body ++ rest) in
     let all : List ℕ = (255 ∷ 255 ∷ 255 ∷ 255 ∷ []) ++ (u32_bytes n ++ behind) in
     let some_bytes : eqb (length all) 0 ≡ false = ne_eqb (length all) 0 (λ e. omega (arith, e)) in
     rw (regrouped, some_bytes, mark_is (u32_bytes n ++ behind), sized) refl
 
--- a stream ends at its mark
-pub end_again : (rest : List ℕ) → message_at (end_mark ++ rest) ≡ Ok (None, rest)
-unfolding message_at sized_at
-end_again rest =
+-- the end-of-stream marker ends a stream
+pub end_of_stream_is_read : (rest : List ℕ) → message_at (end_of_stream ++ rest) ≡ Ok (None, rest)
+unfolding message_at spec_sized_message
+end_of_stream_is_read rest =
     let bytes : List ℕ = (0 ∷ 0 ∷ 0 ∷ 0 ∷ []) ++ rest in
-    let some_bytes : eqb (length (end_mark ++ rest)) 0 ≡ false = ne_eqb (length (end_mark ++ rest)) 0 (λ e. omega (arith, e)) in
+    let some_bytes : eqb (length (end_of_stream ++ rest)) 0 ≡ false = ne_eqb (length (end_of_stream ++ rest)) 0 (λ e. omega (arith, e)) in
     rw (some_bytes, mark_is bytes, front_is (0 ∷ 0 ∷ 0 ∷ 0 ∷ []) rest) refl
 
 -- ---- what is written
 
--- a message and its body are read, and what stands behind them is left
-pub message_again : (kind : Kind) (head : ℕ) (part body rest : List ℕ) → length body < 2 ^ 63 → head < 2 ^ 31 → metadata_size (message_bytes kind (length body) head part) < 2 ^ 31
+-- a message and its body round-trip, and the bytes after them are left
+pub message_round_trips : (kind : MessageKind) (head : ℕ) (part body rest : List ℕ) → length body < 2 ^ 63 → head < 2 ^ 31 → metadata_size (message_bytes kind (length body) head part) < 2 ^ 31
     → message_at (message_bytes kind (length body) head part ++ (body ++ rest)) ≡ Ok (Some (written_parts kind head part body), rest)
 unfolding message_bytes
-message_again kind head part body rest fits near small =
+message_round_trips kind head part body rest fits near small =
     let metadata : List ℕ = root_bytes kind (length body) head part in
     let whole : List ℕ = padded metadata in
     let long = root_long kind (length body) head part in
     let root : root_at whole ≡ Ok (root_of kind (length body) head (length whole)) =
-    root_again kind (length body) head part whole (padding (length metadata)) fits near (record { is = refl; within = omega arith }) (omega (arith, framed_long metadata, padding_long (length metadata), padded_long metadata)) in
-    framed_again metadata body rest (root_of kind (length body) head (length whole)) (omega (arith, long)) small root refl
+    root_round_trips kind (length body) head part whole (padding (length metadata)) fits near (record { is = refl; within = omega arith }) (omega (arith, framed_long metadata, padding_long (length metadata), padded_long metadata)) in
+    framed_round_trips metadata body rest (root_of kind (length body) head (length whole)) (omega (arith, long)) small root refl
 
--- the part stands in its metadata
-pub written_part : (kind : Kind) (body_length head : ℕ) (part : List ℕ) → From (padded (root_bytes kind body_length head part)) 48 (part ++ padding (length (root_bytes kind body_length head part)))
+-- the part is at 48 of the metadata
+pub written_part : (kind : MessageKind) (body_length head : ℕ) (part : List ℕ) → From (padded (root_bytes kind body_length head part)) 48 (part ++ padding (length (root_bytes kind body_length head part)))
 written_part kind body_length head part =
-    part_again kind body_length head part (padded (root_bytes kind body_length head part)) (padding (length (root_bytes kind body_length head part))) (record { is = refl; within = omega arith })
+    part_follows_root kind body_length head part (padded (root_bytes kind body_length head part)) (padding (length (root_bytes kind body_length head part))) (record { is = refl; within = omega arith })

@@ -1,87 +1,87 @@
--- The message that bytes begin with: "Encapsulated message format" and "IPC Streaming Format" of the Arrow columnar format.
+-- The message at the start of bytes (Columnar format, Encapsulated message format and IPC Streaming Format).
 use Rattle.std.specs.Prelude.{ℕ, ◌*◌, ℤ, pos, List, [], length, take, drop, Option, Some, None, Result, Ok, Err, nat_le, ◌==◌, if◌then◌else◌}
 use Rattle.std.specs.Int.{w8, w16, w32, w64, from_le_bytes, cast_signed}
-use Rattle.ipc_flatbuf.specs.Reading.{◌>>=◌, check}
-use Rattle.ipc_flatbuf.specs.declared.error.Fault.{Fault}
-use Rattle.ipc_flatbuf.specs.declared.error.Fault.TheVariants.{Truncated, Continuation, MetadataLength, Version, HeaderType, BodyLength}
-use Rattle.ipc_flatbuf.specs.Flatbuffers.{natural, number_at, signed_at, offset_at, field, offset_field, visit_table}
-use Rattle.ipc_flatbuf.specs.declared.message.types.Version as versions
-use Rattle.ipc_flatbuf.specs.declared.message.types.Version.TheVariants.{V4, V5}
-use Rattle.ipc_flatbuf.specs.declared.message.types.Kind.{Kind}
-use Rattle.ipc_flatbuf.specs.declared.message.types.Kind.TheVariants.{Schema, DictionaryBatch, RecordBatch}
-use Rattle.ipc_flatbuf.specs.declared.message.types.Root.{Root}
+use Rattle.ipc_flatbuf.specs.ReadResults.{◌>>=◌, check}
+use Rattle.ipc_flatbuf.specs.declared.error.IpcReadError.{IpcReadError}
+use Rattle.ipc_flatbuf.specs.declared.error.IpcReadError.TheVariants.{Truncated, Continuation, MetadataLength, Version, HeaderType, BodyLength}
+use Rattle.ipc_flatbuf.specs.Flatbuffers.{spec_non_negative, number_at, signed_at, spec_offset_at, field, spec_offset_field, spec_read_table}
+use Rattle.ipc_flatbuf.specs.declared.message.types.MetadataVersion as versions
+use Rattle.ipc_flatbuf.specs.declared.message.types.MetadataVersion.TheVariants.{V4, V5}
+use Rattle.ipc_flatbuf.specs.declared.message.types.MessageKind.{MessageKind}
+use Rattle.ipc_flatbuf.specs.declared.message.types.MessageKind.TheVariants.{Schema, DictionaryBatch, RecordBatch}
+use Rattle.ipc_flatbuf.specs.declared.message.types.MessageRoot.{MessageRoot}
 use Rattle.ipc_flatbuf.specs.declared.message.types.Message.{Message}
 
--- `MetadataVersion` of `Schema.fbs`: V1 to V5 are 0 to 4
-abbrev pub version_of : ℤ → Result versions.Version Fault
-version_of z = natural Version z >>= λ n. if n == 3 then Ok V4 else (if n == 4 then Ok V5 else Err Version)
+-- Schema.fbs, enum MetadataVersion: V1 to V5 are 0 to 4
+abbrev pub spec_version_of : ℤ → Result versions.MetadataVersion IpcReadError
+spec_version_of z = spec_non_negative Version z >>= λ n. if n == 3 then Ok V4 else (if n == 4 then Ok V5 else Err Version)
 
--- `MessageHeader` of `Message.fbs`
-abbrev pub kind_of : ℕ → Result Kind Fault
-kind_of tag = if tag == 1 then Ok Schema else (if tag == 2 then Ok DictionaryBatch else (if tag == 3 then Ok RecordBatch else Err HeaderType))
+-- Message.fbs, union MessageHeader
+abbrev pub spec_kind_of : ℕ → Result MessageKind IpcReadError
+spec_kind_of tag = if tag == 1 then Ok Schema else (if tag == 2 then Ok DictionaryBatch else (if tag == 3 then Ok RecordBatch else Err HeaderType))
 
--- a header that is there
-abbrev pub place_of : Option ℕ → Result ℕ Fault
-place_of None = Err HeaderType
-place_of (Some place) = Ok place
+-- the position of the header, which is required
+abbrev pub spec_header_position : Option ℕ → Result ℕ IpcReadError
+spec_header_position None = Err HeaderType
+spec_header_position (Some position) = Ok position
 
--- the root of metadata, whose parts may cost 64 times its bytes
-unfoldable pub root_at : List ℕ → Result Root Fault
+-- the root table of metadata; its budget is 64 times the length of the metadata
+unfoldable pub root_at : List ℕ → Result MessageRoot IpcReadError
 root_at bytes = do
-  place ← offset_at bytes 0
-  table ← visit_table bytes place (64 * length bytes)
+  position ← spec_offset_at bytes 0
+  table ← spec_read_table bytes position (64 * length bytes)
   number ← field (signed_at w16 bytes) (pos 0) bytes table.0 0
-  version ← version_of number
+  version ← spec_version_of number
   tag ← field (number_at w8 bytes) 0 bytes table.0 1
-  kind ← kind_of tag
-  to ← offset_field bytes table.0 2
-  header ← place_of to
+  kind ← spec_kind_of tag
+  to ← spec_offset_field bytes table.0 2
+  header ← spec_header_position to
   long ← field (signed_at w64 bytes) (pos 0) bytes table.0 3
-  body ← natural BodyLength long
+  body ← spec_non_negative BodyLength long
   Ok (record { version = version; kind = kind; header = header; left = table.1; body_length = body })
 
--- ---- messages in a stream
+-- ---- encapsulated messages
 
--- a message: its root, its metadata, its body
-pub record Parts : Type 0 where
-  pub root : Root
+-- the value of a Message
+pub record MessageModel : Type 0 where
+  pub root : MessageRoot
   pub metadata : List ℕ
   pub body : List ℕ
 
--- the first so many bytes, and what stands behind them
-unfoldable pub front : ℕ → List ℕ → Result (List ℕ × List ℕ) Fault
-front n bytes = if nat_le n (length bytes) then Ok (take n bytes, drop n bytes) else Err Truncated
+-- the first n bytes, and the rest
+unfoldable pub spec_first_bytes : ℕ → List ℕ → Result (List ℕ × List ℕ) IpcReadError
+spec_first_bytes n bytes = if nat_le n (length bytes) then Ok (take n bytes, drop n bytes) else Err Truncated
 
--- what stands behind the continuation FF FF FF FF
-unfoldable pub behind_mark : List ℕ → Result (List ℕ) Fault
-behind_mark bytes = do
-  mark ← front 4 bytes
+-- the bytes after the continuation indicator FF FF FF FF
+unfoldable pub spec_after_continuation : List ℕ → Result (List ℕ) IpcReadError
+spec_after_continuation bytes = do
+  mark ← spec_first_bytes 4 bytes
   none ← check (from_le_bytes w32 mark.0 == 4294967295) Continuation
   Ok mark.1
 
--- the message of so many bytes of metadata, and what stands behind its body
-unfoldable pub parts_at : ℕ → List ℕ → Result (Parts × List ℕ) Fault
-parts_at size bytes = do
-  metadata ← front size bytes
+-- the message with size bytes of metadata, and the bytes after its body
+unfoldable pub spec_message_of_size : ℕ → List ℕ → Result (MessageModel × List ℕ) IpcReadError
+spec_message_of_size size bytes = do
+  metadata ← spec_first_bytes size bytes
   root ← root_at metadata.0
-  body ← front root.body_length metadata.1
+  body ← spec_first_bytes root.body_length metadata.1
   Ok (record { root = root; metadata = metadata.0; body = body.0 }, body.1)
 
--- no message where the length is 0
-unfoldable pub sized_at : List ℕ → Result (Option Parts × List ℕ) Fault
-sized_at bytes = do
-  long ← front 4 bytes
-  size ← natural MetadataLength (cast_signed w32 (from_le_bytes w32 long.0))
-  if size == 0 then Ok (None, long.1) else (parts_at size long.1 >>= λ parts. Ok (Some parts.0, parts.1))
+-- no message where the length is 0, the end-of-stream marker
+unfoldable pub spec_sized_message : List ℕ → Result (Option MessageModel × List ℕ) IpcReadError
+spec_sized_message bytes = do
+  long ← spec_first_bytes 4 bytes
+  size ← spec_non_negative MetadataLength (cast_signed w32 (from_le_bytes w32 long.0))
+  if size == 0 then Ok (None, long.1) else (spec_message_of_size size long.1 >>= λ parts. Ok (Some parts.0, parts.1))
 
--- the message that the bytes begin with, and what stands behind it; none where the stream ends, by its mark or with the bytes
-unfoldable pub message_at : List ℕ → Result (Option Parts × List ℕ) Fault
-message_at bytes = if length bytes == 0 then Ok (None, []) else (behind_mark bytes >>= sized_at)
+-- the message at the start of the bytes, and the bytes after it; None at the end of the stream
+unfoldable pub message_at : List ℕ → Result (Option MessageModel × List ℕ) IpcReadError
+message_at bytes = if length bytes == 0 then Ok (None, []) else (spec_after_continuation bytes >>= spec_sized_message)
 
--- a message of the code
-abbrev pub parts_of : Message → Parts
-parts_of m = record { root = m.root; metadata = m.metadata.now; body = m.body.now }
+-- the value of a Rust Message
+abbrev pub model_of : Message → MessageModel
+model_of m = record { root = m.root; metadata = m.metadata.now; body = m.body.now }
 
-abbrev pub message_of : Option Message → Option Parts
-message_of None = None
-message_of (Some m) = Some (parts_of m)
+abbrev pub optional_model_of : Option Message → Option MessageModel
+optional_model_of None = None
+optional_model_of (Some m) = Some (model_of m)

@@ -1,222 +1,226 @@
-//! Why bytes were not read, and why a schema or a batch has no form.
+//! The errors of reading and of writing Arrow IPC data.
 ghost use Rattle.std.specs.Prelude.{◌≡◌};
 
 use std::alloc::{AllocError, AllocFailed};
 
-/// Why bytes were not read: the first fault in the order of reading, or want of memory, which can stand in the place of any later one.
+/// Why bytes were not read: the first error in the order of reading, or want of memory, which can stand in the position of any later one.
 #[derive(Clone, Copy, Debug, PartialEq, Eq, thiserror::Error)]
-pub enum Fault {
-    /// The bytes end before a message does, or are too few to be a file.
-    #[error("the bytes end inside of a message, or a file is under 18 bytes")]
+pub enum IpcReadError {
+    /// The bytes end inside of a message, or a file has fewer than 18 bytes.
+    #[error("data is truncated: the bytes end inside of a message, or a file is shorter than 18 bytes")]
     Truncated,
-    /// A message does not begin with the continuation `FF FF FF FF`.
-    #[error("a message does not begin with FF FF FF FF")]
+    /// A message does not begin with the continuation indicator `FF FF FF FF`.
+    #[error("message does not begin with the continuation indicator FF FF FF FF")]
     Continuation,
-    /// The length of a message's metadata is negative.
-    #[error("the length of a message's metadata is negative")]
+    /// The length of the metadata of a message is negative.
+    #[error("metadata length of a message is negative")]
     MetadataLength,
-    /// A part of the metadata that a flatbuffer names does not lie within it, or a vtable is none.
-    #[error("metadata is no flatbuffer: an offset, a table, a field or a vector lies outside of it")]
+    /// The metadata is not a valid flatbuffer: an offset, a vtable, a field or a vector is out of range.
+    #[error("metadata is not a valid flatbuffer: an offset, a vtable, a field or a vector is out of range")]
     Flatbuffer,
-    /// The parts that the metadata names, each counted as often as it is named, are worth more than 64 times its bytes.
-    #[error("metadata names more than its bytes pay for")]
-    Shared,
-    /// A string of the metadata is not UTF-8.
-    #[error("a text of the metadata is not UTF-8")]
-    MetadataText,
-    /// The version is neither V4 nor V5; or it is V4, whose unions have validities, and the schema has a union.
-    #[error("the metadata's version is neither V4 nor V5, or is V4 and the schema has a union")]
+    /// The apparent size of the metadata exceeds 64 times its length.
+    ///
+    /// The apparent size counts a table, vector or string once for each offset that refers to it.
+    #[error("apparent size of the metadata exceeds 64 times its length")]
+    ApparentSize,
+    /// A string of the metadata is not valid UTF-8.
+    #[error("string of the metadata is not valid UTF-8")]
+    MetadataUtf8,
+    /// The metadata version is neither V4 nor V5, or it is V4 and the schema has a union.
+    ///
+    /// Unions of version V4 have validity bitmaps, which are not supported.
+    #[error("metadata version is neither V4 nor V5, or it is V4 and the schema has a union")]
     Version,
-    /// The message is no schema, dictionary or record batch, or not of the kind that stands in its place.
-    #[error("the message is none that may stand here")]
+    /// The message header is not a schema, a dictionary batch or a record batch, or not the one that is expected here.
+    #[error("unexpected message header type")]
     HeaderType,
-    /// The length of a message's body is negative, or that of a schema is not 0.
-    #[error("the length of a message's body is negative, or a schema has a body")]
+    /// The body length of a message is negative, or a schema message has a body.
+    #[error("body length of a message is negative, or a schema message has a body")]
     BodyLength,
-    /// The stream begins with no schema, or the footer has none.
-    #[error("there is no schema first")]
-    NoSchema,
-    /// The schema's data is not little-endian.
-    #[error("the data is not little-endian")]
+    /// The stream does not begin with a schema message, or the footer has no schema.
+    #[error("stream does not begin with a schema message, or footer has no schema")]
+    MissingSchema,
+    /// The data is not little-endian.
+    #[error("data is not little-endian")]
     Endianness,
-    /// A field stands inside of 64 others.
-    #[error("fields are nested deeper than 64")]
+    /// The fields nest deeper than 64 levels.
+    #[error("field is nested deeper than 64 levels")]
     Depth,
     /// A field has no type.
-    #[error("a field has no type")]
-    NoType,
-    /// A field's type is none of the format's.
-    #[error("a field's type is none of the format")]
+    #[error("field has no type")]
+    MissingType,
+    /// The type of a field is not a type of the format.
+    #[error("type of a field is unknown")]
     UnknownType,
-    /// A field's type is one of the format's that is not read.
-    #[error("a field's type is one that is not read")]
+    /// The type of a field is valid but not supported.
+    #[error("type of a field is not supported")]
     UnsupportedType,
-    /// A field's type has a number that no data type has: a width, a unit, a size, a precision, a scale, a mode, a kind of dictionary.
-    #[error("no type has these numbers")]
+    /// A parameter of a type is out of range: a bit width, unit, size, precision, scale, union mode or dictionary kind.
+    #[error("parameter of a type is out of range")]
     TypeRange,
-    /// A union has not one id from 0 to 127 for each of its fields, or more than 127 fields.
-    #[error("the ids of a union are not one from 0 to 127 for each of at most 127 fields")]
+    /// The type ids of a union are not one id from 0 to 127 for each field, or it has more than 127 fields.
+    #[error("type ids of a union are not one id from 0 to 127 for each of at most 127 fields")]
     UnionIds,
-    /// A field has not as many children as its type has.
-    #[error("a field has not as many children as its type asks for")]
+    /// The number of children of a field does not match its type.
+    #[error("number of children of a field does not match its type")]
     ChildCount,
-    /// The child of a map is no struct of two fields.
-    #[error("a map's entries are not a struct of two fields")]
+    /// The child of a map is not a struct of two fields.
+    #[error("entries of a map are not a struct of two fields")]
     MapEntries,
-    /// Two fields name one dictionary, and the types of their values differ.
-    #[error("fields of one dictionary have different types")]
+    /// Two fields have one dictionary id but different value types.
+    #[error("fields with the same dictionary id have different value types")]
     DictionaryType,
-    /// A pair of key and value lacks one of them.
-    #[error("a pair of metadata lacks its key or its value")]
+    /// A `KeyValue` of custom metadata has no key or no value.
+    #[error("custom metadata has an entry without key or value")]
     Metadata,
-    /// A dictionary has an id that no field has.
-    #[error("no field has the dictionary's id")]
+    /// The id of a dictionary batch is not the id of a field.
+    #[error("id of a dictionary batch is not in the schema")]
     UnknownDictionary,
-    /// A dictionary has no data.
-    #[error("a dictionary has no data")]
-    NoData,
-    /// Keys, or more values, belong to a dictionary that has not been read before.
-    #[error("a dictionary is needed and has not been read")]
+    /// A dictionary batch has no record batch.
+    #[error("dictionary batch has no data")]
+    MissingData,
+    /// A record batch or a delta refers to a dictionary that was not read before.
+    #[error("dictionary is used before it is read")]
     MissingDictionary,
-    /// A file has a second dictionary of an id that adds no values to the first.
-    #[error("a file has two dictionaries of one id")]
-    Replaced,
-    /// More values of a dictionary would pass an offset's type, or stand behind values whose own dictionaries were read anew.
-    #[error("more values cannot be added to a dictionary")]
+    /// A file has two dictionary batches of one id, and the second is not a delta.
+    #[error("file replaces a dictionary: two batches of one id are not deltas")]
+    DuplicateDictionary,
+    /// A delta would exceed the offset type, or follows values whose nested dictionaries were replaced.
+    #[error("delta cannot be appended to its dictionary")]
     Delta,
-    /// The number of rows is negative, or a column's length is another.
-    #[error("a number of rows is negative, or a column has another one")]
+    /// The number of rows of a batch is negative, or the length of a column differs from it.
+    #[error("number of rows is negative or differs from the length of a column")]
     RowCount,
-    /// The body is compressed.
-    #[error("the body is compressed")]
+    /// The body is compressed, which is not supported.
+    #[error("compressed bodies are not supported")]
     Compressed,
-    /// A buffer's offset or length is negative, or it ends past the body.
-    #[error("a buffer does not lie within the body")]
+    /// The offset or length of a buffer is negative, or the buffer ends after the body.
+    #[error("buffer is outside of the message body")]
     BufferRange,
-    /// The lengths of all buffers together pass the body's.
-    #[error("the buffers together are longer than the body")]
+    /// The total length of all buffers exceeds the length of the body.
+    #[error("total length of the buffers exceeds the length of the message body")]
     BufferSum,
-    /// There are fewer or more nodes than fields.
-    #[error("there are not as many nodes as fields")]
+    /// The number of field nodes does not match the fields.
+    #[error("number of field nodes does not match the fields")]
     NodeCount,
-    /// There are fewer or more buffers than the fields' layouts have.
-    #[error("there are not as many buffers as the fields need")]
+    /// The number of buffers does not match the layouts of the fields.
+    #[error("number of buffers does not match the layouts of the fields")]
     BufferCount,
-    /// A node's length or number of nulls is negative, or there are more nulls than slots.
-    #[error("the numbers of a node are negative, or it has more nulls than slots")]
+    /// The length or null count of a field node is negative, or the null count exceeds the length.
+    #[error("length or null count of a field node is out of range")]
     NodeRange,
-    /// A child of a struct, a list of fixed size or a sparse union has not the length that its parent asks for.
-    #[error("a child has another length than its parent asks for")]
+    /// The length of a child of a struct, fixed-size list or sparse union does not match its parent.
+    #[error("length of a child does not match its parent")]
     ChildLength,
-    /// A buffer has fewer bytes than its slots need.
-    #[error("a buffer is shorter than its slots need")]
-    BufferShort,
-    /// A node's number of nulls is not that of the bits that are 0.
-    #[error("the number of nulls is not that of the validity")]
+    /// A buffer is shorter than the length of the array requires.
+    #[error("buffer is shorter than the length of the array requires")]
+    BufferTooShort,
+    /// The null count of a field node differs from the number of unset bits of the validity bitmap.
+    #[error("null count does not match the validity bitmap")]
     NullCount,
-    /// Offsets begin below 0 or fall.
-    #[error("offsets begin below 0 or fall")]
+    /// The first offset is negative, or the offsets decrease.
+    #[error("offsets are negative or decrease")]
     Offsets,
-    /// The last offset is past the child's slots, or past the bytes.
-    #[error("the last offset is past the child")]
+    /// The last offset exceeds the length of the child or of the data.
+    #[error("last offset exceeds the length of the values")]
     OffsetPastChild,
-    /// The bytes of a slot of texts are not UTF-8.
-    #[error("a text is not UTF-8")]
-    Text,
-    /// A type of a union names none of its fields.
-    #[error("a type of a union names none of its fields")]
+    /// A value of a string array is not valid UTF-8.
+    #[error("value of a string array is not valid UTF-8")]
+    Utf8,
+    /// A type id of a union array is not the id of a field.
+    #[error("type id of a union array is not the id of a field")]
     UnionType,
-    /// A key of a valid slot names none of the dictionary's values.
-    #[error("a key of a dictionary names no value")]
+    /// The key of a valid slot is not the index of a dictionary value.
+    #[error("dictionary key is out of range")]
     KeyRange,
-    /// An offset of a dense union names no slot of its field.
-    #[error("an offset of a dense union names no slot of its field")]
-    UnionSlot,
-    /// A file does not begin, or does not end, with `ARROW1`.
-    #[error("the file does not begin and end with ARROW1")]
+    /// An offset of a dense union exceeds the length of its child.
+    #[error("offset of a dense union is out of range")]
+    UnionOffset,
+    /// A file does not begin and end with the magic `ARROW1`.
+    #[error("file does not begin and end with ARROW1")]
     Magic,
-    /// The length of a file's footer is none that the file has room for.
-    #[error("the footer does not lie within the file")]
+    /// The footer length is out of range for the size of the file.
+    #[error("footer length is out of range for the file")]
     FooterLength,
-    /// A block of the footer names no message of its lengths that lies before the footer, or the blocks together pass it.
-    #[error("a block of the footer is not where its message is")]
+    /// A block of the footer is not a message of its lengths before the footer, or the blocks together exceed the file.
+    #[error("block of the footer does not match a message of the file")]
     Block,
-    /// There is no memory for what was read.
+    /// An allocation failed.
     #[error("out of memory")]
     Memory,
 }
 
-impl From<AllocError> for Fault {
-    ghost use Rattle.ipc_flatbuf.specs.declared.error.Fault.TheVariants.{Memory};
+impl From<AllocError> for IpcReadError {
+    ghost use Rattle.ipc_flatbuf.specs.declared.error.IpcReadError.TheVariants.{Memory};
 
     ghost from_gives = { λ _ e. e ≡ Memory };
 
-    fn from(_refused: AllocError) -> Fault {
-        Fault::Memory
+    fn from(_refused: AllocError) -> IpcReadError {
+        IpcReadError::Memory
     }
 }
 
-impl<T: Drop> From<AllocFailed<T>> for Fault {
-    ghost use Rattle.ipc_flatbuf.specs.declared.error.Fault.TheVariants.{Memory};
+impl<T: Drop> From<AllocFailed<T>> for IpcReadError {
+    ghost use Rattle.ipc_flatbuf.specs.declared.error.IpcReadError.TheVariants.{Memory};
 
     ghost from_gives = { λ _ e. e ≡ Memory };
 
-    fn from(_refused: AllocFailed<T>) -> Fault {
-        Fault::Memory
+    fn from(_refused: AllocFailed<T>) -> IpcReadError {
+        IpcReadError::Memory
     }
 }
 
-/// Why a schema or a batch is not written: the first reason in the order of writing, or want of memory, which can stand in the place of any later one.
+/// Why a schema or a batch is not written: the first reason in the order of writing, or want of memory, which can stand in the position of any later one.
 #[derive(Clone, Copy, Debug, PartialEq, Eq, thiserror::Error)]
-pub enum NoForm {
-    /// A field stands inside of 64 others.
-    #[error("fields are nested deeper than 64")]
+pub enum IpcWriteError {
+    /// The fields nest deeper than 64 levels.
+    #[error("field is nested deeper than 64 levels")]
     Depth,
-    /// An extension is directly of an extension, or a field's own metadata has a key that spells an extension.
-    #[error("an extension stands where the format has no place for it")]
+    /// An extension type is the storage of another, or custom metadata of a field has a key that is reserved for extension types.
+    #[error("extension type is nested in another, or a metadata key is reserved for extension types")]
     Extension,
-    /// The values of a dictionary are directly a dictionary or an extension.
-    #[error("the values of a dictionary are directly a dictionary or an extension")]
+    /// The value type of a dictionary is itself a dictionary or an extension type.
+    #[error("value type of a dictionary is a dictionary or an extension type")]
     Dictionary,
-    /// A field's type is one that is not written.
-    #[error("a field's type is one that is not written")]
+    /// The type of a field cannot be written.
+    #[error("type of a field is not supported")]
     Type,
-    /// A field's type is a float.
-    #[error("arrays of floats are not written")]
+    /// The type of a field is a floating-point type, whose arrays cannot be written.
+    #[error("arrays of floating-point types are not supported")]
     Float,
-    /// A time of 32 bits is in micro- or nanoseconds, or one of 64 bits in seconds or milliseconds.
-    #[error("no time of this width has this unit")]
+    /// A 32-bit time has microseconds or nanoseconds, or a 64-bit time has seconds or milliseconds.
+    #[error("unit does not match the bit width of a time type")]
     Unit,
-    /// A size, a precision or a scale passes 2^31 - 1, a length 2^63 - 1, or the metadata of a message 2^31 - 1 bytes.
-    #[error("a number, a length or the metadata of a message is past its type")]
+    /// A size, precision or scale exceeds 2^31 - 1, a length exceeds 2^63 - 1, or message metadata exceeds 2^31 - 1 bytes.
+    #[error("size, length or message metadata exceeds the range of the format")]
     Size,
-    /// The columns of a batch differ from the schema in number or type, or from one another in length.
-    #[error("the columns of a batch are not those of the schema")]
+    /// The columns of a batch do not match the schema in number or type, or their lengths differ.
+    #[error("columns do not match the schema, or their lengths differ")]
     Columns,
-    /// A file would have to have a dictionary written anew.
-    #[error("a file would need two dictionaries of one id")]
-    Dictionaries,
-    /// There is no memory for what is written.
+    /// A file would need to replace a dictionary, which the file format does not allow.
+    #[error("file cannot replace a dictionary")]
+    DictionaryReplacement,
+    /// An allocation failed.
     #[error("out of memory")]
     Memory,
 }
 
-impl From<AllocError> for NoForm {
-    ghost use Rattle.ipc_flatbuf.specs.declared.error.NoForm.TheVariants.{Memory};
+impl From<AllocError> for IpcWriteError {
+    ghost use Rattle.ipc_flatbuf.specs.declared.error.IpcWriteError.TheVariants.{Memory};
 
     ghost from_gives = { λ _ e. e ≡ Memory };
 
-    fn from(_refused: AllocError) -> NoForm {
-        NoForm::Memory
+    fn from(_refused: AllocError) -> IpcWriteError {
+        IpcWriteError::Memory
     }
 }
 
-impl<T: Drop> From<AllocFailed<T>> for NoForm {
-    ghost use Rattle.ipc_flatbuf.specs.declared.error.NoForm.TheVariants.{Memory};
+impl<T: Drop> From<AllocFailed<T>> for IpcWriteError {
+    ghost use Rattle.ipc_flatbuf.specs.declared.error.IpcWriteError.TheVariants.{Memory};
 
     ghost from_gives = { λ _ e. e ≡ Memory };
 
-    fn from(_refused: AllocFailed<T>) -> NoForm {
-        NoForm::Memory
+    fn from(_refused: AllocFailed<T>) -> IpcWriteError {
+        IpcWriteError::Memory
     }
 }

@@ -1,4 +1,8 @@
-//! Flatbuffers as the Arrow IPC format uses them: tables, vectors and strings, messages, and the metadata of record batches.
+//! The metadata of the Arrow IPC format: flatbuffers, encapsulated messages, record batches and dictionary batches.
+//!
+//! Readers decode metadata in place and check each offset. A budget limits the apparent size of the metadata: a table
+//! counts 8 bytes, a vector 4 bytes and its items, once for each offset that refers to it. [`message::read_root`] sets
+//! the budget to 64 times the length of the metadata.
 #![tactic(auto)]
 
 pub mod batch;
@@ -10,16 +14,17 @@ mod tables;
 mod vectors;
 mod writers;
 
-pub use batch::{Node, Region};
-pub use error::{Fault, NoForm};
-pub use numbers::{i16_at, i32_at, i64_at, natural, offset_at, u8_at, u16_at, u32_at, u64_at};
-pub use projection::{Span, Step};
+pub use batch::{BufferSpec, FieldNode};
+pub use error::{IpcReadError, IpcWriteError};
+pub use numbers::{i16_at, i32_at, i64_at, non_negative, offset_at, u8_at, u16_at, u32_at, u64_at};
+pub use projection::{FieldAction, SkippedField};
 pub use tables::{
-    Table, field_place, i16_field, i32_field, i64_field, offset_field, table_at, u8_field,
+    Table, field_position, i16_field, i32_field, i64_field, offset_field, table_at, u8_field,
 };
 pub use vectors::{
-    Items, items_at, spend, string_at, text_at, visit_string, visit_table, visit_vector,
+    VectorItems, charge_budget, items_at, read_string, read_table, read_vector, str_at, string_at,
 };
 pub use writers::{
-    put_bodies, put_i16, put_i32, put_i64, put_offset, put_row, put_string, put_u32, put_zeros,
+    write_each, write_i16, write_i32, write_i64, write_offset, write_string, write_tables,
+    write_u32, write_zeros,
 };

@@ -1,25 +1,25 @@
-//! What is passed over where a batch is read by columns.
+//! The nodes and buffers to skip where a projection of the columns is read.
 
-/// What a field that is not read takes in each batch, with those inside of it.
+/// The number of field nodes and buffers that a skipped field and its descendants have in each record batch.
 #[derive(Clone, Copy, Debug, PartialEq, Eq)]
-pub struct Span {
-    /// How many nodes.
+pub struct SkippedField {
+    /// The number of field nodes.
     pub nodes: usize,
-    /// How many buffers, but for those that only the batch counts.
+    /// The number of buffers, without the variadic buffers of views.
     pub buffers: usize,
-    /// How many arrays of views: for each, `variadicBufferCounts` of the batch says how many buffers more it has.
+    /// The number of view arrays: each has an entry in `variadicBufferCounts` of the record batch.
     pub views: usize,
-    /// Whether a union is in it.
+    /// Whether the field or a descendant is a union.
     pub has_union: bool,
-    /// Whether a dictionary is in it.
+    /// Whether the field or a descendant is dictionary-encoded.
     pub has_dictionary: bool,
 }
 
-/// What is done with a field of a schema.
+/// Whether a field of a schema is read or skipped.
 #[derive(Clone, Copy, Debug, PartialEq, Eq)]
-pub enum Step {
-    /// It is read.
+pub enum FieldAction {
+    /// The field is read.
     Read,
-    /// It is passed over.
-    Skip(Span),
+    /// The field is skipped.
+    Skip(SkippedField),
 }

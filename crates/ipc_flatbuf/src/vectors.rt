@@ -1,137 +1,162 @@
-//! What is visited is paid for: tables, vectors and strings.
+//! Tables, vectors and strings, which are charged to the budget of the metadata.
 ghost use Rattle.std.specs.Prelude.{◌≡◌, ◌+◌, ◌*◌, ◌<◌, ◌≤◌, ◌^◌, length, IfOk, Ok, Result, ℕ, ◌-◌};
 ghost use Rattle.std.specs.Int.{w8, w16, w32, w64};
-ghost use Rattle.ipc_flatbuf.specs.Reading.{Spells, Gives};
+ghost use Rattle.ipc_flatbuf.specs.ReadResults.{Returns, ReturnsOrRunsOut};
 ghost use Rattle.std.specs.String.{string_bytes};
-ghost use Rattle.ipc_flatbuf.specs.Flatbuffers.{spend as spend_lem, visit_table as visit_table_lem, visit_vector as visit_vector_lem, visit_string as visit_string_lem, text_of as text_of_lem, text_at as text_at_lem, items_at as items_at_lem};
+ghost use Rattle.ipc_flatbuf.specs.Flatbuffers.{spec_charge_budget, spec_read_table, spec_read_vector, spec_read_string, spec_utf8_of, spec_str_at, spec_items_at};
 
-use crate::Fault;
+use crate::IpcReadError;
 use crate::numbers::u32_at;
 use crate::tables::{Table, table_at};
 use std::alloc::Global;
 
-/// The items of a vector: the first one's place, and their number.
+/// The position of the first item of a flatbuffer vector, and the number of items.
 #[derive(Clone, Copy, Debug, PartialEq, Eq)]
-pub struct Items {
+pub struct VectorItems {
     pub first: usize,
     pub count: usize,
 }
 
-/// Pays for what is visited.
-#[tactic(auto, unfolding(crate::specs::Flatbuffers::spend))]
-pub fn spend(left: usize, cost: usize) -> Result<usize, Fault>
-    ensures { result ≡ spend_lem left cost }
+/// Returns the budget without a cost in bytes.
+///
+/// # Errors
+/// [`IpcReadError::ApparentSize`] where the cost exceeds the budget `left`.
+#[tactic(auto, unfolding(crate::specs::Flatbuffers::spec_charge_budget))]
+pub fn charge_budget(left: usize, cost: usize) -> Result<usize, IpcReadError>
+    ensures { result ≡ spec_charge_budget left cost }
 {
     if cost <= left {
         Ok(left - cost)
     } else {
-        Err(Fault::Shared)
+        Err(IpcReadError::ApparentSize)
     }
 }
 
-/// The table at a place, and what is left to spend.
-#[tactic(auto, unfolding(crate::specs::Flatbuffers::visit_table))]
-pub fn visit_table(bytes: &[u8], place: usize, left: usize) -> Result<(Table, usize), Fault>
+/// Returns the table at a position and the budget left, of which a table costs 8 bytes.
+///
+/// # Errors
+/// [`IpcReadError::Flatbuffer`] as [`table_at`], [`IpcReadError::ApparentSize`] where the budget does not suffice.
+#[tactic(auto, unfolding(crate::specs::Flatbuffers::spec_read_table))]
+pub fn read_table(
+    bytes: &[u8],
+    position: usize,
+    left: usize,
+) -> Result<(Table, usize), IpcReadError>
     requires { length bytes.now < 2 ^ 32 }
-    ensures value { result ≡ visit_table_lem bytes.now place left }
+    ensures value { result ≡ spec_read_table bytes.now position left }
     ensures within { IfOk result (λ x. (x.0.at < 2 ^ 32) × (x.0.vtable < 2 ^ 32)) }
 {
-    let table = table_at(bytes, place)?;
-    let rest = spend(left, 8)?;
+    let table = table_at(bytes, position)?;
+    let rest = charge_budget(left, 8)?;
     Ok((table, rest))
 }
 
-/// The items of the vector at a place, each of `size` bytes, and what is left to spend.
-#[tactic(auto, unfolding(crate::specs::Flatbuffers::visit_vector))]
-pub fn visit_vector(
+/// Returns the vector at a position, whose items have `size` bytes each, and the budget left.
+///
+/// # Errors
+/// [`IpcReadError::Flatbuffer`] where the vector is not within the bytes, [`IpcReadError::ApparentSize`] where the
+/// budget does not suffice.
+#[tactic(auto, unfolding(crate::specs::Flatbuffers::spec_read_vector))]
+pub fn read_vector(
     size: u8,
     bytes: &[u8],
-    place: usize,
+    position: usize,
     left: usize,
-) -> Result<(Items, usize), Fault>
+) -> Result<(VectorItems, usize), IpcReadError>
     requires { length bytes.now < 2 ^ 32 }
-    ensures value { result ≡ visit_vector_lem size bytes.now place left }
+    ensures value { result ≡ spec_read_vector size bytes.now position left }
     ensures within { IfOk result (λ x. x.0.first + x.0.count * size ≤ length bytes.now) }
 {
-    let count = u32_at(bytes, place)? as usize;
+    let count = u32_at(bytes, position)? as usize;
     let taken = count * size as usize;
-    if place + 4 + taken <= bytes.len() {
-        let rest = spend(left, 4 + taken)?;
+    if position + 4 + taken <= bytes.len() {
+        let rest = charge_budget(left, 4 + taken)?;
         Ok((
-            Items {
-                first: place + 4,
+            VectorItems {
+                first: position + 4,
                 count,
             },
             rest,
         ))
     } else {
-        Err(Fault::Flatbuffer)
+        Err(IpcReadError::Flatbuffer)
     }
 }
 
-/// The text that bytes are.
-fn text_of(bytes: &[u8], left: usize) -> Result<(&str, usize), Fault>
-    ensures { Spells (λ x. (x.0.now, x.1)) result (text_of_lem bytes.now left) }
+/// Returns the bytes as a string, with the budget left.
+fn utf8_of(bytes: &[u8], left: usize) -> Result<(&str, usize), IpcReadError>
+    ensures { Returns (λ x. (x.0.now, x.1)) result (spec_utf8_of bytes.now left) }
 {
     match str::from_utf8(bytes) {
         Ok(text) => Ok((text, left)),
-        Err(_) => Err(Fault::MetadataText),
+        Err(_) => Err(IpcReadError::MetadataUtf8),
     }
 }
 
-/// The text of the string at a place, and what is left to spend.
-#[tactic(auto, unfolding(crate::specs::Flatbuffers::visit_string))]
-pub fn visit_string(bytes: &[u8], place: usize, left: usize) -> Result<(&str, usize), Fault>
+/// Returns the string at a position and the budget left.
+///
+/// # Errors
+/// As [`read_vector`], and [`IpcReadError::MetadataUtf8`] where the bytes are not UTF-8.
+#[tactic(auto, unfolding(crate::specs::Flatbuffers::spec_read_string))]
+pub fn read_string(
+    bytes: &[u8],
+    position: usize,
+    left: usize,
+) -> Result<(&str, usize), IpcReadError>
     requires { length bytes.now < 2 ^ 32 }
-    ensures { Spells (λ x. (x.0.now, x.1)) result (visit_string_lem bytes.now place left) }
+    ensures { Returns (λ x. (x.0.now, x.1)) result (spec_read_string bytes.now position left) }
 {
-    let (items, rest) = visit_vector(1, bytes, place, left)?;
+    let (items, rest) = read_vector(1, bytes, position, left)?;
     let (_, from) = bytes.split_at(items.first);
     let (text, _) = from.split_at(items.count);
-    text_of(text, rest)
+    utf8_of(text, rest)
 }
 
-/// The text of the string at a place, `""` where there is none, and what is left to spend.
-#[tactic(auto, unfolding(crate::specs::Flatbuffers::text_at))]
-pub fn text_at(bytes: &[u8], place: Option<usize>, left: usize) -> Result<(&str, usize), Fault>
+/// Returns the string at a position, `""` where it is absent, and the budget left.
+#[tactic(auto, unfolding(crate::specs::Flatbuffers::spec_str_at))]
+pub fn str_at(
+    bytes: &[u8],
+    position: Option<usize>,
+    left: usize,
+) -> Result<(&str, usize), IpcReadError>
     requires { length bytes.now < 2 ^ 32 }
-    ensures { Spells (λ x. (x.0.now, x.1)) result (text_at_lem bytes.now place left) }
+    ensures { Returns (λ x. (x.0.now, x.1)) result (spec_str_at bytes.now position left) }
 {
-    match place {
+    match position {
         None => Ok(("", left)),
-        Some(place) => visit_string(bytes, place, left),
+        Some(position) => read_string(bytes, position, left),
     }
 }
 
-/// The same, as a text of its own.
+/// Returns the string at a position as a `String`, empty where it is absent, and the budget left.
 pub fn string_at(
     alloc: Global,
     bytes: &[u8],
-    place: Option<usize>,
+    position: Option<usize>,
     left: usize,
-) -> Result<(String, usize), Fault>
+) -> Result<(String, usize), IpcReadError>
     requires { length bytes.now < 2 ^ 32 }
-    ensures { Gives (λ x. (string_bytes x.0, x.1)) result (text_at_lem bytes.now place left) }
+    ensures { ReturnsOrRunsOut (λ x. (string_bytes x.0, x.1)) result (spec_str_at bytes.now position left) }
 {
-    let (text, left) = text_at(bytes, place, left)?;
+    let (text, left) = str_at(bytes, position, left)?;
     let text = String::from_str(alloc, text)?;
     Ok((text, left))
 }
 
-/// The items of the vector at a place, none where there is none, and what is left to spend.
-#[tactic(auto, unfolding(crate::specs::Flatbuffers::items_at))]
+/// Returns the vector at a position, an empty one where it is absent, and the budget left.
+#[tactic(auto, unfolding(crate::specs::Flatbuffers::spec_items_at))]
 pub fn items_at(
     size: u8,
     bytes: &[u8],
-    place: Option<usize>,
+    position: Option<usize>,
     left: usize,
-) -> Result<(Items, usize), Fault>
+) -> Result<(VectorItems, usize), IpcReadError>
     requires { length bytes.now < 2 ^ 32 }
-    ensures value { result ≡ items_at_lem size bytes.now place left }
+    ensures value { result ≡ spec_items_at size bytes.now position left }
     ensures within { IfOk result (λ x. x.0.first + x.0.count * size ≤ length bytes.now) }
 {
-    match place {
-        None => Ok((Items { first: 0, count: 0 }, left)),
-        Some(place) => visit_vector(size, bytes, place, left),
+    match position {
+        None => Ok((VectorItems { first: 0, count: 0 }, left)),
+        Some(position) => read_vector(size, bytes, position, left),
     }
 }

@@ -1,7 +1,7 @@
-mod Puts
-mod Places
-mod Fetches
-mod Steps
-mod Answered
-mod Parts
+mod Writes
+mod Blocks
+mod Messages
+mod StreamSteps
+mod StreamResults
+mod Ranges
 mod FileSteps

@@ -1,11 +1,11 @@
 -- What contracts cite.
-pub mod Devices
+pub mod Writes
 pub mod Fetched
 pub mod Writers
 pub mod WriterLaws
 pub mod FileWriters
 pub mod FileWriterLaws
-pub mod Readers
+pub mod StreamReaders
 pub mod ReaderLaws
 pub mod Seeks
 pub mod FileReaders

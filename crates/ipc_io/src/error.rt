@@ -1,97 +1,97 @@
-//! Why a stream or a file was not read from a device, or not written to it.
+//! The errors of readers and writers.
 ghost use Rattle.std.specs.Prelude.{◌≡◌};
 
-use ipc_flatbuf::{Fault, NoForm};
+use ipc_flatbuf::{IpcReadError, IpcWriteError};
 use std::alloc::{AllocError, AllocFailed};
 use std::io;
 use thiserror::Error;
 
-/// Why nothing more was written.
+/// Error returned by a writer.
 #[derive(Clone, Copy, Debug, Error)]
 pub enum WriteError {
-    /// What was to be written has no form, or there is no memory for it: nothing was written, and the writer goes on.
+    /// The schema, record batch or footer cannot be written, or an allocation failed. Nothing was written, and the writer can be used on.
     #[error("{0}")]
-    NoForm(NoForm),
-    /// The device failed, or there was no memory to remember a dictionary that went out (`OutOfMemory`): a beginning of what was to be
-    /// written may have gone out, and the writer writes nothing more.
+    Ipc(IpcWriteError),
+    /// The inner writer failed, or an allocation failed after a dictionary was written (`OutOfMemory`). A prefix of the bytes may have been
+    /// written, and the writer writes nothing more.
     #[error("{0}")]
     Io(io::Error),
-    /// An earlier call failed, so nothing is written.
+    /// An earlier call failed with `Io`. Nothing was written.
     #[error("an earlier write failed")]
     Failed,
 }
 
-impl From<NoForm> for WriteError {
-    ghost use Rattle.ipc_io.specs.declared.error.WriteError.TheVariants.{NoForm};
+impl From<IpcWriteError> for WriteError {
+    ghost use Rattle.ipc_io.specs.declared.error.WriteError.TheVariants.{Ipc};
 
-    ghost from_gives = { λ why e. e ≡ NoForm why };
+    ghost from_gives = { λ error e. e ≡ Ipc error };
 
-    fn from(why: NoForm) -> WriteError {
-        WriteError::NoForm(why)
+    fn from(error: IpcWriteError) -> WriteError {
+        WriteError::Ipc(error)
     }
 }
 
 impl From<AllocError> for WriteError {
-    ghost use Rattle.ipc_flatbuf.specs.declared.error.NoForm.TheVariants.{Memory};
-    ghost use Rattle.ipc_io.specs.declared.error.WriteError.TheVariants.{NoForm};
+    ghost use Rattle.ipc_flatbuf.specs.declared.error.IpcWriteError.TheVariants.{Memory};
+    ghost use Rattle.ipc_io.specs.declared.error.WriteError.TheVariants.{Ipc};
 
-    ghost from_gives = { λ _ e. e ≡ NoForm Memory };
+    ghost from_gives = { λ _ e. e ≡ Ipc Memory };
 
-    fn from(_refused: AllocError) -> WriteError {
-        WriteError::NoForm(NoForm::Memory)
+    fn from(_error: AllocError) -> WriteError {
+        WriteError::Ipc(IpcWriteError::Memory)
     }
 }
 
 impl<T: Drop> From<AllocFailed<T>> for WriteError {
-    ghost use Rattle.ipc_flatbuf.specs.declared.error.NoForm.TheVariants.{Memory};
-    ghost use Rattle.ipc_io.specs.declared.error.WriteError.TheVariants.{NoForm};
+    ghost use Rattle.ipc_flatbuf.specs.declared.error.IpcWriteError.TheVariants.{Memory};
+    ghost use Rattle.ipc_io.specs.declared.error.WriteError.TheVariants.{Ipc};
 
-    ghost from_gives = { λ _ e. e ≡ NoForm Memory };
+    ghost from_gives = { λ _ e. e ≡ Ipc Memory };
 
-    fn from(_refused: AllocFailed<T>) -> WriteError {
-        WriteError::NoForm(NoForm::Memory)
+    fn from(_error: AllocFailed<T>) -> WriteError {
+        WriteError::Ipc(IpcWriteError::Memory)
     }
 }
 
-/// Why no batch was read.
+/// Error returned by a reader.
 #[derive(Clone, Copy, Debug, Error)]
 pub enum ReadError {
-    /// The first fault of the bytes in the order of reading, or want of memory.
+    /// The first error in the order of the bytes, or a failed allocation (`Memory`).
     #[error("{0}")]
-    Fault(Fault),
-    /// The device failed.
+    Ipc(IpcReadError),
+    /// The inner reader failed.
     #[error("{0}")]
     Io(io::Error),
 }
 
-impl From<Fault> for ReadError {
-    ghost use Rattle.ipc_io.specs.declared.error.ReadError.TheVariants.{Fault};
+impl From<IpcReadError> for ReadError {
+    ghost use Rattle.ipc_io.specs.declared.error.ReadError.TheVariants.{Ipc};
 
-    ghost from_gives = { λ fault e. e ≡ Fault fault };
+    ghost from_gives = { λ error e. e ≡ Ipc error };
 
-    fn from(fault: Fault) -> ReadError {
-        ReadError::Fault(fault)
+    fn from(error: IpcReadError) -> ReadError {
+        ReadError::Ipc(error)
     }
 }
 
 impl From<AllocError> for ReadError {
-    ghost use Rattle.ipc_flatbuf.specs.declared.error.Fault.TheVariants.{Memory};
-    ghost use Rattle.ipc_io.specs.declared.error.ReadError.TheVariants.{Fault};
+    ghost use Rattle.ipc_flatbuf.specs.declared.error.IpcReadError.TheVariants.{Memory};
+    ghost use Rattle.ipc_io.specs.declared.error.ReadError.TheVariants.{Ipc};
 
-    ghost from_gives = { λ _ e. e ≡ Fault Memory };
+    ghost from_gives = { λ _ e. e ≡ Ipc Memory };
 
-    fn from(_refused: AllocError) -> ReadError {
-        ReadError::Fault(Fault::Memory)
+    fn from(_error: AllocError) -> ReadError {
+        ReadError::Ipc(IpcReadError::Memory)
     }
 }
 
 impl<T: Drop> From<AllocFailed<T>> for ReadError {
-    ghost use Rattle.ipc_flatbuf.specs.declared.error.Fault.TheVariants.{Memory};
-    ghost use Rattle.ipc_io.specs.declared.error.ReadError.TheVariants.{Fault};
+    ghost use Rattle.ipc_flatbuf.specs.declared.error.IpcReadError.TheVariants.{Memory};
+    ghost use Rattle.ipc_io.specs.declared.error.ReadError.TheVariants.{Ipc};
 
-    ghost from_gives = { λ _ e. e ≡ Fault Memory };
+    ghost from_gives = { λ _ e. e ≡ Ipc Memory };
 
-    fn from(_refused: AllocFailed<T>) -> ReadError {
-        ReadError::Fault(Fault::Memory)
+    fn from(_error: AllocFailed<T>) -> ReadError {
+        ReadError::Ipc(IpcReadError::Memory)
     }
 }

@@ -1,72 +1,73 @@
-//! Writes files to devices.
+//! Writes a file to a writer, one record batch at a time.
 ghost use Rattle.std.specs.Prelude.{◌≡◌, ◌+◌, ◌<◌, ◌^◌, ◌++◌, length, map, false, None, Ok, IfErr, IfOk, OnOk};
 ghost use Rattle.std.specs.List.{AllByRecursion};
-ghost use Rattle.ipc_flatbuf.specs.declared.error.NoForm.TheVariants.{Memory};
+ghost use Rattle.ipc_flatbuf.specs.declared.error.IpcWriteError.TheVariants.{Memory};
 ghost use Rattle.ipc_schema.specs.Schemas.{schema_of};
 ghost use Rattle.ipc_schema.specs.FooterBytes.{file_head};
-ghost use Rattle.ipc_schema.specs.FooterLaws.{IsReadBack};
-ghost use Rattle.ipc.specs.Needed.{with_entries};
-ghost use Rattle.ipc.specs.Sent.{entry_of, entries_of};
-ghost use Rattle.ipc.specs.Readers.{state_in};
-ghost use Rattle.ipc.specs.Streams.{arrays_of, state_of, types_of};
-ghost use Rattle.ipc.specs.Written.{needed_by, part_bytes, sent_behind, schema_refusal, IsRefused, IsPartAgain};
-ghost use Rattle.ipc.specs.WrittenFiles.{no_blocks, blocks_of, filed, filed_behind, filed_start, puts_by};
-ghost use Rattle.ipc_io.specs.Writers.{Begins, Ends, Puts};
-ghost use Rattle.ipc_io.specs.FileWriters.{filed_so_far, front_bytes, footer_with, footer_of, end_bytes, part_blocks, moved_block, all_moved, EndsBefore, placed_refusal, end_refusal, as_stream, Notes, Knows};
+ghost use Rattle.ipc_schema.specs.FooterLaws.{FooterRoundTrips};
+ghost use Rattle.ipc.specs.PendingDictionaries.{with_entries};
+ghost use Rattle.ipc.specs.EntriesOf.{entry_of, entries_of};
+ghost use Rattle.ipc.specs.Streams.{record_batch_of, state_of, types_of};
+ghost use Rattle.ipc.specs.EncodedStreams.{pending_by, encoded_batch, schema_error, IsErrorOrMemory, BatchRoundTrips};
+ghost use Rattle.ipc.specs.EncodedFiles.{no_blocks, blocks_of, file_state, file_state_after, file_state_start, file_dictionary_batches};
+ghost use Rattle.ipc_io.specs.Writers.{StartsWriting, FinishesWriting, WritesBytes};
+ghost use Rattle.ipc_io.specs.FileWriters.{file_state_so_far, header_bytes, footer_with, footer_of, trailer_bytes, batch_blocks, shifted_block, shifted_blocks, IsShiftable, placed_error, trailer_error, as_stream, RecordsBlocks, RecordsBatchBlocks, RecordsState, WritesFileRecordBatch};
 
 use crate::error::WriteError;
 use crate::stream_writer::{StreamWriter, message_of};
-use ipc::{Batch, Blocks, State, put_part_blocks};
-use ipc_schema::footer::{Block, write_footer};
-use ipc_flatbuf::NoForm;
+use ipc::{Batch, DictionaryState, FileBlocks, encode_file_batch, initial_state};
+use ipc_flatbuf::IpcWriteError;
 use ipc_schema::Schema;
+use ipc_schema::footer::{Block, write_footer};
 use nest_array::any::AnyArray;
 use std::alloc::{AllocError, Global};
 use std::collections::BTreeMap;
 use std::io::Write;
 use std::marker::Model;
 
-/// A file that is written to a device, batch by batch: of a dictionary that grew since it was written what it grew by, as a delta. It
-/// has the memory of one batch, of the dictionaries as they were written last and of what a reader of the file knows of them, which is
-/// a copy of each, and of a block for each part of one and for each batch.
+/// A writer of a file over `Write`, which takes one record batch at a time.
+///
+/// Values that extend an emitted dictionary are written as a delta; a replacement dictionary is an error, as files cannot hold one. The
+/// writer holds the schema, the dictionaries last emitted, the dictionaries as a reader of the file has them, a block for each batch, and
+/// the bytes of one record batch. After an `Io` error it writes nothing more.
 #[derive(Drop)]
 pub struct FileWriter<W> {
     stream: StreamWriter<W>,
-    blocks: Blocks,
-    place: u64,
-    known: State,
+    blocks: FileBlocks,
+    position: u64,
+    known: DictionaryState,
 }
 
 impl<W> Model for FileWriter<W> {
     ghost use Rattle.ipc.specs.Streams.{state_of};
-    ghost use Rattle.ipc.specs.WrittenFiles.{blocks_of};
+    ghost use Rattle.ipc.specs.EncodedFiles.{blocks_of};
     ghost use Rattle.ipc_io.specs.FileWriters.{FileWriterTree, coded_file_writer};
 
     ghost Value = { FileWriterTree W };
 
     ghost coded = { coded_file_writer W.code };
 
-    ghost view = { λ w. record { stream = w.stream; blocks = blocks_of w.blocks; place = w.place; known = state_of w.known } };
+    ghost view = { λ w. record { stream = w.stream; blocks = blocks_of w.blocks; position = w.position; known = state_of w.known } };
 }
 
-// What stands before the batches, an equal schema of its own, and what a reader knows behind them.
+// The bytes before the batches, a clone of the schema, and the state of a reader after these bytes.
 #[derive(Drop)]
-struct Front {
+struct Header {
     bytes: Vec<u8>,
     schema: Schema,
-    known: State,
+    known: DictionaryState,
 }
 
-// A batch behind what is put before it, where all of it is to lie, and which dictionaries it needed.
+// The bytes of a record batch and its dictionary batches, their blocks, and the pending dictionaries.
 #[derive(Drop)]
-struct Part<'a> {
+struct EncodedBatch<'a> {
     bytes: Vec<u8>,
-    blocks: Blocks,
-    needed: Vec<(i64, &'a AnyArray)>,
+    blocks: FileBlocks,
+    pending: Vec<(i64, &'a AnyArray)>,
 }
 
-// A message behind the first 8 bytes of a file.
-fn headed(alloc: Global, message: &[u8]) -> Result<Vec<u8>, AllocError>
+// Returns a message after the first 8 bytes of a file.
+fn with_magic(alloc: Global, message: &[u8]) -> Result<Vec<u8>, AllocError>
     ensures { IfOk result (λ out. out.items ≡ file_head ++ message.now) }
 {
     let mut out = Vec::new(alloc);
@@ -75,45 +76,34 @@ fn headed(alloc: Global, message: &[u8]) -> Result<Vec<u8>, AllocError>
     Ok(out)
 }
 
-// What a reader knows behind the message of a schema.
-fn known_behind(alloc: Global, message: &[u8]) -> Result<State, NoForm>
-    ensures state { IfOk result (λ state. state_in message.now ≡ Ok (state_of state)) }
-    ensures err { IfErr result (λ why. why ≡ Memory) }
-{
-    match State::read(alloc, message) {
-        Ok(state) => Ok(state),
-        Err(_) => Err(NoForm::Memory),
-    }
-}
-
-// The front of a file of a schema.
-fn front_of(alloc: Global, schema: &Schema) -> Result<Front, NoForm>
-    ensures bytes { IfOk result (λ front. front.bytes.items ≡ front_bytes (schema_of schema.now)) }
-    ensures same { IfOk result (λ front. schema_of front.schema ≡ schema_of schema.now) }
-    ensures known { IfOk result (λ front. state_of front.known ≡ (filed_start (schema_of schema.now)).state) }
-    ensures form { OnOk result (schema_refusal (schema_of schema.now) ≡ None) }
-    ensures err { IfErr result (IsRefused (schema_refusal (schema_of schema.now))) }
+// Returns the header of a file.
+fn header_of(alloc: Global, schema: &Schema) -> Result<Header, IpcWriteError>
+    ensures bytes { IfOk result (λ header. header.bytes.items ≡ header_bytes (schema_of schema.now)) }
+    ensures same { IfOk result (λ header. schema_of header.schema ≡ schema_of schema.now) }
+    ensures known { IfOk result (λ header. state_of header.known ≡ (file_state_start (schema_of schema.now)).state) }
+    ensures form { OnOk result (schema_error (schema_of schema.now) ≡ None) }
+    ensures err { IfErr result (IsErrorOrMemory (schema_error (schema_of schema.now))) }
 {
     let (message, copy) = message_of(alloc, schema)?;
-    let known = known_behind(alloc, &message)?;
-    match headed(alloc, &message) {
-        Ok(bytes) => Ok(Front {
+    let known = initial_state(alloc, &message)?;
+    match with_magic(alloc, &message) {
+        Ok(bytes) => Ok(Header {
             bytes,
             schema: copy,
             known,
         }),
-        Err(_) => Err(NoForm::Memory),
+        Err(_) => Err(IpcWriteError::Memory),
     }
 }
 
-// These blocks where so many bytes more stand before them.
-fn moved(alloc: Global, place: u64, blocks: &[Block]) -> Result<Vec<Block>, AllocError>
-    requires { AllByRecursion (EndsBefore place) blocks.now }
-    ensures { IfOk result (λ v. v.items ≡ map (moved_block place) blocks.now) }
+// Returns these blocks with `position` added to their offsets.
+fn shift_blocks(alloc: Global, position: u64, blocks: &[Block]) -> Result<Vec<Block>, AllocError>
+    requires { AllByRecursion (IsShiftable position) blocks.now }
+    ensures { IfOk result (λ v. v.items ≡ map (shifted_block position) blocks.now) }
 {
     let mut all = Vec::with_capacity(alloc, blocks.len())?;
     for block in blocks {
-        let offset = place + block.offset.unsigned_abs();
+        let offset = position + block.offset.unsigned_abs();
         all.push(Block {
             offset: offset as i64,
             metadata_length: block.metadata_length,
@@ -123,61 +113,73 @@ fn moved(alloc: Global, place: u64, blocks: &[Block]) -> Result<Vec<Block>, Allo
     Ok(all)
 }
 
-// The same of dictionaries and of batches.
-fn all_moved_by(alloc: Global, place: u64, blocks: &Blocks) -> Result<Blocks, AllocError>
-    requires dictionaries { AllByRecursion (EndsBefore place) (blocks_of blocks.now).dictionaries }
-    requires batches { AllByRecursion (EndsBefore place) (blocks_of blocks.now).batches }
-    ensures { IfOk result (λ all. blocks_of all ≡ all_moved place (blocks_of blocks.now)) }
+// The same for dictionary and record batches.
+fn shift_all_blocks(
+    alloc: Global,
+    position: u64,
+    blocks: &FileBlocks,
+) -> Result<FileBlocks, AllocError>
+    requires dictionaries { AllByRecursion (IsShiftable position) (blocks_of blocks.now).dictionaries }
+    requires batches { AllByRecursion (IsShiftable position) (blocks_of blocks.now).batches }
+    ensures { IfOk result (λ all. blocks_of all ≡ shifted_blocks position (blocks_of blocks.now)) }
 {
-    let dictionaries = moved(alloc, place, &blocks.dictionaries)?;
-    let batches = moved(alloc, place, &blocks.batches)?;
-    Ok(Blocks {
+    let dictionaries = shift_blocks(alloc, position, &blocks.dictionaries)?;
+    let batches = shift_blocks(alloc, position, &blocks.batches)?;
+    Ok(FileBlocks {
         dictionaries,
         batches,
     })
 }
 
-// A batch that is to begin at a place, where this was written last, and a reader knows this.
-fn placed_part<'a>(
+// Encodes a record batch that begins at a position of the file.
+fn encode_batch_at<'a>(
     alloc: Global,
-    place: u64,
+    position: u64,
     schema: &Schema,
-    sent: &BTreeMap<i64, AnyArray>,
-    known: &mut State,
+    emitted: &BTreeMap<i64, AnyArray>,
+    known: &mut DictionaryState,
     batch: &'a Batch,
-) -> Result<Part<'a>, NoForm>
-    ensures bytes { IfOk result (λ part. part.bytes.items ≡ part_bytes puts_by (entries_of sent.now.entries) (arrays_of batch.now)) }
-    ensures blocks { IfOk result (λ part. blocks_of part.blocks ≡ part_blocks place (entries_of sent.now.entries) (arrays_of batch.now)) }
-    ensures needed { IfOk result (λ part. map entry_of part.needed.items ≡ needed_by (entries_of sent.now.entries) (arrays_of batch.now)) }
-    ensures small { IfOk result (λ part. place + length part.bytes.items < 2 ^ 63) }
+) -> Result<EncodedBatch<'a>, IpcWriteError>
+    ensures bytes { IfOk result (λ encoded. encoded.bytes.items ≡ encoded_batch file_dictionary_batches (entries_of emitted.now.entries) (record_batch_of batch.now)) }
+    ensures blocks { IfOk result (λ encoded. blocks_of encoded.blocks ≡ batch_blocks position (entries_of emitted.now.entries) (record_batch_of batch.now)) }
+    ensures pending { IfOk result (λ encoded. map entry_of encoded.pending.items ≡ pending_by (entries_of emitted.now.entries) (record_batch_of batch.now)) }
+    ensures small { IfOk result (λ encoded. position + length encoded.bytes.items < 2 ^ 63) }
     ensures picked { known.new.picked ≡ known.old.picked }
-    ensures known { OnOk result (state_of known.new ≡ (filed_behind (filed (entries_of sent.now.entries) (state_of known.old)) (arrays_of batch.now)).state) }
-    ensures again { OnOk result (IsPartAgain (puts_by (entries_of sent.now.entries) (arrays_of batch.now)) (arrays_of batch.now)) }
-    ensures form { OnOk result (placed_refusal place (types_of (schema_of schema.now)) (filed (entries_of sent.now.entries) (state_of known.old)) (arrays_of batch.now) ≡ None) }
-    ensures err { IfErr result (IsRefused (placed_refusal place (types_of (schema_of schema.now)) (filed (entries_of sent.now.entries) (state_of known.old)) (arrays_of batch.now))) }
+    ensures known { OnOk result (state_of known.new ≡ (file_state_after (file_state (entries_of emitted.now.entries) (state_of known.old)) (record_batch_of batch.now)).state) }
+    ensures again { OnOk result (BatchRoundTrips (file_dictionary_batches (entries_of emitted.now.entries) (record_batch_of batch.now)) (record_batch_of batch.now)) }
+    ensures form { OnOk result (placed_error position (types_of (schema_of schema.now)) (file_state (entries_of emitted.now.entries) (state_of known.old)) (record_batch_of batch.now) ≡ None) }
+    ensures err { IfErr result (IsErrorOrMemory (placed_error position (types_of (schema_of schema.now)) (file_state (entries_of emitted.now.entries) (state_of known.old)) (record_batch_of batch.now))) }
 {
     let mut bytes = Vec::new(alloc);
-    let mut blocks = Blocks::new(alloc);
+    let mut blocks = FileBlocks::new(alloc);
     let fields = &schema.fields;
-    let needed = put_part_blocks(alloc, &mut bytes, &mut blocks, fields, sent, known, batch)?;
-    let room = (1u64 << 63).saturating_sub(place);
+    let pending = encode_file_batch(
+        alloc,
+        &mut bytes,
+        &mut blocks,
+        fields,
+        emitted,
+        known,
+        batch,
+    )?;
+    let room = (1u64 << 63).saturating_sub(position);
     if bytes.len() as u64 >= room {
-        return Err(NoForm::Size);
+        return Err(IpcWriteError::Size);
     }
-    let blocks = all_moved_by(alloc, place, &blocks)?;
-    Ok(Part {
+    let blocks = shift_all_blocks(alloc, position, &blocks)?;
+    Ok(EncodedBatch {
         bytes,
         blocks,
-        needed,
+        pending,
     })
 }
 
-// What stands behind the batches: the end mark, and the footer.
-fn end_of(alloc: Global, schema: &Schema, blocks: &Blocks) -> Result<Vec<u8>, NoForm>
-    ensures bytes { IfOk result (λ out. out.items ≡ end_bytes (footer_with (schema_of schema.now) (blocks_of blocks.now))) }
-    ensures again { OnOk result (IsReadBack (footer_with (schema_of schema.now) (blocks_of blocks.now))) }
-    ensures form { OnOk result (end_refusal (footer_with (schema_of schema.now) (blocks_of blocks.now)) ≡ None) }
-    ensures err { IfErr result (IsRefused (end_refusal (footer_with (schema_of schema.now) (blocks_of blocks.now)))) }
+// Returns the bytes after the batches: the end-of-stream marker and the footer.
+fn trailer_of(alloc: Global, schema: &Schema, blocks: &FileBlocks) -> Result<Vec<u8>, IpcWriteError>
+    ensures bytes { IfOk result (λ out. out.items ≡ trailer_bytes (footer_with (schema_of schema.now) (blocks_of blocks.now))) }
+    ensures again { OnOk result (FooterRoundTrips (footer_with (schema_of schema.now) (blocks_of blocks.now))) }
+    ensures form { OnOk result (trailer_error (footer_with (schema_of schema.now) (blocks_of blocks.now)) ≡ None) }
+    ensures err { IfErr result (IsErrorOrMemory (trailer_error (footer_with (schema_of schema.now) (blocks_of blocks.now)))) }
 {
     let mut out = Vec::new(alloc);
     out.extend_from_slice(&[255, 255, 255, 255, 0, 0, 0, 0])?;
@@ -192,21 +194,21 @@ fn end_of(alloc: Global, schema: &Schema, blocks: &Blocks) -> Result<Vec<u8>, No
 }
 
 impl<W> FileWriter<W> {
-    /// The columns of all batches.
+    /// Returns the schema of the record batches.
     pub fn schema(&self) -> &Schema
         ensures { schema_of result.now ≡ self.now.stream.schema }
     {
         self.stream.schema()
     }
 
-    /// What is written to.
-    pub fn device(&self) -> &W
-        ensures { result.now ≡ self.now.stream.device }
+    /// Returns a reference to the inner writer.
+    pub fn get_ref(&self) -> &W
+        ensures { result.now ≡ self.now.stream.inner }
     {
-        self.stream.device()
+        self.stream.get_ref()
     }
 
-    /// Whether a call failed, so that nothing more is written.
+    /// Returns whether a call failed with `Io`; then nothing more is written.
     pub fn is_failed(&self) -> bool
         ensures { result ≡ self.now.stream.failed }
     {
@@ -215,125 +217,134 @@ impl<W> FileWriter<W> {
 }
 
 impl<W: Write + Drop> FileWriter<W> {
-    /// Begins a file: writes the magic and the message of its schema. What the device has before is no part of the file.
+    /// Writes the magic bytes and the schema message, and returns a writer of the file. The file begins at the current end of the inner
+    /// writer.
     ///
     /// # Errors
-    /// `NoForm` with the first reason why the schema is not written: nothing was. `Io` where the device fails.
-    pub fn new(alloc: Global, device: W, schema: &Schema) -> Result<FileWriter<W>, WriteError>
-        ensures begun { Begins W.contents (schema_refusal (schema_of schema.now)) (front_bytes (schema_of schema.now)) (schema_of schema.now) device (as_stream result) }
+    /// `Ipc` with the first error of the schema, or `Memory`; nothing was written. `Io` with an error of the inner writer.
+    pub fn new(alloc: Global, writer: W, schema: &Schema) -> Result<FileWriter<W>, WriteError>
+        ensures begun { StartsWriting W.contents (schema_error (schema_of schema.now)) (header_bytes (schema_of schema.now)) (schema_of schema.now) writer (as_stream result) }
         ensures blocks { IfOk result (λ w. w.blocks ≡ no_blocks) }
-        ensures place { IfOk result (λ w. w.place ≡ length (front_bytes (schema_of schema.now))) }
-        ensures known { IfOk result (λ w. w.known ≡ (filed_start (schema_of schema.now)).state) }
+        ensures position { IfOk result (λ w. w.position ≡ length (header_bytes (schema_of schema.now))) }
+        ensures known { IfOk result (λ w. w.known ≡ (file_state_start (schema_of schema.now)).state) }
     {
-        match front_of(alloc, schema) {
-            Ok(front) => FileWriter::begin(alloc, device, front),
-            Err(why) => Err(WriteError::NoForm(why)),
+        match header_of(alloc, schema) {
+            Ok(header) => FileWriter::begin(alloc, writer, header),
+            Err(error) => Err(WriteError::Ipc(error)),
         }
     }
 
     // Writes the first bytes of a file.
-    fn begin(alloc: Global, device: W, front: Front) -> Result<FileWriter<W>, WriteError>
-        ensures begun { Begins W.contents None front.bytes.items (schema_of front.schema) device (as_stream result) }
+    fn begin(alloc: Global, writer: W, header: Header) -> Result<FileWriter<W>, WriteError>
+        ensures begun { StartsWriting W.contents None header.bytes.items (schema_of header.schema) writer (as_stream result) }
         ensures blocks { IfOk result (λ w. w.blocks ≡ no_blocks) }
-        ensures place { IfOk result (λ w. w.place ≡ length front.bytes.items) }
-        ensures known { IfOk result (λ w. w.known ≡ state_of front.known) }
+        ensures position { IfOk result (λ w. w.position ≡ length header.bytes.items) }
+        ensures known { IfOk result (λ w. w.known ≡ state_of header.known) }
     {
-        let Front {
+        let Header {
             bytes,
             schema,
             known,
-        } = front;
-        match StreamWriter::begin(alloc, device, schema, &bytes) {
+        } = header;
+        match StreamWriter::begin(alloc, writer, schema, &bytes) {
             Ok(stream) => Ok(FileWriter {
                 stream,
-                blocks: Blocks::new(alloc),
-                place: bytes.len() as u64,
+                blocks: FileBlocks::new(alloc),
+                position: bytes.len() as u64,
                 known,
             }),
             Err(e) => Err(e),
         }
     }
 
-    // Writes a part of a file and notes its blocks, where it did not fail before. There is room for them before any byte goes out.
-    fn put(&mut self, alloc: Global, part: &Part<'_>) -> Result<(), WriteError>
+    // Writes an encoded batch and records its blocks. Memory for the blocks is reserved before any byte is written.
+    fn put(&mut self, alloc: Global, encoded: &EncodedBatch<'_>) -> Result<(), WriteError>
         requires whole { self.old.stream.failed ≡ false }
-        requires small { self.old.place + length part.now.bytes.items < 2 ^ 63 }
-        ensures put { Puts W.contents None part.now.bytes.items (with_entries self.old.stream.sent (map entry_of part.now.needed.items)) self.old.stream self.new.stream result }
-        ensures noted { Notes (blocks_of part.now.blocks) (length part.now.bytes.items) self.old self.new result }
+        requires small { self.old.position + length encoded.now.bytes.items < 2 ^ 63 }
+        ensures put { WritesBytes W.contents None encoded.now.bytes.items (with_entries self.old.stream.emitted (map entry_of encoded.now.pending.items)) self.old.stream self.new.stream result }
+        ensures noted { RecordsBlocks (blocks_of encoded.now.blocks) (length encoded.now.bytes.items) self.old self.new result }
         ensures known { self.new.known ≡ self.old.known }
     {
-        let dictionaries = &part.blocks.dictionaries;
-        let batches = &part.blocks.batches;
+        let dictionaries = &encoded.blocks.dictionaries;
+        let batches = &encoded.blocks.batches;
         self.blocks.dictionaries.reserve(dictionaries.len())?;
         self.blocks.batches.reserve(batches.len())?;
-        self.stream.put_with(alloc, &part.bytes, &part.needed)?;
+        self.stream
+            .write_with(alloc, &encoded.bytes, &encoded.pending)?;
         self.blocks.dictionaries.extend_from_slice(dictionaries)?;
         self.blocks.batches.extend_from_slice(batches)?;
-        self.place += part.bytes.len() as u64;
+        self.position += encoded.bytes.len() as u64;
         Ok(())
     }
 
-    // Writes a batch, where it did not fail before; where it has no form `known` may say anything of dictionaries.
-    fn write_part(&mut self, alloc: Global, batch: &Batch) -> Result<(), WriteError>
+    // Writes a record batch. If it cannot be written, `known` may have other dictionaries.
+    fn write_batch(&mut self, alloc: Global, batch: &Batch) -> Result<(), WriteError>
         requires { self.old.stream.failed ≡ false }
-        ensures put { Puts W.contents (placed_refusal self.old.place (types_of self.old.stream.schema) (filed_so_far self.old) (arrays_of batch.now)) (part_bytes puts_by self.old.stream.sent (arrays_of batch.now)) (sent_behind self.old.stream.sent (arrays_of batch.now)) self.old.stream self.new.stream result }
-        ensures noted { Notes (part_blocks self.old.place self.old.stream.sent (arrays_of batch.now)) (length (part_bytes puts_by self.old.stream.sent (arrays_of batch.now))) self.old self.new result }
+        ensures put { WritesFileRecordBatch W.contents (record_batch_of batch.now) self.old self.new result }
+        ensures noted { RecordsBatchBlocks (record_batch_of batch.now) self.old self.new result }
         ensures picked { self.new.known.picked ≡ self.old.known.picked }
-        ensures known { OnOk result (self.new.known ≡ (filed_behind (filed_so_far self.old) (arrays_of batch.now)).state) }
-        ensures again { OnOk result (IsPartAgain (puts_by self.old.stream.sent (arrays_of batch.now)) (arrays_of batch.now)) }
+        ensures known { OnOk result (self.new.known ≡ (file_state_after (file_state_so_far self.old) (record_batch_of batch.now)).state) }
+        ensures again { OnOk result (BatchRoundTrips (file_dictionary_batches self.old.stream.emitted (record_batch_of batch.now)) (record_batch_of batch.now)) }
     {
         let schema = self.stream.schema();
-        let sent = self.stream.sent();
-        match placed_part(alloc, self.place, schema, sent, &mut self.known, batch) {
-            Ok(part) => self.put(alloc, &part),
-            Err(why) => Err(WriteError::NoForm(why)),
+        let emitted = self.stream.emitted();
+        match encode_batch_at(
+            alloc,
+            self.position,
+            schema,
+            emitted,
+            &mut self.known,
+            batch,
+        ) {
+            Ok(encoded) => self.put(alloc, &encoded),
+            Err(error) => Err(WriteError::Ipc(error)),
         }
     }
 
-    /// Writes a batch: its message and its body, behind what is put of the dictionaries that it needs, as `write_file` does, and notes
-    /// where all of it lies.
+    /// Writes the dictionary batches that a record batch needs, then its message and body, as `ipc::write_file` does.
     ///
     /// # Errors
-    /// `NoForm` with the first reason why the batch is not written, as of `write_file`, at last `Size` where the file would have 2^63
-    /// bytes and more behind it: nothing was, and the writer goes on as if it had not been called. `Io` where the device fails, or
-    /// where there is no memory to remember a dictionary that went out: a beginning of the batch may have gone out, and nothing more is
-    /// written. `Failed` where it failed before.
+    /// `Ipc` with the first error of the batch, as of `ipc::write_file`; with `Size`, if the file would have 2^63 bytes or more; or `Memory`.
+    /// Nothing was written, and the writer is unchanged. `Io` with an error of the inner writer, or `OutOfMemory`, if a dictionary was
+    /// written and could not be recorded; a prefix of the batch may have been written, and nothing more will be. `Failed`, if a call failed
+    /// with `Io` before.
     pub fn write(&mut self, alloc: Global, batch: &Batch) -> Result<(), WriteError>
-        ensures put { Puts W.contents (placed_refusal self.old.place (types_of self.old.stream.schema) (filed_so_far self.old) (arrays_of batch.now)) (part_bytes puts_by self.old.stream.sent (arrays_of batch.now)) (sent_behind self.old.stream.sent (arrays_of batch.now)) self.old.stream self.new.stream result }
-        ensures noted { Notes (part_blocks self.old.place self.old.stream.sent (arrays_of batch.now)) (length (part_bytes puts_by self.old.stream.sent (arrays_of batch.now))) self.old self.new result }
-        ensures known { Knows (filed_behind (filed_so_far self.old) (arrays_of batch.now)).state self.old self.new result }
-        ensures again { OnOk result (IsPartAgain (puts_by self.old.stream.sent (arrays_of batch.now)) (arrays_of batch.now)) }
+        ensures put { WritesFileRecordBatch W.contents (record_batch_of batch.now) self.old self.new result }
+        ensures noted { RecordsBatchBlocks (record_batch_of batch.now) self.old self.new result }
+        ensures known { RecordsState (file_state_after (file_state_so_far self.old) (record_batch_of batch.now)).state self.old self.new result }
+        ensures again { OnOk result (BatchRoundTrips (file_dictionary_batches self.old.stream.emitted (record_batch_of batch.now)) (record_batch_of batch.now)) }
     {
         if self.stream.is_failed() {
             return Err(WriteError::Failed);
         }
         let before = self.known.dictionaries(alloc)?;
-        match self.write_part(alloc, batch) {
-            Err(WriteError::NoForm(why)) => {
+        match self.write_batch(alloc, batch) {
+            Err(WriteError::Ipc(error)) => {
                 self.known.restore(before);
-                Err(WriteError::NoForm(why))
+                Err(WriteError::Ipc(error))
             }
             result => result,
         }
     }
 
-    /// Ends the file by the end mark, the footer and the magic, flushes the device and gives it back. What it was given since
-    /// `new` is what `write_file` answers of the batches that were written.
+    /// Writes the end-of-stream marker, the footer and the magic bytes, flushes the inner writer and returns it.
+    ///
+    /// The bytes written since `new` are those of `ipc::write_file` for the same record batches.
     ///
     /// # Errors
-    /// `NoForm` with `Size` where the footer passes 2^31 - 1 bytes, or with `Memory`: the file has no end then. `Io` where the
-    /// device fails, `Failed` where it failed before.
+    /// `Ipc` with `Size`, if the footer exceeds 2^31 - 1 bytes, or with `Memory`; the file then lacks its end. `Io` with an error of the inner
+    /// writer. `Failed`, if a call failed with `Io` before.
     pub fn finish(self, alloc: Global) -> Result<W, WriteError>
-        ensures ended { Ends W.contents (end_refusal (footer_of self)) (end_bytes (footer_of self)) self.stream result }
-        ensures again { OnOk result (IsReadBack (footer_of self)) }
+        ensures ended { FinishesWriting W.contents (trailer_error (footer_of self)) (trailer_bytes (footer_of self)) self.stream result }
+        ensures again { OnOk result (FooterRoundTrips (footer_of self)) }
     {
         let FileWriter { stream, blocks, .. } = self;
         if stream.is_failed() {
             return Err(WriteError::Failed);
         }
-        match end_of(alloc, stream.schema(), &blocks) {
+        match trailer_of(alloc, stream.schema(), &blocks) {
             Ok(bytes) => stream.end(&bytes),
-            Err(why) => Err(WriteError::NoForm(why)),
+            Err(error) => Err(WriteError::Ipc(error)),
         }
     }
 }

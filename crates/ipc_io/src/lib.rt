@@ -1,7 +1,8 @@
-//! Streams and files of the Arrow IPC format over devices, which read or write bytes: with the memory of one batch.
+//! Reads and writes streams and files of the Arrow IPC format over `Read`, `Write` and `Seek`.
+//!
+//! Readers and writers hold the dictionaries and one record batch at a time. `ipc` does the same in memory.
 #![tactic(auto)]
 
-mod stream_reader;
 mod error;
 mod fetching;
 mod file_reader;
@@ -10,12 +11,12 @@ pub mod laws;
 mod output;
 mod seek_read;
 mod seeking;
+mod stream_reader;
 mod stream_writer;
 
-pub use stream_reader::DeviceReader;
 pub use error::{ReadError, WriteError};
-pub use file_reader::DeviceFileReader;
+pub use file_reader::FileReader;
 pub use file_writer::FileWriter;
 pub use seek_read::SeekRead;
+pub use stream_reader::StreamReader;
 pub use stream_writer::StreamWriter;
-

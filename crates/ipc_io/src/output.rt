@@ -1,18 +1,18 @@
-//! Bytes to a device.
+//! Writes all of a sequence of bytes.
 ghost use Rattle.std.specs.Io.{WritesAtMost};
 ghost use Rattle.std.specs.Io.KnownBytes.{WriteAppends};
-ghost use Rattle.ipc_io.specs.Devices.{IsPut};
+ghost use Rattle.ipc_io.specs.Writes.{WritesAll};
 
 use std::io;
 use std::io::{ErrorKind, Write};
 
-// One write, again where it is interrupted.
-fn write_part<W: Write>(device: &mut W, bytes: &[u8]) -> io::Result<usize>
+// Writes once, and retries while the write is interrupted.
+fn write_retrying<W: Write>(writer: &mut W, bytes: &[u8]) -> io::Result<usize>
     ensures bound { WritesAtMost result bytes.now }
-    ensures bytes { WriteAppends (W.contents device.old) (W.contents device.new) result bytes.now }
+    ensures bytes { WriteAppends (W.contents writer.old) (W.contents writer.new) result bytes.now }
 {
     'tries: for _turn in 0..u64::MAX {
-        match device.write(bytes) {
+        match writer.write(bytes) {
             Ok(n) => return Ok(n),
             Err(e) => {
                 if e.kind() != ErrorKind::Interrupted {
@@ -24,16 +24,16 @@ fn write_part<W: Write>(device: &mut W, bytes: &[u8]) -> io::Result<usize>
     Err(io::Error::from(ErrorKind::TimedOut))
 }
 
-/// Writes all of the bytes: as often as the device takes a part of them, and again where it is interrupted.
+/// Writes all of the bytes, in as many writes as the writer needs; interrupted writes are retried.
 ///
 /// # Errors
-/// What the device answers; `WriteZero` where it takes no byte. A beginning of the bytes may have gone out.
-pub fn put_all<W: Write>(device: &mut W, bytes: &[u8]) -> io::Result<()>
-    ensures { IsPut result (W.contents device.old) (W.contents device.new) bytes.now }
+/// The error of the writer, or `WriteZero`, if it accepts no byte. A prefix of the bytes may have been written.
+pub fn write_all<W: Write>(writer: &mut W, bytes: &[u8]) -> io::Result<()>
+    ensures { WritesAll result (W.contents writer.old) (W.contents writer.new) bytes.now }
 {
     let mut rest = bytes;
     'bytes: while !rest.is_empty() {
-        match write_part(device, rest) {
+        match write_retrying(writer, rest) {
             Ok(0) => return Err(io::Error::from(ErrorKind::WriteZero)),
             Ok(n) => rest = &rest[n..],
             Err(e) => return Err(e),

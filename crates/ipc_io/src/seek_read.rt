@@ -1,36 +1,41 @@
-//! Devices that are read at any place.
+//! Readers that can seek.
 ghost use Rattle.std.specs.Io.{ReadsAtMost};
 ghost use Rattle.std.specs.Io.KnownBytes.{ReadConsumes};
-ghost use Rattle.ipc_io.specs.Seeks.{standing, ReadsThere};
+ghost use Rattle.ipc_io.specs.Seeks.{ReadsHere};
 
 use std::fs::File;
 use std::io;
 use std::io::{AsBytes, Cursor, Read, Seek};
 
-/// What is read where it stands, and changes none of its bytes by that. `Read` says which bytes reads give, and `Seek` which bytes
-/// stand where; that they are the same ones is said here, by who makes such a device.
+/// A reader whose reads return the bytes at its position and change none of them.
+///
+/// `Read` says which bytes a read returns, and `Seek` which bytes are at a position. An implementation of this trait says that they are the
+/// same.
 pub trait SeekRead: Read + Seek {
-    /// What `read` does: gives bytes from the position on, and moves behind them.
-    fn read_there(&mut self, buf: &mut [u8]) -> io::Result<usize>
+    /// Reads as `Read::read` does: returns bytes from the position on, and moves past them.
+    ///
+    /// # Errors
+    /// Those of `Read::read`.
+    fn read_at_position(&mut self, buf: &mut [u8]) -> io::Result<usize>
         ensures bound { ReadsAtMost result buf.new }
         ensures bytes { ReadConsumes (Self.remaining self.old) (Self.remaining self.new) result buf.new }
-        ensures there { ReadsThere (standing (Self.stream_position self.old) (Self.stream_bytes self.old)) (standing (Self.stream_position self.new) (Self.stream_bytes self.new)) result buf.new };
+        ensures there { ReadsHere Self.stream_position Self.stream_bytes self.old self.new result buf.new };
 }
 
 impl<T: AsBytes> SeekRead for Cursor<T> {
-    fn read_there(&mut self, buf: &mut [u8]) -> io::Result<usize> {
+    fn read_at_position(&mut self, buf: &mut [u8]) -> io::Result<usize> {
         self.read(buf)
     }
 }
 
 impl<R: SeekRead> SeekRead for &mut R {
-    fn read_there(&mut self, buf: &mut [u8]) -> io::Result<usize> {
-        (**self).read_there(buf)
+    fn read_at_position(&mut self, buf: &mut [u8]) -> io::Result<usize> {
+        (**self).read_at_position(buf)
     }
 }
 
 impl SeekRead for File {
-    fn read_there(&mut self, buf: &mut [u8]) -> io::Result<usize> {
+    fn read_at_position(&mut self, buf: &mut [u8]) -> io::Result<usize> {
         self.read(buf)
     }
 }

@@ -1,44 +1,46 @@
-//! Reads streams from devices, batch by batch.
+//! Reads a stream from a reader, one record batch at a time.
 ghost use Rattle.std.specs.Prelude.{◌≡◌, true, None, Ok, IfOk};
-ghost use Rattle.ipc_flatbuf.specs.Reading.{Gives};
-ghost use Rattle.ipc_schema.specs.Picks.{all, picks_of};
+ghost use Rattle.ipc_flatbuf.specs.ReadResults.{ReturnsOrRunsOut};
+ghost use Rattle.ipc_schema.specs.Projections.{all, projection_of};
 ghost use Rattle.ipc_schema.specs.Schemas.{schema_of};
 ghost use Rattle.ipc.specs.Streams.{state_of};
-ghost use Rattle.ipc_io.specs.Readers.{FirstIn, Goes, MessageIn, NextIn, Opens, found_of, found_in as found_in_lem};
+ghost use Rattle.ipc_io.specs.StreamReaders.{FirstIn, ReadsNext, MessageIn, NextIn, Opens, found_of, spec_found_in};
 
 use crate::error::ReadError;
-use crate::fetching::fetch;
-use ipc::{Batch, State, read_message};
+use crate::fetching::fetch_message;
+use ipc::{Batch, DictionaryState, read_message};
+use ipc_flatbuf::IpcReadError;
 use ipc_flatbuf::message::next_message;
-use ipc_flatbuf::Fault;
-use ipc_schema::{Columns, PickedSchema, Schema, read_picked_schema};
+use ipc_schema::{ProjectedSchema, Projection, Schema, read_projected_schema};
 use std::alloc::Global;
 use std::io;
 use std::io::{ErrorKind, Read};
 use std::marker::Model;
 
-/// A stream that is read from a device, batch by batch, with the memory of one message and of the dictionaries that are known. Its
-/// answers are those of a `StreamReader` over the bytes that the device gives. What stands behind the end mark is not read.
+/// A reader of a stream over `Read`, which returns one record batch at a time.
+///
+/// It holds the schema, the dictionaries read so far and one message. Its results are those of an `ipc::SliceStreamReader` over the same
+/// bytes. Bytes after the end-of-stream marker are not read.
 #[derive(Drop)]
-pub struct DeviceReader<R> {
-    device: R,
-    state: State,
+pub struct StreamReader<R> {
+    inner: R,
+    state: DictionaryState,
     over: bool,
 }
 
-impl<R> Model for DeviceReader<R> {
-    ghost use Rattle.ipc_io.specs.Readers.{DeviceTree, coded_device_reader};
+impl<R> Model for StreamReader<R> {
+    ghost use Rattle.ipc_io.specs.StreamReaders.{StreamReaderTree, coded_stream_reader};
 
-    ghost Value = { DeviceTree R };
+    ghost Value = { StreamReaderTree R };
 
-    ghost coded = { coded_device_reader R.code };
+    ghost coded = { coded_stream_reader R.code };
 
     ghost use Rattle.ipc.specs.Streams.{state_of};
 
-    ghost view = { λ r. record { device = r.device; state = state_of r.state; over = r.over } };
+    ghost view = { λ r. record { inner = r.inner; state = state_of r.state; over = r.over } };
 }
 
-// What a message says of the next batch.
+// What a message is: the end of the stream, a dictionary batch, or a record batch.
 #[derive(Drop)]
 enum Found {
     End,
@@ -46,60 +48,68 @@ enum Found {
     Next(Batch),
 }
 
-// The columns that are read of the schema that a device begins with.
+// Reads the schema message.
 fn read_first<R: Read>(
     alloc: Global,
-    columns: Columns<'_>,
-    device: &mut R,
-) -> Result<PickedSchema, ReadError>
-    ensures { FirstIn (picks_of columns.entry) (R.remaining device.old) (R.remaining device.new) result }
+    columns: Projection<'_>,
+    reader: &mut R,
+) -> Result<ProjectedSchema, ReadError>
+    ensures { FirstIn (projection_of columns.entry) (R.remaining reader.old) (R.remaining reader.new) result }
 {
-    let came = fetch(alloc, device)?;
-    match read_picked_schema(alloc, columns, &came) {
-        Err(fault) => Err(ReadError::Fault(fault)),
+    let buf = fetch_message(alloc, reader)?;
+    match read_projected_schema(alloc, columns, &buf) {
+        Err(error) => Err(ReadError::Ipc(error)),
         Ok((picked, _)) => Ok(picked),
     }
 }
 
-// What the message that bytes begin with says.
-fn found_in(alloc: Global, state: &mut State, bytes: &[u8]) -> Result<Found, Fault>
-    ensures read { Gives (λ f. (found_of f, state_of state.new)) result (found_in_lem (state_of state.old) bytes.now) }
+// Reads the message at the start of `bytes`.
+fn found_in_message(
+    alloc: Global,
+    state: &mut DictionaryState,
+    bytes: &[u8],
+) -> Result<Found, IpcReadError>
+    ensures read { ReturnsOrRunsOut (λ f. (found_of f, state_of state.new)) result (spec_found_in (state_of state.old) bytes.now) }
     ensures picked { state.new.picked ≡ state.old.picked }
 {
     let (next, _) = next_message(bytes)?;
     match next {
         None => Ok(Found::End),
         Some(message) => match read_message(alloc, state, message) {
-            Err(fault) => Err(fault),
+            Err(error) => Err(error),
             Ok(None) => Ok(Found::Dictionary),
             Ok(Some(batch)) => Ok(Found::Next(batch)),
         },
     }
 }
 
-// The same of the next message of a device.
-fn read_found<R: Read>(alloc: Global, device: &mut R, state: &mut State) -> Result<Found, ReadError>
-    ensures read { MessageIn (state_of state.old) (R.remaining device.old) (state_of state.new) (R.remaining device.new) result }
+// Reads the next message.
+fn read_found<R: Read>(
+    alloc: Global,
+    reader: &mut R,
+    state: &mut DictionaryState,
+) -> Result<Found, ReadError>
+    ensures read { MessageIn (state_of state.old) (R.remaining reader.old) (state_of state.new) (R.remaining reader.new) result }
     ensures picked { state.new.picked ≡ state.old.picked }
 {
-    let came = fetch(alloc, device)?;
-    match found_in(alloc, state, &came) {
-        Err(fault) => Err(ReadError::Fault(fault)),
+    let buf = fetch_message(alloc, reader)?;
+    match found_in_message(alloc, state, &buf) {
+        Err(error) => Err(ReadError::Ipc(error)),
         Ok(found) => Ok(found),
     }
 }
 
-// The next batch of a device; dictionaries before it are known from then on.
+// Reads the next record batch, and the dictionary batches before it into the state.
 fn read_next<R: Read>(
     alloc: Global,
-    device: &mut R,
-    state: &mut State,
+    reader: &mut R,
+    state: &mut DictionaryState,
 ) -> Result<Option<Batch>, ReadError>
-    ensures next { NextIn (state_of state.old) (R.remaining device.old) (state_of state.new) (R.remaining device.new) result }
+    ensures next { NextIn (state_of state.old) (R.remaining reader.old) (state_of state.new) (R.remaining reader.new) result }
     ensures picked { state.new.picked ≡ state.old.picked }
 {
     'messages: for _turn in 0..u64::MAX {
-        match read_found(alloc, device, state) {
+        match read_found(alloc, reader, state) {
             Err(e) => return Err(e),
             Ok(Found::End) => return Ok(None),
             Ok(Found::Dictionary) => {}
@@ -109,57 +119,57 @@ fn read_next<R: Read>(
     Err(ReadError::Io(io::Error::from(ErrorKind::TimedOut)))
 }
 
-impl<R> DeviceReader<R> {
-    /// The columns of all batches.
+impl<R> StreamReader<R> {
+    /// Returns the schema of the projected columns.
     pub fn schema(&self) -> &Schema
         ensures { schema_of result.now ≡ self.now.state.picked.schema }
     {
         &self.state.picked.schema
     }
 
-    /// What is read from.
-    pub fn device(&self) -> &R
-        ensures { result.now ≡ self.now.device }
+    /// Returns a reference to the inner reader.
+    pub fn get_ref(&self) -> &R
+        ensures { result.now ≡ self.now.inner }
     {
-        &self.device
+        &self.inner
     }
 
-    /// Gives the device back: what it has left stands behind the last message that was read.
-    pub fn into_device(self) -> R
-        ensures { result ≡ self.device }
+    /// Returns the inner reader, which is past the last message that was read.
+    pub fn into_inner(self) -> R
+        ensures { result ≡ self.inner }
     {
-        self.device
+        self.inner
     }
 }
 
-impl<R: Read + Drop> DeviceReader<R> {
-    /// The reader of the stream that a device begins with; its schema is read here.
+impl<R: Read + Drop> StreamReader<R> {
+    /// Reads the schema of a stream and returns a reader of all columns.
     ///
     /// # Errors
-    /// `Fault` with the first fault of the bytes, or `Memory`. `Io` where the device fails.
-    pub fn new(alloc: Global, device: R) -> Result<DeviceReader<R>, ReadError>
-        ensures { Opens R.remaining all device result }
+    /// `Ipc` with the first error of the schema message, or `Memory`. `Io` with an error of the reader.
+    pub fn new(alloc: Global, reader: R) -> Result<StreamReader<R>, ReadError>
+        ensures { Opens R.remaining all reader result }
     {
-        DeviceReader::with_columns(alloc, device, Columns::All)
+        StreamReader::with_projection(alloc, reader, Projection::All)
     }
 
-    /// The reader of some columns; the others are passed over, also where their types are not read.
+    /// Returns a reader of the projected columns. The other columns are skipped, even where their data types cannot be read.
     ///
     /// # Errors
-    /// Those of `new`.
-    pub fn with_columns(
+    /// Those of `new`, and `Ipc` with an error of the projection.
+    pub fn with_projection(
         alloc: Global,
-        device: R,
-        columns: Columns<'_>,
-    ) -> Result<DeviceReader<R>, ReadError>
-        ensures { Opens R.remaining (picks_of columns.entry) device result }
+        reader: R,
+        columns: Projection<'_>,
+    ) -> Result<StreamReader<R>, ReadError>
+        ensures { Opens R.remaining (projection_of columns.entry) reader result }
     {
-        let mut device = device;
-        match read_first(alloc, columns, &mut device) {
+        let mut reader = reader;
+        match read_first(alloc, columns, &mut reader) {
             Ok(picked) => {
-                let state = State::new(alloc, picked);
-                Ok(DeviceReader {
-                    device,
+                let state = DictionaryState::new(alloc, picked);
+                Ok(StreamReader {
+                    inner: reader,
                     state,
                     over: false,
                 })
@@ -168,19 +178,21 @@ impl<R: Read + Drop> DeviceReader<R> {
         }
     }
 
-    /// The next batch; `None` at the end, and for good after the end, a fault or a failure of the device.
+    /// Returns the next record batch, or `None` at the end of the stream.
+    ///
+    /// After the end, or after an error, every call returns `None`.
     ///
     /// # Errors
-    /// `Fault` with the batch's first fault, or `Memory`. `Io` where the device fails.
+    /// `Ipc` with the first error of the messages up to the batch, or `Memory`. `Io` with an error of the reader.
     pub fn next_batch(&mut self, alloc: Global) -> Result<Option<Batch>, ReadError>
-        ensures next { Goes R.remaining self.old self.new result }
+        ensures next { ReadsNext R.remaining self.old self.new result }
         ensures over { IfOk result (λ next. next ≡ None → self.new.over ≡ true) }
         ensures still { self.old.over ≡ true → (result ≡ Ok None) × (self.new ≡ self.old) }
     {
         if self.over {
             return Ok(None);
         }
-        match read_next(alloc, &mut self.device, &mut self.state) {
+        match read_next(alloc, &mut self.inner, &mut self.state) {
             Ok(next) => {
                 self.over = next.is_none();
                 Ok(next)

@@ -1,4 +1,4 @@
--- Maps of texts by their bytes.
+-- Maps of strings ordered by their bytes.
 use Rattle.std.proofs.Common.{◌≡◌, Bool, true, false, cond, List, [], ◌∷◌, ◌++◌, Option, Some, refl, ap, ◌∙◌}
 use Rattle.std.specs.declared.alloc.Global.{Global}
 use Rattle.std.specs.Prelude.{String, string_bytes, is_some}
@@ -17,9 +17,9 @@ use Rattle.nest_memory.specs.TypeOf.{entries_of}
 use Rattle.std.specs.List.{AllByRecursion, AllZip}
 use Rattle.std.specs.List.Sorted.{IsStrictlySortedBy}
 use Rattle.std.specs.Map.{keys_of}
-use Rattle.ipc_schema.specs.Extensions.{has_key, value_at, without}
+use Rattle.ipc_schema.specs.Extensions.{spec_has_key, value_at, without}
 use Rattle.ipc_schema.specs.Schemas.{with_pairs}
-use Rattle.ipc_schema.specs.MetadataLaws.{IsRising}
+use Rattle.ipc_schema.specs.MetadataLaws.{AreSorted}
 
 abbrev pub Texts : Type 0
 Texts = List (String Global × String Global)
@@ -28,7 +28,7 @@ both_found : {X Y : Type 0} (b : Bool) (x : X) (y : Y) (m : Option X) (n : Optio
 both_found true x y m n same = refl
 both_found false x y m n same = same
 
-pub key_found : (key : Letters) (es : Texts) → has_key key (entries_of es) ≡ is_some (lookup (is_at (text_cmp key)) es)
+pub key_found : (key : Letters) (es : Texts) → spec_has_key key (entries_of es) ≡ is_some (lookup (is_at (text_cmp key)) es)
 key_found key [] = refl
 key_found key (e ∷ es) =
     rw (is_eq-slice_cmp key (string_bytes e.0)) (both_found (bytes_eq key (string_bytes e.0)) (string_bytes e.1) e.1 (lookup (λ other. bytes_eq key other) (entries_of es)) (lookup (is_at (text_cmp key)) es) (key_found key es))
@@ -54,7 +54,7 @@ taken key (e ∷ es) =
     rw (is_eq-slice_cmp key (string_bytes e.0)) (taken_both (bytes_eq key (string_bytes e.0)) e es (remove_entry (is_at (text_cmp key)) es)
     ∙ ap (λ (rest : Entries). cond (bytes_eq key (string_bytes e.0)) (entries_of es) ((string_bytes e.0, string_bytes e.1) ∷ rest)) (taken key es))
 
--- copies with equal texts are equal entries
+-- copies with equal strings are equal entries
 abbrev letters : String Global × String Global → Letters × Letters
 letters e = (string_bytes e.0, string_bytes e.1)
 
@@ -83,8 +83,8 @@ all_less : (key : String Global) (es : Texts) → AllByRecursion (λ other. stri
 all_less key [] less = tt
 all_less key (e ∷ es) less = (less.0, all_less key es less.1)
 
--- the keys of a map rise
-pub rising_is : (es : Texts) → IsStrictlySortedBy string_cmp (keys_of es) → IsRising (entries_of es)
+-- the keys of a map are sorted
+pub rising_is : (es : Texts) → IsStrictlySortedBy string_cmp (keys_of es) → AreSorted (entries_of es)
 unfolding IsStrictlySortedBy
 rising_is [] rising = tt
 rising_is (e ∷ es) rising = (all_less e.0 es rising.0, rising_is es rising.1)

@@ -1,19 +1,19 @@
--- Fields whose metadata spells extensions, byte by byte: another writer's bytes of one, and a list of numbers of one.
+-- Worked examples: the bytes of fields of extension types, one of another writer, and a list of an extension type.
 use Rattle.std.specs.Prelude.{◌≡◌, ℕ, true, false, List, [], ◌∷◌, None, Some, Ok, Err, refl}
 use Rattle.std.specs.Str.{is_utf8, IsAscii}
 use Rattle.std.proofs.Common.{rules, arith}
 use Rattle.std.proofs.lemmas.Str.{IsUtf8-from_ascii, IsAscii-append, is_utf8-from_IsUtf8}
 use Rattle.nest_memory.specs.TypeTree as types
 use Rattle.nest_memory.specs.TypeTree.{FieldTree, field, no_fields, more_fields}
-use Rattle.ipc_flatbuf.specs.declared.error.Fault.TheVariants.{MapEntries}
-use Rattle.ipc_flatbuf.specs.Flatbuffers.{offset_at, back_from, table_at, field_place, spend, visit_table, visit_vector, visit_string, tables_at, items_at, text_at}
-use Rattle.ipc_schema.specs.Types.{bare_at, integer_at, fixed_size_binary_at, map_of}
-use Rattle.ipc_schema.specs.Extensions.{extension_name, extension_metadata, field_with_all}
-use Rattle.ipc_schema.specs.Dictionaries.{unseen, progress}
-use Rattle.ipc_schema.specs.FieldRows.{rows_at}
-use Rattle.ipc_schema.specs.Schemas.{pair_at, metadata_at, field_at}
+use Rattle.ipc_flatbuf.specs.declared.error.IpcReadError.TheVariants.{MapEntries}
+use Rattle.ipc_flatbuf.specs.Flatbuffers.{spec_offset_at, spec_back_from, spec_table_at, spec_field_position, spec_charge_budget, spec_read_table, spec_read_vector, spec_read_string, tables_at, spec_items_at, spec_str_at}
+use Rattle.ipc_schema.specs.Types.{spec_bare_at, spec_integer_at, spec_fixed_size_binary_at, map_of}
+use Rattle.ipc_schema.specs.Extensions.{extension_name, extension_metadata, field_with_metadata}
+use Rattle.ipc_schema.specs.Dictionaries.{no_dictionaries, progress}
+use Rattle.ipc_schema.specs.FieldVectors.{tables_in_turn}
+use Rattle.ipc_schema.specs.Schemas.{spec_pair_at, spec_metadata_at, spec_field_at}
 
--- ---- texts
+-- ---- strings
 
 text_a : is_utf8 (97 ∷ []) ≡ true
 text_a = is_utf8-from_IsUtf8 (97 ∷ []) (IsUtf8-from_ascii (97 ∷ []) (search (rules, arith)))
@@ -78,7 +78,7 @@ extension_bytes =
 abbrev pub bytes_field : FieldTree
 bytes_field = field (97 ∷ []) (types.extension (117 ∷ 117 ∷ 105 ∷ 100 ∷ []) (types.fixed_size_binary 2) (Some [])) true ((111 ∷ 119 ∷ 110 ∷ [], 107 ∷ 101 ∷ 112 ∷ 116 ∷ []) ∷ [])
 
--- a list of an extension, laid down by hand
+-- a list of an extension type, written by hand
 abbrev pub inner_bytes : List ℕ
 inner_bytes =
     24 ∷ 0 ∷ 0 ∷ 0 ∷ 0 ∷ 0 ∷ 0 ∷ 0 ∷ 0 ∷ 0 ∷ 0 ∷ 0 ∷ 0 ∷ 0 ∷ 10 ∷ 0 ∷ 11 ∷ 0 ∷ 8 ∷ 0 ∷ 10 ∷ 0 ∷ 4 ∷ 0 ∷ 10 ∷ 0 ∷ 0 ∷ 0 ∷ 20 ∷ 0 ∷ 0 ∷ 0 ∷ 4 ∷ 0 ∷ 1 ∷ 0 ∷ 0 ∷ 0 ∷ 0 ∷ 0 ∷ 8 ∷ 0 ∷ 8 ∷ 0 ∷ 0 ∷ 0 ∷ 4 ∷ 0 ∷ 8 ∷ 0 ∷ 0 ∷ 0 ∷ 4 ∷ 0 ∷ 0 ∷ 0 ∷ 1 ∷ 0 ∷ 0 ∷ 0 ∷ 28 ∷ 0 ∷ 0 ∷ 0 ∷ 0 ∷ 0 ∷ 0 ∷ 0 ∷ 0 ∷ 0 ∷ 18 ∷ 0 ∷ 18 ∷ 0 ∷ 4 ∷ 0 ∷ 16 ∷ 0 ∷ 17 ∷ 0 ∷ 8 ∷ 0 ∷ 0 ∷ 0 ∷ 12 ∷ 0 ∷ 0 ∷ 0 ∷ 18 ∷ 0 ∷ 0 ∷ 0 ∷ 16 ∷ 0 ∷ 0 ∷ 0 ∷ 32 ∷ 0 ∷ 0 ∷ 0 ∷ 32 ∷ 0 ∷ 0 ∷ 0 ∷ 1 ∷ 12 ∷ 0 ∷ 0 ∷ 1 ∷ 0 ∷ 0 ∷ 0 ∷ 98 ∷ 0 ∷ 0 ∷ 0 ∷ 0 ∷ 0 ∷ 0 ∷ 0 ∷ 0 ∷ 0 ∷ 0 ∷ 0 ∷ 4 ∷ 0 ∷ 4 ∷ 0 ∷ 4 ∷ 0 ∷ 0 ∷ 0 ∷ 1 ∷ 0 ∷ 0 ∷ 0 ∷ 32 ∷ 0 ∷ 0 ∷ 0 ∷ 0 ∷ 0 ∷ 0 ∷ 0 ∷ 0 ∷ 0 ∷ 0 ∷ 0 ∷ 0 ∷ 0 ∷ 18 ∷ 0 ∷ 22 ∷ 0 ∷ 4 ∷ 0 ∷ 20 ∷ 0 ∷ 21 ∷ 0 ∷ 8 ∷ 0 ∷ 0 ∷ 0 ∷ 12 ∷ 0 ∷ 16 ∷ 0 ∷ 18 ∷ 0 ∷ 0 ∷ 0 ∷ 20 ∷ 0 ∷ 0 ∷ 0 ∷ 32 ∷ 0 ∷ 0 ∷ 0 ∷ 40 ∷ 0 ∷ 0 ∷ 0 ∷ 40 ∷ 0 ∷ 0 ∷ 0 ∷ 1 ∷ 2 ∷ 0 ∷ 0 ∷ 1 ∷ 0 ∷ 0 ∷ 0 ∷ 105 ∷ 0 ∷ 0 ∷ 0 ∷ 8 ∷ 0 ∷ 9 ∷ 0 ∷ 4 ∷ 0 ∷ 8 ∷ 0 ∷ 8 ∷ 0 ∷ 0 ∷ 0 ∷ 32 ∷ 0 ∷ 0 ∷ 0 ∷ 1 ∷ 0 ∷ 0 ∷ 0 ∷ 0 ∷ 0 ∷ 0 ∷ 0 ∷ 1 ∷ 0 ∷ 0 ∷ 0 ∷ 12 ∷ 0 ∷ 0 ∷ 0 ∷ 8 ∷ 0 ∷ 12 ∷ 0 ∷ 4 ∷ 0 ∷ 8 ∷ 0 ∷ 8 ∷ 0 ∷ 0 ∷ 0 ∷ 8 ∷ 0 ∷ 0 ∷ 0 ∷ 32 ∷ 0 ∷ 0 ∷ 0 ∷ 20 ∷ 0 ∷ 0 ∷ 0 ∷ 65 ∷ 82 ∷ 82 ∷ 79 ∷ 87 ∷ 58 ∷ 101 ∷ 120 ∷ 116 ∷ 101 ∷ 110 ∷ 115 ∷ 105 ∷ 111 ∷ 110 ∷ 58 ∷ 110 ∷ 97 ∷ 109 ∷ 101 ∷ 0 ∷ 0 ∷ 0 ∷ 0 ∷ 1 ∷ 0 ∷ 0 ∷ 0 ∷ 101 ∷ 0 ∷ 0 ∷ 0 ∷ []
@@ -86,27 +86,27 @@ inner_bytes =
 abbrev pub list_field : FieldTree
 list_field = field (98 ∷ []) (types.list (field (105 ∷ []) (types.extension (101 ∷ []) types.int32 None) true [])) true []
 
-bytes_is : field_at 64 extension_bytes 80 (progress 300 unseen) ≡ Ok (bytes_field, progress 156 unseen)
-unfolding offset_at back_from table_at field_place spend visit_table visit_vector visit_string tables_at rows_at items_at text_at pair_at metadata_at fixed_size_binary_at field_at
+bytes_is : spec_field_at 64 extension_bytes 80 (progress 300 no_dictionaries) ≡ Ok (bytes_field, progress 156 no_dictionaries)
+unfolding spec_offset_at spec_back_from spec_table_at spec_field_position spec_charge_budget spec_read_table spec_read_vector spec_read_string tables_at tables_in_turn spec_items_at spec_str_at spec_pair_at spec_metadata_at spec_fixed_size_binary_at spec_field_at
 bytes_is = rw (text_a, text_text_key, text_empty, text_name_key, text_uuid, text_own, text_kept) refl
 
-list_is : field_at 64 inner_bytes 88 (progress 300 unseen) ≡ Ok (list_field, progress 201 unseen)
-unfolding offset_at back_from table_at field_place spend visit_table visit_vector visit_string tables_at rows_at items_at text_at pair_at metadata_at bare_at integer_at field_at
+list_is : spec_field_at 64 inner_bytes 88 (progress 300 no_dictionaries) ≡ Ok (list_field, progress 201 no_dictionaries)
+unfolding spec_offset_at spec_back_from spec_table_at spec_field_position spec_charge_budget spec_read_table spec_read_vector spec_read_string tables_at tables_in_turn spec_items_at spec_str_at spec_pair_at spec_metadata_at spec_bare_at spec_integer_at spec_field_at
 list_is = rw (text_b, text_i, text_name_key, text_e) refl
 
 abbrev pub AreExtended : Type 0
-AreExtended = (field_at 64 extension_bytes 80 (progress 300 unseen) ≡ Ok (bytes_field, progress 156 unseen)) × (field_at 64 inner_bytes 88 (progress 300 unseen) ≡ Ok (list_field, progress 201 unseen))
+AreExtended = (spec_field_at 64 extension_bytes 80 (progress 300 no_dictionaries) ≡ Ok (bytes_field, progress 156 no_dictionaries)) × (spec_field_at 64 inner_bytes 88 (progress 300 no_dictionaries) ≡ Ok (list_field, progress 201 no_dictionaries))
 
 pub extended : AreExtended
 extended = (bytes_is, list_is)
 
--- ---- what spells none
+-- ---- fields without an extension type
 
--- the second key alone is metadata as any
-second_alone : field_with_all (97 ∷ []) types.int8 true ((extension_metadata, 98 ∷ []) ∷ []) ≡ field (97 ∷ []) types.int8 true ((extension_metadata, 98 ∷ []) ∷ [])
+-- the second key alone is ordinary metadata
+second_alone : field_with_metadata (97 ∷ []) types.int8 true ((extension_metadata, 98 ∷ []) ∷ []) ≡ field (97 ∷ []) types.int8 true ((extension_metadata, 98 ∷ []) ∷ [])
 second_alone = refl
 
--- the entries of a map are of no extension
+-- the entries of a map are not an extension type
 abbrev pub pair : FieldTree
 pair = field [] types.int8 true []
 
@@ -114,7 +114,7 @@ no_pair : map_of false (field (97 ∷ []) (types.extension (98 ∷ []) (types.st
 no_pair = refl
 
 abbrev pub ArePlain : Type 0
-ArePlain = (field_with_all (97 ∷ []) types.int8 true ((extension_metadata, 98 ∷ []) ∷ []) ≡ field (97 ∷ []) types.int8 true ((extension_metadata, 98 ∷ []) ∷ []))
+ArePlain = (field_with_metadata (97 ∷ []) types.int8 true ((extension_metadata, 98 ∷ []) ∷ []) ≡ field (97 ∷ []) types.int8 true ((extension_metadata, 98 ∷ []) ∷ []))
     × (map_of false (field (97 ∷ []) (types.extension (98 ∷ []) (types.struct (more_fields pair (more_fields pair no_fields))) None) false []) ≡ Err MapEntries)
 
 pub plain : ArePlain

@@ -1,4 +1,4 @@
--- A field whose metadata spells its extension is read as it was.
+-- Fields of extension types round-trip.
 use Rattle.std.proofs.Common.{◌≡◌, Bool, true, false, cond, [], ◌∷◌, Option, Some, None, refl, sym, ap, ◌∙◌}
 use Rattle.std.specs.Prelude.{◌&&◌, not}
 use Rattle.std.specs.Cmp.Lexicographic.{slice_cmp}
@@ -9,62 +9,62 @@ use Rattle.std.specs.declared.cmp.Ordering.TheVariants.{Less, Equal, Greater}
 use Rattle.std.proofs.lemmas.Map.Text.{is_eq-slice_cmp}
 use Rattle.nest_memory.specs.TypeTree as types
 use Rattle.nest_memory.specs.TypeTree.{Letters, Entries, TypeTree, field}
-use Rattle.ipc_schema.specs.Extensions.{extension_name, extension_metadata, value_at, has_key, without, with_pair, field_with_all, stored, is_extension, with_text, all_pairs}
-use Rattle.ipc_schema.specs.Forms.{are_free}
+use Rattle.ipc_schema.specs.Extensions.{extension_name, extension_metadata, value_at, spec_has_key, without, spec_with_pair, field_with_metadata, spec_storage_type, spec_is_extension, with_text, all_metadata_of}
+use Rattle.ipc_schema.specs.WriteChecks.{spec_has_no_reserved_key}
 
--- ---- a key that is not there
+-- ---- a key that is absent
 
 -- no entry has the key
-abbrev pub IsFree : Letters → Entries → Type 0
-IsFree key entries = value_at key entries ≡ None
+abbrev pub HasNoKey : Letters → Entries → Type 0
+HasNoKey key entries = value_at key entries ≡ None
 
 none_first : (b : Bool) (x : Letters) (rest : Option Letters) → cond b (Some x) rest ≡ None → (b ≡ false) × (rest ≡ None)
 none_first true x rest h = absurd (cc h)
 none_first false x rest h = (refl, h)
 
 module _ (key value : Letters) (same : bytes_eq key key ≡ true) where
-  -- the first entry's key, by its order to it
+  -- the order of the key to that of the first entry
   tie : (o : Ordering) (other : Letters) → slice_cmp nat_cmp key other ≡ o → bytes_eq key other ≡ is_eq o
   tie o other e = sym (is_eq-slice_cmp key other) ∙ ap is_eq e
 
-  -- where a pair goes, before an entry or behind it
+  -- a pair is inserted before an entry or after it
   module _ (e : Letters × Letters) (es : Entries) (apart : bytes_eq key e.0 ≡ false) where
-    there_by : (o : Ordering) → slice_cmp nat_cmp key e.0 ≡ o → value_at key (with_pair key value es) ≡ Some value → value_at key (with_pair key value (e ∷ es)) ≡ Some value
+    there_by : (o : Ordering) → slice_cmp nat_cmp key e.0 ≡ o → value_at key (spec_with_pair key value es) ≡ Some value → value_at key (spec_with_pair key value (e ∷ es)) ≡ Some value
     there_by Less o rest = rw (o, same) refl
     there_by Equal o rest = absurd (cc (sym (tie Equal e.0 o) ∙ apart))
     there_by Greater o rest = rw (o, apart) rest
 
-    taken_by : (o : Ordering) → slice_cmp nat_cmp key e.0 ≡ o → without key (with_pair key value es) ≡ es → without key (with_pair key value (e ∷ es)) ≡ e ∷ es
+    taken_by : (o : Ordering) → slice_cmp nat_cmp key e.0 ≡ o → without key (spec_with_pair key value es) ≡ es → without key (spec_with_pair key value (e ∷ es)) ≡ e ∷ es
     taken_by Less o rest = rw (o, same) refl
     taken_by Equal o rest = absurd (cc (sym (tie Equal e.0 o) ∙ apart))
     taken_by Greater o rest = rw (o, apart) (ap (λ (l : Entries). e ∷ l) rest)
 
-    stays_by : (other : Letters) → bytes_eq other key ≡ false → (o : Ordering) → slice_cmp nat_cmp key e.0 ≡ o → value_at other (with_pair key value es) ≡ value_at other es → value_at other (with_pair key value (e ∷ es)) ≡ value_at other (e ∷ es)
+    stays_by : (other : Letters) → bytes_eq other key ≡ false → (o : Ordering) → slice_cmp nat_cmp key e.0 ≡ o → value_at other (spec_with_pair key value es) ≡ value_at other es → value_at other (spec_with_pair key value (e ∷ es)) ≡ value_at other (e ∷ es)
     stays_by other differs Less o rest = rw (o, differs) refl
     stays_by other differs Equal o rest = absurd (cc (sym (tie Equal e.0 o) ∙ apart))
     stays_by other differs Greater o rest = rw o (ap (cond (bytes_eq other e.0) (Some e.1)) rest)
 
-  pub pair_is_there : (entries : Entries) → IsFree key entries → value_at key (with_pair key value entries) ≡ Some value
+  pub pair_is_there : (entries : Entries) → HasNoKey key entries → value_at key (spec_with_pair key value entries) ≡ Some value
   pair_is_there [] free = rw same refl
   pair_is_there (e ∷ es) free =
       let h = none_first (bytes_eq key e.0) e.1 (value_at key es) free in
       there_by e es h.0 (slice_cmp nat_cmp key e.0) refl (pair_is_there es h.1)
 
-  pub pair_is_taken : (entries : Entries) → IsFree key entries → without key (with_pair key value entries) ≡ entries
+  pub pair_is_taken : (entries : Entries) → HasNoKey key entries → without key (spec_with_pair key value entries) ≡ entries
   pair_is_taken [] free = rw same refl
   pair_is_taken (e ∷ es) free =
       let h = none_first (bytes_eq key e.0) e.1 (value_at key es) free in
       taken_by e es h.0 (slice_cmp nat_cmp key e.0) refl (pair_is_taken es h.1)
 
-  -- another key has the value that it had
-  pub others_stay : (other : Letters) → bytes_eq other key ≡ false → (entries : Entries) → IsFree key entries → value_at other (with_pair key value entries) ≡ value_at other entries
+  -- another key keeps its value
+  pub others_stay : (other : Letters) → bytes_eq other key ≡ false → (entries : Entries) → HasNoKey key entries → value_at other (spec_with_pair key value entries) ≡ value_at other entries
   others_stay other differs [] free = rw differs refl
   others_stay other differs (e ∷ es) free =
       let h = none_first (bytes_eq key e.0) e.1 (value_at key es) free in
       stays_by e es h.0 other differs (slice_cmp nat_cmp key e.0) refl (others_stay other differs es h.1)
 
--- without it nothing changes
-pub free_stays : (key : Letters) (entries : Entries) → IsFree key entries → without key entries ≡ entries
+-- removing an absent key changes nothing
+pub free_stays : (key : Letters) (entries : Entries) → HasNoKey key entries → without key entries ≡ entries
 free_stays key [] free = refl
 free_stays key (e ∷ es) free =
     let h = none_first (bytes_eq key e.0) e.1 (value_at key es) free in
@@ -72,7 +72,7 @@ free_stays key (e ∷ es) free =
 
 -- ---- extensions
 
-is_free : (key : Letters) (entries : Entries) → has_key key entries ≡ false → IsFree key entries
+is_free : (key : Letters) (entries : Entries) → spec_has_key key entries ≡ false → HasNoKey key entries
 is_free key entries h = by_value (value_at key entries) refl
   where
     by_value : (v : Option Letters) → value_at key entries ≡ v → value_at key entries ≡ None
@@ -87,13 +87,13 @@ not_back : (b : Bool) → not b ≡ true → b ≡ false
 not_back true h = absurd (cc h)
 not_back false h = refl
 
--- what spells an extension gives its parts
-pub record IsSpelled (title : Letters) (text : Option Letters) (entries all : Entries) : Type 0 where
+-- the keys of an extension type give its name, its metadata and the other entries
+pub record IsEncoded (title : Letters) (text : Option Letters) (entries all : Entries) : Type 0 where
   pub name : value_at extension_name all ≡ Some title
   pub text_of : value_at extension_metadata (without extension_name all) ≡ text
   pub rest : without extension_metadata (without extension_name all) ≡ entries
 
-spelled : (title : Letters) (text : Option Letters) (entries : Entries) → IsFree extension_name entries → IsFree extension_metadata entries → IsSpelled title text entries (with_pair extension_name title (with_text text entries))
+spelled : (title : Letters) (text : Option Letters) (entries : Entries) → HasNoKey extension_name entries → HasNoKey extension_metadata entries → IsEncoded title text entries (spec_with_pair extension_name title (with_text text entries))
 spelled title None entries free bare =
     let taken = pair_is_taken extension_name title refl entries free in
     record {
@@ -102,63 +102,63 @@ spelled title None entries free bare =
       rest = rw taken (free_stays extension_metadata entries bare);
     }
 spelled title (Some text) entries free bare =
-    let more : Entries = with_pair extension_metadata text entries in
-    let still : IsFree extension_name more = others_stay extension_metadata text refl extension_name refl entries bare ∙ free in
-    let taken : without extension_name (with_pair extension_name title more) ≡ more = pair_is_taken extension_name title refl more still in
+    let more : Entries = spec_with_pair extension_metadata text entries in
+    let still : HasNoKey extension_name more = others_stay extension_metadata text refl extension_name refl entries bare ∙ free in
+    let taken : without extension_name (spec_with_pair extension_name title more) ≡ more = pair_is_taken extension_name title refl more still in
     record {
       name = pair_is_there extension_name title refl more still;
       text_of = rw taken (pair_is_there extension_metadata text refl entries bare);
       rest = rw taken (pair_is_taken extension_metadata text refl entries bare);
     }
 
-parts_of : (type : TypeTree) (entries : Entries) → are_free type entries ≡ true → (not (has_key extension_name entries) ≡ true) × (not (is_extension type && has_key extension_metadata entries) ≡ true)
-parts_of type entries are = and_parts (not (has_key extension_name entries)) (not (is_extension type && has_key extension_metadata entries)) are
+parts_of : (type : TypeTree) (entries : Entries) → spec_has_no_reserved_key type entries ≡ true → (not (spec_has_key extension_name entries) ≡ true) × (not (spec_is_extension type && spec_has_key extension_metadata entries) ≡ true)
+parts_of type entries are = and_parts (not (spec_has_key extension_name entries)) (not (spec_is_extension type && spec_has_key extension_metadata entries)) are
 
-free_name : (type : TypeTree) (entries : Entries) → are_free type entries ≡ true → IsFree extension_name entries
-free_name type entries are = is_free extension_name entries (not_back (has_key extension_name entries) (parts_of type entries are).0)
+free_name : (type : TypeTree) (entries : Entries) → spec_has_no_reserved_key type entries ≡ true → HasNoKey extension_name entries
+free_name type entries are = is_free extension_name entries (not_back (spec_has_key extension_name entries) (parts_of type entries are).0)
 
-free_text : (title : Letters) (type : TypeTree) (text : Option Letters) (entries : Entries) → are_free (types.extension title type text) entries ≡ true → IsFree extension_metadata entries
-free_text title type text entries are = is_free extension_metadata entries (not_back (has_key extension_metadata entries) (parts_of (types.extension title type text) entries are).1)
+free_text : (title : Letters) (type : TypeTree) (text : Option Letters) (entries : Entries) → spec_has_no_reserved_key (types.extension title type text) entries ≡ true → HasNoKey extension_metadata entries
+free_text title type text entries are = is_free extension_metadata entries (not_back (spec_has_key extension_metadata entries) (parts_of (types.extension title type text) entries are).1)
 
-plain_back : (name : Letters) (type : TypeTree) (nullable : Bool) (entries : Entries) → IsFree extension_name entries → field_with_all name type nullable entries ≡ field name type nullable entries
+plain_back : (name : Letters) (type : TypeTree) (nullable : Bool) (entries : Entries) → HasNoKey extension_name entries → field_with_metadata name type nullable entries ≡ field name type nullable entries
 plain_back name type nullable entries free = rw free refl
 
--- the field of the type that it is stored by, and of all its metadata
-pub field_back : (name : Letters) (type : TypeTree) (nullable : Bool) (entries : Entries) → are_free type entries ≡ true → field_with_all name (stored type) nullable (all_pairs type entries) ≡ field name type nullable entries
-field_back name types.null nullable entries are = plain_back name types.null nullable entries (free_name types.null entries are)
-field_back name types.boolean nullable entries are = plain_back name types.boolean nullable entries (free_name types.boolean entries are)
-field_back name types.int8 nullable entries are = plain_back name types.int8 nullable entries (free_name types.int8 entries are)
-field_back name types.int16 nullable entries are = plain_back name types.int16 nullable entries (free_name types.int16 entries are)
-field_back name types.int32 nullable entries are = plain_back name types.int32 nullable entries (free_name types.int32 entries are)
-field_back name types.int64 nullable entries are = plain_back name types.int64 nullable entries (free_name types.int64 entries are)
-field_back name types.uint8 nullable entries are = plain_back name types.uint8 nullable entries (free_name types.uint8 entries are)
-field_back name types.uint16 nullable entries are = plain_back name types.uint16 nullable entries (free_name types.uint16 entries are)
-field_back name types.uint32 nullable entries are = plain_back name types.uint32 nullable entries (free_name types.uint32 entries are)
-field_back name types.uint64 nullable entries are = plain_back name types.uint64 nullable entries (free_name types.uint64 entries are)
-field_back name types.float16 nullable entries are = plain_back name types.float16 nullable entries (free_name types.float16 entries are)
-field_back name types.float32 nullable entries are = plain_back name types.float32 nullable entries (free_name types.float32 entries are)
-field_back name types.float64 nullable entries are = plain_back name types.float64 nullable entries (free_name types.float64 entries are)
-field_back name (types.timestamp a b) nullable entries are = plain_back name (types.timestamp a b) nullable entries (free_name (types.timestamp a b) entries are)
-field_back name types.date32 nullable entries are = plain_back name types.date32 nullable entries (free_name types.date32 entries are)
-field_back name types.date64 nullable entries are = plain_back name types.date64 nullable entries (free_name types.date64 entries are)
-field_back name (types.time32 a) nullable entries are = plain_back name (types.time32 a) nullable entries (free_name (types.time32 a) entries are)
-field_back name (types.time64 a) nullable entries are = plain_back name (types.time64 a) nullable entries (free_name (types.time64 a) entries are)
-field_back name (types.duration a) nullable entries are = plain_back name (types.duration a) nullable entries (free_name (types.duration a) entries are)
-field_back name (types.interval a) nullable entries are = plain_back name (types.interval a) nullable entries (free_name (types.interval a) entries are)
-field_back name types.binary nullable entries are = plain_back name types.binary nullable entries (free_name types.binary entries are)
-field_back name (types.fixed_size_binary a) nullable entries are = plain_back name (types.fixed_size_binary a) nullable entries (free_name (types.fixed_size_binary a) entries are)
-field_back name types.large_binary nullable entries are = plain_back name types.large_binary nullable entries (free_name types.large_binary entries are)
-field_back name types.utf8 nullable entries are = plain_back name types.utf8 nullable entries (free_name types.utf8 entries are)
-field_back name types.large_utf8 nullable entries are = plain_back name types.large_utf8 nullable entries (free_name types.large_utf8 entries are)
-field_back name (types.list a) nullable entries are = plain_back name (types.list a) nullable entries (free_name (types.list a) entries are)
-field_back name (types.fixed_size_list a b) nullable entries are = plain_back name (types.fixed_size_list a b) nullable entries (free_name (types.fixed_size_list a b) entries are)
-field_back name (types.large_list a) nullable entries are = plain_back name (types.large_list a) nullable entries (free_name (types.large_list a) entries are)
-field_back name (types.struct a) nullable entries are = plain_back name (types.struct a) nullable entries (free_name (types.struct a) entries are)
-field_back name (types.union a b c) nullable entries are = plain_back name (types.union a b c) nullable entries (free_name (types.union a b c) entries are)
-field_back name (types.map a b) nullable entries are = plain_back name (types.map a b) nullable entries (free_name (types.map a b) entries are)
-field_back name (types.dictionary a b c) nullable entries are = plain_back name (types.dictionary a b c) nullable entries (free_name (types.dictionary a b c) entries are)
-field_back name (types.decimal a b) nullable entries are = plain_back name (types.decimal a b) nullable entries (free_name (types.decimal a b) entries are)
-field_back name (types.decimal256 a b) nullable entries are = plain_back name (types.decimal256 a b) nullable entries (free_name (types.decimal256 a b) entries are)
-field_back name (types.extension title type text) nullable entries are =
+-- the field of the storage type and all its metadata round-trips
+pub field_round_trips : (name : Letters) (type : TypeTree) (nullable : Bool) (entries : Entries) → spec_has_no_reserved_key type entries ≡ true → field_with_metadata name (spec_storage_type type) nullable (all_metadata_of type entries) ≡ field name type nullable entries
+field_round_trips name types.null nullable entries are = plain_back name types.null nullable entries (free_name types.null entries are)
+field_round_trips name types.boolean nullable entries are = plain_back name types.boolean nullable entries (free_name types.boolean entries are)
+field_round_trips name types.int8 nullable entries are = plain_back name types.int8 nullable entries (free_name types.int8 entries are)
+field_round_trips name types.int16 nullable entries are = plain_back name types.int16 nullable entries (free_name types.int16 entries are)
+field_round_trips name types.int32 nullable entries are = plain_back name types.int32 nullable entries (free_name types.int32 entries are)
+field_round_trips name types.int64 nullable entries are = plain_back name types.int64 nullable entries (free_name types.int64 entries are)
+field_round_trips name types.uint8 nullable entries are = plain_back name types.uint8 nullable entries (free_name types.uint8 entries are)
+field_round_trips name types.uint16 nullable entries are = plain_back name types.uint16 nullable entries (free_name types.uint16 entries are)
+field_round_trips name types.uint32 nullable entries are = plain_back name types.uint32 nullable entries (free_name types.uint32 entries are)
+field_round_trips name types.uint64 nullable entries are = plain_back name types.uint64 nullable entries (free_name types.uint64 entries are)
+field_round_trips name types.float16 nullable entries are = plain_back name types.float16 nullable entries (free_name types.float16 entries are)
+field_round_trips name types.float32 nullable entries are = plain_back name types.float32 nullable entries (free_name types.float32 entries are)
+field_round_trips name types.float64 nullable entries are = plain_back name types.float64 nullable entries (free_name types.float64 entries are)
+field_round_trips name (types.timestamp a b) nullable entries are = plain_back name (types.timestamp a b) nullable entries (free_name (types.timestamp a b) entries are)
+field_round_trips name types.date32 nullable entries are = plain_back name types.date32 nullable entries (free_name types.date32 entries are)
+field_round_trips name types.date64 nullable entries are = plain_back name types.date64 nullable entries (free_name types.date64 entries are)
+field_round_trips name (types.time32 a) nullable entries are = plain_back name (types.time32 a) nullable entries (free_name (types.time32 a) entries are)
+field_round_trips name (types.time64 a) nullable entries are = plain_back name (types.time64 a) nullable entries (free_name (types.time64 a) entries are)
+field_round_trips name (types.duration a) nullable entries are = plain_back name (types.duration a) nullable entries (free_name (types.duration a) entries are)
+field_round_trips name (types.interval a) nullable entries are = plain_back name (types.interval a) nullable entries (free_name (types.interval a) entries are)
+field_round_trips name types.binary nullable entries are = plain_back name types.binary nullable entries (free_name types.binary entries are)
+field_round_trips name (types.fixed_size_binary a) nullable entries are = plain_back name (types.fixed_size_binary a) nullable entries (free_name (types.fixed_size_binary a) entries are)
+field_round_trips name types.large_binary nullable entries are = plain_back name types.large_binary nullable entries (free_name types.large_binary entries are)
+field_round_trips name types.utf8 nullable entries are = plain_back name types.utf8 nullable entries (free_name types.utf8 entries are)
+field_round_trips name types.large_utf8 nullable entries are = plain_back name types.large_utf8 nullable entries (free_name types.large_utf8 entries are)
+field_round_trips name (types.list a) nullable entries are = plain_back name (types.list a) nullable entries (free_name (types.list a) entries are)
+field_round_trips name (types.fixed_size_list a b) nullable entries are = plain_back name (types.fixed_size_list a b) nullable entries (free_name (types.fixed_size_list a b) entries are)
+field_round_trips name (types.large_list a) nullable entries are = plain_back name (types.large_list a) nullable entries (free_name (types.large_list a) entries are)
+field_round_trips name (types.struct a) nullable entries are = plain_back name (types.struct a) nullable entries (free_name (types.struct a) entries are)
+field_round_trips name (types.union a b c) nullable entries are = plain_back name (types.union a b c) nullable entries (free_name (types.union a b c) entries are)
+field_round_trips name (types.map a b) nullable entries are = plain_back name (types.map a b) nullable entries (free_name (types.map a b) entries are)
+field_round_trips name (types.dictionary a b c) nullable entries are = plain_back name (types.dictionary a b c) nullable entries (free_name (types.dictionary a b c) entries are)
+field_round_trips name (types.decimal a b) nullable entries are = plain_back name (types.decimal a b) nullable entries (free_name (types.decimal a b) entries are)
+field_round_trips name (types.decimal256 a b) nullable entries are = plain_back name (types.decimal256 a b) nullable entries (free_name (types.decimal256 a b) entries are)
+field_round_trips name (types.extension title type text) nullable entries are =
     let is = spelled title text entries (free_name (types.extension title type text) entries are) (free_text title type text entries are) in
     rw (is.name, is.text_of, is.rest) refl

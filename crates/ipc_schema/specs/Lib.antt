@@ -1,38 +1,38 @@
--- What contracts cite.
+-- Definitions that contracts cite, laws and worked examples of schemas.
 pub mod Types
-pub mod Leaves
-pub mod Shapes
+pub mod LeafModels
+pub mod ShapeModels
 pub mod Extensions
 pub mod Dictionaries
-pub mod Outer
-pub mod SeenOf
-pub mod FieldRows
+pub mod OutermostIds
+pub mod DictionaryModels
+pub mod FieldVectors
 pub mod Unions
 pub mod Schemas
-pub mod PickedSchemas
-pub mod Spans
-pub mod Picks
-pub mod Numbering
-pub mod Forms
+pub mod ProjectedSchemas
+pub mod SkippedFields
+pub mod Projections
+pub mod DictionaryIds
+pub mod WriteChecks
 pub mod SchemaBytes
-pub mod NumberingLaws
-pub mod OuterLaws
+pub mod DictionaryIdLaws
+pub mod OutermostIdLaws
 pub mod MetadataLaws
 pub mod TypeLaws
 pub mod ExtensionLaws
 pub mod FieldLaws
 pub mod SchemaLaws
-pub mod PickedLaws
+pub mod ProjectionLaws
 pub mod Examples
 pub mod TypeExamples
 pub mod NestedExamples
 pub mod ExtensionExamples
 pub mod DictionaryExamples
-pub mod PickedExamples
-pub mod KeyedExamples
--- What contracts cite.
+pub mod ProjectionExamples
+pub mod DictionaryWriteExamples
+-- The same of file footers.
 pub mod Footers
-pub mod PickedFooters
+pub mod ProjectedFooters
 pub mod FooterParts
 pub mod FooterBytes
 pub mod FooterLaws

@@ -1,4 +1,4 @@
--- Nested types of another writer's metadata, byte by byte, which leaves out what is the default.
+-- Worked examples: the bytes of nested types of another writer, which omits defaults.
 use Rattle.std.specs.Prelude.{◌≡◌, ℕ, pos, true, false, List, [], ◌∷◌, None, Some, Ok, refl}
 use Rattle.std.specs.Str.{is_utf8}
 use Rattle.std.proofs.Common.{rules, arith}
@@ -6,13 +6,13 @@ use Rattle.std.proofs.lemmas.Str.{IsUtf8-from_ascii, is_utf8-from_IsUtf8}
 use Rattle.nest_memory.specs.TypeTree as types
 use Rattle.nest_memory.specs.TypeTree.{field}
 use Rattle.nest_memory.specs.declared.datatypes.UnionMode.TheVariants.{Dense, Sparse}
-use Rattle.ipc_flatbuf.specs.Flatbuffers.{offset_at, back_from, table_at, field_place, spend, visit_table, visit_vector, visit_string, tables_at, structs_at, items_at, vector_at, text_at}
-use Rattle.ipc_schema.specs.Types.{bare_at, integer_at, map, union, fixed_size_list_at, map_at, ids_at, union_at}
-use Rattle.ipc_schema.specs.FieldRows.{rows_at}
-use Rattle.ipc_schema.specs.Schemas.{metadata_at, field_at}
+use Rattle.ipc_flatbuf.specs.Flatbuffers.{spec_offset_at, spec_back_from, spec_table_at, spec_field_position, spec_charge_budget, spec_read_table, spec_read_vector, spec_read_string, tables_at, structs_at, spec_items_at, vector_at, spec_str_at}
+use Rattle.ipc_schema.specs.Types.{spec_bare_at, spec_integer_at, map, union, spec_fixed_size_list_at, spec_map_at, spec_ids_at, spec_union_at}
+use Rattle.ipc_schema.specs.FieldVectors.{tables_in_turn}
+use Rattle.ipc_schema.specs.Schemas.{spec_metadata_at, spec_field_at}
 use Rattle.ipc_schema.specs.TypeExamples.{HasField}
 
--- ---- texts
+-- ---- strings
 
 text_a : is_utf8 (97 ∷ []) ≡ true
 text_a = is_utf8-from_IsUtf8 (97 ∷ []) (IsUtf8-from_ascii (97 ∷ []) (search (rules, arith)))
@@ -20,14 +20,14 @@ text_a = is_utf8-from_IsUtf8 (97 ∷ []) (IsUtf8-from_ascii (97 ∷ []) (search 
 text_item : is_utf8 (105 ∷ 116 ∷ 101 ∷ 109 ∷ []) ≡ true
 text_item = is_utf8-from_IsUtf8 (105 ∷ 116 ∷ 101 ∷ 109 ∷ []) (IsUtf8-from_ascii (105 ∷ 116 ∷ 101 ∷ 109 ∷ []) (search (rules, arith)))
 
--- ---- fields with those inside of them
+-- ---- fields with their children
 
 abbrev pub list_metadata : List ℕ
 list_metadata =
     16 ∷ 0 ∷ 0 ∷ 0 ∷ 10 ∷ 0 ∷ 11 ∷ 0 ∷ 8 ∷ 0 ∷ 10 ∷ 0 ∷ 4 ∷ 0 ∷ 0 ∷ 0 ∷ 12 ∷ 0 ∷ 0 ∷ 0 ∷ 16 ∷ 0 ∷ 0 ∷ 0 ∷ 4 ∷ 0 ∷ 1 ∷ 0 ∷ 8 ∷ 0 ∷ 8 ∷ 0 ∷ 0 ∷ 0 ∷ 4 ∷ 0 ∷ 8 ∷ 0 ∷ 0 ∷ 0 ∷ 4 ∷ 0 ∷ 0 ∷ 0 ∷ 1 ∷ 0 ∷ 0 ∷ 0 ∷ 20 ∷ 0 ∷ 0 ∷ 0 ∷ 16 ∷ 0 ∷ 18 ∷ 0 ∷ 4 ∷ 0 ∷ 16 ∷ 0 ∷ 17 ∷ 0 ∷ 8 ∷ 0 ∷ 0 ∷ 0 ∷ 12 ∷ 0 ∷ 16 ∷ 0 ∷ 0 ∷ 0 ∷ 16 ∷ 0 ∷ 0 ∷ 0 ∷ 24 ∷ 0 ∷ 0 ∷ 0 ∷ 24 ∷ 0 ∷ 0 ∷ 0 ∷ 1 ∷ 12 ∷ 0 ∷ 0 ∷ 1 ∷ 0 ∷ 0 ∷ 0 ∷ 97 ∷ 0 ∷ 4 ∷ 0 ∷ 4 ∷ 0 ∷ 0 ∷ 0 ∷ 6 ∷ 0 ∷ 0 ∷ 0 ∷ 1 ∷ 0 ∷ 0 ∷ 0 ∷ 4 ∷ 0 ∷ 0 ∷ 0 ∷ 60 ∷ 0 ∷ 0 ∷ 0 ∷ 16 ∷ 0 ∷ 0 ∷ 0 ∷ 32 ∷ 0 ∷ 0 ∷ 0 ∷ 40 ∷ 0 ∷ 0 ∷ 0 ∷ 1 ∷ 2 ∷ 0 ∷ 0 ∷ 4 ∷ 0 ∷ 0 ∷ 0 ∷ 105 ∷ 116 ∷ 101 ∷ 109 ∷ 0 ∷ 0 ∷ 8 ∷ 0 ∷ 9 ∷ 0 ∷ 4 ∷ 0 ∷ 8 ∷ 0 ∷ 0 ∷ 0 ∷ 10 ∷ 0 ∷ 0 ∷ 0 ∷ 64 ∷ 0 ∷ 0 ∷ 0 ∷ 1 ∷ 0 ∷ 0 ∷ 0 ∷ 0 ∷ 0 ∷ 0 ∷ 0 ∷ []
 
 list_is : HasField list_metadata 68 (97 ∷ []) (types.list (field (105 ∷ 116 ∷ 101 ∷ 109 ∷ []) types.int64 true [])) 143
-unfolding offset_at back_from table_at field_place spend visit_table visit_vector visit_string tables_at rows_at items_at text_at metadata_at bare_at integer_at fixed_size_list_at field_at
+unfolding spec_offset_at spec_back_from spec_table_at spec_field_position spec_charge_budget spec_read_table spec_read_vector spec_read_string tables_at tables_in_turn spec_items_at spec_str_at spec_metadata_at spec_bare_at spec_integer_at spec_fixed_size_list_at spec_field_at
 list_is = rw (text_a, text_item) refl
 
 abbrev pub large_list_metadata : List ℕ
@@ -35,7 +35,7 @@ large_list_metadata =
     16 ∷ 0 ∷ 0 ∷ 0 ∷ 10 ∷ 0 ∷ 11 ∷ 0 ∷ 8 ∷ 0 ∷ 10 ∷ 0 ∷ 4 ∷ 0 ∷ 0 ∷ 0 ∷ 12 ∷ 0 ∷ 0 ∷ 0 ∷ 16 ∷ 0 ∷ 0 ∷ 0 ∷ 4 ∷ 0 ∷ 1 ∷ 0 ∷ 8 ∷ 0 ∷ 8 ∷ 0 ∷ 0 ∷ 0 ∷ 4 ∷ 0 ∷ 8 ∷ 0 ∷ 0 ∷ 0 ∷ 4 ∷ 0 ∷ 0 ∷ 0 ∷ 1 ∷ 0 ∷ 0 ∷ 0 ∷ 20 ∷ 0 ∷ 0 ∷ 0 ∷ 16 ∷ 0 ∷ 18 ∷ 0 ∷ 4 ∷ 0 ∷ 16 ∷ 0 ∷ 17 ∷ 0 ∷ 8 ∷ 0 ∷ 0 ∷ 0 ∷ 12 ∷ 0 ∷ 16 ∷ 0 ∷ 0 ∷ 0 ∷ 16 ∷ 0 ∷ 0 ∷ 0 ∷ 24 ∷ 0 ∷ 0 ∷ 0 ∷ 24 ∷ 0 ∷ 0 ∷ 0 ∷ 1 ∷ 21 ∷ 0 ∷ 0 ∷ 1 ∷ 0 ∷ 0 ∷ 0 ∷ 97 ∷ 0 ∷ 4 ∷ 0 ∷ 4 ∷ 0 ∷ 0 ∷ 0 ∷ 6 ∷ 0 ∷ 0 ∷ 0 ∷ 1 ∷ 0 ∷ 0 ∷ 0 ∷ 4 ∷ 0 ∷ 0 ∷ 0 ∷ 60 ∷ 0 ∷ 0 ∷ 0 ∷ 16 ∷ 0 ∷ 0 ∷ 0 ∷ 24 ∷ 0 ∷ 0 ∷ 0 ∷ 24 ∷ 0 ∷ 0 ∷ 0 ∷ 1 ∷ 5 ∷ 0 ∷ 0 ∷ 4 ∷ 0 ∷ 0 ∷ 0 ∷ 105 ∷ 116 ∷ 101 ∷ 109 ∷ 0 ∷ 0 ∷ 0 ∷ 0 ∷ 50 ∷ 0 ∷ 0 ∷ 0 ∷ 0 ∷ 0 ∷ 0 ∷ 0 ∷ []
 
 large_list_is : HasField large_list_metadata 68 (97 ∷ []) (types.large_list (field (105 ∷ 116 ∷ 101 ∷ 109 ∷ []) types.utf8 true [])) 143
-unfolding offset_at back_from table_at field_place spend visit_table visit_vector visit_string tables_at rows_at items_at text_at metadata_at bare_at integer_at fixed_size_list_at field_at
+unfolding spec_offset_at spec_back_from spec_table_at spec_field_position spec_charge_budget spec_read_table spec_read_vector spec_read_string tables_at tables_in_turn spec_items_at spec_str_at spec_metadata_at spec_bare_at spec_integer_at spec_fixed_size_list_at spec_field_at
 large_list_is = rw (text_a, text_item) refl
 
 abbrev pub fixed_size_list_metadata : List ℕ
@@ -43,7 +43,7 @@ fixed_size_list_metadata =
     16 ∷ 0 ∷ 0 ∷ 0 ∷ 10 ∷ 0 ∷ 11 ∷ 0 ∷ 8 ∷ 0 ∷ 10 ∷ 0 ∷ 4 ∷ 0 ∷ 0 ∷ 0 ∷ 12 ∷ 0 ∷ 0 ∷ 0 ∷ 16 ∷ 0 ∷ 0 ∷ 0 ∷ 4 ∷ 0 ∷ 1 ∷ 0 ∷ 8 ∷ 0 ∷ 8 ∷ 0 ∷ 0 ∷ 0 ∷ 4 ∷ 0 ∷ 8 ∷ 0 ∷ 0 ∷ 0 ∷ 4 ∷ 0 ∷ 0 ∷ 0 ∷ 2 ∷ 0 ∷ 0 ∷ 0 ∷ 24 ∷ 0 ∷ 0 ∷ 0 ∷ 124 ∷ 0 ∷ 0 ∷ 0 ∷ 16 ∷ 0 ∷ 18 ∷ 0 ∷ 4 ∷ 0 ∷ 16 ∷ 0 ∷ 17 ∷ 0 ∷ 8 ∷ 0 ∷ 0 ∷ 0 ∷ 12 ∷ 0 ∷ 16 ∷ 0 ∷ 0 ∷ 0 ∷ 16 ∷ 0 ∷ 0 ∷ 0 ∷ 24 ∷ 0 ∷ 0 ∷ 0 ∷ 28 ∷ 0 ∷ 0 ∷ 0 ∷ 1 ∷ 16 ∷ 0 ∷ 0 ∷ 1 ∷ 0 ∷ 0 ∷ 0 ∷ 97 ∷ 0 ∷ 6 ∷ 0 ∷ 8 ∷ 0 ∷ 4 ∷ 0 ∷ 6 ∷ 0 ∷ 0 ∷ 0 ∷ 2 ∷ 0 ∷ 0 ∷ 0 ∷ 1 ∷ 0 ∷ 0 ∷ 0 ∷ 4 ∷ 0 ∷ 0 ∷ 0 ∷ 64 ∷ 0 ∷ 0 ∷ 0 ∷ 16 ∷ 0 ∷ 0 ∷ 0 ∷ 32 ∷ 0 ∷ 0 ∷ 0 ∷ 40 ∷ 0 ∷ 0 ∷ 0 ∷ 1 ∷ 2 ∷ 0 ∷ 0 ∷ 4 ∷ 0 ∷ 0 ∷ 0 ∷ 105 ∷ 116 ∷ 101 ∷ 109 ∷ 0 ∷ 0 ∷ 8 ∷ 0 ∷ 9 ∷ 0 ∷ 4 ∷ 0 ∷ 8 ∷ 0 ∷ 0 ∷ 0 ∷ 10 ∷ 0 ∷ 0 ∷ 0 ∷ 16 ∷ 0 ∷ 0 ∷ 0 ∷ 1 ∷ 0 ∷ 0 ∷ 0 ∷ 0 ∷ 0 ∷ 0 ∷ 0 ∷ 120 ∷ 0 ∷ 0 ∷ 0 ∷ 16 ∷ 0 ∷ 0 ∷ 0 ∷ 20 ∷ 0 ∷ 0 ∷ 0 ∷ 24 ∷ 0 ∷ 0 ∷ 0 ∷ 1 ∷ 16 ∷ 0 ∷ 0 ∷ 1 ∷ 0 ∷ 0 ∷ 0 ∷ 98 ∷ 0 ∷ 0 ∷ 0 ∷ 106 ∷ 0 ∷ 0 ∷ 0 ∷ 1 ∷ 0 ∷ 0 ∷ 0 ∷ 1 ∷ 0 ∷ 0 ∷ 0 ∷ 4 ∷ 0 ∷ 0 ∷ 0 ∷ 164 ∷ 0 ∷ 0 ∷ 0 ∷ 16 ∷ 0 ∷ 0 ∷ 0 ∷ 24 ∷ 0 ∷ 0 ∷ 0 ∷ 28 ∷ 0 ∷ 0 ∷ 0 ∷ 1 ∷ 16 ∷ 0 ∷ 0 ∷ 4 ∷ 0 ∷ 0 ∷ 0 ∷ 105 ∷ 116 ∷ 101 ∷ 109 ∷ 0 ∷ 0 ∷ 0 ∷ 0 ∷ 154 ∷ 0 ∷ 0 ∷ 0 ∷ 3 ∷ 0 ∷ 0 ∷ 0 ∷ 1 ∷ 0 ∷ 0 ∷ 0 ∷ 20 ∷ 0 ∷ 0 ∷ 0 ∷ 16 ∷ 0 ∷ 17 ∷ 0 ∷ 4 ∷ 0 ∷ 0 ∷ 0 ∷ 16 ∷ 0 ∷ 8 ∷ 0 ∷ 0 ∷ 0 ∷ 12 ∷ 0 ∷ 16 ∷ 0 ∷ 0 ∷ 0 ∷ 16 ∷ 0 ∷ 0 ∷ 0 ∷ 24 ∷ 0 ∷ 0 ∷ 0 ∷ 28 ∷ 0 ∷ 0 ∷ 0 ∷ 2 ∷ 0 ∷ 0 ∷ 0 ∷ 4 ∷ 0 ∷ 0 ∷ 0 ∷ 105 ∷ 116 ∷ 101 ∷ 109 ∷ 0 ∷ 0 ∷ 0 ∷ 0 ∷ 218 ∷ 0 ∷ 0 ∷ 0 ∷ 8 ∷ 0 ∷ 0 ∷ 0 ∷ 0 ∷ 0 ∷ 0 ∷ 0 ∷ []
 
 fixed_size_list_is : HasField fixed_size_list_metadata 72 (97 ∷ []) (types.fixed_size_list (field (105 ∷ 116 ∷ 101 ∷ 109 ∷ []) types.int16 true []) 2) 143
-unfolding offset_at back_from table_at field_place spend visit_table visit_vector visit_string tables_at rows_at items_at text_at metadata_at bare_at integer_at fixed_size_list_at field_at
+unfolding spec_offset_at spec_back_from spec_table_at spec_field_position spec_charge_budget spec_read_table spec_read_vector spec_read_string tables_at tables_in_turn spec_items_at spec_str_at spec_metadata_at spec_bare_at spec_integer_at spec_fixed_size_list_at spec_field_at
 fixed_size_list_is = rw (text_a, text_item) refl
 
 abbrev pub AreNested : Type 0
@@ -76,42 +76,42 @@ abbrev pub union_sparse_metadata : List ℕ
 union_sparse_metadata =
     16 ∷ 0 ∷ 0 ∷ 0 ∷ 10 ∷ 0 ∷ 11 ∷ 0 ∷ 8 ∷ 0 ∷ 10 ∷ 0 ∷ 4 ∷ 0 ∷ 0 ∷ 0 ∷ 12 ∷ 0 ∷ 0 ∷ 0 ∷ 16 ∷ 0 ∷ 0 ∷ 0 ∷ 4 ∷ 0 ∷ 1 ∷ 0 ∷ 8 ∷ 0 ∷ 8 ∷ 0 ∷ 0 ∷ 0 ∷ 4 ∷ 0 ∷ 8 ∷ 0 ∷ 0 ∷ 0 ∷ 4 ∷ 0 ∷ 0 ∷ 0 ∷ 1 ∷ 0 ∷ 0 ∷ 0 ∷ 20 ∷ 0 ∷ 0 ∷ 0 ∷ 16 ∷ 0 ∷ 17 ∷ 0 ∷ 4 ∷ 0 ∷ 0 ∷ 0 ∷ 16 ∷ 0 ∷ 8 ∷ 0 ∷ 0 ∷ 0 ∷ 12 ∷ 0 ∷ 16 ∷ 0 ∷ 0 ∷ 0 ∷ 16 ∷ 0 ∷ 0 ∷ 0 ∷ 24 ∷ 0 ∷ 0 ∷ 0 ∷ 24 ∷ 0 ∷ 0 ∷ 0 ∷ 14 ∷ 0 ∷ 0 ∷ 0 ∷ 1 ∷ 0 ∷ 0 ∷ 0 ∷ 97 ∷ 0 ∷ 4 ∷ 0 ∷ 4 ∷ 0 ∷ 0 ∷ 0 ∷ 6 ∷ 0 ∷ 0 ∷ 0 ∷ 2 ∷ 0 ∷ 0 ∷ 0 ∷ 24 ∷ 0 ∷ 0 ∷ 0 ∷ 72 ∷ 0 ∷ 0 ∷ 0 ∷ 16 ∷ 0 ∷ 18 ∷ 0 ∷ 4 ∷ 0 ∷ 16 ∷ 0 ∷ 17 ∷ 0 ∷ 8 ∷ 0 ∷ 0 ∷ 0 ∷ 12 ∷ 0 ∷ 16 ∷ 0 ∷ 0 ∷ 0 ∷ 16 ∷ 0 ∷ 0 ∷ 0 ∷ 28 ∷ 0 ∷ 0 ∷ 0 ∷ 36 ∷ 0 ∷ 0 ∷ 0 ∷ 1 ∷ 2 ∷ 0 ∷ 0 ∷ 1 ∷ 0 ∷ 0 ∷ 0 ∷ 105 ∷ 0 ∷ 8 ∷ 0 ∷ 9 ∷ 0 ∷ 4 ∷ 0 ∷ 8 ∷ 0 ∷ 0 ∷ 0 ∷ 10 ∷ 0 ∷ 0 ∷ 0 ∷ 64 ∷ 0 ∷ 0 ∷ 0 ∷ 1 ∷ 0 ∷ 0 ∷ 0 ∷ 0 ∷ 0 ∷ 0 ∷ 0 ∷ 132 ∷ 0 ∷ 0 ∷ 0 ∷ 16 ∷ 0 ∷ 0 ∷ 0 ∷ 24 ∷ 0 ∷ 0 ∷ 0 ∷ 28 ∷ 0 ∷ 0 ∷ 0 ∷ 15 ∷ 0 ∷ 0 ∷ 0 ∷ 1 ∷ 0 ∷ 0 ∷ 0 ∷ 102 ∷ 0 ∷ 6 ∷ 0 ∷ 8 ∷ 0 ∷ 4 ∷ 0 ∷ 6 ∷ 0 ∷ 0 ∷ 0 ∷ 2 ∷ 0 ∷ 0 ∷ 0 ∷ 0 ∷ 0 ∷ 0 ∷ 0 ∷ 0 ∷ 0 ∷ 0 ∷ 0 ∷ []
 
-map_plain : map_at map_metadata 100 20 ≡ Ok (map false, 12)
-unfolding offset_at back_from table_at field_place spend visit_table map_at
+map_plain : spec_map_at map_metadata 100 20 ≡ Ok (map false, 12)
+unfolding spec_offset_at spec_back_from spec_table_at spec_field_position spec_charge_budget spec_read_table spec_map_at
 map_plain = refl
 
-map_rising : map_at map_sorted_metadata 100 20 ≡ Ok (map true, 12)
-unfolding offset_at back_from table_at field_place spend visit_table map_at
+map_rising : spec_map_at map_sorted_metadata 100 20 ≡ Ok (map true, 12)
+unfolding spec_offset_at spec_back_from spec_table_at spec_field_position spec_charge_budget spec_read_table spec_map_at
 map_rising = refl
 
 abbrev pub AreMaps : Type 0
-AreMaps = (map_at map_metadata 100 20 ≡ Ok (map false, 12))
-    × (map_at map_sorted_metadata 100 20 ≡ Ok (map true, 12))
+AreMaps = (spec_map_at map_metadata 100 20 ≡ Ok (map false, 12))
+    × (spec_map_at map_sorted_metadata 100 20 ≡ Ok (map true, 12))
 
 pub maps : AreMaps
 maps = (map_plain, map_rising)
 
-union_dense_ids : union_at 2 union_ids_metadata 108 20 ≡ Ok (union (Some (pos 5 ∷ pos 7 ∷ [])) Dense, 0)
-unfolding offset_at back_from table_at field_place spend visit_table ids_at union_at structs_at vector_at items_at visit_vector
+union_dense_ids : spec_union_at 2 union_ids_metadata 108 20 ≡ Ok (union (Some (pos 5 ∷ pos 7 ∷ [])) Dense, 0)
+unfolding spec_offset_at spec_back_from spec_table_at spec_field_position spec_charge_budget spec_read_table spec_ids_at spec_union_at structs_at vector_at spec_items_at spec_read_vector
 union_dense_ids = refl
 
-union_sparse_ids : union_at 3 union_ids_metadata 284 30 ≡ Ok (union (Some (pos 127 ∷ pos 0 ∷ pos 1 ∷ [])) Sparse, 6)
-unfolding offset_at back_from table_at field_place spend visit_table ids_at union_at structs_at vector_at items_at visit_vector
+union_sparse_ids : spec_union_at 3 union_ids_metadata 284 30 ≡ Ok (union (Some (pos 127 ∷ pos 0 ∷ pos 1 ∷ [])) Sparse, 6)
+unfolding spec_offset_at spec_back_from spec_table_at spec_field_position spec_charge_budget spec_read_table spec_ids_at spec_union_at structs_at vector_at spec_items_at spec_read_vector
 union_sparse_ids = refl
 
-union_of_positions : union_at 3 union_dense_metadata 100 20 ≡ Ok (union None Dense, 12)
-unfolding offset_at back_from table_at field_place spend visit_table ids_at union_at structs_at vector_at items_at visit_vector
+union_of_positions : spec_union_at 3 union_dense_metadata 100 20 ≡ Ok (union None Dense, 12)
+unfolding spec_offset_at spec_back_from spec_table_at spec_field_position spec_charge_budget spec_read_table spec_ids_at spec_union_at structs_at vector_at spec_items_at spec_read_vector
 union_of_positions = refl
 
-union_by_default : union_at 2 union_sparse_metadata 100 20 ≡ Ok (union None Sparse, 12)
-unfolding offset_at back_from table_at field_place spend visit_table ids_at union_at structs_at vector_at items_at visit_vector
+union_by_default : spec_union_at 2 union_sparse_metadata 100 20 ≡ Ok (union None Sparse, 12)
+unfolding spec_offset_at spec_back_from spec_table_at spec_field_position spec_charge_budget spec_read_table spec_ids_at spec_union_at structs_at vector_at spec_items_at spec_read_vector
 union_by_default = refl
 
 abbrev pub AreUnions : Type 0
-AreUnions = (union_at 2 union_ids_metadata 108 20 ≡ Ok (union (Some (pos 5 ∷ pos 7 ∷ [])) Dense, 0))
-    × (union_at 3 union_ids_metadata 284 30 ≡ Ok (union (Some (pos 127 ∷ pos 0 ∷ pos 1 ∷ [])) Sparse, 6))
-    × (union_at 3 union_dense_metadata 100 20 ≡ Ok (union None Dense, 12))
-    × (union_at 2 union_sparse_metadata 100 20 ≡ Ok (union None Sparse, 12))
+AreUnions = (spec_union_at 2 union_ids_metadata 108 20 ≡ Ok (union (Some (pos 5 ∷ pos 7 ∷ [])) Dense, 0))
+    × (spec_union_at 3 union_ids_metadata 284 30 ≡ Ok (union (Some (pos 127 ∷ pos 0 ∷ pos 1 ∷ [])) Sparse, 6))
+    × (spec_union_at 3 union_dense_metadata 100 20 ≡ Ok (union None Dense, 12))
+    × (spec_union_at 2 union_sparse_metadata 100 20 ≡ Ok (union None Sparse, 12))
 
 pub unions : AreUnions
 unions = (union_dense_ids, union_sparse_ids, union_of_positions, union_by_default)

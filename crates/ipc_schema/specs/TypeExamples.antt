@@ -1,4 +1,4 @@
--- Fields of another writer's metadata, byte by byte, which leaves out what is the default: one for each unit and width.
+-- Worked examples: the bytes of fields of another writer, which omits defaults, one for each unit and width.
 use Rattle.std.specs.Prelude.{◌≡◌, ℕ, true, List, [], ◌∷◌, None, Some, Ok, refl}
 use Rattle.std.specs.Str.{is_utf8}
 use Rattle.std.proofs.Common.{rules, arith}
@@ -7,17 +7,17 @@ use Rattle.nest_memory.specs.TypeTree as types
 use Rattle.nest_memory.specs.TypeTree.{Letters, TypeTree, field}
 use Rattle.nest_memory.specs.declared.datatypes.TimeUnit.TheVariants.{Second, Millisecond, Microsecond, Nanosecond}
 use Rattle.nest_memory.specs.declared.datatypes.IntervalUnit.TheVariants.{YearMonth, DayTime, MonthDayNano}
-use Rattle.ipc_flatbuf.specs.Flatbuffers.{offset_at, back_from, table_at, field_place, spend, visit_table, visit_vector, visit_string, tables_at, items_at, text_at}
-use Rattle.ipc_schema.specs.Types.{decimal_at, date_at, time_at, zone_at, timestamp_at, interval_at, duration_at, fixed_size_binary_at}
-use Rattle.ipc_schema.specs.Dictionaries.{unseen, progress}
-use Rattle.ipc_schema.specs.FieldRows.{rows_at}
-use Rattle.ipc_schema.specs.Schemas.{metadata_at, field_at}
+use Rattle.ipc_flatbuf.specs.Flatbuffers.{spec_offset_at, spec_back_from, spec_table_at, spec_field_position, spec_charge_budget, spec_read_table, spec_read_vector, spec_read_string, tables_at, spec_items_at, spec_str_at}
+use Rattle.ipc_schema.specs.Types.{spec_decimal_at, spec_date_at, spec_time_at, spec_zone_at, spec_timestamp_at, spec_interval_at, spec_duration_at, spec_fixed_size_binary_at}
+use Rattle.ipc_schema.specs.Dictionaries.{no_dictionaries, progress}
+use Rattle.ipc_schema.specs.FieldVectors.{tables_in_turn}
+use Rattle.ipc_schema.specs.Schemas.{spec_metadata_at, spec_field_at}
 
--- at a place stands a field of this name and type, nullable and without metadata, and what it takes of 200 leaves so much
+-- the field at a position has this name and type, is nullable and without metadata, and leaves this budget of 200
 abbrev pub HasField : List ℕ → ℕ → Letters → TypeTree → ℕ → Type 0
-HasField bytes place name type left = field_at 64 bytes place (progress 200 unseen) ≡ Ok (field name type true [], progress left unseen)
+HasField bytes position name type left = spec_field_at 64 bytes position (progress 200 no_dictionaries) ≡ Ok (field name type true [], progress left no_dictionaries)
 
--- ---- texts
+-- ---- strings
 
 text_a : is_utf8 (97 ∷ []) ≡ true
 text_a = is_utf8-from_IsUtf8 (97 ∷ []) (IsUtf8-from_ascii (97 ∷ []) (search (rules, arith)))
@@ -85,22 +85,22 @@ text_d = is_utf8-from_IsUtf8 (100 ∷ []) (IsUtf8-from_ascii (100 ∷ []) (searc
 no_text : is_utf8 ([]) ≡ true
 no_text = is_utf8-from_IsUtf8 ([]) (IsUtf8-from_ascii ([]) (search (rules, arith)))
 
--- ---- decimals of 128 and of 256 bits
+-- ---- 128-bit and 256-bit decimals
 
 abbrev pub decimals_metadata : List ℕ
 decimals_metadata =
     16 ∷ 0 ∷ 0 ∷ 0 ∷ 10 ∷ 0 ∷ 11 ∷ 0 ∷ 8 ∷ 0 ∷ 10 ∷ 0 ∷ 4 ∷ 0 ∷ 0 ∷ 0 ∷ 12 ∷ 0 ∷ 0 ∷ 0 ∷ 16 ∷ 0 ∷ 0 ∷ 0 ∷ 4 ∷ 0 ∷ 1 ∷ 0 ∷ 8 ∷ 0 ∷ 8 ∷ 0 ∷ 0 ∷ 0 ∷ 4 ∷ 0 ∷ 8 ∷ 0 ∷ 0 ∷ 0 ∷ 4 ∷ 0 ∷ 0 ∷ 0 ∷ 3 ∷ 0 ∷ 0 ∷ 0 ∷ 28 ∷ 0 ∷ 0 ∷ 0 ∷ 76 ∷ 0 ∷ 0 ∷ 0 ∷ 128 ∷ 0 ∷ 0 ∷ 0 ∷ 16 ∷ 0 ∷ 18 ∷ 0 ∷ 4 ∷ 0 ∷ 16 ∷ 0 ∷ 17 ∷ 0 ∷ 8 ∷ 0 ∷ 0 ∷ 0 ∷ 12 ∷ 0 ∷ 16 ∷ 0 ∷ 0 ∷ 0 ∷ 16 ∷ 0 ∷ 0 ∷ 0 ∷ 28 ∷ 0 ∷ 0 ∷ 0 ∷ 36 ∷ 0 ∷ 0 ∷ 0 ∷ 1 ∷ 7 ∷ 0 ∷ 0 ∷ 1 ∷ 0 ∷ 0 ∷ 0 ∷ 97 ∷ 0 ∷ 8 ∷ 0 ∷ 12 ∷ 0 ∷ 4 ∷ 0 ∷ 8 ∷ 0 ∷ 0 ∷ 0 ∷ 10 ∷ 0 ∷ 0 ∷ 0 ∷ 38 ∷ 0 ∷ 0 ∷ 0 ∷ 2 ∷ 0 ∷ 0 ∷ 0 ∷ 0 ∷ 0 ∷ 0 ∷ 0 ∷ 68 ∷ 0 ∷ 0 ∷ 0 ∷ 16 ∷ 0 ∷ 0 ∷ 0 ∷ 28 ∷ 0 ∷ 0 ∷ 0 ∷ 40 ∷ 0 ∷ 0 ∷ 0 ∷ 1 ∷ 7 ∷ 0 ∷ 0 ∷ 1 ∷ 0 ∷ 0 ∷ 0 ∷ 98 ∷ 0 ∷ 10 ∷ 0 ∷ 16 ∷ 0 ∷ 4 ∷ 0 ∷ 8 ∷ 0 ∷ 12 ∷ 0 ∷ 10 ∷ 0 ∷ 0 ∷ 0 ∷ 76 ∷ 0 ∷ 0 ∷ 0 ∷ 5 ∷ 0 ∷ 0 ∷ 0 ∷ 0 ∷ 1 ∷ 0 ∷ 0 ∷ 0 ∷ 0 ∷ 0 ∷ 0 ∷ 124 ∷ 0 ∷ 0 ∷ 0 ∷ 16 ∷ 0 ∷ 0 ∷ 0 ∷ 24 ∷ 0 ∷ 0 ∷ 0 ∷ 28 ∷ 0 ∷ 0 ∷ 0 ∷ 1 ∷ 7 ∷ 0 ∷ 0 ∷ 1 ∷ 0 ∷ 0 ∷ 0 ∷ 99 ∷ 0 ∷ 6 ∷ 0 ∷ 8 ∷ 0 ∷ 4 ∷ 0 ∷ 6 ∷ 0 ∷ 0 ∷ 0 ∷ 5 ∷ 0 ∷ 0 ∷ 0 ∷ 0 ∷ 0 ∷ 0 ∷ 0 ∷ 0 ∷ 0 ∷ 0 ∷ 0 ∷ []
 
 decimals_0 : HasField decimals_metadata 76 (97 ∷ []) (types.decimal 38 2) 175
-unfolding offset_at back_from table_at field_place spend visit_table visit_vector visit_string items_at text_at metadata_at decimal_at field_at tables_at rows_at
+unfolding spec_offset_at spec_back_from spec_table_at spec_field_position spec_charge_budget spec_read_table spec_read_vector spec_read_string spec_items_at spec_str_at spec_metadata_at spec_decimal_at spec_field_at tables_at tables_in_turn
 decimals_0 = rw (text_a) refl
 
 decimals_1 : HasField decimals_metadata 128 (98 ∷ []) (types.decimal256 76 5) 175
-unfolding offset_at back_from table_at field_place spend visit_table visit_vector visit_string items_at text_at metadata_at decimal_at field_at tables_at rows_at
+unfolding spec_offset_at spec_back_from spec_table_at spec_field_position spec_charge_budget spec_read_table spec_read_vector spec_read_string spec_items_at spec_str_at spec_metadata_at spec_decimal_at spec_field_at tables_at tables_in_turn
 decimals_1 = rw (text_b) refl
 
 decimals_2 : HasField decimals_metadata 184 (99 ∷ []) (types.decimal 5 0) 175
-unfolding offset_at back_from table_at field_place spend visit_table visit_vector visit_string items_at text_at metadata_at decimal_at field_at tables_at rows_at
+unfolding spec_offset_at spec_back_from spec_table_at spec_field_position spec_charge_budget spec_read_table spec_read_vector spec_read_string spec_items_at spec_str_at spec_metadata_at spec_decimal_at spec_field_at tables_at tables_in_turn
 decimals_2 = rw (text_c) refl
 
 abbrev pub AreDecimals : Type 0
@@ -118,27 +118,27 @@ dates_times_metadata =
     16 ∷ 0 ∷ 0 ∷ 0 ∷ 10 ∷ 0 ∷ 11 ∷ 0 ∷ 8 ∷ 0 ∷ 10 ∷ 0 ∷ 4 ∷ 0 ∷ 0 ∷ 0 ∷ 12 ∷ 0 ∷ 0 ∷ 0 ∷ 16 ∷ 0 ∷ 0 ∷ 0 ∷ 4 ∷ 0 ∷ 1 ∷ 0 ∷ 8 ∷ 0 ∷ 8 ∷ 0 ∷ 0 ∷ 0 ∷ 4 ∷ 0 ∷ 8 ∷ 0 ∷ 0 ∷ 0 ∷ 4 ∷ 0 ∷ 0 ∷ 0 ∷ 6 ∷ 0 ∷ 0 ∷ 0 ∷ 40 ∷ 0 ∷ 0 ∷ 0 ∷ 84 ∷ 0 ∷ 0 ∷ 0 ∷ 120 ∷ 0 ∷ 0 ∷ 0 ∷ 156 ∷ 0 ∷ 0 ∷ 0 ∷ 188 ∷ 0 ∷ 0 ∷ 0 ∷ 236 ∷ 0 ∷ 0 ∷ 0 ∷ 16 ∷ 0 ∷ 18 ∷ 0 ∷ 4 ∷ 0 ∷ 16 ∷ 0 ∷ 17 ∷ 0 ∷ 8 ∷ 0 ∷ 0 ∷ 0 ∷ 12 ∷ 0 ∷ 16 ∷ 0 ∷ 0 ∷ 0 ∷ 16 ∷ 0 ∷ 0 ∷ 0 ∷ 28 ∷ 0 ∷ 0 ∷ 0 ∷ 32 ∷ 0 ∷ 0 ∷ 0 ∷ 1 ∷ 8 ∷ 0 ∷ 0 ∷ 2 ∷ 0 ∷ 0 ∷ 0 ∷ 100 ∷ 52 ∷ 0 ∷ 0 ∷ 6 ∷ 0 ∷ 6 ∷ 0 ∷ 4 ∷ 0 ∷ 0 ∷ 0 ∷ 8 ∷ 0 ∷ 0 ∷ 0 ∷ 0 ∷ 0 ∷ 0 ∷ 0 ∷ 0 ∷ 0 ∷ 0 ∷ 0 ∷ 64 ∷ 0 ∷ 0 ∷ 0 ∷ 16 ∷ 0 ∷ 0 ∷ 0 ∷ 24 ∷ 0 ∷ 0 ∷ 0 ∷ 24 ∷ 0 ∷ 0 ∷ 0 ∷ 1 ∷ 8 ∷ 0 ∷ 0 ∷ 2 ∷ 0 ∷ 0 ∷ 0 ∷ 100 ∷ 56 ∷ 0 ∷ 0 ∷ 4 ∷ 0 ∷ 4 ∷ 0 ∷ 4 ∷ 0 ∷ 0 ∷ 0 ∷ 0 ∷ 0 ∷ 0 ∷ 0 ∷ 104 ∷ 0 ∷ 0 ∷ 0 ∷ 16 ∷ 0 ∷ 0 ∷ 0 ∷ 20 ∷ 0 ∷ 0 ∷ 0 ∷ 24 ∷ 0 ∷ 0 ∷ 0 ∷ 1 ∷ 9 ∷ 0 ∷ 0 ∷ 2 ∷ 0 ∷ 0 ∷ 0 ∷ 116 ∷ 115 ∷ 0 ∷ 0 ∷ 88 ∷ 0 ∷ 0 ∷ 0 ∷ 0 ∷ 0 ∷ 0 ∷ 0 ∷ 0 ∷ 0 ∷ 0 ∷ 0 ∷ 144 ∷ 0 ∷ 0 ∷ 0 ∷ 16 ∷ 0 ∷ 0 ∷ 0 ∷ 20 ∷ 0 ∷ 0 ∷ 0 ∷ 20 ∷ 0 ∷ 0 ∷ 0 ∷ 1 ∷ 9 ∷ 0 ∷ 0 ∷ 2 ∷ 0 ∷ 0 ∷ 0 ∷ 116 ∷ 109 ∷ 0 ∷ 0 ∷ 80 ∷ 0 ∷ 0 ∷ 0 ∷ 0 ∷ 0 ∷ 0 ∷ 0 ∷ 180 ∷ 0 ∷ 0 ∷ 0 ∷ 16 ∷ 0 ∷ 0 ∷ 0 ∷ 28 ∷ 0 ∷ 0 ∷ 0 ∷ 36 ∷ 0 ∷ 0 ∷ 0 ∷ 1 ∷ 9 ∷ 0 ∷ 0 ∷ 2 ∷ 0 ∷ 0 ∷ 0 ∷ 116 ∷ 117 ∷ 0 ∷ 0 ∷ 8 ∷ 0 ∷ 10 ∷ 0 ∷ 8 ∷ 0 ∷ 4 ∷ 0 ∷ 8 ∷ 0 ∷ 0 ∷ 0 ∷ 64 ∷ 0 ∷ 0 ∷ 0 ∷ 2 ∷ 0 ∷ 0 ∷ 0 ∷ 0 ∷ 0 ∷ 0 ∷ 0 ∷ 232 ∷ 0 ∷ 0 ∷ 0 ∷ 16 ∷ 0 ∷ 0 ∷ 0 ∷ 20 ∷ 0 ∷ 0 ∷ 0 ∷ 28 ∷ 0 ∷ 0 ∷ 0 ∷ 1 ∷ 9 ∷ 0 ∷ 0 ∷ 2 ∷ 0 ∷ 0 ∷ 0 ∷ 116 ∷ 110 ∷ 0 ∷ 0 ∷ 52 ∷ 0 ∷ 0 ∷ 0 ∷ 64 ∷ 0 ∷ 0 ∷ 0 ∷ 3 ∷ 0 ∷ 0 ∷ 0 ∷ 0 ∷ 0 ∷ 0 ∷ 0 ∷ 0 ∷ 0 ∷ 0 ∷ 0 ∷ []
 
 dates_times_0 : HasField dates_times_metadata 88 (100 ∷ 52 ∷ []) types.date32 174
-unfolding offset_at back_from table_at field_place spend visit_table visit_vector visit_string items_at text_at metadata_at date_at time_at field_at tables_at rows_at
+unfolding spec_offset_at spec_back_from spec_table_at spec_field_position spec_charge_budget spec_read_table spec_read_vector spec_read_string spec_items_at spec_str_at spec_metadata_at spec_date_at spec_time_at spec_field_at tables_at tables_in_turn
 dates_times_0 = rw (text_d4) refl
 
 dates_times_1 : HasField dates_times_metadata 136 (100 ∷ 56 ∷ []) types.date64 174
-unfolding offset_at back_from table_at field_place spend visit_table visit_vector visit_string items_at text_at metadata_at date_at time_at field_at tables_at rows_at
+unfolding spec_offset_at spec_back_from spec_table_at spec_field_position spec_charge_budget spec_read_table spec_read_vector spec_read_string spec_items_at spec_str_at spec_metadata_at spec_date_at spec_time_at spec_field_at tables_at tables_in_turn
 dates_times_1 = rw (text_d8) refl
 
 dates_times_2 : HasField dates_times_metadata 176 (116 ∷ 115 ∷ []) (types.time32 Second) 174
-unfolding offset_at back_from table_at field_place spend visit_table visit_vector visit_string items_at text_at metadata_at date_at time_at field_at tables_at rows_at
+unfolding spec_offset_at spec_back_from spec_table_at spec_field_position spec_charge_budget spec_read_table spec_read_vector spec_read_string spec_items_at spec_str_at spec_metadata_at spec_date_at spec_time_at spec_field_at tables_at tables_in_turn
 dates_times_2 = rw (text_ts) refl
 
 dates_times_3 : HasField dates_times_metadata 216 (116 ∷ 109 ∷ []) (types.time32 Millisecond) 174
-unfolding offset_at back_from table_at field_place spend visit_table visit_vector visit_string items_at text_at metadata_at date_at time_at field_at tables_at rows_at
+unfolding spec_offset_at spec_back_from spec_table_at spec_field_position spec_charge_budget spec_read_table spec_read_vector spec_read_string spec_items_at spec_str_at spec_metadata_at spec_date_at spec_time_at spec_field_at tables_at tables_in_turn
 dates_times_3 = rw (text_tm) refl
 
 dates_times_4 : HasField dates_times_metadata 252 (116 ∷ 117 ∷ []) (types.time64 Microsecond) 174
-unfolding offset_at back_from table_at field_place spend visit_table visit_vector visit_string items_at text_at metadata_at date_at time_at field_at tables_at rows_at
+unfolding spec_offset_at spec_back_from spec_table_at spec_field_position spec_charge_budget spec_read_table spec_read_vector spec_read_string spec_items_at spec_str_at spec_metadata_at spec_date_at spec_time_at spec_field_at tables_at tables_in_turn
 dates_times_4 = rw (text_tu) refl
 
 dates_times_5 : HasField dates_times_metadata 304 (116 ∷ 110 ∷ []) (types.time64 Nanosecond) 174
-unfolding offset_at back_from table_at field_place spend visit_table visit_vector visit_string items_at text_at metadata_at date_at time_at field_at tables_at rows_at
+unfolding spec_offset_at spec_back_from spec_table_at spec_field_position spec_charge_budget spec_read_table spec_read_vector spec_read_string spec_items_at spec_str_at spec_metadata_at spec_date_at spec_time_at spec_field_at tables_at tables_in_turn
 dates_times_5 = rw (text_tn) refl
 
 abbrev pub AreTimes : Type 0
@@ -152,42 +152,42 @@ AreTimes = HasField dates_times_metadata 88 (100 ∷ 52 ∷ []) types.date32 174
 pub dates_times : AreTimes
 dates_times = (dates_times_0, dates_times_1, dates_times_2, dates_times_3, dates_times_4, dates_times_5)
 
--- ---- points in time with a zone and without one, and durations, of each unit
+-- ---- timestamps with and without a time zone, and durations, of each unit
 
 abbrev pub timestamps_durations_metadata : List ℕ
 timestamps_durations_metadata =
     16 ∷ 0 ∷ 0 ∷ 0 ∷ 10 ∷ 0 ∷ 11 ∷ 0 ∷ 8 ∷ 0 ∷ 10 ∷ 0 ∷ 4 ∷ 0 ∷ 0 ∷ 0 ∷ 12 ∷ 0 ∷ 0 ∷ 0 ∷ 16 ∷ 0 ∷ 0 ∷ 0 ∷ 4 ∷ 0 ∷ 1 ∷ 0 ∷ 8 ∷ 0 ∷ 8 ∷ 0 ∷ 0 ∷ 0 ∷ 4 ∷ 0 ∷ 8 ∷ 0 ∷ 0 ∷ 0 ∷ 4 ∷ 0 ∷ 0 ∷ 0 ∷ 8 ∷ 0 ∷ 0 ∷ 0 ∷ 48 ∷ 0 ∷ 0 ∷ 0 ∷ 84 ∷ 0 ∷ 0 ∷ 0 ∷ 140 ∷ 0 ∷ 0 ∷ 0 ∷ 188 ∷ 0 ∷ 0 ∷ 0 ∷ 244 ∷ 0 ∷ 0 ∷ 0 ∷ 32 ∷ 1 ∷ 0 ∷ 0 ∷ 64 ∷ 1 ∷ 0 ∷ 0 ∷ 100 ∷ 1 ∷ 0 ∷ 0 ∷ 16 ∷ 0 ∷ 18 ∷ 0 ∷ 4 ∷ 0 ∷ 16 ∷ 0 ∷ 17 ∷ 0 ∷ 8 ∷ 0 ∷ 0 ∷ 0 ∷ 12 ∷ 0 ∷ 16 ∷ 0 ∷ 0 ∷ 0 ∷ 16 ∷ 0 ∷ 0 ∷ 0 ∷ 24 ∷ 0 ∷ 0 ∷ 0 ∷ 24 ∷ 0 ∷ 0 ∷ 0 ∷ 1 ∷ 10 ∷ 0 ∷ 0 ∷ 1 ∷ 0 ∷ 0 ∷ 0 ∷ 115 ∷ 0 ∷ 4 ∷ 0 ∷ 4 ∷ 0 ∷ 0 ∷ 0 ∷ 6 ∷ 0 ∷ 0 ∷ 0 ∷ 0 ∷ 0 ∷ 0 ∷ 0 ∷ 56 ∷ 0 ∷ 0 ∷ 0 ∷ 16 ∷ 0 ∷ 0 ∷ 0 ∷ 28 ∷ 0 ∷ 0 ∷ 0 ∷ 44 ∷ 0 ∷ 0 ∷ 0 ∷ 1 ∷ 10 ∷ 0 ∷ 0 ∷ 1 ∷ 0 ∷ 0 ∷ 0 ∷ 109 ∷ 0 ∷ 8 ∷ 0 ∷ 10 ∷ 0 ∷ 8 ∷ 0 ∷ 4 ∷ 0 ∷ 0 ∷ 0 ∷ 10 ∷ 0 ∷ 0 ∷ 0 ∷ 8 ∷ 0 ∷ 0 ∷ 0 ∷ 1 ∷ 0 ∷ 0 ∷ 0 ∷ 0 ∷ 0 ∷ 0 ∷ 0 ∷ 0 ∷ 0 ∷ 0 ∷ 0 ∷ 0 ∷ 0 ∷ 0 ∷ 0 ∷ 116 ∷ 0 ∷ 0 ∷ 0 ∷ 16 ∷ 0 ∷ 0 ∷ 0 ∷ 20 ∷ 0 ∷ 0 ∷ 0 ∷ 36 ∷ 0 ∷ 0 ∷ 0 ∷ 1 ∷ 10 ∷ 0 ∷ 0 ∷ 1 ∷ 0 ∷ 0 ∷ 0 ∷ 117 ∷ 0 ∷ 0 ∷ 0 ∷ 62 ∷ 0 ∷ 0 ∷ 0 ∷ 8 ∷ 0 ∷ 0 ∷ 0 ∷ 2 ∷ 0 ∷ 0 ∷ 0 ∷ 3 ∷ 0 ∷ 0 ∷ 0 ∷ 85 ∷ 84 ∷ 67 ∷ 0 ∷ 0 ∷ 0 ∷ 0 ∷ 0 ∷ 168 ∷ 0 ∷ 0 ∷ 0 ∷ 16 ∷ 0 ∷ 0 ∷ 0 ∷ 20 ∷ 0 ∷ 0 ∷ 0 ∷ 44 ∷ 0 ∷ 0 ∷ 0 ∷ 1 ∷ 10 ∷ 0 ∷ 0 ∷ 1 ∷ 0 ∷ 0 ∷ 0 ∷ 110 ∷ 0 ∷ 0 ∷ 0 ∷ 114 ∷ 0 ∷ 0 ∷ 0 ∷ 8 ∷ 0 ∷ 0 ∷ 0 ∷ 3 ∷ 0 ∷ 0 ∷ 0 ∷ 11 ∷ 0 ∷ 0 ∷ 0 ∷ 69 ∷ 117 ∷ 114 ∷ 111 ∷ 112 ∷ 101 ∷ 47 ∷ 79 ∷ 115 ∷ 108 ∷ 111 ∷ 0 ∷ 0 ∷ 0 ∷ 0 ∷ 0 ∷ 228 ∷ 0 ∷ 0 ∷ 0 ∷ 16 ∷ 0 ∷ 0 ∷ 0 ∷ 28 ∷ 0 ∷ 0 ∷ 0 ∷ 32 ∷ 0 ∷ 0 ∷ 0 ∷ 1 ∷ 18 ∷ 0 ∷ 0 ∷ 2 ∷ 0 ∷ 0 ∷ 0 ∷ 100 ∷ 115 ∷ 0 ∷ 0 ∷ 6 ∷ 0 ∷ 6 ∷ 0 ∷ 4 ∷ 0 ∷ 0 ∷ 0 ∷ 8 ∷ 0 ∷ 0 ∷ 0 ∷ 0 ∷ 0 ∷ 0 ∷ 0 ∷ 0 ∷ 0 ∷ 0 ∷ 0 ∷ 20 ∷ 1 ∷ 0 ∷ 0 ∷ 16 ∷ 0 ∷ 0 ∷ 0 ∷ 20 ∷ 0 ∷ 0 ∷ 0 ∷ 20 ∷ 0 ∷ 0 ∷ 0 ∷ 1 ∷ 18 ∷ 0 ∷ 0 ∷ 2 ∷ 0 ∷ 0 ∷ 0 ∷ 100 ∷ 109 ∷ 0 ∷ 0 ∷ 6 ∷ 1 ∷ 0 ∷ 0 ∷ 0 ∷ 0 ∷ 0 ∷ 0 ∷ 56 ∷ 1 ∷ 0 ∷ 0 ∷ 16 ∷ 0 ∷ 0 ∷ 0 ∷ 20 ∷ 0 ∷ 0 ∷ 0 ∷ 24 ∷ 0 ∷ 0 ∷ 0 ∷ 1 ∷ 18 ∷ 0 ∷ 0 ∷ 2 ∷ 0 ∷ 0 ∷ 0 ∷ 100 ∷ 117 ∷ 0 ∷ 0 ∷ 84 ∷ 0 ∷ 0 ∷ 0 ∷ 2 ∷ 0 ∷ 0 ∷ 0 ∷ 0 ∷ 0 ∷ 0 ∷ 0 ∷ 96 ∷ 1 ∷ 0 ∷ 0 ∷ 16 ∷ 0 ∷ 0 ∷ 0 ∷ 20 ∷ 0 ∷ 0 ∷ 0 ∷ 24 ∷ 0 ∷ 0 ∷ 0 ∷ 1 ∷ 18 ∷ 0 ∷ 0 ∷ 2 ∷ 0 ∷ 0 ∷ 0 ∷ 100 ∷ 110 ∷ 0 ∷ 0 ∷ 124 ∷ 0 ∷ 0 ∷ 0 ∷ 3 ∷ 0 ∷ 0 ∷ 0 ∷ 0 ∷ 0 ∷ 0 ∷ 0 ∷ []
 
 timestamps_durations_0 : HasField timestamps_durations_metadata 96 (115 ∷ []) (types.timestamp Second None) 175
-unfolding offset_at back_from table_at field_place spend visit_table visit_vector visit_string items_at text_at metadata_at zone_at timestamp_at duration_at field_at tables_at rows_at
+unfolding spec_offset_at spec_back_from spec_table_at spec_field_position spec_charge_budget spec_read_table spec_read_vector spec_read_string spec_items_at spec_str_at spec_metadata_at spec_zone_at spec_timestamp_at spec_duration_at spec_field_at tables_at tables_in_turn
 timestamps_durations_0 = rw (text_s) refl
 
 timestamps_durations_1 : HasField timestamps_durations_metadata 136 (109 ∷ []) (types.timestamp Millisecond (Some [])) 171
-unfolding offset_at back_from table_at field_place spend visit_table visit_vector visit_string items_at text_at metadata_at zone_at timestamp_at duration_at field_at tables_at rows_at
+unfolding spec_offset_at spec_back_from spec_table_at spec_field_position spec_charge_budget spec_read_table spec_read_vector spec_read_string spec_items_at spec_str_at spec_metadata_at spec_zone_at spec_timestamp_at spec_duration_at spec_field_at tables_at tables_in_turn
 timestamps_durations_1 = rw (text_m, no_text) refl
 
 timestamps_durations_2 : HasField timestamps_durations_metadata 196 (117 ∷ []) (types.timestamp Microsecond (Some (85 ∷ 84 ∷ 67 ∷ []))) 168
-unfolding offset_at back_from table_at field_place spend visit_table visit_vector visit_string items_at text_at metadata_at zone_at timestamp_at duration_at field_at tables_at rows_at
+unfolding spec_offset_at spec_back_from spec_table_at spec_field_position spec_charge_budget spec_read_table spec_read_vector spec_read_string spec_items_at spec_str_at spec_metadata_at spec_zone_at spec_timestamp_at spec_duration_at spec_field_at tables_at tables_in_turn
 timestamps_durations_2 = rw (text_u, text_UTC) refl
 
 timestamps_durations_3 : HasField timestamps_durations_metadata 248 (110 ∷ []) (types.timestamp Nanosecond (Some (69 ∷ 117 ∷ 114 ∷ 111 ∷ 112 ∷ 101 ∷ 47 ∷ 79 ∷ 115 ∷ 108 ∷ 111 ∷ []))) 160
-unfolding offset_at back_from table_at field_place spend visit_table visit_vector visit_string items_at text_at metadata_at zone_at timestamp_at duration_at field_at tables_at rows_at
+unfolding spec_offset_at spec_back_from spec_table_at spec_field_position spec_charge_budget spec_read_table spec_read_vector spec_read_string spec_items_at spec_str_at spec_metadata_at spec_zone_at spec_timestamp_at spec_duration_at spec_field_at tables_at tables_in_turn
 timestamps_durations_3 = rw (text_n, text_Europe_Oslo) refl
 
 timestamps_durations_4 : HasField timestamps_durations_metadata 308 (100 ∷ 115 ∷ []) (types.duration Second) 174
-unfolding offset_at back_from table_at field_place spend visit_table visit_vector visit_string items_at text_at metadata_at zone_at timestamp_at duration_at field_at tables_at rows_at
+unfolding spec_offset_at spec_back_from spec_table_at spec_field_position spec_charge_budget spec_read_table spec_read_vector spec_read_string spec_items_at spec_str_at spec_metadata_at spec_zone_at spec_timestamp_at spec_duration_at spec_field_at tables_at tables_in_turn
 timestamps_durations_4 = rw (text_ds) refl
 
 timestamps_durations_5 : HasField timestamps_durations_metadata 356 (100 ∷ 109 ∷ []) (types.duration Millisecond) 174
-unfolding offset_at back_from table_at field_place spend visit_table visit_vector visit_string items_at text_at metadata_at zone_at timestamp_at duration_at field_at tables_at rows_at
+unfolding spec_offset_at spec_back_from spec_table_at spec_field_position spec_charge_budget spec_read_table spec_read_vector spec_read_string spec_items_at spec_str_at spec_metadata_at spec_zone_at spec_timestamp_at spec_duration_at spec_field_at tables_at tables_in_turn
 timestamps_durations_5 = rw (text_dm) refl
 
 timestamps_durations_6 : HasField timestamps_durations_metadata 392 (100 ∷ 117 ∷ []) (types.duration Microsecond) 174
-unfolding offset_at back_from table_at field_place spend visit_table visit_vector visit_string items_at text_at metadata_at zone_at timestamp_at duration_at field_at tables_at rows_at
+unfolding spec_offset_at spec_back_from spec_table_at spec_field_position spec_charge_budget spec_read_table spec_read_vector spec_read_string spec_items_at spec_str_at spec_metadata_at spec_zone_at spec_timestamp_at spec_duration_at spec_field_at tables_at tables_in_turn
 timestamps_durations_6 = rw (text_du) refl
 
 timestamps_durations_7 : HasField timestamps_durations_metadata 432 (100 ∷ 110 ∷ []) (types.duration Nanosecond) 174
-unfolding offset_at back_from table_at field_place spend visit_table visit_vector visit_string items_at text_at metadata_at zone_at timestamp_at duration_at field_at tables_at rows_at
+unfolding spec_offset_at spec_back_from spec_table_at spec_field_position spec_charge_budget spec_read_table spec_read_vector spec_read_string spec_items_at spec_str_at spec_metadata_at spec_zone_at spec_timestamp_at spec_duration_at spec_field_at tables_at tables_in_turn
 timestamps_durations_7 = rw (text_dn) refl
 
 abbrev pub AreZones : Type 0
@@ -210,15 +210,15 @@ intervals_metadata =
     16 ∷ 0 ∷ 0 ∷ 0 ∷ 10 ∷ 0 ∷ 11 ∷ 0 ∷ 8 ∷ 0 ∷ 10 ∷ 0 ∷ 4 ∷ 0 ∷ 0 ∷ 0 ∷ 12 ∷ 0 ∷ 0 ∷ 0 ∷ 16 ∷ 0 ∷ 0 ∷ 0 ∷ 4 ∷ 0 ∷ 1 ∷ 0 ∷ 8 ∷ 0 ∷ 8 ∷ 0 ∷ 0 ∷ 0 ∷ 4 ∷ 0 ∷ 8 ∷ 0 ∷ 0 ∷ 0 ∷ 4 ∷ 0 ∷ 0 ∷ 0 ∷ 3 ∷ 0 ∷ 0 ∷ 0 ∷ 28 ∷ 0 ∷ 0 ∷ 0 ∷ 64 ∷ 0 ∷ 0 ∷ 0 ∷ 104 ∷ 0 ∷ 0 ∷ 0 ∷ 16 ∷ 0 ∷ 18 ∷ 0 ∷ 4 ∷ 0 ∷ 16 ∷ 0 ∷ 17 ∷ 0 ∷ 8 ∷ 0 ∷ 0 ∷ 0 ∷ 12 ∷ 0 ∷ 16 ∷ 0 ∷ 0 ∷ 0 ∷ 16 ∷ 0 ∷ 0 ∷ 0 ∷ 24 ∷ 0 ∷ 0 ∷ 0 ∷ 24 ∷ 0 ∷ 0 ∷ 0 ∷ 1 ∷ 11 ∷ 0 ∷ 0 ∷ 1 ∷ 0 ∷ 0 ∷ 0 ∷ 121 ∷ 0 ∷ 4 ∷ 0 ∷ 4 ∷ 0 ∷ 0 ∷ 0 ∷ 6 ∷ 0 ∷ 0 ∷ 0 ∷ 0 ∷ 0 ∷ 0 ∷ 0 ∷ 56 ∷ 0 ∷ 0 ∷ 0 ∷ 16 ∷ 0 ∷ 0 ∷ 0 ∷ 24 ∷ 0 ∷ 0 ∷ 0 ∷ 28 ∷ 0 ∷ 0 ∷ 0 ∷ 1 ∷ 11 ∷ 0 ∷ 0 ∷ 1 ∷ 0 ∷ 0 ∷ 0 ∷ 100 ∷ 0 ∷ 6 ∷ 0 ∷ 6 ∷ 0 ∷ 4 ∷ 0 ∷ 6 ∷ 0 ∷ 0 ∷ 0 ∷ 1 ∷ 0 ∷ 0 ∷ 0 ∷ 0 ∷ 0 ∷ 0 ∷ 0 ∷ 100 ∷ 0 ∷ 0 ∷ 0 ∷ 16 ∷ 0 ∷ 0 ∷ 0 ∷ 20 ∷ 0 ∷ 0 ∷ 0 ∷ 24 ∷ 0 ∷ 0 ∷ 0 ∷ 1 ∷ 11 ∷ 0 ∷ 0 ∷ 1 ∷ 0 ∷ 0 ∷ 0 ∷ 109 ∷ 0 ∷ 0 ∷ 0 ∷ 46 ∷ 0 ∷ 0 ∷ 0 ∷ 2 ∷ 0 ∷ 0 ∷ 0 ∷ 0 ∷ 0 ∷ 0 ∷ 0 ∷ []
 
 intervals_0 : HasField intervals_metadata 76 (121 ∷ []) (types.interval YearMonth) 175
-unfolding offset_at back_from table_at field_place spend visit_table visit_vector visit_string items_at text_at metadata_at interval_at field_at tables_at rows_at
+unfolding spec_offset_at spec_back_from spec_table_at spec_field_position spec_charge_budget spec_read_table spec_read_vector spec_read_string spec_items_at spec_str_at spec_metadata_at spec_interval_at spec_field_at tables_at tables_in_turn
 intervals_0 = rw (text_y) refl
 
 intervals_1 : HasField intervals_metadata 116 (100 ∷ []) (types.interval DayTime) 175
-unfolding offset_at back_from table_at field_place spend visit_table visit_vector visit_string items_at text_at metadata_at interval_at field_at tables_at rows_at
+unfolding spec_offset_at spec_back_from spec_table_at spec_field_position spec_charge_budget spec_read_table spec_read_vector spec_read_string spec_items_at spec_str_at spec_metadata_at spec_interval_at spec_field_at tables_at tables_in_turn
 intervals_1 = rw (text_d) refl
 
 intervals_2 : HasField intervals_metadata 160 (109 ∷ []) (types.interval MonthDayNano) 175
-unfolding offset_at back_from table_at field_place spend visit_table visit_vector visit_string items_at text_at metadata_at interval_at field_at tables_at rows_at
+unfolding spec_offset_at spec_back_from spec_table_at spec_field_position spec_charge_budget spec_read_table spec_read_vector spec_read_string spec_items_at spec_str_at spec_metadata_at spec_interval_at spec_field_at tables_at tables_in_turn
 intervals_2 = rw (text_m) refl
 
 abbrev pub AreIntervals : Type 0
@@ -229,18 +229,18 @@ AreIntervals = HasField intervals_metadata 76 (121 ∷ []) (types.interval YearM
 pub intervals : AreIntervals
 intervals = (intervals_0, intervals_1, intervals_2)
 
--- ---- bytes of a fixed size
+-- ---- fixed-size binaries
 
 abbrev pub fixed_size_binary_metadata : List ℕ
 fixed_size_binary_metadata =
     16 ∷ 0 ∷ 0 ∷ 0 ∷ 10 ∷ 0 ∷ 11 ∷ 0 ∷ 8 ∷ 0 ∷ 10 ∷ 0 ∷ 4 ∷ 0 ∷ 0 ∷ 0 ∷ 12 ∷ 0 ∷ 0 ∷ 0 ∷ 16 ∷ 0 ∷ 0 ∷ 0 ∷ 4 ∷ 0 ∷ 1 ∷ 0 ∷ 8 ∷ 0 ∷ 8 ∷ 0 ∷ 0 ∷ 0 ∷ 4 ∷ 0 ∷ 8 ∷ 0 ∷ 0 ∷ 0 ∷ 4 ∷ 0 ∷ 0 ∷ 0 ∷ 2 ∷ 0 ∷ 0 ∷ 0 ∷ 24 ∷ 0 ∷ 0 ∷ 0 ∷ 64 ∷ 0 ∷ 0 ∷ 0 ∷ 16 ∷ 0 ∷ 18 ∷ 0 ∷ 4 ∷ 0 ∷ 16 ∷ 0 ∷ 17 ∷ 0 ∷ 8 ∷ 0 ∷ 0 ∷ 0 ∷ 12 ∷ 0 ∷ 16 ∷ 0 ∷ 0 ∷ 0 ∷ 16 ∷ 0 ∷ 0 ∷ 0 ∷ 24 ∷ 0 ∷ 0 ∷ 0 ∷ 28 ∷ 0 ∷ 0 ∷ 0 ∷ 1 ∷ 15 ∷ 0 ∷ 0 ∷ 1 ∷ 0 ∷ 0 ∷ 0 ∷ 97 ∷ 0 ∷ 6 ∷ 0 ∷ 8 ∷ 0 ∷ 4 ∷ 0 ∷ 6 ∷ 0 ∷ 0 ∷ 0 ∷ 3 ∷ 0 ∷ 0 ∷ 0 ∷ 0 ∷ 0 ∷ 0 ∷ 0 ∷ 60 ∷ 0 ∷ 0 ∷ 0 ∷ 16 ∷ 0 ∷ 0 ∷ 0 ∷ 20 ∷ 0 ∷ 0 ∷ 0 ∷ 24 ∷ 0 ∷ 0 ∷ 0 ∷ 1 ∷ 15 ∷ 0 ∷ 0 ∷ 1 ∷ 0 ∷ 0 ∷ 0 ∷ 98 ∷ 0 ∷ 0 ∷ 0 ∷ 46 ∷ 0 ∷ 0 ∷ 0 ∷ 1 ∷ 0 ∷ 0 ∷ 0 ∷ 0 ∷ 0 ∷ 0 ∷ 0 ∷ 0 ∷ 0 ∷ 0 ∷ 0 ∷ []
 
 fixed_size_binary_0 : HasField fixed_size_binary_metadata 72 (97 ∷ []) (types.fixed_size_binary 3) 175
-unfolding offset_at back_from table_at field_place spend visit_table visit_vector visit_string items_at text_at metadata_at fixed_size_binary_at field_at tables_at rows_at
+unfolding spec_offset_at spec_back_from spec_table_at spec_field_position spec_charge_budget spec_read_table spec_read_vector spec_read_string spec_items_at spec_str_at spec_metadata_at spec_fixed_size_binary_at spec_field_at tables_at tables_in_turn
 fixed_size_binary_0 = rw (text_a) refl
 
 fixed_size_binary_1 : HasField fixed_size_binary_metadata 116 (98 ∷ []) (types.fixed_size_binary 1) 175
-unfolding offset_at back_from table_at field_place spend visit_table visit_vector visit_string items_at text_at metadata_at fixed_size_binary_at field_at tables_at rows_at
+unfolding spec_offset_at spec_back_from spec_table_at spec_field_position spec_charge_budget spec_read_table spec_read_vector spec_read_string spec_items_at spec_str_at spec_metadata_at spec_fixed_size_binary_at spec_field_at tables_at tables_in_turn
 fixed_size_binary_1 = rw (text_b) refl
 
 abbrev pub AreSizes : Type 0

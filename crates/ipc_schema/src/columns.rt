@@ -1,122 +1,125 @@
-//! Which fields of a schema are read.
+//! Projections: which columns of a schema are read.
 ghost use Rattle.std.specs.Prelude.{◌≡◌, ◌<◌, ◌^◌, length, List, ℕ, IfOk, Ok};
 ghost use Rattle.std.specs.Ordering.{nat_cmp};
 ghost use Rattle.std.specs.BTreeSet.{contains as set_contains, IsFromIterResult};
 ghost use Rattle.std.specs.Borrow.{Bor};
-ghost use Rattle.ipc_flatbuf.specs.Reading.{Spells};
-ghost use Rattle.ipc_schema.specs.Picks.{picks_of, places_in, names_in, is_among, is_named, text_cmp, name_at as name_at_lem, is_picked_at as is_picked_at_lem, IsMade};
+ghost use Rattle.ipc_flatbuf.specs.ReadResults.{Returns};
+ghost use Rattle.ipc_schema.specs.Projections.{columns_of, indices_in, names_in, indices_contain, names_contain, str_cmp, spec_name_at, spec_contains_field, IsColumnSet};
 
-use ipc_flatbuf::Fault;
-use ipc_flatbuf::{offset_field, text_at, visit_table};
+use ipc_flatbuf::{IpcReadError, offset_field, read_table, str_at};
 use std::alloc::{AllocError, Global};
 use std::collections::BTreeSet;
 
-/// Which fields of a schema are read. A position or a name that no field has picks none; each field is read once, in the schema's
-/// order.
+/// The columns of a schema to read.
+///
+/// Each column is read once, in the order of the schema. An index or a name that no column has is ignored.
 #[derive(Clone, Copy)]
-pub enum Columns<'a> {
-    /// All fields.
+pub enum Projection<'a> {
+    /// All columns.
     All,
-    /// Those at these positions, from 0.
-    At(&'a [usize]),
-    /// Those of these names. Of fields that have one name all are read.
-    Named(&'a [&'a str]),
+    /// The columns at these indices, from 0.
+    Indices(&'a [usize]),
+    /// The columns of these names; all of them where several columns have one name.
+    Names(&'a [&'a str]),
 }
 
-/// A choice in which positions and names are found fast.
+/// A [`Projection`] with its indices and names in sets.
 #[derive(Drop)]
-pub struct Picker<'a> {
-    pub columns: Columns<'a>,
-    pub places: BTreeSet<usize>,
+pub struct ColumnSet<'a> {
+    pub columns: Projection<'a>,
+    pub indices: BTreeSet<usize>,
     pub names: BTreeSet<&'a str>,
 }
 
-fn set_of(alloc: Global, places: &[usize]) -> Result<BTreeSet<usize>, AllocError>
-    ensures { IfOk result (λ s. IsFromIterResult nat_cmp places.now s) }
+fn index_set(alloc: Global, indices: &[usize]) -> Result<BTreeSet<usize>, AllocError>
+    ensures { IfOk result (λ s. IsFromIterResult nat_cmp indices.now s) }
 {
-    places.iter().copied().collect(alloc)
+    indices.iter().copied().collect(alloc)
 }
 
-fn text_set_of<'a>(alloc: Global, texts: &[&'a str]) -> Result<BTreeSet<&'a str>, AllocError>
-    ensures { IfOk result (λ s. IsFromIterResult text_cmp texts.now s) }
+fn name_set<'a>(alloc: Global, texts: &[&'a str]) -> Result<BTreeSet<&'a str>, AllocError>
+    ensures { IfOk result (λ s. IsFromIterResult str_cmp texts.now s) }
 {
     texts.iter().copied().collect(alloc)
 }
 
-fn places_of(alloc: Global, columns: Columns<'_>) -> Result<BTreeSet<usize>, AllocError>
-    ensures { IfOk result (λ s. (i : ℕ) → set_contains nat_cmp s i ≡ is_among (places_in columns.entry) i) }
+fn indices_of(alloc: Global, columns: Projection<'_>) -> Result<BTreeSet<usize>, AllocError>
+    ensures { IfOk result (λ s. (i : ℕ) → set_contains nat_cmp s i ≡ indices_contain (indices_in columns.entry) i) }
 {
     match columns {
-        Columns::At(places) => set_of(alloc, places),
+        Projection::Indices(indices) => index_set(alloc, indices),
         _ => Ok(BTreeSet::new(alloc)),
     }
 }
 
-fn names_of<'a>(alloc: Global, columns: Columns<'a>) -> Result<BTreeSet<&'a str>, AllocError>
-    ensures { IfOk result (λ s. (name : Bor (List ℕ)) → set_contains text_cmp s name ≡ is_named (names_in columns.entry) name.now) }
+fn names_of<'a>(alloc: Global, columns: Projection<'a>) -> Result<BTreeSet<&'a str>, AllocError>
+    ensures { IfOk result (λ s. (name : Bor (List ℕ)) → set_contains str_cmp s name ≡ names_contain (names_in columns.entry) name.now) }
 {
     match columns {
-        Columns::Named(names) => text_set_of(alloc, names),
+        Projection::Names(names) => name_set(alloc, names),
         _ => Ok(BTreeSet::new(alloc)),
     }
 }
 
-// The name of the field at a place.
-#[tactic(auto, unfolding(crate::specs::Picks::name_at))]
-fn name_at(bytes: &[u8], place: usize, left: usize) -> Result<&str, Fault>
+// The name of the field at a position.
+#[tactic(auto, unfolding(crate::specs::Projections::spec_name_at))]
+fn name_at(bytes: &[u8], position: usize, left: usize) -> Result<&str, IpcReadError>
     requires { length bytes.now < 2 ^ 32 }
-    ensures { Spells (λ s. s.now) result (name_at_lem bytes.now place left) }
+    ensures { Returns (λ s. s.now) result (spec_name_at bytes.now position left) }
 {
-    let (table, left) = visit_table(bytes, place, left)?;
-    let (name, _) = text_at(bytes, offset_field(bytes, table, 0)?, left)?;
+    let (table, left) = read_table(bytes, position, left)?;
+    let (name, _) = str_at(bytes, offset_field(bytes, table, 0)?, left)?;
     Ok(name)
 }
 
-impl<'a> Picker<'a> {
-    /// The picker of a choice.
-    pub fn new(alloc: Global, columns: Columns<'a>) -> Result<Picker<'a>, AllocError>
+impl<'a> ColumnSet<'a> {
+    /// Returns the set of the columns of a projection.
+    pub fn new(alloc: Global, columns: Projection<'a>) -> Result<ColumnSet<'a>, AllocError>
         ensures columns { IfOk result (λ p. p.columns ≡ columns.entry) }
-        ensures made { IfOk result IsMade }
+        ensures made { IfOk result IsColumnSet }
     {
-        let places = places_of(alloc, columns)?;
+        let indices = indices_of(alloc, columns)?;
         let names = names_of(alloc, columns)?;
-        Ok(Picker {
+        Ok(ColumnSet {
             columns,
-            places,
+            indices,
             names,
         })
     }
 
-    fn has_place(&self, i: usize) -> bool
-        requires { IsMade self.now }
-        ensures { result ≡ is_among (places_in self.now.columns) i }
+    fn has_index(&self, i: usize) -> bool
+        requires { IsColumnSet self.now }
+        ensures { result ≡ indices_contain (indices_in self.now.columns) i }
     {
-        self.places.contains(&i)
+        self.indices.contains(&i)
     }
 
     fn has_name(&self, name: &str) -> bool
-        requires { IsMade self.now }
-        ensures { result ≡ is_named (names_in self.now.columns) name.now }
+        requires { IsColumnSet self.now }
+        ensures { result ≡ names_contain (names_in self.now.columns) name.now }
     {
         self.names.contains(name)
     }
 
-    /// Whether the field of this position, at this place, is read.
-    pub fn is_picked_at(
+    /// Returns whether the field with index `i`, whose table is at a position of the metadata, is read.
+    ///
+    /// # Errors
+    /// The errors of reading its name, where the projection is by names.
+    pub fn contains_field(
         &self,
         bytes: &[u8],
         i: usize,
-        place: usize,
+        position: usize,
         left: usize,
-    ) -> Result<bool, Fault>
-        requires made { IsMade self.now }
+    ) -> Result<bool, IpcReadError>
+        requires made { IsColumnSet self.now }
         requires length { length bytes.now < 2 ^ 32 }
-        ensures { result ≡ is_picked_at_lem (picks_of self.now.columns) bytes.now i place left }
+        ensures { result ≡ spec_contains_field (columns_of self.now) bytes.now i position left }
     {
         match self.columns {
-            Columns::All => Ok(true),
-            Columns::At(_) => Ok(self.has_place(i)),
-            Columns::Named(_) => Ok(self.has_name(name_at(bytes, place, left)?)),
+            Projection::All => Ok(true),
+            Projection::Indices(_) => Ok(self.has_index(i)),
+            Projection::Names(_) => Ok(self.has_name(name_at(bytes, position, left)?)),
         }
     }
 }

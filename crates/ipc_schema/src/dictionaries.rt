@@ -1,21 +1,20 @@
-//! How fields are encoded by dictionaries, and what their ids name.
+//! Readers of dictionary encodings, and the value types of dictionary ids.
 ghost use Rattle.std.specs.Prelude.{◌≡◌, ◌<◌, ◌^◌, length, suc, drop, Ok, IfOk, OnOk, option_map};
 ghost use Rattle.nest_memory.specs.TypeOf.{type_of};
-ghost use Rattle.ipc_flatbuf.specs.Reading.{Gives};
-ghost use Rattle.ipc_schema.specs.Dictionaries.{key_at as key_at_lem, encoding_at as encoding_at_lem, dictionary_at as dictionary_at_lem, keyed as keyed_lem, unseen, with_id as with_id_lem, with_name, same_values as same_values_lem, name_values as name_values_lem, with_values as with_values_lem};
-ghost use Rattle.ipc_schema.specs.SeenOf.{values_of, seen_of};
+ghost use Rattle.ipc_flatbuf.specs.ReadResults.{ReturnsOrRunsOut};
+ghost use Rattle.ipc_schema.specs.Dictionaries.{spec_key_at, spec_encoding_at, spec_dictionary_at, spec_with_encoding, no_dictionaries, spec_record_id, with_value_type, spec_same_values, spec_name_values, spec_record_values};
+ghost use Rattle.ipc_schema.specs.DictionaryModels.{value_type_of, types_of};
 ghost use Rattle.std.specs.Map.{lookup};
 ghost use Rattle.std.specs.BTreeMap.{is_at};
 ghost use Rattle.std.specs.Ordering.{int_cmp};
 
 use crate::types::integer_at;
-use ipc_flatbuf::Fault;
-use ipc_flatbuf::{i16_field, i64_field, offset_field, u8_field, visit_table};
+use ipc_flatbuf::{IpcReadError, i16_field, i64_field, offset_field, read_table, u8_field};
 use nest_memory::datatypes::{DataType, IntegerType};
 use std::alloc::{AllocError, Global};
 use std::collections::BTreeMap;
 
-/// How a field is encoded: the id of its dictionary, the type of its keys, and whether the order of keys is that of values.
+/// The dictionary encoding of a field: its id, the type of its keys, and `isOrdered` (Schema.fbs, table `DictionaryEncoding`).
 #[derive(Clone, Copy)]
 pub struct Encoding {
     pub id: i64,
@@ -23,29 +22,37 @@ pub struct Encoding {
     pub is_ordered: bool,
 }
 
-// The type of keys.
-#[tactic(auto, unfolding(crate::specs::Dictionaries::key_at))]
-fn key_at(bytes: &[u8], place: Option<usize>, left: usize) -> Result<(IntegerType, usize), Fault>
+// The type of the keys, `Int32` where it is absent.
+#[tactic(auto, unfolding(crate::specs::Dictionaries::spec_key_at))]
+fn key_at(
+    bytes: &[u8],
+    position: Option<usize>,
+    left: usize,
+) -> Result<(IntegerType, usize), IpcReadError>
     requires { length bytes.now < 2 ^ 32 }
-    ensures { result ≡ key_at_lem bytes.now place left }
+    ensures { result ≡ spec_key_at bytes.now position left }
 {
-    match place {
+    match position {
         None => Ok((IntegerType::Int32, left)),
-        Some(place) => integer_at(bytes, place, left),
+        Some(position) => integer_at(bytes, position, left),
     }
 }
 
-#[tactic(auto, unfolding(crate::specs::Dictionaries::encoding_at))]
-fn encoding_at(bytes: &[u8], place: usize, left: usize) -> Result<(Encoding, usize), Fault>
+#[tactic(auto, unfolding(crate::specs::Dictionaries::spec_encoding_at))]
+fn encoding_at(
+    bytes: &[u8],
+    position: usize,
+    left: usize,
+) -> Result<(Encoding, usize), IpcReadError>
     requires { length bytes.now < 2 ^ 32 }
-    ensures { result ≡ encoding_at_lem bytes.now place left }
+    ensures { result ≡ spec_encoding_at bytes.now position left }
 {
-    let (table, left) = visit_table(bytes, place, left)?;
+    let (table, left) = read_table(bytes, position, left)?;
     let id = i64_field(bytes, table, 0, 0)?;
     let ordered = u8_field(bytes, table, 2)?;
     let (key, left) = key_at(bytes, offset_field(bytes, table, 1)?, left)?;
     if i16_field(bytes, table, 3, 0)? != 0 {
-        return Err(Fault::TypeRange);
+        return Err(IpcReadError::TypeRange);
     }
     let is_ordered = ordered > 0;
     Ok((
@@ -58,31 +65,34 @@ fn encoding_at(bytes: &[u8], place: usize, left: usize) -> Result<(Encoding, usi
     ))
 }
 
-/// How a field is encoded, if it is, and what is left to spend.
+/// Returns the dictionary encoding at a position, `None` where it is absent, and the budget left.
+///
+/// # Errors
+/// [`IpcReadError::TypeRange`] where the key type or the dictionary kind is invalid, and those of flatbuffers.
 pub fn dictionary_at(
     bytes: &[u8],
-    place: Option<usize>,
+    position: Option<usize>,
     left: usize,
-) -> Result<(Option<Encoding>, usize), Fault>
+) -> Result<(Option<Encoding>, usize), IpcReadError>
     requires { length bytes.now < 2 ^ 32 }
-    ensures { result ≡ dictionary_at_lem bytes.now place left }
+    ensures { result ≡ spec_dictionary_at bytes.now position left }
 {
-    match place {
+    match position {
         None => Ok((None, left)),
-        Some(place) => {
-            let (encoding, left) = encoding_at(bytes, place, left)?;
+        Some(position) => {
+            let (encoding, left) = encoding_at(bytes, position, left)?;
             Ok((Some(encoding), left))
         }
     }
 }
 
-/// The type of a field, by that of its values.
-pub fn keyed(
+/// Returns the type of a field whose table has the type of the values.
+pub fn dictionary_type_of(
     alloc: Global,
     dictionary: Option<Encoding>,
     data_type: DataType,
-) -> Result<DataType, Fault>
-    ensures { Gives type_of result (Ok (keyed_lem dictionary (type_of data_type))) }
+) -> Result<DataType, IpcReadError>
+    ensures { ReturnsOrRunsOut type_of result (Ok (spec_with_encoding dictionary (type_of data_type))) }
 {
     match dictionary {
         None => Ok(data_type),
@@ -93,35 +103,40 @@ pub fn keyed(
     }
 }
 
-/// The values of an id: their type, and the ids inside of it.
+/// The value type of a dictionary id, and the dictionary ids nested in it.
 #[derive(Drop)]
-pub struct Values {
+pub struct DictionaryValueType {
     pub data_type: DataType,
     pub inside: Vec<i64>,
 }
 
-/// The id of each field that has a dictionary, in pre-order, a field's own before those inside of it, and what ids name.
+/// The dictionary ids of the fields of a schema in pre-order, and the value type of each id.
+///
+/// The id of a field precedes those of its children.
 #[derive(Drop)]
-pub struct Dictionaries {
+pub struct DictionaryTypes {
     pub ids: Vec<i64>,
-    pub named: BTreeMap<i64, Values>,
+    pub named: BTreeMap<i64, DictionaryValueType>,
 }
 
-impl Dictionaries {
-    /// No field was seen.
-    pub fn new(alloc: Global) -> Dictionaries
-        ensures { seen_of result ≡ unseen }
+impl DictionaryTypes {
+    /// Returns the dictionaries of a schema without fields.
+    pub fn new(alloc: Global) -> DictionaryTypes
+        ensures { types_of result ≡ no_dictionaries }
     {
-        Dictionaries {
+        DictionaryTypes {
             ids: Vec::new(alloc),
             named: BTreeMap::new(alloc),
         }
     }
 }
 
-/// A field's id comes before those inside of it.
-pub fn see_id(seen: &mut Dictionaries, dictionary: Option<Encoding>) -> Result<(), Fault>
-    ensures { Gives (λ x. seen_of seen.new) result (Ok (with_id_lem dictionary (seen_of seen.old))) }
+/// Appends the dictionary id of a field, before its children are read.
+pub fn record_id(
+    seen: &mut DictionaryTypes,
+    dictionary: Option<Encoding>,
+) -> Result<(), IpcReadError>
+    ensures { ReturnsOrRunsOut (λ x. types_of seen.new) result (Ok (spec_record_id dictionary (types_of seen.old))) }
 {
     if let Some(encoding) = dictionary {
         seen.ids.push(encoding.id)?;
@@ -129,22 +144,22 @@ pub fn see_id(seen: &mut Dictionaries, dictionary: Option<Encoding>) -> Result<(
     Ok(())
 }
 
-fn same_values(old: &Values, new: &Values) -> bool
-    ensures { result ≡ same_values_lem (values_of old.now) (values_of new.now) }
+fn same_values(old: &DictionaryValueType, new: &DictionaryValueType) -> bool
+    ensures { result ≡ spec_same_values (value_type_of old.now) (value_type_of new.now) }
 {
     old.data_type == new.data_type && old.inside == new.inside
 }
 
-fn insert(seen: &mut Dictionaries, id: i64, new: Values) -> Result<(), AllocError>
-    ensures { OnOk result (seen_of seen.new ≡ with_name id (values_of new) (seen_of seen.old)) }
+fn insert(seen: &mut DictionaryTypes, id: i64, new: DictionaryValueType) -> Result<(), AllocError>
+    ensures { OnOk result (types_of seen.new ≡ with_value_type id (value_type_of new) (types_of seen.old)) }
 {
     seen.named.insert(id, new)?;
     Ok(())
 }
 
-// Whether an id names the values, if it names some.
-fn names_as(seen: &Dictionaries, id: &i64, new: &Values) -> Option<bool>
-    ensures { result ≡ option_map (λ old. same_values_lem old (values_of new.now)) (lookup (is_at (int_cmp id.now)) (seen_of seen.now).named) }
+// Whether the value type of an id is this one, `None` where the id is new.
+fn names_as(seen: &DictionaryTypes, id: &i64, new: &DictionaryValueType) -> Option<bool>
+    ensures { result ≡ option_map (λ old. spec_same_values old (value_type_of new.now)) (lookup (is_at (int_cmp id.now)) (types_of seen.now).named) }
 {
     match seen.named.get(id) {
         None => None,
@@ -152,9 +167,13 @@ fn names_as(seen: &Dictionaries, id: &i64, new: &Values) -> Option<bool>
     }
 }
 
-// An id names the same values everywhere.
-fn name_values(seen: &mut Dictionaries, id: i64, new: Values) -> Result<(), Fault>
-    ensures { Gives (λ x. seen_of seen.new) result (name_values_lem id (values_of new) (seen_of seen.old) (lookup (is_at (int_cmp id)) (seen_of seen.old).named)) }
+// Adds the value type of an id, which is the same for all fields with the id.
+fn name_values(
+    seen: &mut DictionaryTypes,
+    id: i64,
+    new: DictionaryValueType,
+) -> Result<(), IpcReadError>
+    ensures { ReturnsOrRunsOut (λ x. types_of seen.new) result (spec_name_values id (value_type_of new) (types_of seen.old) (lookup (is_at (int_cmp id)) (types_of seen.old).named)) }
 {
     match names_as(seen, &id, &new) {
         None => {
@@ -162,11 +181,11 @@ fn name_values(seen: &mut Dictionaries, id: i64, new: Values) -> Result<(), Faul
             Ok(())
         }
         Some(true) => Ok(()),
-        Some(false) => Err(Fault::DictionaryType),
+        Some(false) => Err(IpcReadError::DictionaryType),
     }
 }
 
-// A copy of the ids behind so many and one more.
+// A copy of the ids from index before + 1.
 fn ids_behind(alloc: Global, ids: &[i64], before: usize) -> Result<Vec<i64>, AllocError>
     ensures { IfOk result (λ v. v.items ≡ drop (suc before) ids.now) }
 {
@@ -177,31 +196,34 @@ fn ids_behind(alloc: Global, ids: &[i64], before: usize) -> Result<Vec<i64>, All
     }
 }
 
-// The values of a field of which an id stands behind so many.
+// The value type of a field whose own id has this index.
 fn values_behind(
     alloc: Global,
-    seen: &Dictionaries,
+    seen: &DictionaryTypes,
     data_type: &DataType,
     before: usize,
-) -> Result<Values, Fault>
-    ensures { Gives values_of result (Ok (record { values = type_of data_type.now; inside = drop (suc before) (seen_of seen.now).ids })) }
+) -> Result<DictionaryValueType, IpcReadError>
+    ensures { ReturnsOrRunsOut value_type_of result (Ok (record { values = type_of data_type.now; inside = drop (suc before) (types_of seen.now).ids })) }
 {
     let inside = ids_behind(alloc, &seen.ids, before)?;
     match data_type.clone(alloc) {
-        Err(_) => Err(Fault::Memory),
-        Ok(data_type) => Ok(Values { data_type, inside }),
+        Err(_) => Err(IpcReadError::Memory),
+        Ok(data_type) => Ok(DictionaryValueType { data_type, inside }),
     }
 }
 
-/// Once a field and what is inside of it is read: its id names values of this type. So many ids were seen before its own.
-pub fn see_values(
+/// Adds the value type of a field, after its children are read. `before` is the number of ids before its own.
+///
+/// # Errors
+/// [`IpcReadError::DictionaryType`] where another field with this id has a different value type.
+pub fn record_values(
     alloc: Global,
-    seen: &mut Dictionaries,
+    seen: &mut DictionaryTypes,
     dictionary: Option<Encoding>,
     data_type: &DataType,
     before: usize,
-) -> Result<(), Fault>
-    ensures { Gives (λ x. seen_of seen.new) result (with_values_lem dictionary (type_of data_type.now) before (seen_of seen.old)) }
+) -> Result<(), IpcReadError>
+    ensures { ReturnsOrRunsOut (λ x. types_of seen.new) result (spec_record_values dictionary (type_of data_type.now) before (types_of seen.old)) }
 {
     match dictionary {
         None => Ok(()),

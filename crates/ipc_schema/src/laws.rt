@@ -1,30 +1,31 @@
-//! Laws and examples of what is read, as functions with empty bodies.
+//! Theorems and worked examples about schemas, as functions with empty bodies.
 ghost use Rattle.std.specs.Prelude.{◌≡◌, ◌<◌, ◌^◌, ◌++◌, List, ℕ, ℤ, false, [], ◌∷◌, drop, Ok};
 ghost use Rattle.ipc_flatbuf.specs.MessageBytes.{metadata_size};
 ghost use Rattle.ipc_schema.specs.Examples.{worked_message, worked_tree};
 ghost use Rattle.ipc_schema.specs.NestedExamples.{AreNested, AreMaps, AreUnions};
 ghost use Rattle.ipc_schema.specs.ExtensionExamples.{AreExtended, ArePlain};
 ghost use Rattle.ipc_schema.specs.DictionaryExamples.{AreKeyed, AreOuter, AreOfOneId, AreLookedAt};
-ghost use Rattle.ipc_schema.specs.KeyedExamples.{AreWritten, AreNumbered, AreRefused};
+ghost use Rattle.ipc_schema.specs.DictionaryWriteExamples.{AreWritten, AreNumbered, AreRefused};
 ghost use Rattle.ipc_schema.specs.TypeExamples.{AreDecimals, AreTimes, AreZones, AreIntervals, AreSizes};
-ghost use Rattle.ipc_schema.specs.Dictionaries.{Values, unseen};
-ghost use Rattle.ipc_schema.specs.Numbering.{have_dictionary};
-ghost use Rattle.ipc_schema.specs.Outer.{count_inside, outer_ids};
-ghost use Rattle.ipc_schema.specs.OuterLaws.{own_all};
-ghost use Rattle.ipc_schema.specs.Schemas.{SchemaTree, stream_keyed_schema_at};
+ghost use Rattle.ipc_schema.specs.Dictionaries.{no_dictionaries};
+ghost use Rattle.ipc_schema.specs.DictionaryIds.{have_dictionary};
+ghost use Rattle.ipc_schema.specs.OutermostIds.{ValueTypes, spec_count_nested, spec_outermost_ids};
+ghost use Rattle.ipc_schema.specs.OutermostIdLaws.{column_ids};
+ghost use Rattle.ipc_schema.specs.Schemas.{SchemaModel, stream_schema_at};
 ghost use Rattle.ipc_schema.specs.SchemaBytes.{schema_message};
-ghost use Rattle.ipc_schema.specs.SchemaLaws.{KeyedFits, with_ids};
-ghost use Rattle.ipc_schema.specs.Picks.{all};
-ghost use Rattle.ipc_schema.specs.PickedSchemas.{stream_picked_at};
-ghost use Rattle.ipc_schema.specs.PickedLaws.{all_of_stream, all_written};
-ghost use Rattle.ipc_schema.specs.PickedExamples.{AreCounted, AreOfUnions, AreTags, AreOver, ArePicked};
+ghost use Rattle.ipc_schema.specs.SchemaLaws.{SchemaFits, with_dictionary_ids};
+ghost use Rattle.ipc_schema.specs.Projections.{all};
+ghost use Rattle.ipc_schema.specs.ProjectedSchemas.{stream_projected_schema_at};
+ghost use Rattle.ipc_schema.specs.ProjectionLaws.{all_of_stream, all_written};
+ghost use Rattle.ipc_schema.specs.ProjectionExamples.{AreCounted, AreOfUnions, AreTags, AreOver, ArePicked};
 
-/// The message of another writer, byte by byte, spells one field.
-pub fn a_message_is_read()
-    ensures { stream_keyed_schema_at worked_message ≡ Ok ((worked_tree, unseen), []) }
+/// The bytes of another writer decode to a schema of one field.
+pub fn schema_is_read()
+    ensures { stream_schema_at worked_message ≡ Ok ((worked_tree, no_dictionaries), []) }
 {}
 
-/// The fields of another writer, byte by byte, spell their types: decimals, dates and times, points in time and durations, intervals, bytes of a fixed size.
+/// The bytes of another writer decode to fields of decimals, dates, times, timestamps, durations, intervals and
+/// fixed-size binaries.
 pub fn types_are_read()
     ensures decimals { AreDecimals }
     ensures times { AreTimes }
@@ -33,46 +34,52 @@ pub fn types_are_read()
     ensures sizes { AreSizes }
 {}
 
-/// So do nested ones: lists of each kind, maps, unions with ids and without.
+/// The bytes of another writer decode to fields of lists of each kind, maps, and unions with and without type ids.
 pub fn nested_types_are_read()
     ensures fields { AreNested }
     ensures maps { AreMaps }
     ensures unions { AreUnions }
 {}
 
-/// Metadata spells extensions, at any depth: fields of another writer, byte by byte. The second key alone spells none, and no map is of an extension of entries.
+/// Custom metadata decodes to extension types at any depth.
+///
+/// `ARROW:extension:metadata` alone is not an extension type, and the entries of a map cannot be one.
 pub fn extensions_are_read()
     ensures fields { AreExtended }
     ensures plain { ArePlain }
 {}
 
-/// Dictionaries encode fields, at any depth and under an extension: byte by byte. One id names the same values everywhere. A kind
-/// that is not dense is refused, and a union is found under an extension and inside of a dictionary.
+/// The bytes of another writer decode to dictionary-encoded fields, at any depth and as storage of an extension type.
+///
+/// Fields of one id have one value type, a dictionary kind other than dense is an error, and a union is found in
+/// extension types and in dictionary values.
 pub fn dictionaries_are_read()
     ensures fields { AreKeyed }
     ensures ids { AreOfOneId }
     ensures looks { AreLookedAt }
 {}
 
-/// The message of a schema that is written is read back, with anything behind it; its dictionaries have the ids 0, 1, 2 and so
-/// on in pre-order, and where no field has one, none is seen. So it is by columns, where all are read.
-pub fn schemas_are_read_back()
-    ensures whole { (s : SchemaTree) (rest : List ℕ) → KeyedFits s → metadata_size (schema_message s) < 2 ^ 31 → stream_keyed_schema_at (schema_message s ++ rest) ≡ Ok (with_ids s, rest) }
-    ensures plain { (s : SchemaTree) → have_dictionary s.fields ≡ false → with_ids s ≡ (s, unseen) }
-    ensures columns { (s : SchemaTree) (rest : List ℕ) → KeyedFits s → metadata_size (schema_message s) < 2 ^ 31 → stream_picked_at all (schema_message s ++ rest) ≡ Ok (all_written s, rest) }
+/// A schema round-trips, whatever bytes follow its message, and so does the projection of all columns.
+///
+/// Its dictionaries have the ids 0, 1, 2 and so on, in pre-order of the fields.
+pub fn schemas_round_trip()
+    ensures whole { (s : SchemaModel) (rest : List ℕ) → SchemaFits s → metadata_size (schema_message s) < 2 ^ 31 → stream_schema_at (schema_message s ++ rest) ≡ Ok (with_dictionary_ids s, rest) }
+    ensures plain { (s : SchemaModel) → have_dictionary s.fields ≡ false → with_dictionary_ids s ≡ (s, no_dictionaries) }
+    ensures columns { (s : SchemaModel) (rest : List ℕ) → SchemaFits s → metadata_size (schema_message s) < 2 ^ 31 → stream_projected_schema_at all (schema_message s ++ rest) ≡ Ok (all_written s, rest) }
 {}
 
-/// Fields with dictionaries are written byte by byte as the format says; their ids are numbers in pre-order, and name their
-/// values; each reason why one is not written comes in its place.
+/// Worked examples of writing dictionary-encoded fields: the bytes, the ids in pre-order with their value types, and the
+/// first error.
 pub fn dictionaries_are_written()
     ensures bytes { AreWritten }
     ensures ids { AreNumbered }
     ensures reasons { AreRefused }
 {}
 
-/// Fields by position and by name, of schemas of another writer, byte by byte: what the others take in each batch is counted, of all
-/// types that there are. A union that is passed over is none of V4.
-pub fn columns_are_picked()
+/// Worked examples of projections by index and by name: the nodes and buffers of skipped fields, for each type.
+///
+/// A skipped union is an error in metadata of version V4.
+pub fn projections_are_read()
     ensures buffers { AreCounted }
     ensures unions { AreOfUnions }
     ensures tags { AreTags }
@@ -80,16 +87,17 @@ pub fn columns_are_picked()
     ensures fields { ArePicked }
 {}
 
-/// Of ids in pre-order the first is inside of no other's values, and neither are those behind what is inside of its own. Of a
-/// schema that is written they are the ids of its columns' own arrays of keys.
-pub fn ids_are_passed_over()
-    ensures none { (named : List (ℤ × Values)) → outer_ids named [] ≡ [] }
-    ensures first { (named : List (ℤ × Values)) (id : ℤ) (ids : List ℤ) → outer_ids named (id ∷ ids) ≡ id ∷ outer_ids named (drop (count_inside named id) ids) }
+/// The outermost of ids in pre-order: the first one, and those after the ids that are nested in its value type.
+///
+/// Those of a schema are the dictionary ids that are not nested in the value type of another.
+pub fn nested_ids_are_skipped()
+    ensures none { (types : ValueTypes) → spec_outermost_ids types [] ≡ [] }
+    ensures first { (types : ValueTypes) (id : ℤ) (ids : List ℤ) → spec_outermost_ids types (id ∷ ids) ≡ id ∷ spec_outermost_ids types (drop (spec_count_nested types id) ids) }
     ensures worked { AreOuter }
-    ensures written { (s : SchemaTree) → outer_ids (with_ids s).1.named (with_ids s).1.ids ≡ own_all s.fields }
+    ensures written { (s : SchemaModel) → spec_outermost_ids (with_dictionary_ids s).1.named (with_dictionary_ids s).1.ids ≡ column_ids s.fields }
 {}
 
-/// Where all fields are read, the schema by columns that a stream begins with is its schema, or the same fault.
-pub fn all_columns_are_the_schema()
-    ensures { (bytes : List ℕ) → stream_picked_at all bytes ≡ all_of_stream bytes }
+/// The projection of all columns returns the schema of the stream, or the same error.
+pub fn projection_of_all_is_the_schema()
+    ensures { (bytes : List ℕ) → stream_projected_schema_at all bytes ≡ all_of_stream bytes }
 {}

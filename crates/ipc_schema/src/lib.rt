@@ -1,32 +1,39 @@
-//! Schemas of the Arrow IPC format, as metadata: read and written.
+//! Readers and writers of schemas and file footers of the Arrow IPC format.
+//!
+//! [`read_schema`] returns the schema of a stream, [`read_projected_schema`] only the columns of a [`Projection`].
+//! [`write_schema_with_dictionaries`] writes the schema message, [`footer`] reads and writes the footer of a file.
 #![tactic(auto)]
 
 mod columns;
 mod dictionaries;
-mod encodings;
+mod dictionary_ids;
+mod dictionary_writing;
 pub mod laws;
-mod leaves;
+mod leaf_types;
 mod metadata;
 mod nested;
-mod outermost;
 mod projected;
 mod reading;
 mod schema;
-mod shapes;
-mod spans;
-mod tags;
+mod skipped_fields;
+mod type_shapes;
+mod type_tags;
 mod type_writing;
 mod types;
 mod unions;
 mod writing;
 
-pub use columns::{Columns, Picker};
-pub use dictionaries::{Dictionaries, Values};
-pub use outermost::outer_ids;
-pub use projected::{PickedSchema, in_any_version, picked_schema_at, read_picked_schema};
+pub use columns::{ColumnSet, Projection};
+pub use dictionaries::{DictionaryTypes, DictionaryValueType};
+pub use dictionary_ids::outermost_ids;
+pub use projected::{
+    ProjectedSchema, check_projected_version, projected_schema_at, read_projected_schema,
+};
 pub use reading::{read_schema, schema_at};
-pub use schema::{KeyedSchema, Schema};
-pub use unions::in_version;
-pub use writing::{keyed_schema_table, schema_table, write_keyed_schema, write_schema};
+pub use schema::{Schema, SchemaWithDictionaries};
+pub use unions::check_version;
+pub use writing::{
+    schema_table, schema_with_dictionaries_table, write_schema, write_schema_with_dictionaries,
+};
 
 pub mod footer;

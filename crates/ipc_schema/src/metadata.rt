@@ -1,53 +1,53 @@
-//! Pairs of keys and values: read into a map, and written from one.
+//! Readers and writers of custom metadata, vectors of `KeyValue`.
 ghost use Rattle.std.specs.Prelude.{◌≡◌, ◌<◌, ◌≤◌, ◌^◌, ◌+◌, ◌*◌, ◌++◌, true, map, length, IfOk, OnOk, IfErr, Ok, option_map, string_bytes};
 ghost use Rattle.std.specs.Str.{is_utf8};
 ghost use Rattle.std.specs.String.{string_cmp};
 ghost use Rattle.std.specs.BTreeMap.{IsOrdered};
 ghost use Rattle.nest_memory.specs.TypeOf.{entries_of, text_of};
-ghost use Rattle.ipc_flatbuf.specs.Reading.{Gives, Spells};
-ghost use Rattle.ipc_flatbuf.specs.Bytes.{together, parts_of};
+ghost use Rattle.ipc_flatbuf.specs.ReadResults.{ReturnsOrRunsOut, Returns};
+ghost use Rattle.ipc_flatbuf.specs.PartBytes.{concatenated, bytes_of_each};
 ghost use Rattle.ipc_flatbuf.specs.Flatbuffers.{tables_at};
-ghost use Rattle.ipc_flatbuf.specs.Writers.{IsTooLong};
-ghost use Rattle.ipc_schema.specs.Schemas.{pair_at as pair_at_lem, metadata_at as metadata_at_lem, with_all};
-ghost use Rattle.ipc_schema.specs.Extensions.{extension_name, value_at, has_key as has_key_lem, without, with_pair as with_pair_lem, with_text};
+ghost use Rattle.ipc_flatbuf.specs.WriteErrors.{IsSizeError};
+ghost use Rattle.ipc_schema.specs.Schemas.{spec_pair_at, spec_metadata_at, with_all};
+ghost use Rattle.ipc_schema.specs.Extensions.{extension_name, value_at, spec_has_key, without, spec_with_pair, with_text};
 ghost use Rattle.ipc_schema.specs.SchemaBytes.{pair_bytes, entries_bytes};
-ghost use Rattle.ipc_schema.specs.MetadataLaws.{AreTexts};
+ghost use Rattle.ipc_schema.specs.MetadataLaws.{AreUtf8};
 
-use ipc_flatbuf::{Fault, NoForm};
 use ipc_flatbuf::{
-    Items, items_at, offset_at, offset_field, put_offset, put_row, put_string, text_at, visit_table,
+    IpcReadError, IpcWriteError, VectorItems, items_at, offset_at, offset_field, read_table,
+    str_at, write_offset, write_string, write_tables,
 };
 use nest_memory::datatypes::Metadata;
 use std::alloc::{AllocError, Global};
 use std::collections::BTreeMap;
 
-/// A key and its value.
+/// A key and its value (Schema.fbs, table `KeyValue`).
 #[derive(Clone, Copy)]
 pub struct Pair<'a> {
     pub key: &'a str,
     pub value: &'a str,
 }
 
-#[tactic(auto, unfolding(crate::specs::Schemas::pair_at))]
-fn pair_at(bytes: &[u8], place: usize, left: usize) -> Result<(Pair<'_>, usize), Fault>
+#[tactic(auto, unfolding(crate::specs::Schemas::spec_pair_at))]
+fn pair_at(bytes: &[u8], position: usize, left: usize) -> Result<(Pair<'_>, usize), IpcReadError>
     requires { length bytes.now < 2 ^ 32 }
-    ensures { Spells (λ x. ((x.0.key.now, x.0.value.now), x.1)) result (pair_at_lem bytes.now place left) }
+    ensures { Returns (λ x. ((x.0.key.now, x.0.value.now), x.1)) result (spec_pair_at bytes.now position left) }
 {
-    let (table, left) = visit_table(bytes, place, left)?;
+    let (table, left) = read_table(bytes, position, left)?;
     let key_at = offset_field(bytes, table, 0)?;
-    let (key, left) = text_at(bytes, key_at, left)?;
+    let (key, left) = str_at(bytes, key_at, left)?;
     let value_at = offset_field(bytes, table, 1)?;
-    let (value, left) = text_at(bytes, value_at, left)?;
+    let (value, left) = str_at(bytes, value_at, left)?;
     if key_at.is_some() && value_at.is_some() {
         Ok((Pair { key, value }, left))
     } else {
-        Err(Fault::Metadata)
+        Err(IpcReadError::Metadata)
     }
 }
 
-// Puts a pair into its place.
+// Inserts a pair; a later value of a key replaces the earlier one.
 fn insert(alloc: Global, metadata: &mut Metadata, key: &str, value: &str) -> Result<(), AllocError>
-    ensures { OnOk result (entries_of metadata.new.entries ≡ with_pair_lem key.now value.now (entries_of metadata.old.entries)) }
+    ensures { OnOk result (entries_of metadata.new.entries ≡ spec_with_pair key.now value.now (entries_of metadata.old.entries)) }
 {
     let key = String::from_str(alloc, key)?;
     let value = String::from_str(alloc, value)?;
@@ -58,40 +58,43 @@ fn insert(alloc: Global, metadata: &mut Metadata, key: &str, value: &str) -> Res
 fn pairs_of(
     alloc: Global,
     bytes: &[u8],
-    items: Items,
+    items: VectorItems,
     left: usize,
-) -> Result<(Metadata, usize), Fault>
+) -> Result<(Metadata, usize), IpcReadError>
     requires length { length bytes.now < 2 ^ 32 }
     requires within { items.first + items.count * 4 ≤ length bytes.now }
-    ensures { Gives (λ x. (entries_of x.0.entries, x.1)) result (with_all (tables_at (pair_at_lem bytes.now) bytes.now items.count items.first left)) }
+    ensures { ReturnsOrRunsOut (λ x. (entries_of x.0.entries, x.1)) result (with_all (tables_at (spec_pair_at bytes.now) bytes.now items.count items.first left)) }
 {
     let mut metadata = BTreeMap::new(alloc);
     let mut rest = left;
     for i in 0..items.count {
-        let place = offset_at(bytes, items.first + 4 * i)?;
-        let (pair, after) = pair_at(bytes, place, rest)?;
+        let position = offset_at(bytes, items.first + 4 * i)?;
+        let (pair, after) = pair_at(bytes, position, rest)?;
         insert(alloc, &mut metadata, pair.key, pair.value)?;
         rest = after;
     }
     Ok((metadata, rest))
 }
 
-/// The metadata that a vector of pairs spells, and what is left to spend.
-#[tactic(auto, unfolding(crate::specs::Schemas::metadata_at))]
+/// Returns the custom metadata at a position, empty where it is absent, and the budget left.
+///
+/// # Errors
+/// [`IpcReadError::Metadata`] where a pair has no key or no value, and those of flatbuffers.
+#[tactic(auto, unfolding(crate::specs::Schemas::spec_metadata_at))]
 pub fn metadata_at(
     alloc: Global,
     bytes: &[u8],
-    place: Option<usize>,
+    position: Option<usize>,
     left: usize,
-) -> Result<(Metadata, usize), Fault>
+) -> Result<(Metadata, usize), IpcReadError>
     requires { length bytes.now < 2 ^ 32 }
-    ensures { Gives (λ x. (entries_of x.0.entries, x.1)) result (metadata_at_lem bytes.now place left) }
+    ensures { ReturnsOrRunsOut (λ x. (entries_of x.0.entries, x.1)) result (spec_metadata_at bytes.now position left) }
 {
-    let (items, left) = items_at(4, bytes, place, left)?;
+    let (items, left) = items_at(4, bytes, position, left)?;
     pairs_of(alloc, bytes, items, left)
 }
 
-/// The value of a key, which is not there any more.
+/// Removes a key and returns its value.
 pub fn take(metadata: &mut Metadata, key: &str) -> Option<String>
     ensures value { option_map string_bytes result ≡ value_at key.now (entries_of metadata.old.entries) }
     ensures rest { entries_of metadata.new.entries ≡ without key.now (entries_of metadata.old.entries) }
@@ -99,7 +102,7 @@ pub fn take(metadata: &mut Metadata, key: &str) -> Option<String>
     metadata.remove(key)
 }
 
-// A map of its own.
+// A copy of the metadata.
 fn copy_of(metadata: &Metadata) -> Result<Metadata, AllocError>
     ensures { IfOk result (λ m. entries_of m.entries ≡ entries_of metadata.now.entries) }
 {
@@ -107,14 +110,15 @@ fn copy_of(metadata: &Metadata) -> Result<Metadata, AllocError>
     Ok(copied)
 }
 
-/// A copy of metadata, with what spells an extension.
+/// Returns a copy of the metadata with the keys of an extension type, `ARROW:extension:name` and, where there is
+/// text, `ARROW:extension:metadata`.
 pub fn with_extension(
     alloc: Global,
     metadata: &Metadata,
     title: &String,
     text: &Option<String>,
 ) -> Result<Metadata, AllocError>
-    ensures { IfOk result (λ m. entries_of m.entries ≡ with_pair_lem extension_name (string_bytes title.now) (with_text (text_of text.now) (entries_of metadata.now.entries))) }
+    ensures { IfOk result (λ m. entries_of m.entries ≡ spec_with_pair extension_name (string_bytes title.now) (with_text (text_of text.now) (entries_of metadata.now.entries))) }
 {
     let mut all = copy_of(metadata)?;
     if let Some(text) = text {
@@ -124,37 +128,37 @@ pub fn with_extension(
     Ok(all)
 }
 
-/// Whether a key is there.
+/// Returns whether the metadata has a key.
 pub fn has_key(metadata: &Metadata, key: &str) -> bool
-    ensures { result ≡ has_key_lem key.now (entries_of metadata.now.entries) }
+    ensures { result ≡ spec_has_key key.now (entries_of metadata.now.entries) }
 {
     metadata.contains_key(key)
 }
 
-// A pair as a table, with what it names.
+// The table of a pair with its strings.
 #[tactic(auto, unfolding(crate::specs::SchemaBytes::pair_bytes))]
-fn pair_part(alloc: Global, key: &str, value: &str) -> Result<Vec<u8>, NoForm>
+fn pair_part(alloc: Global, key: &str, value: &str) -> Result<Vec<u8>, IpcWriteError>
     ensures ok { IfOk result (λ part. part.items ≡ pair_bytes (key.now, value.now)) }
     ensures texts { OnOk result ((is_utf8 key.now ≡ true) × (is_utf8 value.now ≡ true)) }
-    ensures size { IfErr result (λ why. IsTooLong why (length (pair_bytes (key.now, value.now)))) }
+    ensures size { IfErr result (λ why. IsSizeError why (length (pair_bytes (key.now, value.now)))) }
 {
     let mut texts = Vec::new(alloc);
-    put_string(&mut texts, key)?;
+    write_string(&mut texts, key)?;
     let distance = 8 + texts.len();
-    put_string(&mut texts, value)?;
+    write_string(&mut texts, value)?;
     let mut out = Vec::new(alloc);
     out.extend_from_slice(&[8, 0, 12, 0, 4, 0, 8, 0, 8, 0, 0, 0, 12, 0, 0, 0])?;
-    put_offset(&mut out, distance, 0)?;
+    write_offset(&mut out, distance, 0)?;
     out.extend_from_slice(&[0, 0, 0, 0])?;
     out.extend_from_slice(&texts)?;
     Ok(out)
 }
 
-// Each pair as a table.
-fn pair_parts(alloc: Global, metadata: &Metadata) -> Result<Vec<Vec<u8>>, NoForm>
-    ensures ok { IfOk result (λ parts. parts_of parts.items ≡ map pair_bytes (entries_of metadata.now.entries)) }
-    ensures texts { OnOk result (AreTexts (entries_of metadata.now.entries)) }
-    ensures size { IfErr result (λ why. IsTooLong why (length (together (map pair_bytes (entries_of metadata.now.entries))))) }
+// The table of each pair.
+fn pair_parts(alloc: Global, metadata: &Metadata) -> Result<Vec<Vec<u8>>, IpcWriteError>
+    ensures ok { IfOk result (λ parts. bytes_of_each parts.items ≡ map pair_bytes (entries_of metadata.now.entries)) }
+    ensures texts { OnOk result (AreUtf8 (entries_of metadata.now.entries)) }
+    ensures size { IfErr result (λ why. IsSizeError why (length (concatenated (map pair_bytes (entries_of metadata.now.entries))))) }
 {
     let mut parts = Vec::new(alloc);
     for (key, value) in metadata {
@@ -164,14 +168,21 @@ fn pair_parts(alloc: Global, metadata: &Metadata) -> Result<Vec<Vec<u8>>, NoForm
     Ok(parts)
 }
 
-/// Appends the vector of a map's pairs.
-pub fn put_metadata(alloc: Global, out: &mut Vec<u8>, metadata: &Metadata) -> Result<(), NoForm>
+/// Appends the vector of the pairs of custom metadata.
+///
+/// # Errors
+/// [`IpcWriteError::Size`] where the vector has 2^31 bytes or more.
+pub fn write_metadata(
+    alloc: Global,
+    out: &mut Vec<u8>,
+    metadata: &Metadata,
+) -> Result<(), IpcWriteError>
     ensures ok { OnOk result (out.new.items ≡ out.old.items ++ entries_bytes (entries_of metadata.now.entries)) }
-    ensures texts { OnOk result (AreTexts (entries_of metadata.now.entries)) }
+    ensures texts { OnOk result (AreUtf8 (entries_of metadata.now.entries)) }
     ensures rising { IsOrdered string_cmp metadata.now }
-    ensures size { IfErr result (λ why. IsTooLong why (length (entries_bytes (entries_of metadata.now.entries)))) }
+    ensures size { IfErr result (λ why. IsSizeError why (length (entries_bytes (entries_of metadata.now.entries)))) }
 {
     let _len = metadata.len();
     let parts = pair_parts(alloc, metadata)?;
-    put_row(out, 8, &parts)
+    write_tables(out, 8, &parts)
 }

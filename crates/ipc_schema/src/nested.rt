@@ -1,47 +1,51 @@
-//! The tables of nested types, as they are read.
+//! Readers of the tables of nested types.
 ghost use Rattle.std.specs.Prelude.{◌≡◌, ◌<◌, ◌≤◌, ◌^◌, ◌+◌, ◌*◌, ◌++◌, ◌∷◌, [], length, option_map, OnOk, IfErr};
-ghost use Rattle.ipc_flatbuf.specs.declared.error.Fault.TheVariants.{Memory};
+ghost use Rattle.ipc_flatbuf.specs.declared.error.IpcReadError.TheVariants.{Memory};
 ghost use Rattle.std.specs.Int.{w32, cast_signed};
 ghost use Rattle.std.specs.List.{list_all};
-ghost use Rattle.ipc_flatbuf.specs.Reading.{Gives, Spells};
+ghost use Rattle.ipc_flatbuf.specs.ReadResults.{ReturnsOrRunsOut, Returns};
 ghost use Rattle.ipc_flatbuf.specs.Flatbuffers.{signed_at, structs_at};
-ghost use Rattle.ipc_schema.specs.Types.{fixed_size_list, map as map_shape, union, fixed_size_list_at as fixed_size_list_at_lem, map_at as map_at_lem, ids_at as ids_at_lem, mode_of as mode_of_lem, is_id as is_id_lem, are_ids as are_ids_lem, union_at as union_at_lem, shape_at as shape_at_lem};
-ghost use Rattle.ipc_schema.specs.Shapes.{shape_tree};
+ghost use Rattle.ipc_schema.specs.Types.{fixed_size_list, map as map_shape, union, spec_fixed_size_list_at, spec_map_at, spec_ids_at, spec_mode_of, spec_is_union_id, spec_are_union_ids, spec_union_at, spec_shape_at};
+ghost use Rattle.ipc_schema.specs.ShapeModels.{shape_tree};
 
-use crate::shapes::Shape;
-use crate::tags::Tag;
+use crate::type_shapes::Shape;
+use crate::type_tags::Tag;
 use crate::types::{size_of, type_at};
-use ipc_flatbuf::Fault;
 use ipc_flatbuf::{
-    Items, i16_field, i32_field, natural, offset_field, u8_field, u32_at, visit_table, visit_vector,
+    IpcReadError, VectorItems, i16_field, i32_field, non_negative, offset_field, read_table,
+    read_vector, u8_field, u32_at,
 };
 use nest_memory::datatypes::UnionMode;
 use std::alloc::Global;
 
-// How many items each list has.
-#[tactic(auto, unfolding(crate::specs::Types::fixed_size_list_at))]
-fn fixed_size_list_at(bytes: &[u8], place: usize, left: usize) -> Result<(usize, usize), Fault>
+// The size of the lists.
+#[tactic(auto, unfolding(crate::specs::Types::spec_fixed_size_list_at))]
+fn fixed_size_list_at(
+    bytes: &[u8],
+    position: usize,
+    left: usize,
+) -> Result<(usize, usize), IpcReadError>
     requires { length bytes.now < 2 ^ 32 }
-    ensures { Spells (λ x. (fixed_size_list x.0, x.1)) result (fixed_size_list_at_lem bytes.now place left) }
+    ensures { Returns (λ x. (fixed_size_list x.0, x.1)) result (spec_fixed_size_list_at bytes.now position left) }
 {
-    let (table, left) = visit_table(bytes, place, left)?;
+    let (table, left) = read_table(bytes, position, left)?;
     let width = i32_field(bytes, table, 0, 0)?;
-    let size = size_of(natural(Fault::TypeRange, width as i64)?)?;
+    let size = size_of(non_negative(IpcReadError::TypeRange, width as i64)?)?;
     Ok((size, left))
 }
 
 // Whether the keys of a map are sorted.
-#[tactic(auto, unfolding(crate::specs::Types::map_at))]
-fn map_at(bytes: &[u8], place: usize, left: usize) -> Result<(bool, usize), Fault>
+#[tactic(auto, unfolding(crate::specs::Types::spec_map_at))]
+fn map_at(bytes: &[u8], position: usize, left: usize) -> Result<(bool, usize), IpcReadError>
     requires { length bytes.now < 2 ^ 32 }
-    ensures { Spells (λ x. (map_shape x.0, x.1)) result (map_at_lem bytes.now place left) }
+    ensures { Returns (λ x. (map_shape x.0, x.1)) result (spec_map_at bytes.now position left) }
 {
-    let (table, left) = visit_table(bytes, place, left)?;
+    let (table, left) = read_table(bytes, position, left)?;
     let sorted = u8_field(bytes, table, 0)?;
     Ok((sorted > 0, left))
 }
 
-fn push_id(ids: &mut Vec<i32>, number: u32) -> Result<(), Fault>
+fn push_id(ids: &mut Vec<i32>, number: u32) -> Result<(), IpcReadError>
     ensures ok { OnOk result (ids.new.items ≡ ids.old.items ++ cast_signed w32 number ∷ []) }
     ensures memory { IfErr result (λ why. why ≡ Memory) }
 {
@@ -49,10 +53,10 @@ fn push_id(ids: &mut Vec<i32>, number: u32) -> Result<(), Fault>
     Ok(())
 }
 
-fn ids_of(alloc: Global, bytes: &[u8], items: Items) -> Result<Vec<i32>, Fault>
+fn ids_of(alloc: Global, bytes: &[u8], items: VectorItems) -> Result<Vec<i32>, IpcReadError>
     requires length { length bytes.now < 2 ^ 32 }
     requires within { items.first + items.count * 4 ≤ length bytes.now }
-    ensures { Gives (λ v. v.items) result (structs_at (signed_at w32 bytes.now) 4 items.count items.first) }
+    ensures { ReturnsOrRunsOut (λ v. v.items) result (structs_at (signed_at w32 bytes.now) 4 items.count items.first) }
 {
     let mut ids = Vec::new(alloc);
     for i in 0..items.count {
@@ -62,123 +66,125 @@ fn ids_of(alloc: Global, bytes: &[u8], items: Items) -> Result<Vec<i32>, Fault>
     Ok(ids)
 }
 
-// The ids of a union's fields, where it has some.
-#[tactic(auto, unfolding(crate::specs::Types::ids_at, ipc_flatbuf::specs::Flatbuffers::vector_at, ipc_flatbuf::specs::Flatbuffers::items_at))]
+// The type ids of a union, `None` where they are absent.
+#[tactic(auto, unfolding(crate::specs::Types::spec_ids_at, ipc_flatbuf::specs::Flatbuffers::vector_at, ipc_flatbuf::specs::Flatbuffers::spec_items_at))]
 fn ids_at(
     alloc: Global,
     bytes: &[u8],
-    place: Option<usize>,
+    position: Option<usize>,
     left: usize,
-) -> Result<(Option<Vec<i32>>, usize), Fault>
+) -> Result<(Option<Vec<i32>>, usize), IpcReadError>
     requires { length bytes.now < 2 ^ 32 }
-    ensures { Gives (λ x. (option_map (λ v. v.items) x.0, x.1)) result (ids_at_lem bytes.now place left) }
+    ensures { ReturnsOrRunsOut (λ x. (option_map (λ v. v.items) x.0, x.1)) result (spec_ids_at bytes.now position left) }
 {
-    match place {
+    match position {
         None => Ok((None, left)),
-        Some(place) => {
-            let (items, left) = visit_vector(4, bytes, place, left)?;
+        Some(position) => {
+            let (items, left) = read_vector(4, bytes, position, left)?;
             let ids = ids_of(alloc, bytes, items)?;
             Ok((Some(ids), left))
         }
     }
 }
 
-/// The mode of a union, by its number.
-pub fn mode_of(number: usize) -> Result<UnionMode, Fault>
-    ensures { result ≡ mode_of_lem number }
+/// Returns the union mode of a number (Schema.fbs, enum `UnionMode`).
+pub fn mode_of(number: usize) -> Result<UnionMode, IpcReadError>
+    ensures { result ≡ spec_mode_of number }
 {
     match number {
         0 => Ok(UnionMode::Sparse),
         1 => Ok(UnionMode::Dense),
-        _ => Err(Fault::TypeRange),
+        _ => Err(IpcReadError::TypeRange),
     }
 }
 
-fn is_id(id: i32) -> bool
-    ensures { result ≡ is_id_lem id }
+fn is_union_id(id: i32) -> bool
+    ensures { result ≡ spec_is_union_id id }
 {
     0 <= id && id < 128
 }
 
-fn is_each_id(ids: &[i32]) -> bool
-    ensures { result ≡ list_all is_id_lem ids.now }
+fn is_each_union_id(ids: &[i32]) -> bool
+    ensures { result ≡ list_all spec_is_union_id ids.now }
 {
-    ids.iter().all(|id| is_id(*id))
+    ids.iter().all(|id| is_union_id(*id))
 }
 
-/// Whether there is an id for each of so many fields, of at most 127.
-pub fn are_ids(ids: &Option<Vec<i32>>, count: usize) -> bool
-    ensures { result ≡ are_ids_lem (option_map (λ v. v.items) ids.now) count }
+/// Returns whether there is a type id from 0 to 127 for each of `count` fields, of which there are at most 127.
+///
+/// Absent type ids are the indices of the fields.
+pub fn are_union_ids(ids: &Option<Vec<i32>>, count: usize) -> bool
+    ensures { result ≡ spec_are_union_ids (option_map (λ v. v.items) ids.now) count }
 {
     match ids {
         None => count < 128,
-        Some(ids) => count < 128 && ids.len() == count && is_each_id(ids),
+        Some(ids) => count < 128 && ids.len() == count && is_each_union_id(ids),
     }
 }
 
-#[tactic(auto, unfolding(crate::specs::Types::union_at))]
+#[tactic(auto, unfolding(crate::specs::Types::spec_union_at))]
 fn union_at(
     alloc: Global,
     count: usize,
     bytes: &[u8],
-    place: usize,
+    position: usize,
     left: usize,
-) -> Result<(Option<Vec<i32>>, UnionMode, usize), Fault>
+) -> Result<(Option<Vec<i32>>, UnionMode, usize), IpcReadError>
     requires { length bytes.now < 2 ^ 32 }
-    ensures { Gives (λ x. (union (option_map (λ v. v.items) x.0) x.1, x.2)) result (union_at_lem count bytes.now place left) }
+    ensures { ReturnsOrRunsOut (λ x. (union (option_map (λ v. v.items) x.0) x.1, x.2)) result (spec_union_at count bytes.now position left) }
 {
-    let (table, left) = visit_table(bytes, place, left)?;
+    let (table, left) = read_table(bytes, position, left)?;
     let number = i16_field(bytes, table, 0, 0)?;
     let to = offset_field(bytes, table, 1)?;
     let (ids, left) = ids_at(alloc, bytes, to, left)?;
-    let mode = mode_of(natural(Fault::TypeRange, number as i64)?)?;
-    if are_ids(&ids, count) {
+    let mode = mode_of(non_negative(IpcReadError::TypeRange, number as i64)?)?;
+    if are_union_ids(&ids, count) {
         Ok((ids, mode, left))
     } else {
-        Err(Fault::UnionIds)
+        Err(IpcReadError::UnionIds)
     }
 }
 
-/// The type that a table of this tag spells, without its children, of which there are so many, and what is left to spend.
-#[tactic(auto, unfolding(crate::specs::Types::bare_at))]
+/// Returns the type of a type table without its children, of which there are `count`, and the budget left.
+#[tactic(auto, unfolding(crate::specs::Types::spec_bare_at))]
 pub fn shape_at(
     alloc: Global,
     tag: Tag,
     count: usize,
     bytes: &[u8],
-    place: usize,
+    position: usize,
     left: usize,
-) -> Result<(Shape<'_>, usize), Fault>
+) -> Result<(Shape<'_>, usize), IpcReadError>
     requires { length bytes.now < 2 ^ 32 }
-    ensures { Gives (λ x. (shape_tree x.0, x.1)) result (shape_at_lem tag count bytes.now place left) }
+    ensures { ReturnsOrRunsOut (λ x. (shape_tree x.0, x.1)) result (spec_shape_at tag count bytes.now position left) }
 {
     match tag {
         Tag::Leaf(tag) => {
-            let (leaf, left) = type_at(tag, bytes, place, left)?;
+            let (leaf, left) = type_at(tag, bytes, position, left)?;
             Ok((Shape::Leaf(leaf), left))
         }
         Tag::List => {
-            let (_, left) = visit_table(bytes, place, left)?;
+            let (_, left) = read_table(bytes, position, left)?;
             Ok((Shape::List, left))
         }
         Tag::LargeList => {
-            let (_, left) = visit_table(bytes, place, left)?;
+            let (_, left) = read_table(bytes, position, left)?;
             Ok((Shape::LargeList, left))
         }
         Tag::FixedSizeList => {
-            let (size, left) = fixed_size_list_at(bytes, place, left)?;
+            let (size, left) = fixed_size_list_at(bytes, position, left)?;
             Ok((Shape::FixedSizeList(size), left))
         }
         Tag::Struct => {
-            let (_, left) = visit_table(bytes, place, left)?;
+            let (_, left) = read_table(bytes, position, left)?;
             Ok((Shape::Struct, left))
         }
         Tag::Map => {
-            let (sorted, left) = map_at(bytes, place, left)?;
+            let (sorted, left) = map_at(bytes, position, left)?;
             Ok((Shape::Map(sorted), left))
         }
         Tag::Union => {
-            let (ids, mode, left) = union_at(alloc, count, bytes, place, left)?;
+            let (ids, mode, left) = union_at(alloc, count, bytes, position, left)?;
             Ok((Shape::Union(ids, mode), left))
         }
     }

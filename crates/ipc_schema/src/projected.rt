@@ -1,47 +1,48 @@
-//! Reads a schema by columns: the fields that are read, and what the others take in each batch.
+//! Readers of the projection of a schema: the columns that are read, and the nodes and buffers of the skipped ones.
 ghost use Rattle.std.specs.Prelude.{◌≡◌, ◌<◌, ◌≤◌, ◌^◌, ◌+◌, ◌*◌, ◌++◌, map, length, IfOk, OnOk, Ok};
 ghost use Rattle.std.specs.List.{list_any};
 ghost use Rattle.nest_memory.specs.TypeOf.{field_of};
-ghost use Rattle.ipc_flatbuf.specs.Reading.{Gives};
-ghost use Rattle.ipc_schema.specs.Dictionaries.{progress};
-ghost use Rattle.ipc_schema.specs.SeenOf.{seen_of};
+ghost use Rattle.ipc_flatbuf.specs.ReadResults.{ReturnsOrRunsOut};
+ghost use Rattle.ipc_schema.specs.DictionaryModels.{progress_of};
 ghost use Rattle.ipc_schema.specs.Schemas.{schema_of};
-ghost use Rattle.ipc_schema.specs.Picks.{picks_of, IsMade};
-ghost use Rattle.ipc_schema.specs.PickedSchemas.{item_by as item_by_lem, item_at as item_at_lem, picked_at as picked_at_lem, has_union as has_union_lem, in_any_version as in_any_version_lem, picked_schema_at as picked_schema_at_lem, stream_picked_at, picked_of, none_picked, with_item, joined, item_of, parts_of};
+ghost use Rattle.ipc_schema.specs.Projections.{projection_of, columns_of, IsColumnSet};
+ghost use Rattle.ipc_schema.specs.ProjectedSchemas.{spec_item_by, spec_item_at, spec_projected_fields_at, spec_has_union, spec_check_projected_version, spec_projected_schema_at, stream_projected_schema_at, projected_schema_of, no_fields, with_item, appended, item_of, fields_model_of};
 
-use crate::columns::{Columns, Picker};
-use crate::dictionaries::Dictionaries;
+use crate::columns::{ColumnSet, Projection};
+use crate::dictionaries::DictionaryTypes;
 use crate::metadata::metadata_at;
 use crate::reading::{field_at, schema_message};
 use crate::schema::Schema;
-use crate::spans::span_at;
-use crate::unions::in_version;
-use ipc_flatbuf::message::{Version, next_message};
-use ipc_flatbuf::{Fault, Span, Step};
-use ipc_flatbuf::{Items, i16_field, items_at, offset_at, offset_field, visit_table};
+use crate::skipped_fields::skipped_field_at;
+use crate::unions::check_version;
+use ipc_flatbuf::message::{MetadataVersion, next_message};
+use ipc_flatbuf::{
+    FieldAction, IpcReadError, SkippedField, VectorItems, i16_field, items_at, offset_at,
+    offset_field, read_table,
+};
 use nest_memory::datatypes::Field;
 use std::alloc::{AllocError, Global};
 
-/// The schema of the fields that are read, what is done with each field that there is, and the dictionaries of those that are
-/// read.
+/// The projection of a schema: the fields that are read, whether each field of the schema is read or skipped, and the
+/// dictionaries of the fields that are read.
 #[derive(Drop)]
-pub struct PickedSchema {
+pub struct ProjectedSchema {
     pub schema: Schema,
-    pub steps: Vec<Step>,
-    pub dictionaries: Dictionaries,
+    pub steps: Vec<FieldAction>,
+    pub dictionaries: DictionaryTypes,
 }
 
-// A field: read, or passed over.
+// A field that is read, or the nodes and buffers of one that is skipped.
 #[derive(Drop)]
 enum Item {
     Read(Field),
-    Passed(Span),
+    Passed(SkippedField),
 }
 
-// What is done with some fields, and those that are read.
+// Whether each field is read or skipped, and the fields that are read.
 #[derive(Drop)]
 struct Parts {
-    steps: Vec<Step>,
+    steps: Vec<FieldAction>,
     fields: Vec<Field>,
 }
 
@@ -49,66 +50,66 @@ fn item_by(
     alloc: Global,
     picked: bool,
     bytes: &[u8],
-    place: usize,
+    position: usize,
     left: usize,
-    seen: &mut Dictionaries,
-) -> Result<(Item, usize), Fault>
+    seen: &mut DictionaryTypes,
+) -> Result<(Item, usize), IpcReadError>
     requires { length bytes.now < 2 ^ 32 }
-    ensures { Gives (λ x. (item_of x.0, progress x.1 (seen_of seen.new))) result (item_by_lem picked bytes.now place (progress left (seen_of seen.old))) }
+    ensures { ReturnsOrRunsOut (λ x. (item_of x.0, progress_of x.1 seen.new)) result (spec_item_by picked bytes.now position (progress_of left seen.old)) }
 {
     if picked {
-        let (field, left) = field_at(alloc, 64, bytes, place, left, seen)?;
+        let (field, left) = field_at(alloc, 64, bytes, position, left, seen)?;
         Ok((Item::Read(field), left))
     } else {
-        let (span, left) = span_at(64, bytes, place, left)?;
+        let (span, left) = skipped_field_at(64, bytes, position, left)?;
         Ok((Item::Passed(span), left))
     }
 }
 
-// The field of this position.
+// The field with index i.
 fn item_at(
     alloc: Global,
-    picker: &Picker<'_>,
+    column_set: &ColumnSet<'_>,
     i: usize,
     bytes: &[u8],
-    place: usize,
+    position: usize,
     left: usize,
-    seen: &mut Dictionaries,
-) -> Result<(Item, usize), Fault>
-    requires made { IsMade picker.now }
+    seen: &mut DictionaryTypes,
+) -> Result<(Item, usize), IpcReadError>
+    requires made { IsColumnSet column_set.now }
     requires length { length bytes.now < 2 ^ 32 }
-    ensures { Gives (λ x. (item_of x.0, progress x.1 (seen_of seen.new))) result (item_at_lem (picks_of picker.now.columns) bytes.now i place (progress left (seen_of seen.old))) }
+    ensures { ReturnsOrRunsOut (λ x. (item_of x.0, progress_of x.1 seen.new)) result (spec_item_at (columns_of column_set.now) bytes.now i position (progress_of left seen.old)) }
 {
-    let picked = picker.is_picked_at(bytes, i, place, left)?;
-    item_by(alloc, picked, bytes, place, left, seen)
+    let picked = column_set.contains_field(bytes, i, position, left)?;
+    item_by(alloc, picked, bytes, position, left, seen)
 }
 
 fn push(parts: &mut Parts, item: Item) -> Result<(), AllocError>
-    ensures { OnOk result (parts_of parts.new ≡ joined (parts_of parts.old) (with_item (item_of item) none_picked)) }
+    ensures { OnOk result (fields_model_of parts.new ≡ appended (fields_model_of parts.old) (with_item (item_of item) no_fields)) }
 {
     match item {
         Item::Read(field) => {
-            parts.steps.push(Step::Read)?;
+            parts.steps.push(FieldAction::Read)?;
             parts.fields.push(field)?;
         }
-        Item::Passed(span) => parts.steps.push(Step::Skip(span))?,
+        Item::Passed(span) => parts.steps.push(FieldAction::Skip(span))?,
     }
     Ok(())
 }
 
-// The fields that offsets in a row point to.
-fn picked_at(
+// The fields of a vector.
+fn projected_fields_at(
     alloc: Global,
-    picker: &Picker<'_>,
+    column_set: &ColumnSet<'_>,
     bytes: &[u8],
-    items: Items,
+    items: VectorItems,
     left: usize,
-    seen: &mut Dictionaries,
-) -> Result<(Parts, usize), Fault>
-    requires made { IsMade picker.now }
+    seen: &mut DictionaryTypes,
+) -> Result<(Parts, usize), IpcReadError>
+    requires made { IsColumnSet column_set.now }
     requires length { length bytes.now < 2 ^ 32 }
     requires within { items.first + items.count * 4 ≤ length bytes.now }
-    ensures { Gives (λ x. (parts_of x.0, progress x.1 (seen_of seen.new))) result (picked_at_lem (picks_of picker.now.columns) bytes.now 0 items.count items.first (progress left (seen_of seen.old))) }
+    ensures { ReturnsOrRunsOut (λ x. (fields_model_of x.0, progress_of x.1 seen.new)) result (spec_projected_fields_at (columns_of column_set.now) bytes.now 0 items.count items.first (progress_of left seen.old)) }
 {
     let mut parts = Parts {
         steps: Vec::new(alloc),
@@ -116,39 +117,49 @@ fn picked_at(
     };
     let mut rest = left;
     for i in 0..items.count {
-        let place = offset_at(bytes, items.first + 4 * i)?;
-        let (item, after) = item_at(alloc, picker, i, bytes, place, rest, seen)?;
+        let position = offset_at(bytes, items.first + 4 * i)?;
+        let (item, after) = item_at(alloc, column_set, i, bytes, position, rest, seen)?;
         push(&mut parts, item)?;
         rest = after;
     }
     Ok((parts, rest))
 }
 
-/// The schema of the fields that are read of a table of metadata, and what is left to spend.
-#[tactic(auto, unfolding(crate::specs::PickedSchemas::picked_schema_at))]
-pub fn picked_schema_at(
+/// Returns the projection of the schema whose table is at a position of the metadata, and the budget left.
+///
+/// # Errors
+/// [`IpcReadError::Endianness`], and those of the fields and the custom metadata.
+#[tactic(auto, unfolding(crate::specs::ProjectedSchemas::spec_projected_schema_at))]
+pub fn projected_schema_at(
     alloc: Global,
-    picker: &Picker<'_>,
+    column_set: &ColumnSet<'_>,
     bytes: &[u8],
-    place: usize,
+    position: usize,
     left: usize,
-) -> Result<(PickedSchema, usize), Fault>
-    requires made { IsMade picker.now }
+) -> Result<(ProjectedSchema, usize), IpcReadError>
+    requires made { IsColumnSet column_set.now }
     requires length { length bytes.now < 2 ^ 32 }
-    ensures { Gives (λ x. (picked_of x.0, x.1)) result (picked_schema_at_lem (picks_of picker.now.columns) bytes.now place left) }
+    ensures { ReturnsOrRunsOut (λ x. (projected_schema_of x.0, x.1)) result (spec_projected_schema_at (columns_of column_set.now) bytes.now position left) }
 {
-    let (table, left) = visit_table(bytes, place, left)?;
+    let (table, left) = read_table(bytes, position, left)?;
     if i16_field(bytes, table, 0, 0)? != 0 {
-        return Err(Fault::Endianness);
+        return Err(IpcReadError::Endianness);
     }
     let (items, left) = items_at(4, bytes, offset_field(bytes, table, 1)?, left)?;
-    let mut dictionaries = Dictionaries::new(alloc);
-    let (parts, left) = picked_at(alloc, picker, bytes, items, left, &mut dictionaries)?;
+    let mut dictionaries = DictionaryTypes::new(alloc);
+    let (parts, left) = projected_fields_at(
+        alloc,
+        column_set,
+        bytes,
+        items,
+        left,
+        &mut dictionaries,
+    )?;
     let to = offset_field(bytes, table, 2)?;
     let (metadata, left) = metadata_at(alloc, bytes, to, left)?;
     let Parts { steps, fields } = parts;
     let schema = Schema { fields, metadata };
-    let picked = PickedSchema {
+    let picked = ProjectedSchema {
         schema,
         steps,
         dictionaries,
@@ -156,32 +167,40 @@ pub fn picked_schema_at(
     Ok((picked, left))
 }
 
-fn has_union(step: Step) -> bool
-    ensures { result ≡ has_union_lem step }
+fn has_union(step: FieldAction) -> bool
+    ensures { result ≡ spec_has_union step }
 {
     match step {
-        Step::Read => false,
-        Step::Skip(span) => span.has_union,
+        FieldAction::Read => false,
+        FieldAction::Skip(span) => span.has_union,
     }
 }
 
-fn passes_union(steps: &[Step]) -> bool
-    ensures { result ≡ list_any has_union_lem steps.now }
+fn skips_union(steps: &[FieldAction]) -> bool
+    ensures { result ≡ list_any spec_has_union steps.now }
 {
     steps.iter().any(|step| has_union(*step))
 }
 
-/// That metadata of this version is read where these fields are read and these steps are taken: up to V4 unions had a validity, so
-/// they are neither read nor passed over.
-pub fn in_any_version(version: Version, fields: &[Field], steps: &[Step]) -> Result<(), Fault>
-    ensures { result ≡ in_any_version_lem version (map field_of fields.now) steps.now }
+/// Checks that the metadata version supports the fields, both those that are read and those that are skipped.
+///
+/// Before V5 unions had a validity bitmap, so unions of V4 are neither read nor skipped.
+///
+/// # Errors
+/// [`IpcReadError::Version`] where the version is V4 and there is a union.
+pub fn check_projected_version(
+    version: MetadataVersion,
+    fields: &[Field],
+    steps: &[FieldAction],
+) -> Result<(), IpcReadError>
+    ensures { result ≡ spec_check_projected_version version (map field_of fields.now) steps.now }
 {
-    in_version(version, fields)?;
+    check_version(version, fields)?;
     match version {
-        Version::V5 => Ok(()),
-        Version::V4 => {
-            if passes_union(steps) {
-                Err(Fault::Version)
+        MetadataVersion::V5 => Ok(()),
+        MetadataVersion::V4 => {
+            if skips_union(steps) {
+                Err(IpcReadError::Version)
             } else {
                 Ok(())
             }
@@ -189,22 +208,31 @@ pub fn in_any_version(version: Version, fields: &[Field], steps: &[Step]) -> Res
     }
 }
 
-/// The schema of the fields that are read of the one that a stream begins with, and what stands behind its message.
-#[tactic(auto, unfolding(crate::specs::PickedSchemas::stream_picked_at))]
-pub fn read_picked_schema<'a>(
+/// Returns the projection of the schema of a stream, and the bytes after the schema message.
+///
+/// # Errors
+/// [`IpcReadError::MissingSchema`] where the first message is not a schema, and the errors of reading one.
+#[tactic(auto, unfolding(crate::specs::ProjectedSchemas::stream_projected_schema_at))]
+pub fn read_projected_schema<'a>(
     alloc: Global,
-    columns: Columns<'_>,
+    columns: Projection<'_>,
     bytes: &'a [u8],
-) -> Result<(PickedSchema, &'a [u8]), Fault>
-    ensures { Gives (λ x. (picked_of x.0, x.1.now)) result (stream_picked_at (picks_of columns.entry) bytes.now) }
+) -> Result<(ProjectedSchema, &'a [u8]), IpcReadError>
+    ensures { ReturnsOrRunsOut (λ x. (projected_schema_of x.0, x.1.now)) result (stream_projected_schema_at (projection_of columns.entry) bytes.now) }
 {
     let (first, rest) = next_message(bytes)?;
     let message = schema_message(first)?;
-    let picker = Picker::new(alloc, columns)?;
+    let column_set = ColumnSet::new(alloc, columns)?;
     let root = message.root;
-    let (picked, _) = picked_schema_at(alloc, &picker, message.metadata, root.header, root.left)?;
-    match in_any_version(root.version, &picked.schema.fields, &picked.steps) {
-        Err(fault) => Err(fault),
+    let (picked, _) = projected_schema_at(
+        alloc,
+        &column_set,
+        message.metadata,
+        root.header,
+        root.left,
+    )?;
+    match check_projected_version(root.version, &picked.schema.fields, &picked.steps) {
+        Err(error) => Err(error),
         Ok(_) => Ok((picked, rest)),
     }
 }

@@ -1,59 +1,60 @@
-//! Reads the schema that a stream begins with.
+//! Readers of schemas.
 ghost use Rattle.std.specs.Prelude.{◌≡◌, ◌<◌, ◌≤◌, ◌^◌, ◌+◌, ◌*◌, map, length, IfOk, IfSome, Ok, string_bytes};
 ghost use Rattle.nest_memory.specs.TypeOf.{entries_of, field_of, type_of};
-ghost use Rattle.ipc_schema.specs.Extensions.{field_with_all};
-ghost use Rattle.ipc_flatbuf.specs.Reading.{Gives, Spells, check};
-ghost use Rattle.ipc_flatbuf.specs.declared.error.Fault.TheVariants.{ChildCount};
-ghost use Rattle.ipc_schema.specs.FieldRows.{rows_at};
-ghost use Rattle.ipc_schema.specs.Dictionaries.{progress};
-ghost use Rattle.ipc_schema.specs.SeenOf.{seen_of};
-ghost use Rattle.ipc_flatbuf.specs.Messages.{parts_of, message_of};
-ghost use Rattle.ipc_schema.specs.Types.{can_have as can_have_lem, with_children as with_children_lem};
-ghost use Rattle.ipc_schema.specs.Shapes.{shape_tree};
-ghost use Rattle.ipc_schema.specs.Schemas.{field_of_type, field_over as field_over_lem, field_at as field_at_lem, keyed_schema_at, schema_parts, stream_keyed_schema_at, keyed_schema_of};
+ghost use Rattle.ipc_schema.specs.Extensions.{field_with_metadata};
+ghost use Rattle.ipc_flatbuf.specs.ReadResults.{ReturnsOrRunsOut, Returns, check};
+ghost use Rattle.ipc_flatbuf.specs.declared.error.IpcReadError.TheVariants.{ChildCount};
+ghost use Rattle.ipc_schema.specs.FieldVectors.{tables_in_turn};
+ghost use Rattle.ipc_schema.specs.DictionaryModels.{types_of, progress_of};
+ghost use Rattle.ipc_flatbuf.specs.Messages.{model_of, optional_model_of};
+ghost use Rattle.ipc_schema.specs.Types.{spec_can_have};
+ghost use Rattle.ipc_schema.specs.ShapeModels.{shape_tree, completed_type};
+ghost use Rattle.ipc_schema.specs.Schemas.{field_of_keys, spec_field_over, spec_field_at, spec_schema_at, schema_parts, stream_schema_at, schema_with_dictionaries_of};
 
-use crate::dictionaries::{Dictionaries, Encoding, dictionary_at, keyed, see_id, see_values};
+use crate::dictionaries::{
+    DictionaryTypes, Encoding, dictionary_at, dictionary_type_of, record_id, record_values,
+};
 use crate::metadata::{metadata_at, take};
 use crate::nested::shape_at;
-use crate::schema::{KeyedSchema, Schema};
-use crate::shapes::{Shape, can_have, with_children};
-use crate::tags::type_place;
-use crate::unions::in_version;
-use ipc_flatbuf::message::{Kind, Message, next_message};
-use ipc_flatbuf::Fault;
+use crate::schema::{Schema, SchemaWithDictionaries};
+use crate::type_shapes::{Shape, can_have, with_children};
+use crate::type_tags::type_position;
+use crate::unions::check_version;
+use ipc_flatbuf::message::{Message, MessageKind, next_message};
 use ipc_flatbuf::{
-    Items, i16_field, items_at, offset_at, offset_field, text_at, u8_field, visit_table,
+    IpcReadError, VectorItems, i16_field, items_at, offset_at, offset_field, read_table, str_at,
+    u8_field,
 };
 use nest_memory::datatypes::{DataType, Field, Metadata};
 use std::alloc::Global;
 
-// That a type may have so many children.
-fn counted(shape: &Shape<'_>, count: usize) -> Result<(), Fault>
-    ensures { result ≡ check (can_have_lem (shape_tree shape.now) count) ChildCount }
+// Checks the number of children of a type.
+fn check_child_count(shape: &Shape<'_>, count: usize) -> Result<(), IpcReadError>
+    ensures { result ≡ check (spec_can_have (shape_tree shape.now) count) ChildCount }
 {
     if can_have(shape, count) {
         Ok(())
     } else {
-        Err(Fault::ChildCount)
+        Err(IpcReadError::ChildCount)
     }
 }
 
-// How a field is encoded, and how many ids were seen before it.
+// The dictionary encoding of a field, and the number of ids before its own.
 #[derive(Clone, Copy)]
 struct Keys {
     dictionary: Option<Encoding>,
     before: usize,
 }
 
-// A field of its type and of all its metadata, which may spell an extension.
-fn titled(
+// The field of a type and all its metadata, which may contain the keys of an extension type.
+fn extension_field(
     alloc: Global,
     name: String,
     data_type: DataType,
     is_nullable: bool,
     all: Metadata,
-) -> Result<Field, Fault>
-    ensures { Gives field_of result (Ok (field_with_all (string_bytes name) (type_of data_type) is_nullable (entries_of all.entries))) }
+) -> Result<Field, IpcReadError>
+    ensures { ReturnsOrRunsOut field_of result (Ok (field_with_metadata (string_bytes name) (type_of data_type) is_nullable (entries_of all.entries))) }
 {
     let mut metadata = all;
     match take(&mut metadata, "ARROW:extension:name") {
@@ -76,7 +77,7 @@ fn titled(
     }
 }
 
-// A field of its parts, with a name of its own; what its dictionary's id names is seen.
+// The field of its parts; adds the value type of its dictionary id.
 fn field_with(
     alloc: Global,
     name: &str,
@@ -85,42 +86,42 @@ fn field_with(
     is_nullable: bool,
     metadata: Metadata,
     keys: Keys,
-    seen: &mut Dictionaries,
-) -> Result<Field, Fault>
-    ensures { Gives (λ x. (field_of x, seen_of seen.new)) result (field_of_type name.now is_nullable (entries_of metadata.entries) keys.dictionary keys.before (seen_of seen.old) (with_children_lem (shape_tree shape.entry) (map field_of fields.items))) }
+    seen: &mut DictionaryTypes,
+) -> Result<Field, IpcReadError>
+    ensures { ReturnsOrRunsOut (λ x. (field_of x, types_of seen.new)) result (field_of_keys name.now is_nullable (entries_of metadata.entries) keys (types_of seen.old) (completed_type shape.entry fields)) }
 {
     let values = with_children(alloc, shape, fields)?;
-    see_values(alloc, seen, keys.dictionary, &values, keys.before)?;
-    let data_type = keyed(alloc, keys.dictionary, values)?;
+    record_values(alloc, seen, keys.dictionary, &values, keys.before)?;
+    let data_type = dictionary_type_of(alloc, keys.dictionary, values)?;
     let name = String::from_str(alloc, name)?;
-    titled(alloc, name, data_type, is_nullable, metadata)
+    extension_field(alloc, name, data_type, is_nullable, metadata)
 }
 
-// A field, whose children may be so deep.
+// A field whose children have this depth at most.
 #[cycle(fields)]
 fn field_over(
     alloc: Global,
     depth: u8,
     bytes: &[u8],
-    place: usize,
+    position: usize,
     left: usize,
-    seen: &mut Dictionaries,
-) -> Result<(Field, usize), Fault>
+    seen: &mut DictionaryTypes,
+) -> Result<(Field, usize), IpcReadError>
     requires { length bytes.now < 2 ^ 32 }
-    ensures { Gives (λ x. (field_of x.0, progress x.1 (seen_of seen.new))) result (field_over_lem (field_at_lem depth bytes.now) bytes.now place (progress left (seen_of seen.old))) }
+    ensures { ReturnsOrRunsOut (λ x. (field_of x.0, progress_of x.1 seen.new)) result (spec_field_over (spec_field_at depth bytes.now) bytes.now position (progress_of left seen.old)) }
 {
-    let (table, left) = visit_table(bytes, place, left)?;
-    let (name, left) = text_at(bytes, offset_field(bytes, table, 0)?, left)?;
+    let (table, left) = read_table(bytes, position, left)?;
+    let (name, left) = str_at(bytes, offset_field(bytes, table, 0)?, left)?;
     let is_nullable = u8_field(bytes, table, 1)? > 0;
     let number = u8_field(bytes, table, 2)?;
-    let (tag, place) = type_place(number, offset_field(bytes, table, 3)?)?;
+    let (tag, position) = type_position(number, offset_field(bytes, table, 3)?)?;
     let (children, left) = items_at(4, bytes, offset_field(bytes, table, 5)?, left)?;
-    let (shape, left) = shape_at(alloc, tag, children.count, bytes, place, left)?;
+    let (shape, left) = shape_at(alloc, tag, children.count, bytes, position, left)?;
     let (dictionary, left) = dictionary_at(bytes, offset_field(bytes, table, 4)?, left)?;
-    counted(&shape, children.count)?;
+    check_child_count(&shape, children.count)?;
     let before = seen.ids.len();
     let keys = Keys { dictionary, before };
-    see_id(seen, dictionary)?;
+    record_id(seen, dictionary)?;
     let (fields, left) = fields_at(alloc, depth, bytes, children, left, seen)?;
     let (metadata, left) = metadata_at(alloc, bytes, offset_field(bytes, table, 6)?, left)?;
     let field = field_with(
@@ -136,91 +137,99 @@ fn field_over(
     Ok((field, left))
 }
 
-/// A field and those inside of it, so deep at most.
+/// Returns the field at a position with its descendants, to a depth, and the budget left.
 #[cycle(fields)]
 pub fn field_at(
     alloc: Global,
     depth: u8,
     bytes: &[u8],
-    place: usize,
+    position: usize,
     left: usize,
-    seen: &mut Dictionaries,
-) -> Result<(Field, usize), Fault>
+    seen: &mut DictionaryTypes,
+) -> Result<(Field, usize), IpcReadError>
     requires { length bytes.now < 2 ^ 32 }
-    ensures { Gives (λ x. (field_of x.0, progress x.1 (seen_of seen.new))) result (field_at_lem depth bytes.now place (progress left (seen_of seen.old))) }
+    ensures { ReturnsOrRunsOut (λ x. (field_of x.0, progress_of x.1 seen.new)) result (spec_field_at depth bytes.now position (progress_of left seen.old)) }
 {
     if depth == 0 {
-        return Err(Fault::Depth);
+        return Err(IpcReadError::Depth);
     }
-    field_over(alloc, depth - 1, bytes, place, left, seen)
+    field_over(alloc, depth - 1, bytes, position, left, seen)
 }
 
-// The fields that offsets in a row point to.
+// The fields of a vector.
 #[cycle(fields)]
 fn fields_at(
     alloc: Global,
     depth: u8,
     bytes: &[u8],
-    items: Items,
+    items: VectorItems,
     left: usize,
-    seen: &mut Dictionaries,
-) -> Result<(Vec<Field>, usize), Fault>
+    seen: &mut DictionaryTypes,
+) -> Result<(Vec<Field>, usize), IpcReadError>
     requires length { length bytes.now < 2 ^ 32 }
     requires within { items.first + items.count * 4 ≤ length bytes.now }
-    ensures { Gives (λ x. (map field_of x.0.items, progress x.1 (seen_of seen.new))) result (rows_at (field_at_lem depth bytes.now) bytes.now items.count items.first (progress left (seen_of seen.old))) }
+    ensures { ReturnsOrRunsOut (λ x. (map field_of x.0.items, progress_of x.1 seen.new)) result (tables_in_turn (spec_field_at depth bytes.now) bytes.now items.count items.first (progress_of left seen.old)) }
 {
     let mut fields = Vec::new(alloc);
     let mut rest = left;
     for i in 0..items.count {
-        let place = offset_at(bytes, items.first + 4 * i)?;
-        let (field, after) = field_at(alloc, depth, bytes, place, rest, seen)?;
+        let position = offset_at(bytes, items.first + 4 * i)?;
+        let (field, after) = field_at(alloc, depth, bytes, position, rest, seen)?;
         fields.push(field)?;
         rest = after;
     }
     Ok((fields, rest))
 }
 
-/// The schema of a table of metadata with the dictionaries of its fields, and what is left to spend.
-#[tactic(auto, unfolding(crate::specs::Schemas::keyed_schema_at))]
+/// Returns the schema whose table is at a position of the metadata with its dictionaries, and the budget left.
+///
+/// # Errors
+/// [`IpcReadError::Endianness`], and those of the fields and the custom metadata.
+///
+/// Source: Schema.fbs, table `Schema`.
+#[tactic(auto, unfolding(crate::specs::Schemas::spec_schema_at))]
 pub fn schema_at(
     alloc: Global,
     bytes: &[u8],
-    place: usize,
+    position: usize,
     left: usize,
-) -> Result<(KeyedSchema, usize), Fault>
+) -> Result<(SchemaWithDictionaries, usize), IpcReadError>
     requires { length bytes.now < 2 ^ 32 }
-    ensures { Gives (λ x. (keyed_schema_of x.0, x.1)) result (keyed_schema_at bytes.now place left) }
+    ensures { ReturnsOrRunsOut (λ x. (schema_with_dictionaries_of x.0, x.1)) result (spec_schema_at bytes.now position left) }
 {
-    let (table, left) = visit_table(bytes, place, left)?;
+    let (table, left) = read_table(bytes, position, left)?;
     if i16_field(bytes, table, 0, 0)? != 0 {
-        return Err(Fault::Endianness);
+        return Err(IpcReadError::Endianness);
     }
     let (items, left) = items_at(4, bytes, offset_field(bytes, table, 1)?, left)?;
-    let mut dictionaries = Dictionaries::new(alloc);
+    let mut dictionaries = DictionaryTypes::new(alloc);
     let (fields, left) = fields_at(alloc, 64, bytes, items, left, &mut dictionaries)?;
     let to = offset_field(bytes, table, 2)?;
     let (metadata, left) = metadata_at(alloc, bytes, to, left)?;
     let schema = Schema { fields, metadata };
-    let keyed = KeyedSchema {
+    let parsed = SchemaWithDictionaries {
         schema,
         dictionaries,
     };
-    Ok((keyed, left))
+    Ok((parsed, left))
 }
 
-/// The message of a schema, without a body.
-pub fn schema_message(first: Option<Message<'_>>) -> Result<Message<'_>, Fault>
+/// Checks that a message is a schema without a body.
+///
+/// # Errors
+/// [`IpcReadError::MissingSchema`] where it is not a schema, [`IpcReadError::BodyLength`] where it has a body.
+pub fn schema_message(first: Option<Message<'_>>) -> Result<Message<'_>, IpcReadError>
     requires { IfSome first (λ m. length m.metadata.now < 2 ^ 31) }
-    ensures parts { Spells parts_of result (schema_parts (message_of first.entry)) }
+    ensures parts { Returns model_of result (schema_parts (optional_model_of first.entry)) }
     ensures small { IfOk result (λ m. length m.metadata.now < 2 ^ 31) }
 {
     match first {
-        None => Err(Fault::NoSchema),
+        None => Err(IpcReadError::MissingSchema),
         Some(message) => {
-            if message.root.kind != Kind::Schema {
-                Err(Fault::NoSchema)
+            if message.root.kind != MessageKind::Schema {
+                Err(IpcReadError::MissingSchema)
             } else if message.root.body_length != 0 {
-                Err(Fault::BodyLength)
+                Err(IpcReadError::BodyLength)
             } else {
                 Ok(message)
             }
@@ -228,17 +237,24 @@ pub fn schema_message(first: Option<Message<'_>>) -> Result<Message<'_>, Fault>
     }
 }
 
-/// The schema that a stream begins with and the dictionaries of its fields, and what stands behind its message.
-#[tactic(auto, unfolding(crate::specs::Schemas::stream_keyed_schema_at))]
-pub fn read_schema(alloc: Global, bytes: &[u8]) -> Result<(KeyedSchema, &[u8]), Fault>
-    ensures { Gives (λ x. (keyed_schema_of x.0, x.1.now)) result (stream_keyed_schema_at bytes.now) }
+/// Returns the schema of a stream with its dictionaries, and the bytes after the schema message.
+///
+/// # Errors
+/// [`IpcReadError::MissingSchema`] where the first message is not a schema, [`IpcReadError::Version`] where the
+/// version does not support its types, and the errors of messages, fields and custom metadata.
+#[tactic(auto, unfolding(crate::specs::Schemas::stream_schema_at))]
+pub fn read_schema(
+    alloc: Global,
+    bytes: &[u8],
+) -> Result<(SchemaWithDictionaries, &[u8]), IpcReadError>
+    ensures { ReturnsOrRunsOut (λ x. (schema_with_dictionaries_of x.0, x.1.now)) result (stream_schema_at bytes.now) }
 {
     let (first, rest) = next_message(bytes)?;
     let message = schema_message(first)?;
     let root = message.root;
-    let (keyed, _) = schema_at(alloc, message.metadata, root.header, root.left)?;
-    match in_version(root.version, &keyed.schema.fields) {
-        Err(fault) => Err(fault),
-        Ok(_) => Ok((keyed, rest)),
+    let (parsed, _) = schema_at(alloc, message.metadata, root.header, root.left)?;
+    match check_version(root.version, &parsed.schema.fields) {
+        Err(error) => Err(error),
+        Ok(_) => Ok((parsed, rest)),
     }
 }

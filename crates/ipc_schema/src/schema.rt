@@ -1,19 +1,19 @@
-//! What a stream's batches hold.
-use crate::dictionaries::Dictionaries;
+//! Schemas.
+use crate::dictionaries::DictionaryTypes;
 use nest_memory::datatypes::{Field, Metadata};
 
-/// The columns of all batches of a stream, `Schema` of `Schema.fbs` of the Arrow format.
+/// The fields of the columns of all record batches, with custom metadata (Schema.fbs, table `Schema`).
 #[derive(Drop)]
 pub struct Schema {
-    /// A field for each column.
+    /// The field of each column.
     pub fields: Vec<Field>,
-    /// What users attach to it.
+    /// The custom metadata.
     pub metadata: Metadata,
 }
 
-/// A schema, and the dictionaries of its fields, whose ids stand as nodes and buffers do.
+/// A schema and the dictionaries of its fields, whose ids are in pre-order, as field nodes and buffers are.
 #[derive(Drop)]
-pub struct KeyedSchema {
+pub struct SchemaWithDictionaries {
     pub schema: Schema,
-    pub dictionaries: Dictionaries,
+    pub dictionaries: DictionaryTypes,
 }

@@ -1,61 +1,60 @@
-//! The tables of types, as they are written.
+//! Writers of the tables of types.
 ghost use Rattle.std.specs.Prelude.{◌≡◌, ◌<◌, ◌^◌, ◌++◌, length, map, option_map, OnOk, IfErr, Ok};
 ghost use Rattle.std.specs.List.{flat_map};
 ghost use Rattle.nest_memory.specs.TypeOf.{type_of, text_of, field_of};
-ghost use Rattle.ipc_flatbuf.specs.Bytes.{i32_bytes};
-ghost use Rattle.ipc_flatbuf.specs.Writers.{IsTooLong};
-ghost use Rattle.ipc_schema.specs.Extensions.{stored as stored_lem, table_type as table_type_lem, is_extension as is_extension_lem};
-ghost use Rattle.ipc_schema.specs.Types.{children_of as children_of_lem};
-ghost use Rattle.ipc_schema.specs.Forms.{then_form, unless as unless_lem, number_form as number_form_lem, size_form as size_form_lem, type_form as type_form_lem};
-ghost use Rattle.ipc_schema.specs.SchemaBytes.{no_field, one_field, two_fields, three_fields, unit_number as unit_number_lem, interval_number as interval_number_lem, mode_number as mode_number_lem, ids_bytes, union_bytes, timestamp_bytes, type_bytes, type_number as type_number_lem};
+ghost use Rattle.ipc_flatbuf.specs.PartBytes.{i32_bytes};
+ghost use Rattle.ipc_flatbuf.specs.WriteErrors.{IsSizeError};
+ghost use Rattle.ipc_schema.specs.Extensions.{spec_storage_type, spec_table_type, spec_is_extension};
+ghost use Rattle.ipc_schema.specs.Types.{spec_children_of};
+ghost use Rattle.ipc_schema.specs.WriteChecks.{and_then_check, spec_require, spec_check_number, spec_check_size, spec_check_type};
+ghost use Rattle.ipc_schema.specs.SchemaBytes.{no_field, one_field, two_fields, three_fields, spec_unit_number, spec_interval_number, spec_mode_number, ids_bytes, union_bytes, timestamp_bytes, type_bytes, spec_type_number};
 ghost use Rattle.ipc_schema.specs.TypeLaws.{IsZone, TypeFits, AreFew};
 
-use crate::nested::are_ids;
-use crate::shapes::is_pair;
+use crate::nested::are_union_ids;
+use crate::type_shapes::is_pair;
 use crate::types::is_coarse;
-use ipc_flatbuf::NoForm;
-use ipc_flatbuf::{put_i32, put_string, put_u32, put_zeros};
+use ipc_flatbuf::{IpcWriteError, write_i32, write_string, write_u32, write_zeros};
 use nest_memory::datatypes::{DataType, Field, IntervalUnit, TimeUnit, UnionMode};
 use std::alloc::AllocError;
 use std::slice;
 
-fn number_form(number: usize) -> Result<(), NoForm>
-    ensures { result ≡ number_form_lem number }
+fn check_number(number: usize) -> Result<(), IpcWriteError>
+    ensures { result ≡ spec_check_number number }
 {
     if number < 1 << 31 {
         Ok(())
     } else {
-        Err(NoForm::Size)
+        Err(IpcWriteError::Size)
     }
 }
 
-fn size_form(size: usize) -> Result<(), NoForm>
-    ensures { result ≡ size_form_lem size }
+fn check_size(size: usize) -> Result<(), IpcWriteError>
+    ensures { result ≡ spec_check_size size }
 {
     if size == 0 {
-        Err(NoForm::Type)
+        Err(IpcWriteError::Type)
     } else {
-        number_form(size)
+        check_number(size)
     }
 }
 
-fn decimal_form(digits: usize, after: usize) -> Result<(), NoForm>
-    ensures { result ≡ then_form (number_form_lem digits) (number_form_lem after) }
+fn check_decimal(digits: usize, after: usize) -> Result<(), IpcWriteError>
+    ensures { result ≡ and_then_check (spec_check_number digits) (spec_check_number after) }
 {
-    number_form(digits)?;
-    number_form(after)
+    check_number(digits)?;
+    check_number(after)
 }
 
-// A reason, unless a test passes.
-fn unless(passes: bool, why: NoForm) -> Result<(), NoForm>
-    ensures { result ≡ unless_lem passes why }
+// The error where a condition is false.
+fn require(passes: bool, why: IpcWriteError) -> Result<(), IpcWriteError>
+    ensures { result ≡ spec_require passes why }
 {
     if passes { Ok(()) } else { Err(why) }
 }
 
-/// The type that an extension stands on.
-pub fn stored(data_type: &DataType) -> &DataType
-    ensures { type_of result.now ≡ stored_lem (type_of data_type.now) }
+/// Returns the storage type of an extension type, and any other type itself.
+pub fn storage_type(data_type: &DataType) -> &DataType
+    ensures { type_of result.now ≡ spec_storage_type (type_of data_type.now) }
 {
     match data_type {
         DataType::Extension(_, inner, _) => inner,
@@ -63,19 +62,19 @@ pub fn stored(data_type: &DataType) -> &DataType
     }
 }
 
-/// The type whose table a field has: that of values, where a dictionary encodes them.
+/// Returns the type that the type table of a field has: the value type of a dictionary, without extension types.
 pub fn table_type(data_type: &DataType) -> &DataType
-    ensures { type_of result.now ≡ table_type_lem (type_of data_type.now) }
+    ensures { type_of result.now ≡ spec_table_type (type_of data_type.now) }
 {
-    match stored(data_type) {
+    match storage_type(data_type) {
         DataType::Dictionary(_, values, _) => values,
         other => other,
     }
 }
 
-/// Whether a type is an extension.
+/// Returns whether a type is an extension type.
 pub fn is_extension(data_type: &DataType) -> bool
-    ensures { result ≡ is_extension_lem (type_of data_type.now) }
+    ensures { result ≡ spec_is_extension (type_of data_type.now) }
 {
     match data_type {
         DataType::Extension(_, _, _) => true,
@@ -83,9 +82,9 @@ pub fn is_extension(data_type: &DataType) -> bool
     }
 }
 
-/// The fields that a type holds as children of its own.
+/// Returns the child fields of a type.
 pub fn children_of(data_type: &DataType) -> &[Field]
-    ensures { map field_of result.now ≡ children_of_lem (type_of data_type.now) }
+    ensures { map field_of result.now ≡ spec_children_of (type_of data_type.now) }
 {
     match data_type {
         DataType::List(field)
@@ -98,9 +97,12 @@ pub fn children_of(data_type: &DataType) -> &[Field]
     }
 }
 
-/// The first reason why a type is not written, its children aside.
-pub fn type_form(data_type: &DataType) -> Result<(), NoForm>
-    ensures { result ≡ type_form_lem (type_of data_type.now) }
+/// Checks that a type can be written, without its children.
+///
+/// # Errors
+/// [`IpcWriteError::Type`], [`IpcWriteError::Float`], [`IpcWriteError::Unit`] or [`IpcWriteError::Size`].
+pub fn check_type(data_type: &DataType) -> Result<(), IpcWriteError>
+    ensures { result ≡ spec_check_type (type_of data_type.now) }
 {
     match data_type {
         DataType::Null
@@ -124,24 +126,27 @@ pub fn type_form(data_type: &DataType) -> Result<(), NoForm>
         | DataType::LargeUtf8
         | DataType::List(_)
         | DataType::LargeList(_) => Ok(()),
-        DataType::Float16 | DataType::Float32 | DataType::Float64 => Err(NoForm::Float),
-        DataType::Time32(unit) => unless(is_coarse(*unit), NoForm::Unit),
-        DataType::Time64(unit) => unless(!is_coarse(*unit), NoForm::Unit),
-        DataType::FixedSizeBinary(size) | DataType::FixedSizeList(_, size) => size_form(*size),
-        DataType::Struct(fields) => unless(fields.len() != 0, NoForm::Type),
-        DataType::Union(fields, ids, _) => unless(are_ids(ids, fields.len()), NoForm::Type),
-        DataType::Map(field, _) => unless(is_pair(&field.data_type), NoForm::Type),
+        DataType::Float16 | DataType::Float32 | DataType::Float64 => Err(IpcWriteError::Float),
+        DataType::Time32(unit) => require(is_coarse(*unit), IpcWriteError::Unit),
+        DataType::Time64(unit) => require(!is_coarse(*unit), IpcWriteError::Unit),
+        DataType::FixedSizeBinary(size) | DataType::FixedSizeList(_, size) => check_size(*size),
+        DataType::Struct(fields) => require(fields.len() != 0, IpcWriteError::Type),
+        DataType::Union(fields, ids, _) => require(
+            are_union_ids(ids, fields.len()),
+            IpcWriteError::Type,
+        ),
+        DataType::Map(field, _) => require(is_pair(&field.data_type), IpcWriteError::Type),
         DataType::Decimal(digits, after) | DataType::Decimal256(digits, after) => {
-            decimal_form(*digits, *after)
+            check_decimal(*digits, *after)
         }
-        DataType::Dictionary(_, _, _) | DataType::Extension(_, _, _) => Err(NoForm::Type),
+        DataType::Dictionary(_, _, _) | DataType::Extension(_, _, _) => Err(IpcWriteError::Type),
     }
 }
 
-/// The tag of a type, in the union `Type` of `Schema.fbs` of the Arrow format.
-#[tactic(auto, unfolding(crate::specs::SchemaBytes::type_number))]
+/// Returns the tag of a type (Schema.fbs, union `Type`).
+#[tactic(auto, unfolding(crate::specs::SchemaBytes::spec_type_number))]
 pub fn type_number(data_type: &DataType) -> u8
-    ensures { result ≡ type_number_lem (type_of data_type.now) }
+    ensures { result ≡ spec_type_number (type_of data_type.now) }
 {
     match data_type {
         DataType::Null => 1,
@@ -180,44 +185,44 @@ pub fn type_number(data_type: &DataType) -> u8
 }
 
 #[tactic(auto, unfolding(crate::specs::SchemaBytes::no_field))]
-fn put_no_field(out: &mut Vec<u8>) -> Result<(), AllocError>
+fn write_no_field(out: &mut Vec<u8>) -> Result<(), AllocError>
     ensures { OnOk result (out.new.items ≡ out.old.items ++ no_field) }
 {
     out.extend_from_slice(&[4, 0, 4, 0, 0, 0, 0, 0, 0, 0, 0, 0, 12, 0, 0, 0])
 }
 
 #[tactic(auto, unfolding(crate::specs::SchemaBytes::one_field))]
-fn put_one_field(out: &mut Vec<u8>, a: u32) -> Result<(), AllocError>
+fn write_one_field(out: &mut Vec<u8>, a: u32) -> Result<(), AllocError>
     ensures { OnOk result (out.new.items ≡ out.old.items ++ one_field a) }
 {
     out.extend_from_slice(&[6, 0, 8, 0, 4, 0, 0, 0, 0, 0, 0, 0, 12, 0, 0, 0])?;
-    put_u32(out, a)?;
+    write_u32(out, a)?;
     out.extend_from_slice(&[0, 0, 0, 0])
 }
 
 /// Appends a table with numbers in its first two fields.
 #[tactic(auto, unfolding(crate::specs::SchemaBytes::two_fields))]
-pub fn put_two_fields(out: &mut Vec<u8>, a: u32, b: u32) -> Result<(), AllocError>
+pub fn write_two_fields(out: &mut Vec<u8>, a: u32, b: u32) -> Result<(), AllocError>
     ensures { OnOk result (out.new.items ≡ out.old.items ++ two_fields a b) }
 {
     out.extend_from_slice(&[8, 0, 12, 0, 4, 0, 8, 0, 0, 0, 0, 0, 12, 0, 0, 0])?;
-    put_u32(out, a)?;
-    put_u32(out, b)
+    write_u32(out, a)?;
+    write_u32(out, b)
 }
 
 #[tactic(auto, unfolding(crate::specs::SchemaBytes::three_fields))]
-fn put_three_fields(out: &mut Vec<u8>, a: u32, b: u32, c: u32) -> Result<(), AllocError>
+fn write_three_fields(out: &mut Vec<u8>, a: u32, b: u32, c: u32) -> Result<(), AllocError>
     ensures { OnOk result (out.new.items ≡ out.old.items ++ three_fields a b c) }
 {
     out.extend_from_slice(&[10, 0, 16, 0, 4, 0, 8, 0, 12, 0, 0, 0, 12, 0, 0, 0])?;
-    put_u32(out, a)?;
-    put_u32(out, b)?;
-    put_u32(out, c)?;
+    write_u32(out, a)?;
+    write_u32(out, b)?;
+    write_u32(out, c)?;
     out.extend_from_slice(&[0, 0, 0, 0])
 }
 
 fn unit_number(unit: TimeUnit) -> u32
-    ensures { result ≡ unit_number_lem unit }
+    ensures { result ≡ spec_unit_number unit }
 {
     match unit {
         TimeUnit::Second => 0,
@@ -228,7 +233,7 @@ fn unit_number(unit: TimeUnit) -> u32
 }
 
 fn interval_number(unit: IntervalUnit) -> u32
-    ensures { result ≡ interval_number_lem unit }
+    ensures { result ≡ spec_interval_number unit }
 {
     match unit {
         IntervalUnit::YearMonth => 0,
@@ -238,26 +243,30 @@ fn interval_number(unit: IntervalUnit) -> u32
 }
 
 #[tactic(auto, unfolding(crate::specs::SchemaBytes::timestamp_bytes))]
-fn put_timestamp(out: &mut Vec<u8>, unit: TimeUnit, zone: &Option<String>) -> Result<(), NoForm>
+fn write_timestamp(
+    out: &mut Vec<u8>,
+    unit: TimeUnit,
+    zone: &Option<String>,
+) -> Result<(), IpcWriteError>
     ensures ok { OnOk result (out.new.items ≡ out.old.items ++ timestamp_bytes unit (text_of zone.now)) }
     ensures fits { OnOk result (IsZone (text_of zone.now)) }
-    ensures size { IfErr result (λ why. IsTooLong why (length (timestamp_bytes unit (text_of zone.now)))) }
+    ensures size { IfErr result (λ why. IsSizeError why (length (timestamp_bytes unit (text_of zone.now)))) }
 {
     match zone {
         None => {
-            put_one_field(out, unit_number(unit))?;
+            write_one_field(out, unit_number(unit))?;
             Ok(())
         }
         Some(zone) => {
-            put_two_fields(out, unit_number(unit), 4)?;
-            put_string(out, zone.as_str())?;
+            write_two_fields(out, unit_number(unit), 4)?;
+            write_string(out, zone.as_str())?;
             Ok(())
         }
     }
 }
 
 fn mode_number(mode: UnionMode) -> u32
-    ensures { result ≡ mode_number_lem mode }
+    ensures { result ≡ spec_mode_number mode }
 {
     match mode {
         UnionMode::Sparse => 0,
@@ -265,48 +274,51 @@ fn mode_number(mode: UnionMode) -> u32
     }
 }
 
-fn put_each_id(out: &mut Vec<u8>, ids: &[i32]) -> Result<(), AllocError>
+fn write_each_id(out: &mut Vec<u8>, ids: &[i32]) -> Result<(), AllocError>
     ensures { OnOk result (out.new.items ≡ out.old.items ++ flat_map i32_bytes ids.now) }
 {
     for id in ids {
-        put_i32(out, *id)?;
+        write_i32(out, *id)?;
     }
     Ok(())
 }
 
-// Appends a vector of ids.
-#[tactic(auto, unfolding(crate::specs::SchemaBytes::ids_bytes, ipc_flatbuf::specs::Bytes::vector_bytes))]
-fn put_ids(out: &mut Vec<u8>, ids: &[i32]) -> Result<(), AllocError>
+// Appends a vector of type ids.
+#[tactic(auto, unfolding(crate::specs::SchemaBytes::ids_bytes, ipc_flatbuf::specs::PartBytes::vector_bytes))]
+fn write_ids(out: &mut Vec<u8>, ids: &[i32]) -> Result<(), AllocError>
     requires { length ids.now < 128 }
     ensures { OnOk result (out.new.items ≡ out.old.items ++ ids_bytes ids.now) }
 {
     let count = ids.len();
-    put_u32(out, count as u32)?;
-    put_each_id(out, ids)?;
-    put_zeros(out, 8 * (count / 2 + 1) - (4 + 4 * count))
+    write_u32(out, count as u32)?;
+    write_each_id(out, ids)?;
+    write_zeros(out, 8 * (count / 2 + 1) - (4 + 4 * count))
 }
 
 #[tactic(auto, unfolding(crate::specs::SchemaBytes::union_bytes))]
-fn put_union(out: &mut Vec<u8>, ids: &Option<Vec<i32>>, mode: UnionMode) -> Result<(), AllocError>
+fn write_union(out: &mut Vec<u8>, ids: &Option<Vec<i32>>, mode: UnionMode) -> Result<(), AllocError>
     requires { AreFew (option_map (λ v. v.items) ids.now) }
     ensures { OnOk result (out.new.items ≡ out.old.items ++ union_bytes (option_map (λ v. v.items) ids.now) mode) }
 {
     match ids {
-        None => put_one_field(out, mode_number(mode)),
+        None => write_one_field(out, mode_number(mode)),
         Some(ids) => {
-            put_two_fields(out, mode_number(mode), 4)?;
-            put_ids(out, ids)
+            write_two_fields(out, mode_number(mode), 4)?;
+            write_ids(out, ids)
         }
     }
 }
 
-/// Appends the table of a type that is written.
+/// Appends the table of a type that can be written.
+///
+/// # Errors
+/// [`IpcWriteError::Size`] where the table has 2^31 bytes or more.
 #[tactic(auto, unfolding(crate::specs::SchemaBytes::type_bytes))]
-pub fn put_type(out: &mut Vec<u8>, data_type: &DataType) -> Result<(), NoForm>
-    requires { type_form_lem (type_of data_type.now) ≡ Ok tt }
+pub fn write_type(out: &mut Vec<u8>, data_type: &DataType) -> Result<(), IpcWriteError>
+    requires { spec_check_type (type_of data_type.now) ≡ Ok tt }
     ensures ok { OnOk result (out.new.items ≡ out.old.items ++ type_bytes (type_of data_type.now)) }
     ensures fits { OnOk result (TypeFits (type_of data_type.now)) }
-    ensures size { IfErr result (λ why. IsTooLong why (length (type_bytes (type_of data_type.now)))) }
+    ensures size { IfErr result (λ why. IsSizeError why (length (type_bytes (type_of data_type.now)))) }
 {
     match data_type {
         DataType::Null
@@ -317,30 +329,30 @@ pub fn put_type(out: &mut Vec<u8>, data_type: &DataType) -> Result<(), NoForm>
         | DataType::LargeUtf8
         | DataType::List(_)
         | DataType::LargeList(_)
-        | DataType::Struct(_) => put_no_field(out)?,
-        DataType::Int8 => put_two_fields(out, 8, 1)?,
-        DataType::Int16 => put_two_fields(out, 16, 1)?,
-        DataType::Int32 => put_two_fields(out, 32, 1)?,
-        DataType::Int64 => put_two_fields(out, 64, 1)?,
-        DataType::UInt8 => put_two_fields(out, 8, 0)?,
-        DataType::UInt16 => put_two_fields(out, 16, 0)?,
-        DataType::UInt32 => put_two_fields(out, 32, 0)?,
-        DataType::UInt64 => put_two_fields(out, 64, 0)?,
-        DataType::Timestamp(unit, zone) => put_timestamp(out, *unit, zone)?,
-        DataType::Date32 => put_one_field(out, 0)?,
-        DataType::Date64 => put_one_field(out, 1)?,
-        DataType::Time32(unit) => put_two_fields(out, unit_number(*unit), 32)?,
-        DataType::Time64(unit) => put_two_fields(out, unit_number(*unit), 64)?,
-        DataType::Duration(unit) => put_one_field(out, unit_number(*unit))?,
-        DataType::Interval(unit) => put_one_field(out, interval_number(*unit))?,
+        | DataType::Struct(_) => write_no_field(out)?,
+        DataType::Int8 => write_two_fields(out, 8, 1)?,
+        DataType::Int16 => write_two_fields(out, 16, 1)?,
+        DataType::Int32 => write_two_fields(out, 32, 1)?,
+        DataType::Int64 => write_two_fields(out, 64, 1)?,
+        DataType::UInt8 => write_two_fields(out, 8, 0)?,
+        DataType::UInt16 => write_two_fields(out, 16, 0)?,
+        DataType::UInt32 => write_two_fields(out, 32, 0)?,
+        DataType::UInt64 => write_two_fields(out, 64, 0)?,
+        DataType::Timestamp(unit, zone) => write_timestamp(out, *unit, zone)?,
+        DataType::Date32 => write_one_field(out, 0)?,
+        DataType::Date64 => write_one_field(out, 1)?,
+        DataType::Time32(unit) => write_two_fields(out, unit_number(*unit), 32)?,
+        DataType::Time64(unit) => write_two_fields(out, unit_number(*unit), 64)?,
+        DataType::Duration(unit) => write_one_field(out, unit_number(*unit))?,
+        DataType::Interval(unit) => write_one_field(out, interval_number(*unit))?,
         DataType::FixedSizeBinary(size) | DataType::FixedSizeList(_, size) => {
-            put_one_field(out, *size as u32)?
+            write_one_field(out, *size as u32)?
         }
-        DataType::Map(_, sorted) => put_one_field(out, *sorted as u32)?,
-        DataType::Union(_, ids, mode) => put_union(out, ids, *mode)?,
-        DataType::Decimal(digits, after) => put_two_fields(out, *digits as u32, *after as u32)?,
+        DataType::Map(_, sorted) => write_one_field(out, *sorted as u32)?,
+        DataType::Union(_, ids, mode) => write_union(out, ids, *mode)?,
+        DataType::Decimal(digits, after) => write_two_fields(out, *digits as u32, *after as u32)?,
         DataType::Decimal256(digits, after) => {
-            put_three_fields(out, *digits as u32, *after as u32, 256)?
+            write_three_fields(out, *digits as u32, *after as u32, 256)?
         }
         DataType::Float16
         | DataType::Float32

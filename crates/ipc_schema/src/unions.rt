@@ -1,16 +1,16 @@
-//! Whether a schema has a union, and metadata of which version is read then.
+//! Unions of a schema, which metadata of version V4 does not support.
 ghost use Rattle.std.specs.Prelude.{◌≡◌, map};
 ghost use Rattle.std.specs.List.{list_any};
 ghost use Rattle.nest_memory.specs.TypeOf.{type_of, field_of};
-ghost use Rattle.ipc_schema.specs.Unions.{is_union as is_union_lem, field_has_union as field_has_union_lem, have_union, in_version as in_version_lem};
+ghost use Rattle.ipc_schema.specs.Unions.{spec_is_union, spec_field_has_union, have_union, spec_check_version};
 
 use crate::type_writing::{children_of, table_type};
-use ipc_flatbuf::message::Version;
-use ipc_flatbuf::Fault;
+use ipc_flatbuf::IpcReadError;
+use ipc_flatbuf::message::MetadataVersion;
 use nest_memory::datatypes::{DataType, Field};
 
 fn is_union(data_type: &DataType) -> bool
-    ensures { result ≡ is_union_lem (type_of data_type.now) }
+    ensures { result ≡ spec_is_union (type_of data_type.now) }
 {
     match data_type {
         DataType::Union(_, _, _) => true,
@@ -18,10 +18,10 @@ fn is_union(data_type: &DataType) -> bool
     }
 }
 
-// In a field and those inside of it, so deep at most.
+// In a field and its descendants, to a depth.
 #[cycle(unions)]
 fn field_has_union(depth: u8, field: &Field) -> bool
-    ensures { result ≡ field_has_union_lem depth (field_of field.now) }
+    ensures { result ≡ spec_field_has_union depth (field_of field.now) }
 {
     if depth == 0 {
         return false;
@@ -32,7 +32,7 @@ fn field_has_union(depth: u8, field: &Field) -> bool
 
 #[cycle(unions)]
 fn any_has_union(depth: u8, fields: &[Field]) -> bool
-    ensures { result ≡ list_any (field_has_union_lem depth) (map field_of fields.now) }
+    ensures { result ≡ list_any (spec_field_has_union depth) (map field_of fields.now) }
 {
     for field in fields {
         if field_has_union(depth, field) {
@@ -42,16 +42,20 @@ fn any_has_union(depth: u8, fields: &[Field]) -> bool
     false
 }
 
-/// That metadata of this version is read of a schema of these fields: up to V4 unions had a validity, so they are read of V5
-/// alone. 64 levels are looked at, as many as are read.
-pub fn in_version(version: Version, fields: &[Field]) -> Result<(), Fault>
-    ensures { result ≡ in_version_lem version (have_union (map field_of fields.now)) }
+/// Checks that the metadata version supports the types of the fields: before V5 unions had a validity bitmap.
+///
+/// It checks 64 levels, the depth that readers accept.
+///
+/// # Errors
+/// [`IpcReadError::Version`] where the version is V4 and a field or a descendant is a union.
+pub fn check_version(version: MetadataVersion, fields: &[Field]) -> Result<(), IpcReadError>
+    ensures { result ≡ spec_check_version version (have_union (map field_of fields.now)) }
 {
     match version {
-        Version::V5 => Ok(()),
-        Version::V4 => {
+        MetadataVersion::V5 => Ok(()),
+        MetadataVersion::V4 => {
             if any_has_union(64, fields) {
-                Err(Fault::Version)
+                Err(IpcReadError::Version)
             } else {
                 Ok(())
             }

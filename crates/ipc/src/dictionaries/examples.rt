@@ -1,64 +1,64 @@
-//! Examples of what is written of the dictionaries of two columns, and of what is put of them into a file, as functions with empty bodies.
+//! Examples of the dictionaries of two columns, and of the dictionary batches of a file. Each function has an empty body.
 ghost use Rattle.std.specs.Prelude.{◌≡◌, pos, true, false, [], ◌∷◌};
 ghost use Rattle.nest_model.specs.Meaning.{slots_of};
 ghost use Rattle.nest_model.specs.SameArray.{IsSameArray};
 ghost use Rattle.nest_model.specs.Slot as slots;
-ghost use Rattle.ipc.specs.Entries.{own_entries, columns_own, columns_entries};
-ghost use Rattle.ipc.specs.Needed.{with_entries, needed};
-ghost use Rattle.ipc.specs.NeededExamples.{two_columns, columns, records, more_records, sevens, eights, other_eights, nines, tens, sent};
-ghost use Rattle.ipc.specs.Puts.{puts_of, any_anew};
-ghost use Rattle.ipc.specs.PutsExamples.{words, more_words, last_word, turned_words, large_words, first};
+ghost use Rattle.ipc.specs.DictionaryEntries.{own_entries, columns_own, columns_entries};
+ghost use Rattle.ipc.specs.PendingDictionaries.{with_entries, pending};
+ghost use Rattle.ipc.specs.PendingExamples.{two_columns, columns, records, more_records, sevens, eights, other_eights, nines, tens, emitted};
+ghost use Rattle.ipc.specs.FileDictionaries.{spec_dictionary_batches, spec_any_replaced};
+ghost use Rattle.ipc.specs.FileDictionaryExamples.{words, more_words, last_word, turned_words, large_words, first};
 
-/// The dictionary of records has the id 0, those of their two fields have 1 and 2, and the other column's has 3.
+/// The dictionary of records has the id 0, the dictionaries of their two fields have 1 and 2, and that of the other column has 3.
 pub fn ids_are_in_pre_order()
     ensures own { columns_own 0 columns ≡ (pos 0, records sevens eights) ∷ (pos 3, nines) ∷ [] }
     ensures inside { own_entries 1 (records sevens eights) ≡ (pos 1, sevens) ∷ (pos 2, eights) ∷ [] }
     ensures all { columns_entries 0 columns ≡ (pos 1, sevens) ∷ (pos 2, eights) ∷ (pos 0, records sevens eights) ∷ (pos 3, nines) ∷ [] }
 {}
 
-/// Where nothing was written, all are, those of the fields before the records.
-pub fn inner_ones_are_written_first()
-    ensures needed { needed [] columns ≡ (pos 1, sevens) ∷ (pos 2, eights) ∷ (pos 0, records sevens eights) ∷ (pos 3, nines) ∷ [] }
-    ensures sent { with_entries [] (needed [] columns) ≡ sent }
+/// Before the first batch all dictionaries are emitted, those of the fields before the records.
+pub fn nested_dictionaries_are_emitted_first()
+    ensures pending { pending [] columns ≡ (pos 1, sevens) ∷ (pos 2, eights) ∷ (pos 0, records sevens eights) ∷ (pos 3, nines) ∷ [] }
+    ensures emitted { with_entries [] (pending [] columns) ≡ emitted }
 {}
 
-/// Then nothing is written again.
-pub fn what_stays_is_not_written_again()
-    ensures { needed sent columns ≡ [] }
+/// After that none is emitted again.
+pub fn unchanged_dictionaries_are_not_emitted_again()
+    ensures { pending emitted columns ≡ [] }
 {}
 
-/// But what has other values, and what holds it, though its own slots are the same; nothing else.
-pub fn what_changes_is_written_again()
+/// A dictionary with other values is emitted again, and so is one that holds it, although its slots are the same; no other is.
+pub fn changed_dictionaries_are_emitted_again()
     ensures same { IsSameArray (records sevens eights) (records sevens other_eights) }
-    ensures inner { needed sent (two_columns (records sevens other_eights) nines) ≡ (pos 2, other_eights) ∷ (pos 0, records sevens other_eights) ∷ [] }
-    ensures outer { needed sent (two_columns (more_records sevens eights) nines) ≡ (pos 0, more_records sevens eights) ∷ [] }
-    ensures others { needed sent (two_columns (records sevens eights) tens) ≡ (pos 3, tens) ∷ [] }
+    ensures inner { pending emitted (two_columns (records sevens other_eights) nines) ≡ (pos 2, other_eights) ∷ (pos 0, records sevens other_eights) ∷ [] }
+    ensures outer { pending emitted (two_columns (more_records sevens eights) nines) ≡ (pos 0, more_records sevens eights) ∷ [] }
+    ensures others { pending emitted (two_columns (records sevens eights) tens) ≡ (pos 3, tens) ∷ [] }
 {}
 
-/// Of an id that has no values they are put whole.
-pub fn new_values_are_put_whole()
-    ensures known { any_anew [] (first words) ≡ false }
-    ensures put { puts_of [] (first words) ≡ (false, (pos 0, words)) ∷ [] }
+/// An id without values gets a batch of all of them.
+pub fn new_dictionary_has_all_values()
+    ensures known { spec_any_replaced [] (first words) ≡ false }
+    ensures put { spec_dictionary_batches [] (first words) ≡ (false, (pos 0, words)) ∷ [] }
 {}
 
-/// Of words that grew by one that one is put, as a delta, in its place among what is needed.
-pub fn what_grew_is_put_as_a_delta()
-    ensures known { any_anew (first words) (first more_words) ≡ false }
-    ensures put { puts_of (first words) (first more_words) ≡ (true, (pos 0, last_word)) ∷ [] }
+/// Words extended by one get a delta of that word, in the order of the pending dictionaries.
+pub fn extended_dictionary_has_a_delta()
+    ensures known { spec_any_replaced (first words) (first more_words) ≡ false }
+    ensures put { spec_dictionary_batches (first words) (first more_words) ≡ (true, (pos 0, last_word)) ∷ [] }
     ensures word { slots_of last_word ≡ slots.text (100 ∷ []) ∷ [] }
-    ensures order { puts_of (first words) ((pos 3, nines) ∷ (pos 0, more_words) ∷ []) ≡ (false, (pos 3, nines)) ∷ (true, (pos 0, last_word)) ∷ [] }
+    ensures order { spec_dictionary_batches (first words) ((pos 3, nines) ∷ (pos 0, more_words) ∷ []) ≡ (false, (pos 3, nines)) ∷ (true, (pos 0, last_word)) ∷ [] }
 {}
 
-/// Of the same words nothing is put.
-pub fn the_same_words_put_nothing()
-    ensures known { any_anew (first words) (first words) ≡ false }
-    ensures put { puts_of (first words) (first words) ≡ [] }
+/// The same words get no batch.
+pub fn unchanged_dictionary_has_no_batch()
+    ensures known { spec_any_replaced (first words) (first words) ≡ false }
+    ensures put { spec_dictionary_batches (first words) (first words) ≡ [] }
 {}
 
-/// Words in another order, of another type, or fewer would have to be written anew, also behind others that would not.
-pub fn other_words_are_anew()
-    ensures turned { any_anew (first words) (first turned_words) ≡ true }
-    ensures large { any_anew (first words) (first large_words) ≡ true }
-    ensures fewer { any_anew (first more_words) (first words) ≡ true }
-    ensures later { any_anew (first more_words) ((pos 3, nines) ∷ (pos 0, words) ∷ []) ≡ true }
+/// Words in another order, of another type, or fewer are replacements, also after others that are none.
+pub fn replacements_are_found()
+    ensures turned { spec_any_replaced (first words) (first turned_words) ≡ true }
+    ensures large { spec_any_replaced (first words) (first large_words) ≡ true }
+    ensures fewer { spec_any_replaced (first more_words) (first words) ≡ true }
+    ensures later { spec_any_replaced (first more_words) ((pos 3, nines) ∷ (pos 0, words) ∷ []) ≡ true }
 {}

@@ -1,12 +1,12 @@
-//! The dictionaries of columns that are written in the Arrow IPC format: their ids, which of them are written before a batch, what is put
-//! of them into a file, and what a reader knows of them.
+//! Dictionaries when record batches are written: their ids, the new and replacement dictionaries that a batch needs first, and the
+//! dictionary batches that a file holds. Source: Columnar format, "Dictionary Messages".
 
+pub mod batches;
+pub mod emitted;
 pub mod examples;
 pub mod laws;
-pub mod needed;
-pub mod puts;
-pub mod sent;
+pub mod pending;
 
-pub use needed::needed_of;
-pub use puts::{Put, any_anew, puts_of};
-pub use sent::remember;
+pub use batches::{DictionaryBatch, any_replaced, dictionary_batches};
+pub use emitted::record_emitted;
+pub use pending::pending_dictionaries;

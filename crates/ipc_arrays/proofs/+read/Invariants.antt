@@ -2,10 +2,10 @@ use Rattle.std.proofs.Common.{◌≡◌, ◌+◌, ◌*◌, drop}
 use Rattle.nest_memory.specs.TypeOf.{type_of, field_of, field_list_of}
 use Rattle.nest_model.specs.NullKinds.{type_weight, field_weight, fields_weight}
 use Rattle.nest_array.specs.Seen.{layouts_of}
-use Rattle.ipc_arrays.specs.Columns.{rest_of}
-use Rattle.ipc_arrays.specs.ReadParts.{items_read}
+use Rattle.ipc_arrays.specs.Decoding.{rest_of}
+use Rattle.ipc_arrays.specs.NestedDecoding.{children_decoding}
 use Rattle.ipc_arrays.proofs.Fields.{with_children}
-use Rattle.ipc_layout.proofs.+read.Given as goal
+use Rattle.ipc_arrays.proofs.+read.Given as goal
 
 abbrev pub decreases-reading::read_array : goal.decreases-reading::read_array
 decreases-reading::read_array l = 3 * type_weight (type_of l.stored.now)
@@ -36,4 +36,4 @@ decreases-union::read_union l = 3 * fields_weight (field_list_of l.fields.now.it
 
 abbrev pub invariant-reading::read_items-loop-field : goal.invariant-reading::read_items-loop-field
 invariant-reading::read_items-loop-field l =
-    with_children (layouts_of l.children.items) (items_read (field_list_of (drop l.field-index l.field-items)) l.wanted l.body (rest_of l.rest)) ≡ items_read (field_list_of l.field-items) l.wanted l.body (rest_of l.initial.left)
+    with_children (layouts_of l.children.items) (children_decoding (field_list_of (drop l.field-index l.field-items)) l.expected l.body (rest_of l.rest)) ≡ children_decoding (field_list_of l.field-items) l.expected l.body (rest_of l.initial.cursor)

@@ -1,58 +1,61 @@
-//! Where buffers lie.
+//! Checks that the buffers of a record batch are within its body.
 ghost use Rattle.std.specs.Prelude.{◌≡◌, ◌<◌, ◌^◌, map, sum, nat_le};
-ghost use Rattle.ipc_flatbuf.specs.Reading.{check};
-ghost use Rattle.ipc_flatbuf.specs.declared.error.Fault.TheVariants.{BufferSum};
-ghost use Rattle.ipc_flatbuf.specs.Batches.{is_within as is_within_lem, length_of as length_of_lem, magnitude as magnitude_lem, each_within as each_within_lem, all_within as all_within_lem};
+ghost use Rattle.ipc_flatbuf.specs.ReadResults.{check};
+ghost use Rattle.ipc_flatbuf.specs.declared.error.IpcReadError.TheVariants.{BufferSum};
+ghost use Rattle.ipc_flatbuf.specs.Batches.{spec_is_within, length_of, spec_zero_if_negative, spec_each_within, spec_all_within};
 
-use crate::{Fault, Region};
+use crate::{BufferSpec, IpcReadError};
 
-fn is_within(body: usize, region: Region) -> bool
-    ensures { result ≡ is_within_lem body region.offset region.length }
+fn is_within(body: usize, buffer: BufferSpec) -> bool
+    ensures { result ≡ spec_is_within body buffer.offset buffer.length }
 {
-    if region.offset < 0 || region.length < 0 {
+    if buffer.offset < 0 || buffer.length < 0 {
         return false;
     }
-    let offset = region.offset as usize;
-    offset <= body && region.length as usize <= body - offset
+    let offset = buffer.offset as usize;
+    offset <= body && buffer.length as usize <= body - offset
 }
 
-fn magnitude(number: i64) -> usize
-    ensures { result ≡ magnitude_lem number }
+fn zero_if_negative(number: i64) -> usize
+    ensures { result ≡ spec_zero_if_negative number }
 {
     if number < 0 { 0 } else { number as usize }
 }
 
-fn each_within(body: usize, regions: &[Region]) -> Result<(), Fault>
-    ensures { result ≡ each_within_lem body regions.now }
+fn each_within(body: usize, buffers: &[BufferSpec]) -> Result<(), IpcReadError>
+    ensures { result ≡ spec_each_within body buffers.now }
 {
-    for region in regions {
-        if !is_within(body, *region) {
-            return Err(Fault::BufferRange);
+    for buffer in buffers {
+        if !is_within(body, *buffer) {
+            return Err(IpcReadError::BufferRange);
         }
     }
     Ok(())
 }
 
-// By what is left of the body, since a sum may pass its type.
-fn together_within(body: usize, regions: &[Region]) -> Result<(), Fault>
-    ensures { result ≡ check (nat_le (sum (map length_of_lem regions.now)) body) BufferSum }
+// Subtracts from the length of the body, since the sum of the lengths can overflow.
+fn total_within(body: usize, buffers: &[BufferSpec]) -> Result<(), IpcReadError>
+    ensures { result ≡ check (nat_le (sum (map length_of buffers.now)) body) BufferSum }
 {
     let mut left = body;
-    for region in regions {
-        let length = magnitude(region.length);
+    for buffer in buffers {
+        let length = zero_if_negative(buffer.length);
         if length > left {
-            return Err(Fault::BufferSum);
+            return Err(IpcReadError::BufferSum);
         }
         left = left - length;
     }
     Ok(())
 }
 
-/// That each buffer lies in a body of so many bytes, and that all of them together are no longer than it.
-#[tactic(auto, unfolding(crate::specs::Batches::all_within))]
-pub fn all_within(body: usize, regions: &[Region]) -> Result<(), Fault>
-    ensures { result ≡ all_within_lem body regions.now }
+/// Checks that each buffer is within a body of `body` bytes, and that their total length does not exceed it.
+///
+/// # Errors
+/// [`IpcReadError::BufferRange`] for the first buffer that is not, [`IpcReadError::BufferSum`] for the total.
+#[tactic(auto, unfolding(crate::specs::Batches::spec_all_within))]
+pub fn all_within(body: usize, buffers: &[BufferSpec]) -> Result<(), IpcReadError>
+    ensures { result ≡ spec_all_within body buffers.now }
 {
-    each_within(body, regions)?;
-    together_within(body, regions)
+    each_within(body, buffers)?;
+    total_within(body, buffers)
 }

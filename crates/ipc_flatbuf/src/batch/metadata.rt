@@ -1,13 +1,13 @@
-//! What a batch's metadata says.
-use crate::{Node, Region};
+//! The metadata of record batches.
+use crate::{BufferSpec, FieldNode};
 
-/// A record batch without its body, `RecordBatch` of `Message.fbs` of the Arrow format.
+/// The metadata of a record batch (Message.fbs, table `RecordBatch`).
 #[derive(Drop)]
 pub struct BatchMetadata {
-    /// How many rows it has.
+    /// The number of rows.
     pub rows: usize,
-    /// The arrays, each before its children.
-    pub nodes: Vec<Node>,
-    /// Where the buffers of the arrays lie in the body, in their order.
-    pub regions: Vec<Region>,
+    /// The field nodes, in pre-order.
+    pub nodes: Vec<FieldNode>,
+    /// The buffers of the arrays in the message body, in the order of the field nodes.
+    pub buffers: Vec<BufferSpec>,
 }

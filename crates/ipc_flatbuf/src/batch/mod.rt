@@ -1,4 +1,4 @@
-//! The metadata of record batches of the Arrow IPC format: read and written, those of dictionaries too.
+//! Readers and writers of the metadata of record batches and dictionary batches.
 
 mod bounds;
 mod dictionary;
@@ -11,7 +11,7 @@ mod writing;
 
 pub use dictionary::write_dictionary;
 pub use metadata::BatchMetadata;
-pub use parts::{Node, Region};
+pub use parts::{BufferSpec, FieldNode};
 pub use reading::read_batch;
-pub use variadic::read_more_buffers;
+pub use variadic::read_variadic_buffer_counts;
 pub use writing::write_batch;

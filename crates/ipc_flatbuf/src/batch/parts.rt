@@ -1,15 +1,15 @@
-//! What the metadata of a batch says of its arrays and buffers.
+//! The structs `FieldNode` and `Buffer` of record batches.
 
-/// The length of an array and how many of its slots are null: `FieldNode` of `Message.fbs` of the Arrow format.
+/// The length and null count of an array (Message.fbs, struct `FieldNode`).
 #[derive(Clone, Copy, Debug, PartialEq, Eq)]
-pub struct Node {
+pub struct FieldNode {
     pub length: i64,
     pub null_count: i64,
 }
 
-/// Where a buffer lies in a body: its first byte and how many there are, `Buffer` of `Message.fbs` of the Arrow format.
+/// The offset of a buffer in the message body and its length, in bytes (Message.fbs, struct `Buffer`).
 #[derive(Clone, Copy, Debug, PartialEq, Eq)]
-pub struct Region {
+pub struct BufferSpec {
     pub offset: i64,
     pub length: i64,
 }

@@ -1,39 +1,39 @@
-//! Reads the metadata of a record batch.
+//! Readers of the metadata of record batches.
 ghost use Rattle.std.specs.Prelude.{◌≡◌, ◌<◌, ◌≤◌, ◌^◌, ◌+◌, ◌*◌, length, IfOk, Ok};
-ghost use Rattle.ipc_flatbuf.specs.Reading.{Gives};
+ghost use Rattle.ipc_flatbuf.specs.ReadResults.{ReturnsOrRunsOut};
 ghost use Rattle.ipc_flatbuf.specs.Flatbuffers.{structs_at, vector_at};
-ghost use Rattle.ipc_flatbuf.specs.Batches.{node_at as node_at_lem, region_at as region_at_lem, uncompressed as uncompressed_lem, all_within as all_within_lem, batch_at as batch_at_lem, batch_of};
+ghost use Rattle.ipc_flatbuf.specs.Batches.{spec_node_at, spec_buffer_at, spec_uncompressed, spec_all_within, batch_at, batch_of};
 
 use crate::batch::bounds::all_within;
 use crate::batch::metadata::BatchMetadata;
 use crate::{
-    Fault, Items, Node, Region, field_place, i64_at, i64_field, items_at, natural, offset_field,
-    visit_table,
+    BufferSpec, FieldNode, IpcReadError, VectorItems, field_position, i64_at, i64_field, items_at,
+    non_negative, offset_field, read_table,
 };
 use std::alloc::Global;
 
-fn node_at(bytes: &[u8], place: usize) -> Result<Node, Fault>
-    requires { place < 2 ^ 63 }
-    ensures { result ≡ node_at_lem bytes.now place }
+fn node_at(bytes: &[u8], position: usize) -> Result<FieldNode, IpcReadError>
+    requires { position < 2 ^ 63 }
+    ensures { result ≡ spec_node_at bytes.now position }
 {
-    let length = i64_at(bytes, place)?;
-    let null_count = i64_at(bytes, place + 8)?;
-    Ok(Node { length, null_count })
+    let length = i64_at(bytes, position)?;
+    let null_count = i64_at(bytes, position + 8)?;
+    Ok(FieldNode { length, null_count })
 }
 
-fn region_at(bytes: &[u8], place: usize) -> Result<Region, Fault>
-    requires { place < 2 ^ 63 }
-    ensures { result ≡ region_at_lem bytes.now place }
+fn buffer_at(bytes: &[u8], position: usize) -> Result<BufferSpec, IpcReadError>
+    requires { position < 2 ^ 63 }
+    ensures { result ≡ spec_buffer_at bytes.now position }
 {
-    let offset = i64_at(bytes, place)?;
-    let length = i64_at(bytes, place + 8)?;
-    Ok(Region { offset, length })
+    let offset = i64_at(bytes, position)?;
+    let length = i64_at(bytes, position + 8)?;
+    Ok(BufferSpec { offset, length })
 }
 
-fn nodes_of(alloc: Global, bytes: &[u8], items: Items) -> Result<Vec<Node>, Fault>
+fn nodes_of(alloc: Global, bytes: &[u8], items: VectorItems) -> Result<Vec<FieldNode>, IpcReadError>
     requires length { length bytes.now < 2 ^ 32 }
     requires within { items.first + items.count * 16 ≤ length bytes.now }
-    ensures { Gives (λ v. v.items) result (structs_at (node_at_lem bytes.now) 16 items.count items.first) }
+    ensures { ReturnsOrRunsOut (λ v. v.items) result (structs_at (spec_node_at bytes.now) 16 items.count items.first) }
 {
     let mut nodes = Vec::new(alloc);
     for i in 0..items.count {
@@ -43,82 +43,92 @@ fn nodes_of(alloc: Global, bytes: &[u8], items: Items) -> Result<Vec<Node>, Faul
     Ok(nodes)
 }
 
-fn regions_of(alloc: Global, bytes: &[u8], items: Items) -> Result<Vec<Region>, Fault>
+fn buffers_of(
+    alloc: Global,
+    bytes: &[u8],
+    items: VectorItems,
+) -> Result<Vec<BufferSpec>, IpcReadError>
     requires length { length bytes.now < 2 ^ 32 }
     requires within { items.first + items.count * 16 ≤ length bytes.now }
-    ensures { Gives (λ v. v.items) result (structs_at (region_at_lem bytes.now) 16 items.count items.first) }
+    ensures { ReturnsOrRunsOut (λ v. v.items) result (structs_at (spec_buffer_at bytes.now) 16 items.count items.first) }
 {
-    let mut regions = Vec::new(alloc);
+    let mut buffers = Vec::new(alloc);
     for i in 0..items.count {
-        let region = region_at(bytes, items.first + 16 * i)?;
-        regions.push(region)?;
+        let buffer = buffer_at(bytes, items.first + 16 * i)?;
+        buffers.push(buffer)?;
     }
-    Ok(regions)
+    Ok(buffers)
 }
 
 #[tactic(auto, unfolding(crate::specs::Flatbuffers::vector_at))]
 fn nodes_at(
     alloc: Global,
     bytes: &[u8],
-    place: Option<usize>,
+    position: Option<usize>,
     left: usize,
-) -> Result<(Vec<Node>, usize), Fault>
+) -> Result<(Vec<FieldNode>, usize), IpcReadError>
     requires { length bytes.now < 2 ^ 32 }
-    ensures { Gives (λ x. (x.0.items, x.1)) result (vector_at (node_at_lem bytes.now) 16 bytes.now place left) }
+    ensures { ReturnsOrRunsOut (λ x. (x.0.items, x.1)) result (vector_at (spec_node_at bytes.now) 16 bytes.now position left) }
 {
-    let (items, left) = items_at(16, bytes, place, left)?;
+    let (items, left) = items_at(16, bytes, position, left)?;
     let nodes = nodes_of(alloc, bytes, items)?;
     Ok((nodes, left))
 }
 
 #[tactic(auto, unfolding(crate::specs::Flatbuffers::vector_at))]
-fn regions_at(
+fn buffers_at(
     alloc: Global,
     bytes: &[u8],
-    place: Option<usize>,
+    position: Option<usize>,
     left: usize,
-) -> Result<(Vec<Region>, usize), Fault>
+) -> Result<(Vec<BufferSpec>, usize), IpcReadError>
     requires { length bytes.now < 2 ^ 32 }
-    ensures { Gives (λ x. (x.0.items, x.1)) result (vector_at (region_at_lem bytes.now) 16 bytes.now place left) }
+    ensures { ReturnsOrRunsOut (λ x. (x.0.items, x.1)) result (vector_at (spec_buffer_at bytes.now) 16 bytes.now position left) }
 {
-    let (items, left) = items_at(16, bytes, place, left)?;
-    let regions = regions_of(alloc, bytes, items)?;
-    Ok((regions, left))
+    let (items, left) = items_at(16, bytes, position, left)?;
+    let buffers = buffers_of(alloc, bytes, items)?;
+    Ok((buffers, left))
 }
 
-fn uncompressed(compression: Option<usize>) -> Result<(), Fault>
-    ensures { result ≡ uncompressed_lem compression }
+fn uncompressed(compression: Option<usize>) -> Result<(), IpcReadError>
+    ensures { result ≡ spec_uncompressed compression }
 {
     match compression {
         None => Ok(()),
-        Some(_) => Err(Fault::Compressed),
+        Some(_) => Err(IpcReadError::Compressed),
     }
 }
 
-/// The batch of a table of metadata, whose body has so many bytes.
+/// Returns the record batch whose table is at a position of the metadata, and whose body has `body` bytes.
+///
+/// # Errors
+/// [`IpcReadError::Flatbuffer`] and [`IpcReadError::ApparentSize`], [`IpcReadError::RowCount`] where the length is
+/// negative, [`IpcReadError::Compressed`] where `compression` is present, [`IpcReadError::BufferRange`] and
+/// [`IpcReadError::BufferSum`] where the buffers are not within the body, [`IpcReadError::Memory`] where an
+/// allocation fails.
 #[tactic(auto, unfolding(crate::specs::Batches::batch_at))]
 pub fn read_batch(
     alloc: Global,
     bytes: &[u8],
-    place: usize,
+    position: usize,
     left: usize,
     body: usize,
-) -> Result<BatchMetadata, Fault>
+) -> Result<BatchMetadata, IpcReadError>
     requires { length bytes.now < 2 ^ 32 }
-    ensures value { Gives batch_of result (batch_at_lem bytes.now place left body) }
-    ensures within { IfOk result (λ b. all_within_lem body b.regions.items ≡ Ok tt) }
+    ensures value { ReturnsOrRunsOut batch_of result (batch_at bytes.now position left body) }
+    ensures within { IfOk result (λ b. spec_all_within body b.buffers.items ≡ Ok tt) }
 {
-    let (table, left) = visit_table(bytes, place, left)?;
-    let rows = natural(Fault::RowCount, i64_field(bytes, table, 0, 0)?)?;
-    uncompressed(field_place(bytes, table, 3)?)?;
+    let (table, left) = read_table(bytes, position, left)?;
+    let rows = non_negative(IpcReadError::RowCount, i64_field(bytes, table, 0, 0)?)?;
+    uncompressed(field_position(bytes, table, 3)?)?;
     let to = offset_field(bytes, table, 1)?;
     let (nodes, left) = nodes_at(alloc, bytes, to, left)?;
     let to = offset_field(bytes, table, 2)?;
-    let (regions, _) = regions_at(alloc, bytes, to, left)?;
-    all_within(body, &regions)?;
+    let (buffers, _) = buffers_at(alloc, bytes, to, left)?;
+    all_within(body, &buffers)?;
     Ok(BatchMetadata {
         rows,
         nodes,
-        regions,
+        buffers,
     })
 }

@@ -1,15 +1,15 @@
-//! How many buffers more arrays of views have.
+//! The counts of the variadic buffers of view arrays.
 ghost use Rattle.std.specs.Prelude.{◌≡◌, ◌<◌, ◌≤◌, ◌^◌, ◌+◌, ◌*◌, ◌++◌, ◌∷◌, [], length, OnOk, IfErr};
-ghost use Rattle.ipc_flatbuf.specs.declared.error.Fault.TheVariants.{Memory};
+ghost use Rattle.ipc_flatbuf.specs.declared.error.IpcReadError.TheVariants.{Memory};
 ghost use Rattle.std.specs.Int.{w64, cast_signed};
-ghost use Rattle.ipc_flatbuf.specs.Reading.{Gives};
+ghost use Rattle.ipc_flatbuf.specs.ReadResults.{ReturnsOrRunsOut};
 ghost use Rattle.ipc_flatbuf.specs.Flatbuffers.{signed_at, structs_at};
-ghost use Rattle.ipc_flatbuf.specs.VariadicBuffers.{more_buffers_at};
+ghost use Rattle.ipc_flatbuf.specs.VariadicBuffers.{variadic_buffer_counts_at};
 
-use crate::{Fault, Items, items_at, offset_field, u64_at, visit_table};
+use crate::{IpcReadError, VectorItems, items_at, offset_field, read_table, u64_at};
 use std::alloc::Global;
 
-fn push(counts: &mut Vec<i64>, number: u64) -> Result<(), Fault>
+fn push(counts: &mut Vec<i64>, number: u64) -> Result<(), IpcReadError>
     ensures ok { OnOk result (counts.new.items ≡ counts.old.items ++ cast_signed w64 number ∷ []) }
     ensures memory { IfErr result (λ why. why ≡ Memory) }
 {
@@ -17,10 +17,10 @@ fn push(counts: &mut Vec<i64>, number: u64) -> Result<(), Fault>
     Ok(())
 }
 
-fn counts_of(alloc: Global, bytes: &[u8], items: Items) -> Result<Vec<i64>, Fault>
+fn counts_of(alloc: Global, bytes: &[u8], items: VectorItems) -> Result<Vec<i64>, IpcReadError>
     requires length { length bytes.now < 2 ^ 32 }
     requires within { items.first + items.count * 8 ≤ length bytes.now }
-    ensures { Gives (λ v. v.items) result (structs_at (signed_at w64 bytes.now) 8 items.count items.first) }
+    ensures { ReturnsOrRunsOut (λ v. v.items) result (structs_at (signed_at w64 bytes.now) 8 items.count items.first) }
 {
     let mut counts = Vec::new(alloc);
     for i in 0..items.count {
@@ -30,18 +30,25 @@ fn counts_of(alloc: Global, bytes: &[u8], items: Items) -> Result<Vec<i64>, Faul
     Ok(counts)
 }
 
-/// How many buffers more each array of views of a batch has, in pre-order: `variadicBufferCounts` of the batch of a table.
-#[tactic(auto, unfolding(crate::specs::VariadicBuffers::more_buffers_at, crate::specs::Flatbuffers::vector_at))]
-pub fn read_more_buffers(
+/// Returns `variadicBufferCounts` of the record batch whose table is at a position: the number of data buffers of
+/// each view array, in pre-order.
+///
+/// # Errors
+/// [`IpcReadError::Flatbuffer`], [`IpcReadError::ApparentSize`], and [`IpcReadError::Memory`] where an allocation
+/// fails.
+///
+/// Source: Message.fbs, table `RecordBatch`.
+#[tactic(auto, unfolding(crate::specs::VariadicBuffers::variadic_buffer_counts_at, crate::specs::Flatbuffers::vector_at))]
+pub fn read_variadic_buffer_counts(
     alloc: Global,
     bytes: &[u8],
-    place: usize,
+    position: usize,
     left: usize,
-) -> Result<Vec<i64>, Fault>
+) -> Result<Vec<i64>, IpcReadError>
     requires { length bytes.now < 2 ^ 32 }
-    ensures { Gives (λ v. v.items) result (more_buffers_at bytes.now place left) }
+    ensures { ReturnsOrRunsOut (λ v. v.items) result (variadic_buffer_counts_at bytes.now position left) }
 {
-    let (table, left) = visit_table(bytes, place, left)?;
+    let (table, left) = read_table(bytes, position, left)?;
     let (items, _) = items_at(8, bytes, offset_field(bytes, table, 4)?, left)?;
     counts_of(alloc, bytes, items)
 }

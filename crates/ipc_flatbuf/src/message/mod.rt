@@ -1,9 +1,9 @@
-//! Messages of the Arrow IPC format: how they stand in a stream, and the root of their metadata.
+//! Encapsulated messages and the `Message` table of their metadata.
 
 mod reading;
 mod types;
 mod writing;
 
 pub use reading::{next_message, read_root, version_of};
-pub use types::{Kind, Message, Root, Version};
-pub use writing::{put_message, put_root};
+pub use types::{Message, MessageKind, MessageRoot, MetadataVersion};
+pub use writing::{write_message, write_root};

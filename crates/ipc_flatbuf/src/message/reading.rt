@@ -1,61 +1,71 @@
-//! Reads the message that bytes begin with.
+//! Readers of encapsulated messages.
 ghost use Rattle.std.specs.Prelude.{◌≡◌, ◌<◌, ◌^◌, length, IfOk, IfSome, Ok};
-ghost use Rattle.ipc_flatbuf.specs.Reading.{Spells};
-ghost use Rattle.ipc_flatbuf.specs.Messages.{version_of as version_of_lem, kind_of as kind_of_lem, place_of as place_of_lem, root_at, front as front_lem, behind_mark as behind_mark_lem, parts_at as parts_at_lem, sized_at as sized_at_lem, message_at, parts_of, message_of};
+ghost use Rattle.ipc_flatbuf.specs.ReadResults.{Returns};
+ghost use Rattle.ipc_flatbuf.specs.Messages.{spec_version_of, spec_kind_of, spec_header_position, root_at, spec_first_bytes, spec_after_continuation, spec_message_of_size, spec_sized_message, message_at, model_of, optional_model_of};
 
-use crate::message::types::{Kind, Message, Root, Version};
-use crate::{Fault, i16_field, i64_field, natural, offset_at, offset_field, u8_field, visit_table};
+use crate::message::types::{Message, MessageKind, MessageRoot, MetadataVersion};
+use crate::{
+    IpcReadError, i16_field, i64_field, non_negative, offset_at, offset_field, read_table, u8_field,
+};
 
-/// The version that a number is, where it is one that is read.
-pub fn version_of(number: i16) -> Result<Version, Fault>
-    ensures { result ≡ version_of_lem number }
+/// Returns the metadata version of a number of `MetadataVersion`.
+///
+/// # Errors
+/// [`IpcReadError::Version`] where it is neither V4 nor V5.
+pub fn version_of(number: i16) -> Result<MetadataVersion, IpcReadError>
+    ensures { result ≡ spec_version_of number }
 {
-    let number = natural(Fault::Version, number as i64)?;
+    let number = non_negative(IpcReadError::Version, number as i64)?;
     if number == 3 {
-        Ok(Version::V4)
+        Ok(MetadataVersion::V4)
     } else if number == 4 {
-        Ok(Version::V5)
+        Ok(MetadataVersion::V5)
     } else {
-        Err(Fault::Version)
+        Err(IpcReadError::Version)
     }
 }
 
-fn kind_of(tag: u8) -> Result<Kind, Fault>
-    ensures { result ≡ kind_of_lem tag }
+fn kind_of(tag: u8) -> Result<MessageKind, IpcReadError>
+    ensures { result ≡ spec_kind_of tag }
 {
     if tag == 1 {
-        Ok(Kind::Schema)
+        Ok(MessageKind::Schema)
     } else if tag == 2 {
-        Ok(Kind::DictionaryBatch)
+        Ok(MessageKind::DictionaryBatch)
     } else if tag == 3 {
-        Ok(Kind::RecordBatch)
+        Ok(MessageKind::RecordBatch)
     } else {
-        Err(Fault::HeaderType)
+        Err(IpcReadError::HeaderType)
     }
 }
 
-fn place_of(to: Option<usize>) -> Result<usize, Fault>
-    ensures { result ≡ place_of_lem to }
+fn header_position(to: Option<usize>) -> Result<usize, IpcReadError>
+    ensures { result ≡ spec_header_position to }
 {
     match to {
-        None => Err(Fault::HeaderType),
-        Some(place) => Ok(place),
+        None => Err(IpcReadError::HeaderType),
+        Some(position) => Ok(position),
     }
 }
 
-/// The root of metadata.
+/// Returns the root table of metadata.
+///
+/// # Errors
+/// [`IpcReadError::Flatbuffer`], [`IpcReadError::ApparentSize`], [`IpcReadError::Version`],
+/// [`IpcReadError::HeaderType`] where the header is absent or of another type, [`IpcReadError::BodyLength`] where the
+/// body length is negative.
 #[tactic(auto, unfolding(crate::specs::Messages::root_at))]
-pub fn read_root(bytes: &[u8]) -> Result<Root, Fault>
+pub fn read_root(bytes: &[u8]) -> Result<MessageRoot, IpcReadError>
     requires { length bytes.now < 2 ^ 31 }
     ensures { result ≡ root_at bytes.now }
 {
-    let place = offset_at(bytes, 0)?;
-    let (table, left) = visit_table(bytes, place, 64 * bytes.len())?;
+    let position = offset_at(bytes, 0)?;
+    let (table, left) = read_table(bytes, position, 64 * bytes.len())?;
     let version = version_of(i16_field(bytes, table, 0, 0)?)?;
     let kind = kind_of(u8_field(bytes, table, 1)?)?;
-    let header = place_of(offset_field(bytes, table, 2)?)?;
-    let body_length = natural(Fault::BodyLength, i64_field(bytes, table, 3, 0)?)?;
-    Ok(Root {
+    let header = header_position(offset_field(bytes, table, 2)?)?;
+    let body_length = non_negative(IpcReadError::BodyLength, i64_field(bytes, table, 3, 0)?)?;
+    Ok(MessageRoot {
         version,
         kind,
         header,
@@ -64,38 +74,38 @@ pub fn read_root(bytes: &[u8]) -> Result<Root, Fault>
     })
 }
 
-#[tactic(auto, unfolding(crate::specs::Messages::front))]
-fn front(n: usize, bytes: &[u8]) -> Result<(&[u8], &[u8]), Fault>
-    ensures parts { Spells (λ x. (x.0.now, x.1.now)) result (front_lem n bytes.now) }
+#[tactic(auto, unfolding(crate::specs::Messages::spec_first_bytes))]
+fn first_bytes(n: usize, bytes: &[u8]) -> Result<(&[u8], &[u8]), IpcReadError>
+    ensures parts { Returns (λ x. (x.0.now, x.1.now)) result (spec_first_bytes n bytes.now) }
     ensures length { IfOk result (λ x. length x.0.now ≡ n) }
 {
     if n <= bytes.len() {
         Ok(bytes.split_at(n))
     } else {
-        Err(Fault::Truncated)
+        Err(IpcReadError::Truncated)
     }
 }
 
-#[tactic(auto, unfolding(crate::specs::Messages::behind_mark))]
-fn behind_mark(bytes: &[u8]) -> Result<&[u8], Fault>
-    ensures { Spells (λ x. x.now) result (behind_mark_lem bytes.now) }
+#[tactic(auto, unfolding(crate::specs::Messages::spec_after_continuation))]
+fn after_continuation(bytes: &[u8]) -> Result<&[u8], IpcReadError>
+    ensures { Returns (λ x. x.now) result (spec_after_continuation bytes.now) }
 {
-    let (mark, rest) = front(4, bytes)?;
+    let (mark, rest) = first_bytes(4, bytes)?;
     if u32::from_le_bytes([mark[0], mark[1], mark[2], mark[3]]) != 0xFFFF_FFFF {
-        return Err(Fault::Continuation);
+        return Err(IpcReadError::Continuation);
     }
     Ok(rest)
 }
 
-#[tactic(auto, unfolding(crate::specs::Messages::parts_at))]
-fn parts_at(size: usize, bytes: &[u8]) -> Result<(Message<'_>, &[u8]), Fault>
+#[tactic(auto, unfolding(crate::specs::Messages::spec_message_of_size))]
+fn message_of_size(size: usize, bytes: &[u8]) -> Result<(Message<'_>, &[u8]), IpcReadError>
     requires { size < 2 ^ 31 }
-    ensures parts { Spells (λ x. (parts_of x.0, x.1.now)) result (parts_at_lem size bytes.now) }
+    ensures parts { Returns (λ x. (model_of x.0, x.1.now)) result (spec_message_of_size size bytes.now) }
     ensures small { IfOk result (λ x. length x.0.metadata.now < 2 ^ 31) }
 {
-    let (metadata, rest) = front(size, bytes)?;
+    let (metadata, rest) = first_bytes(size, bytes)?;
     let root = read_root(metadata)?;
-    let (body, rest) = front(root.body_length, rest)?;
+    let (body, rest) = first_bytes(root.body_length, rest)?;
     Ok((
         Message {
             root,
@@ -106,29 +116,37 @@ fn parts_at(size: usize, bytes: &[u8]) -> Result<(Message<'_>, &[u8]), Fault>
     ))
 }
 
-#[tactic(auto, unfolding(crate::specs::Messages::sized_at))]
-fn sized_at(bytes: &[u8]) -> Result<(Option<Message<'_>>, &[u8]), Fault>
-    ensures parts { Spells (λ x. (message_of x.0, x.1.now)) result (sized_at_lem bytes.now) }
+#[tactic(auto, unfolding(crate::specs::Messages::spec_sized_message))]
+fn sized_message(bytes: &[u8]) -> Result<(Option<Message<'_>>, &[u8]), IpcReadError>
+    ensures parts { Returns (λ x. (optional_model_of x.0, x.1.now)) result (spec_sized_message bytes.now) }
     ensures small { IfOk result (λ x. IfSome x.0 (λ m. length m.metadata.now < 2 ^ 31)) }
 {
-    let (long, rest) = front(4, bytes)?;
+    let (long, rest) = first_bytes(4, bytes)?;
     let number = u32::from_le_bytes([long[0], long[1], long[2], long[3]]).cast_signed();
-    let size = natural(Fault::MetadataLength, number as i64)?;
+    let size = non_negative(IpcReadError::MetadataLength, number as i64)?;
     if size == 0 {
         return Ok((None, rest));
     }
-    let (message, rest) = parts_at(size, rest)?;
+    let (message, rest) = message_of_size(size, rest)?;
     Ok((Some(message), rest))
 }
 
-/// The message that the bytes begin with, and what stands behind it; `None` where the stream ends, by its mark or with the bytes.
+/// Returns the message at the start of the bytes, and the bytes after its body.
+///
+/// `None` is the end of the stream: its end-of-stream marker, or no bytes.
+///
+/// # Errors
+/// [`IpcReadError::Truncated`], [`IpcReadError::Continuation`] or [`IpcReadError::MetadataLength`] where the
+/// encapsulation is invalid, and the errors of [`read_root`].
+///
+/// Source: Columnar format, Encapsulated message format and IPC Streaming Format.
 #[tactic(auto, unfolding(crate::specs::Messages::message_at))]
-pub fn next_message(bytes: &[u8]) -> Result<(Option<Message<'_>>, &[u8]), Fault>
-    ensures parts { Spells (λ x. (message_of x.0, x.1.now)) result (message_at bytes.now) }
+pub fn next_message(bytes: &[u8]) -> Result<(Option<Message<'_>>, &[u8]), IpcReadError>
+    ensures parts { Returns (λ x. (optional_model_of x.0, x.1.now)) result (message_at bytes.now) }
     ensures small { IfOk result (λ x. IfSome x.0 (λ m. length m.metadata.now < 2 ^ 31)) }
 {
     if bytes.is_empty() {
         return Ok((None, bytes));
     }
-    sized_at(behind_mark(bytes)?)
+    sized_message(after_continuation(bytes)?)
 }

@@ -1,37 +1,37 @@
-//! What a message is.
+//! The types of messages.
 
-/// The version of the metadata, `MetadataVersion` of `Schema.fbs` of the Arrow format: those that are read.
+/// The supported metadata versions (Schema.fbs, enum `MetadataVersion`).
 #[derive(Clone, Copy, Debug, PartialEq, Eq)]
-pub enum Version {
+pub enum MetadataVersion {
     V4,
     V5,
 }
 
-/// What a message has, `MessageHeader` of `Message.fbs` of the Arrow format: what is read.
+/// The supported kinds of message (Message.fbs, union `MessageHeader`).
 #[derive(Clone, Copy, Debug, PartialEq, Eq)]
-pub enum Kind {
+pub enum MessageKind {
     Schema,
     DictionaryBatch,
     RecordBatch,
 }
 
-/// The root of a message's metadata, `Message` of `Message.fbs` of the Arrow format.
+/// The root table of the metadata of a message (Message.fbs, table `Message`).
 #[derive(Clone, Copy, Debug, PartialEq, Eq)]
-pub struct Root {
-    pub version: Version,
-    pub kind: Kind,
-    /// Where the table of this kind stands in the metadata.
+pub struct MessageRoot {
+    pub version: MetadataVersion,
+    pub kind: MessageKind,
+    /// The position of the header table in the metadata.
     pub header: usize,
-    /// What visiting the metadata may still cost.
+    /// The budget that is left for reading the metadata, in bytes.
     pub left: usize,
-    /// The bytes of the body.
+    /// The length of the body in bytes.
     pub body_length: usize,
 }
 
-/// A message of a stream: its root, its metadata and its body.
+/// An encapsulated message: its root table, its metadata and its body.
 #[derive(Clone, Copy)]
 pub struct Message<'a> {
-    pub root: Root,
+    pub root: MessageRoot,
     pub metadata: &'a [u8],
     pub body: &'a [u8],
 }

@@ -1,13 +1,13 @@
-//! Where blocks lie in a file.
+//! Blocks of a file footer.
 ghost use Rattle.std.specs.Prelude.{◌≡◌, ◌≤◌, ◌-◌, ◌++◌, map, sum, length, nat_le, true, Some, None, if◌then◌else◌};
 ghost use Rattle.std.specs.List.{list_all};
-ghost use Rattle.ipc_schema.specs.Footers.{block_before, block_length as block_length_lem, blocks_before as blocks_before_lem, block_bytes as block_bytes_lem};
+ghost use Rattle.ipc_schema.specs.Footers.{is_block_before, spec_block_length, spec_blocks_before, spec_block_bytes};
 
 use crate::footer::types::Block;
 
-// Whether a block lies behind the file's first 8 bytes and before a place.
+// Whether a block begins after the first 8 bytes of the file and ends before a position.
 fn is_before(end: usize, block: Block) -> bool
-    ensures { result ≡ block_before end block }
+    ensures { result ≡ is_block_before end block }
 {
     if block.offset < 8 || block.metadata_length < 8 || block.body_length < 0 {
         return false;
@@ -19,7 +19,7 @@ fn is_before(end: usize, block: Block) -> bool
 }
 
 fn each_before(end: usize, blocks: &[Block]) -> bool
-    ensures { result ≡ list_all (block_before end) blocks.now }
+    ensures { result ≡ list_all (is_block_before end) blocks.now }
 {
     for block in blocks {
         if !is_before(end, *block) {
@@ -29,16 +29,16 @@ fn each_before(end: usize, blocks: &[Block]) -> bool
     true
 }
 
-/// How long a message with its body is.
+/// Returns the length of the message of a block with its body, in bytes.
 pub fn block_length(block: Block) -> usize
-    ensures { result ≡ block_length_lem block }
+    ensures { result ≡ spec_block_length block }
 {
     block.metadata_length.unsigned_abs() as usize + block.body_length.unsigned_abs() as usize
 }
 
-// What blocks leave of so many bytes; `None` where they are longer together.
+// The number of bytes without the blocks, `None` where their total length exceeds it.
 fn left_by(bytes: usize, blocks: &[Block]) -> Option<usize>
-    ensures { result ≡ (if nat_le (sum (map block_length_lem blocks.now)) bytes then Some (bytes - sum (map block_length_lem blocks.now)) else None) }
+    ensures { result ≡ (if nat_le (sum (map spec_block_length blocks.now)) bytes then Some (bytes - sum (map spec_block_length blocks.now)) else None) }
 {
     let mut left = bytes;
     for block in blocks {
@@ -51,9 +51,9 @@ fn left_by(bytes: usize, blocks: &[Block]) -> Option<usize>
     Some(left)
 }
 
-// Whether all of them are no longer than so many bytes.
-fn together_before(end: usize, dictionaries: &[Block], batches: &[Block]) -> bool
-    ensures { result ≡ nat_le (sum (map block_length_lem (dictionaries.now ++ batches.now))) end }
+// Whether the total length of all blocks does not exceed the end.
+fn total_before(end: usize, dictionaries: &[Block], batches: &[Block]) -> bool
+    ensures { result ≡ nat_le (sum (map spec_block_length (dictionaries.now ++ batches.now))) end }
 {
     match left_by(end, dictionaries) {
         None => false,
@@ -61,19 +61,19 @@ fn together_before(end: usize, dictionaries: &[Block], batches: &[Block]) -> boo
     }
 }
 
-/// Whether each block lies before a place, and so do all of them together.
+/// Returns whether each block ends before a position, and their total length does not exceed it.
 pub fn blocks_before(end: usize, dictionaries: &[Block], batches: &[Block]) -> bool
-    ensures { result ≡ blocks_before_lem end (dictionaries.now ++ batches.now) }
+    ensures { result ≡ spec_blocks_before end (dictionaries.now ++ batches.now) }
 {
     each_before(end, dictionaries)
         && each_before(end, batches)
-        && together_before(end, dictionaries, batches)
+        && total_before(end, dictionaries, batches)
 }
 
-/// The bytes that a block names, of a file in which it lies.
+/// Returns the bytes of the message of a block with its body, of a file that contains it.
 pub fn block_bytes(bytes: &[u8], block: Block) -> &[u8]
-    requires { block_before (length bytes.now) block ≡ true }
-    ensures { result.now ≡ block_bytes_lem bytes.now block }
+    requires { is_block_before (length bytes.now) block ≡ true }
+    ensures { result.now ≡ spec_block_bytes bytes.now block }
 {
     let start = block.offset.unsigned_abs() as usize;
     let (_, from) = bytes.split_at(start);

@@ -1,24 +1,24 @@
-//! Laws and examples of what is read, as functions with empty bodies.
+//! Theorems and worked examples about file footers, as functions with empty bodies.
 ghost use Rattle.std.specs.Prelude.{◌≡◌, ◌<◌, ◌^◌, List, ℕ, length, take, Ok};
-ghost use Rattle.ipc_schema.specs.Picks.{Picks, all};
-ghost use Rattle.ipc_schema.specs.Footers.{FooterTree};
-ghost use Rattle.ipc_schema.specs.PickedFooters.{file_picked_in};
-ghost use Rattle.ipc_schema.specs.FooterParts.{footer_by_parts, tail_of, own_of};
+ghost use Rattle.ipc_schema.specs.Projections.{ProjectionModel, all};
+ghost use Rattle.ipc_schema.specs.Footers.{FooterModel};
+ghost use Rattle.ipc_schema.specs.ProjectedFooters.{projected_footer_in};
+ghost use Rattle.ipc_schema.specs.FooterParts.{footer_by_parts, last_bytes_of, footer_bytes_in};
 ghost use Rattle.ipc_schema.specs.FooterBytes.{footer_bytes};
-ghost use Rattle.ipc_schema.specs.FooterLaws.{FooterFits, IsReadBack};
+ghost use Rattle.ipc_schema.specs.FooterLaws.{FooterFits, FooterRoundTrips};
 ghost use Rattle.ipc_schema.specs.FooterExamples.{worked_file, worked_tree};
 
-/// The end of a file that is written is read back as its footer, of all columns, where all blocks lie in what stands before it.
-pub fn footers_are_read_back()
-    ensures { (f : FooterTree) → FooterFits f → length (footer_bytes f) < 2 ^ 31 → IsReadBack f }
+/// The footer of a file round-trips where its blocks are within the bytes before it.
+pub fn footers_round_trip()
+    ensures { (f : FooterModel) → FooterFits f → length (footer_bytes f) < 2 ^ 31 → FooterRoundTrips f }
 {}
 
-/// The file of another writer, byte by byte, has the footer of no column and one batch.
-pub fn a_footer_is_read()
-    ensures { file_picked_in all worked_file ≡ Ok worked_tree }
+/// The bytes of a file of another writer decode to a footer of one record batch and no columns.
+pub fn footer_is_read()
+    ensures { projected_footer_in all worked_file ≡ Ok worked_tree }
 {}
 
-/// The footer of a file depends on the file's length, its first 6 bytes, its last 10 and the footer's own bytes alone.
-pub fn a_footer_is_read_of_its_parts()
-    ensures { (picks : Picks) (bytes : List ℕ) → file_picked_in picks bytes ≡ footer_by_parts picks (length bytes) (take 6 bytes) (tail_of bytes) (own_of bytes) }
+/// The footer depends only on the length of the file, its first 6 and last 10 bytes, and the bytes of the footer.
+pub fn footer_depends_on_its_parts()
+    ensures { (picks : ProjectionModel) (bytes : List ℕ) → projected_footer_in picks bytes ≡ footer_by_parts picks (length bytes) (take 6 bytes) (last_bytes_of bytes) (footer_bytes_in bytes) }
 {}

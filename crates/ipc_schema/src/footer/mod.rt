@@ -1,12 +1,12 @@
-//! Footers of files of the Arrow IPC format: which schema a file has, and where its batches lie. Read and written.
+//! Readers and writers of the footers of Arrow IPC files: the schema, and the blocks of dictionaries and record batches.
 
 mod blocks;
-mod types;
 pub mod laws;
 mod reading;
+mod types;
 mod writing;
 
 pub use blocks::{block_bytes, block_length};
-pub use types::{Block, PickedFooter};
 pub use reading::{footer_length, read_footer, read_footer_at};
+pub use types::{Block, ProjectedFooter};
 pub use writing::write_footer;

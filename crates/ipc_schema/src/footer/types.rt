@@ -1,24 +1,24 @@
-//! What a file's footer says.
-use crate::PickedSchema;
+//! The types of file footers.
+use crate::ProjectedSchema;
 
-/// Where a message lies in a file, and how long it and its body are: `Block` of `File.fbs` of the Arrow format.
+/// The position and the lengths of a message of a file (File.fbs, struct `Block`).
 #[derive(Clone, Copy, Debug, PartialEq, Eq)]
 pub struct Block {
-    /// Where the message begins, from the first byte of the file.
+    /// The offset of the message from the start of the file.
     pub offset: i64,
-    /// The bytes of the message without its body: 8, and its metadata.
+    /// The length of the message without its body: 8 bytes and its metadata.
     pub metadata_length: i32,
-    /// The bytes of its body.
+    /// The length of the body.
     pub body_length: i64,
 }
 
-/// The footer of a file of which some columns are read, `Footer` of `File.fbs` of the Arrow format.
+/// The footer of a file with the projection of its schema (File.fbs, table `Footer`).
 #[derive(Drop)]
-pub struct PickedFooter {
-    /// The columns of all batches that are read, and what the others take in each batch.
-    pub picked: PickedSchema,
-    /// Where the batches of dictionaries lie, in the order of reading.
+pub struct ProjectedFooter {
+    /// The projection of the schema.
+    pub picked: ProjectedSchema,
+    /// The blocks of the dictionary batches, in the order of reading.
     pub dictionaries: Vec<Block>,
-    /// Where the record batches lie, in their order.
+    /// The blocks of the record batches, in their order.
     pub batches: Vec<Block>,
 }

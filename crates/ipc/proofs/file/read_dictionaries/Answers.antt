@@ -1,7 +1,7 @@
 use Rattle.std.proofs.lemmas.Result.{err_from_is_err_and}
 use Rattle.ipc.specs.Streams.{state_of}
 use Rattle.ipc.specs.Files.{dictionaries_at}
-use Rattle.ipc.proofs.FileLoops.{dictionary_fails, dictionary_goes_on, dictionaries_end}
+use Rattle.ipc.proofs.BlockLoops.{dictionary_fails, dictionary_goes_on, dictionaries_end}
 use Rattle.ipc.proofs.file.read_dictionaries.Goals as goal
 
 pub returns-in_err-read_dictionary_block : goal.returns-in_err-read_dictionary_block

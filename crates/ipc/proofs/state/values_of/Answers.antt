@@ -6,14 +6,14 @@ use Rattle.std.specs.Ordering.{int_cmp}
 use Rattle.std.proofs.lemmas.List.{map-append, map_more}
 use Rattle.nest_array.specs.Seen.{layout_of}
 use Rattle.nest_array.specs.declared.any.AnyArray.{AnyArray}
-use Rattle.ipc_arrays.specs.Keys.{dictionary_of}
+use Rattle.ipc_arrays.specs.DictionaryKeys.{dictionary_of}
 use Rattle.ipc.specs.Streams.{known_of, known_at}
 use Rattle.ipc.proofs.Entries.{viewed_found}
 use Rattle.ipc.proofs.state.values_of.Goals as goal
 
-copied : (r : Option (Bor AnyArray)) → dictionary_of r ≡ option_map layout_of (option_copied r)
-copied None = refl
-copied (Some a) = refl
+clone_entries : (r : Option (Bor AnyArray)) → dictionary_of r ≡ option_map layout_of (option_copied r)
+clone_entries None = refl
+clone_entries (Some a) = refl
 
 pub loop-id-preserved : goal.loop-id-preserved
 loop-id-preserved c =
@@ -21,7 +21,7 @@ loop-id-preserved c =
     let ids = c.args.ids.now in
     let i = c.loop-id.id-index in
     let one : dictionary_of c.get.result ≡ known_at (known_of es) (get_or ids i (pos 0)) =
-    copied c.get.result ∙ ap (λ (v : Option AnyArray). option_map layout_of v) c.get.ensures.value ∙ sym (viewed_found layout_of (is_at (int_cmp (get_or ids i (pos 0)))) es) in
+    clone_entries c.get.result ∙ ap (λ (v : Option AnyArray). option_map layout_of v) c.get.ensures.value ∙ sym (viewed_found layout_of (is_at (int_cmp (get_or ids i (pos 0)))) es) in
     ap (map dictionary_of) c.push_reserved.ensures.items
     ∙ map-append dictionary_of c.loop-id.values.items (c.get.result ∷ [])
     ∙ (λ w. c.loop-id.invariant w ++ one w ∷ [])

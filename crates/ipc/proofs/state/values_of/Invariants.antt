@@ -1,6 +1,6 @@
 use Rattle.std.proofs.Common.{◌≡◌, map}
 use Rattle.std.specs.Prelude.{take}
-use Rattle.ipc_arrays.specs.Keys.{dictionary_of}
+use Rattle.ipc_arrays.specs.DictionaryKeys.{dictionary_of}
 use Rattle.ipc.specs.Streams.{known_of, values_at}
 use Rattle.ipc.proofs.state.values_of.Given as goal
 

@@ -8,7 +8,7 @@ pub returns-in-Ok-clause-read : goal.returns-in-Ok-clause-read
 returns-in-Ok-clause-read g c =
     let value = g.O.Offset.value in
     let rising : are_offsets (map value c.args.offsets.items) ≡ true = is_true _ (λ e. let wrong = c.in-Ok.ensures.wrong.1 e in cc) in
-    offsets_made g.O.NativeType.numbers value g.met.O.StoredOffset.one c.args.offsets.items rising ∙ ap (λ (os : List ℕ). Ok os) (sym c.in-Ok.ensures.ok)
+    offsets_made g.O.NativeType.numbers value g.met.O.FixedWidthOffset.one c.args.offsets.items rising ∙ ap (λ (os : List ℕ). Ok os) (sym c.in-Ok.ensures.ok)
 
 pub returns-in-Ok-clause-slots : goal.returns-in-Ok-clause-slots
 returns-in-Ok-clause-slots g c = ap length c.in-Ok.ensures.ok ∙ numbers_long g.O.Offset.value c.args.offsets.items
@@ -21,4 +21,4 @@ returns-in-Err-OutOfSpec-clause-read g c = λ known.
       | inl e ↦ c.in-Err-OutOfSpec.ensures.wrong.0 (ap (λ (x : Error). Err x) e)
       | inr e ↦ let is = c.in-Err-OutOfSpec.field-0-is in cc
     ] in
-    offsets_refused g.O.NativeType.numbers value g.met.O.StoredOffset.one c.args.offsets.items falls
+    offsets_refused g.O.NativeType.numbers value g.met.O.FixedWidthOffset.one c.args.offsets.items falls

@@ -1,6 +1,6 @@
 use Rattle.std.proofs.lemmas.Result.{err_from_is_err_and}
 use Rattle.ipc.specs.Streams.{state_of}
-use Rattle.ipc_io.proofs.Parts.{kept_on}
+use Rattle.ipc_io.proofs.Ranges.{kept_on}
 use Rattle.ipc_io.proofs.FileSteps.{dictionaries_unread, dictionary_fails, dictionary_goes_on, dictionaries_end}
 use Rattle.ipc_io.proofs.file_reader.read_dictionaries.Goals as goal
 

@@ -6,9 +6,9 @@ use Rattle.ipc_io.proofs.file_reader.read_dictionaries.Given as goal
 
 abbrev pub invariant-loop-block : goal.invariant-loop-block
 invariant-loop-block g l =
-    let place = g.R.Seek.stream_position in
+    let position = g.R.Seek.stream_position in
     let bytes = g.R.Seek.stream_bytes in
     record {
-      kept : Keeps (known (place l.fn.device) (bytes l.fn.device)) (known (place l.device) (bytes l.device));
-      on : IsUnderWay (known (place l.fn.device) (bytes l.fn.device)) (state_of l.fn.state) (state_of l.state) l.blocks l.block-index;
+      kept : Keeps (known (position l.fn.reader) (bytes l.fn.reader)) (known (position l.reader) (bytes l.reader));
+      on : IsUnderWay (known (position l.fn.reader) (bytes l.fn.reader)) (state_of l.fn.state) (state_of l.state) l.blocks l.block-index;
     }

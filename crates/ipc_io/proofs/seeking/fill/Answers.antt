@@ -1,10 +1,10 @@
 use Rattle.std.proofs.Common.{◌≡◌, ◌+◌, ◌-◌, refl, arith}
-use Rattle.ipc_io.proofs.Parts.{kept_on, kept_same, starts_there, reads_on}
+use Rattle.ipc_io.proofs.Ranges.{kept_on, kept_same, starts_there, reads_on}
 use Rattle.ipc_io.proofs.seeking.fill.Goals as goal
 
 pub reads-init : goal.reads-init
 reads-init g c = record {
-  read = starts_there _ c.args.came.now.items c.args.want;
+  read = starts_there _ c.args.buf.now.items c.args.want;
   long = refl;
   within = omega arith;
   kept = kept_same _;

@@ -1,6 +1,6 @@
 use Rattle.std.proofs.Common.{[]}
 use Rattle.ipc_schema.specs.Schemas.{schema_of}
-use Rattle.ipc_io.proofs.Steps.{copied}
+use Rattle.ipc_io.proofs.StreamSteps.{copied}
 use Rattle.ipc_io.proofs.stream_writer.message_of.Goals as goal
 
 pub returns-clause-same : goal.returns-clause-same

@@ -3,5 +3,5 @@ use Rattle.std.proofs.lemmas.Result.{IfOk-weaker}
 use Rattle.ipc_schema.proofs.Sought.{texts_named}
 use Rattle.ipc_schema.proofs.columns.names_of.Goals as goal
 
-pub returns-in-Named : goal.returns-in-Named
-returns-in-Named c = rw c.in-Named.is (IfOk-weaker c.text_set_of.result _ _ (λ s h. λ name. h.0 name ∙ texts_named c.in-Named.names.now name) c.text_set_of.ensures)
+pub returns-in-Names : goal.returns-in-Names
+returns-in-Names c = rw c.in-Names.is (IfOk-weaker c.name_set.result _ _ (λ s h. λ name. h.0 name ∙ texts_named c.in-Names.names.now name) c.name_set.ensures)

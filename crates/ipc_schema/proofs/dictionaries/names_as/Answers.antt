@@ -4,9 +4,9 @@ use Rattle.std.specs.Map.{lookup}
 use Rattle.std.specs.BTreeMap.{is_at}
 use Rattle.std.specs.Ordering.{int_cmp}
 use Rattle.ipc_schema.specs.Dictionaries as spelled
-use Rattle.ipc_schema.specs.Dictionaries.{same_values}
-use Rattle.ipc_schema.specs.SeenOf.{values_of, named_of}
-use Rattle.ipc_schema.specs.declared.dictionaries.Values.{Values}
+use Rattle.ipc_schema.specs.Dictionaries.{spec_same_values}
+use Rattle.ipc_schema.specs.DictionaryModels.{value_type_of, value_types_of}
+use Rattle.ipc_schema.specs.declared.dictionaries.DictionaryValueType.{DictionaryValueType}
 use Rattle.ipc_schema.proofs.Named.{named_found}
 use Rattle.ipc_schema.proofs.dictionaries.names_as.Goals as goal
 
@@ -15,13 +15,13 @@ returns-in-None c =
     let test = is_at (int_cmp c.args.id.now) in
     let es = c.args.seen.now.named.entries in
     let none : lookup test es ≡ None = sym c.in-None.ensures.value in
-    let found : lookup test (named_of es) ≡ None = named_found test es ∙ ap (λ (v : Option Values). option_map values_of v) none in
-    sym (ap (λ (v : Option spelled.Values). option_map (λ old. same_values old (values_of c.args.new.now)) v) found)
+    let found : lookup test (value_types_of es) ≡ None = named_found test es ∙ ap (λ (v : Option DictionaryValueType). option_map value_type_of v) none in
+    sym (ap (λ (v : Option spelled.ValueTypeModel). option_map (λ old. spec_same_values old (value_type_of c.args.new.now)) v) found)
 
 pub returns-in-Some : goal.returns-in-Some
 returns-in-Some c =
     let test = is_at (int_cmp c.args.id.now) in
     let es = c.args.seen.now.named.entries in
     let some : lookup test es ≡ Some c.in-Some.old.now = sym c.in-Some.ensures.value in
-    let found : lookup test (named_of es) ≡ Some (values_of c.in-Some.old.now) = named_found test es ∙ ap (λ (v : Option Values). option_map values_of v) some in
-    ap (λ (b : Bool). Some b) c.same_values.ensures ∙ sym (ap (λ (v : Option spelled.Values). option_map (λ old. same_values old (values_of c.args.new.now)) v) found)
+    let found : lookup test (value_types_of es) ≡ Some (value_type_of c.in-Some.old.now) = named_found test es ∙ ap (λ (v : Option DictionaryValueType). option_map value_type_of v) some in
+    ap (λ (b : Bool). Some b) c.same_values.ensures ∙ sym (ap (λ (v : Option spelled.ValueTypeModel). option_map (λ old. spec_same_values old (value_type_of c.args.new.now)) v) found)

@@ -1,4 +1,4 @@
-use Rattle.ipc_schema.specs.KeyedExamples.{are_written, are_numbered, are_refused}
+use Rattle.ipc_schema.specs.DictionaryWriteExamples.{are_written, are_numbered, are_refused}
 use Rattle.ipc_schema.proofs.laws.dictionaries_are_written.Goals as goal
 
 pub returns-clause-bytes : goal.returns-clause-bytes

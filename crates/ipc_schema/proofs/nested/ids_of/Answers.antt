@@ -2,18 +2,18 @@ use Rattle.std.proofs.Common.{sym, ap}
 use Rattle.std.proofs.lemmas.Result.{err_from_is_err_and}
 use Rattle.std.specs.Int.{w32, cast_signed}
 use Rattle.ipc_flatbuf.specs.Flatbuffers.{signed_at, structs_at}
-use Rattle.ipc_flatbuf.specs.VectorBytes.{struct_starts, struct_goes_on, struct_ends, struct_is_done}
+use Rattle.ipc_flatbuf.specs.VectorLoops.{structs_start, struct_goes_on, struct_fails, structs_are_done}
 use Rattle.ipc_schema.proofs.Signs.{signed_is}
 use Rattle.ipc_schema.proofs.nested.ids_of.Goals as goal
 
 pub loop-i-init : goal.loop-i-init
-loop-i-init c = rw c.new-ids.ensures.items (struct_starts (signed_at w32 c.args.bytes.now) 4 c.args.items.count c.args.items.first)
+loop-i-init c = rw c.new-ids.ensures.items (structs_start (signed_at w32 c.args.bytes.now) 4 c.args.items.count c.args.items.first)
 
 pub returns-in_err-number : goal.returns-in_err-number
 returns-in_err-number c =
     let p = err_from_is_err_and c.from_residual.result c.from_residual.ensures.1 in
     let read = signed_at w32 c.args.bytes.now in
-    rw (p.1, p.2) (λ known. struct_ends read 4 c.loop-i.ids.items c.args.items.count c.args.items.first c.loop-i.i c.in_err-number.field-0.0 (structs_at read 4 c.args.items.count c.args.items.first) c.loop-i-test.true (sym (ap signed_is c.in_err-number.ensures)) c.loop-i.invariant)
+    rw (p.1, p.2) (λ known. struct_fails read 4 c.loop-i.ids.items c.args.items.count c.args.items.first c.loop-i.i c.in_err-number.field-0.0 (structs_at read 4 c.args.items.count c.args.items.first) c.loop-i-test.true (sym (ap signed_is c.in_err-number.ensures)) c.loop-i.invariant)
 
 pub loop-i-preserved : goal.loop-i-preserved
 loop-i-preserved c =
@@ -23,4 +23,4 @@ loop-i-preserved c =
 pub returns : goal.returns
 returns c =
     let read = signed_at w32 c.args.bytes.now in
-    struct_is_done read 4 c.loop-i.ids.items c.args.items.count c.args.items.first c.loop-i.i (structs_at read 4 c.args.items.count c.args.items.first) c.loop-i-test.false c.loop-i.invariant
+    structs_are_done read 4 c.loop-i.ids.items c.args.items.count c.args.items.first c.loop-i.i (structs_at read 4 c.args.items.count c.args.items.first) c.loop-i-test.false c.loop-i.invariant

@@ -1,9 +1,9 @@
 use Rattle.std.proofs.Common.{◌≡◌, ◌+◌, ◌*◌, map}
 use Rattle.nest_memory.specs.TypeOf.{field_of}
 use Rattle.ipc_schema.specs.Dictionaries.{progress}
-use Rattle.ipc_schema.specs.SeenOf.{seen_of}
-use Rattle.ipc_schema.specs.FieldRows.{rows_at, with_front, rest_at}
-use Rattle.ipc_schema.specs.Schemas.{field_at}
+use Rattle.ipc_schema.specs.DictionaryModels.{types_of}
+use Rattle.ipc_schema.specs.FieldVectors.{tables_in_turn, with_done, rest_at}
+use Rattle.ipc_schema.specs.Schemas.{spec_field_at}
 use Rattle.ipc_schema.proofs.reading.+fields.Given as goal
 
 abbrev pub decreases-field_at : goal.decreases-field_at
@@ -17,4 +17,4 @@ decreases-field_over l = 3 * l.depth + 2
 
 abbrev pub invariant-fields_at-loop-i : goal.invariant-fields_at-loop-i
 invariant-fields_at-loop-i l =
-    with_front (map field_of l.fields.items) (rest_at (field_at l.depth l.bytes) l.bytes l.items.count l.items.first l.i (progress l.rest (seen_of l.seen))) ≡ rows_at (field_at l.depth l.bytes) l.bytes l.items.count l.items.first (progress l.left (seen_of l.initial.seen))
+    with_done (map field_of l.fields.items) (rest_at (spec_field_at l.depth l.bytes) l.bytes l.items.count l.items.first l.i (progress l.rest (types_of l.seen))) ≡ tables_in_turn (spec_field_at l.depth l.bytes) l.bytes l.items.count l.items.first (progress l.left (types_of l.initial.seen))

@@ -1,4 +1,4 @@
-use Rattle.ipc.specs.NeededExamples.{own_ids, ids_inside, all_ids}
+use Rattle.ipc.specs.PendingExamples.{own_ids, ids_inside, all_ids}
 use Rattle.ipc.proofs.dictionaries.examples.ids_are_in_pre_order.Goals as goal
 
 pub returns-clause-own : goal.returns-clause-own

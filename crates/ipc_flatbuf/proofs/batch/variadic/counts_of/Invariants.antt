@@ -1,7 +1,7 @@
 use Rattle.std.proofs.Common.{◌≡◌}
 use Rattle.std.specs.Int.{w64}
 use Rattle.ipc_flatbuf.specs.Flatbuffers.{signed_at, structs_at}
-use Rattle.ipc_flatbuf.specs.VectorBytes.{with_structs, structs_from}
+use Rattle.ipc_flatbuf.specs.VectorLoops.{with_structs, structs_from}
 use Rattle.ipc_flatbuf.proofs.batch.variadic.counts_of.Given as goal
 
 abbrev pub invariant-loop-i : goal.invariant-loop-i

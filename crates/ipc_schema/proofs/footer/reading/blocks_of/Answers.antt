@@ -1,25 +1,25 @@
 use Rattle.std.proofs.Common.{sym}
 use Rattle.std.proofs.lemmas.Result.{err_from_is_err_and}
 use Rattle.ipc_flatbuf.specs.Flatbuffers.{structs_at}
-use Rattle.ipc_flatbuf.specs.VectorBytes.{struct_starts, struct_goes_on, struct_ends, struct_is_done}
-use Rattle.ipc_schema.specs.Footers.{block_at}
+use Rattle.ipc_flatbuf.specs.VectorLoops.{structs_start, struct_goes_on, struct_fails, structs_are_done}
+use Rattle.ipc_schema.specs.Footers.{spec_block_at}
 use Rattle.ipc_schema.proofs.footer.reading.blocks_of.Goals as goal
 
 pub loop-i-init : goal.loop-i-init
-loop-i-init c = rw c.new-blocks.ensures.items (struct_starts (block_at c.args.bytes.now) 24 c.args.items.count c.args.items.first)
+loop-i-init c = rw c.new-blocks.ensures.items (structs_start (spec_block_at c.args.bytes.now) 24 c.args.items.count c.args.items.first)
 
 pub returns-in_err-block : goal.returns-in_err-block
 returns-in_err-block c =
     let p = err_from_is_err_and c.from_residual.result c.from_residual.ensures.1 in
-    let read = block_at c.args.bytes.now in
-    rw (p.1, p.2) (λ known. struct_ends read 24 c.loop-i.blocks.items c.args.items.count c.args.items.first c.loop-i.i c.in_err-block.field-0.0 (structs_at read 24 c.args.items.count c.args.items.first) c.loop-i-test.true (sym c.in_err-block.ensures) c.loop-i.invariant)
+    let read = spec_block_at c.args.bytes.now in
+    rw (p.1, p.2) (λ known. struct_fails read 24 c.loop-i.blocks.items c.args.items.count c.args.items.first c.loop-i.i c.in_err-block.field-0.0 (structs_at read 24 c.args.items.count c.args.items.first) c.loop-i-test.true (sym c.in_err-block.ensures) c.loop-i.invariant)
 
 pub loop-i-preserved : goal.loop-i-preserved
 loop-i-preserved c =
-    let read = block_at c.args.bytes.now in
+    let read = spec_block_at c.args.bytes.now in
     rw c.in_ok-push.ensures.items (struct_goes_on read 24 c.loop-i.blocks.items c.args.items.count c.args.items.first c.loop-i.i c.in_ok-block.block (structs_at read 24 c.args.items.count c.args.items.first) c.loop-i-test.true (sym c.in_ok-block.ensures) c.loop-i.invariant)
 
 pub returns : goal.returns
 returns c =
-    let read = block_at c.args.bytes.now in
-    struct_is_done read 24 c.loop-i.blocks.items c.args.items.count c.args.items.first c.loop-i.i (structs_at read 24 c.args.items.count c.args.items.first) c.loop-i-test.false c.loop-i.invariant
+    let read = spec_block_at c.args.bytes.now in
+    structs_are_done read 24 c.loop-i.blocks.items c.args.items.count c.args.items.first c.loop-i.i (structs_at read 24 c.args.items.count c.args.items.first) c.loop-i-test.false c.loop-i.invariant

@@ -1,8 +1,0 @@
-use Rattle.ipc.specs.PutsExamples.{new_known, new_put}
-use Rattle.ipc.proofs.dictionaries.examples.new_values_are_put_whole.Goals as goal
-
-pub returns-clause-known : goal.returns-clause-known
-returns-clause-known c = new_known
-
-pub returns-clause-put : goal.returns-clause-put
-returns-clause-put c = new_put

@@ -1,5 +1,0 @@
-use Rattle.ipc.specs.FileExamples.{worked}
-use Rattle.ipc.proofs.laws.a_file_is_read.Goals as goal
-
-pub returns : goal.returns
-returns c = worked

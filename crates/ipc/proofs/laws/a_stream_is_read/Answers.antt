@@ -1,5 +1,0 @@
-use Rattle.ipc.specs.Examples.{worked_whole}
-use Rattle.ipc.proofs.laws.a_stream_is_read.Goals as goal
-
-pub returns : goal.returns
-returns c = worked_whole

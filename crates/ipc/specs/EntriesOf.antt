@@ -1,0 +1,16 @@
+-- Dictionary values by id, of the values that the code holds.
+use Rattle.std.specs.Prelude.{ℤ, List, map}
+use Rattle.std.specs.Borrow.{Bor}
+use Rattle.nest_array.specs.Seen.{layout_of}
+use Rattle.nest_array.specs.declared.any.AnyArray.{AnyArray}
+use Rattle.nest_model.specs.Layout.{Layout}
+use Rattle.ipc.specs.DictionaryEntries.{DictionaryEntries}
+
+abbrev pub entries_of : List (ℤ × AnyArray) → DictionaryEntries
+entries_of entries = map (λ e. (e.0, layout_of e.1)) entries
+
+abbrev pub entry_of : ℤ × Bor AnyArray → ℤ × Layout
+entry_of e = (e.0, layout_of e.1.now)
+
+abbrev pub found_of : List (ℤ × Bor AnyArray) → DictionaryEntries
+found_of found = map entry_of found

@@ -1,0 +1,15 @@
+use Rattle.std.proofs.Common.{◌≡◌, [], ◌∷◌, length, map, ap, ◌∙◌}
+use Rattle.ipc_arrays.specs.Encoding.{normalized_validity_bytes, flat_buffers}
+use Rattle.ipc_arrays.proofs.Arrays.{on_ok, if_err, sized_sizes}
+use Rattle.ipc_arrays.proofs.fixed_size_binary.layout_fixed_size_binary.Goals as goal
+
+sizes : (c : goal.After-layout_buffers) → map length (flat_buffers c.args.array.now) ≡ c.validity_size.result ∷ c.len-size.result ∷ []
+sizes c =
+    sized_sizes c.args.array.now c.validity_size.result c.len-size.result c.known.ensures.kind (c.validity_size.ensures ∙ (λ w. length (normalized_validity_bytes (c.validity.ensures w))))
+    (c.len-size.ensures ∙ ap length c.values.ensures)
+
+pub returns-clause-ok : goal.returns-clause-ok
+returns-clause-ok c = on_ok c.layout_buffers.result c.layout_buffers.ensures.ok (λ longer. longer (flat_buffers c.args.array.now) (sizes c))
+
+pub returns-clause-err : goal.returns-clause-err
+returns-clause-err c = if_err c.layout_buffers.result c.layout_buffers.ensures.err (λ error past. past (flat_buffers c.args.array.now) (sizes c))

@@ -1,5 +1,0 @@
-use Rattle.ipc_arrays.specs.WriteExamples.{dated_are}
-use Rattle.ipc_arrays.proofs.write_examples.dated_keys_are_written.Goals as goal
-
-pub returns : goal.returns
-returns c = dated_are

@@ -1,8 +1,0 @@
-use Rattle.std.proofs.Common.{◌≡◌}
-use Rattle.ipc_flatbuf.specs.Flatbuffers.{structs_at}
-use Rattle.ipc_flatbuf.specs.VectorBytes.{with_structs, structs_from}
-use Rattle.ipc_flatbuf.specs.Batches.{region_at}
-use Rattle.ipc_flatbuf.proofs.batch.reading.regions_of.Given as goal
-
-abbrev pub invariant-loop-i : goal.invariant-loop-i
-invariant-loop-i l = with_structs l.regions.items (structs_from (region_at l.bytes) 16 l.items.count l.items.first l.i) ≡ structs_at (region_at l.bytes) 16 l.items.count l.items.first

@@ -1,5 +1,0 @@
-use Rattle.ipc_io.specs.FileReaderLaws.{file_fault_comes}
-use Rattle.ipc_io.proofs.laws.a_device_gives_the_fault_of_its_file.Goals as goal
-
-pub returns : goal.returns
-returns g c = file_fault_comes g.R.Seek.stream_position g.R.Seek.stream_bytes

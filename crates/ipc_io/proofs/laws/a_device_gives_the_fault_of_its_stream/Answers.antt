@@ -1,5 +1,0 @@
-use Rattle.ipc_io.specs.ReaderLaws.{fault_comes}
-use Rattle.ipc_io.proofs.laws.a_device_gives_the_fault_of_its_stream.Goals as goal
-
-pub returns : goal.returns
-returns g c = fault_comes g.R.Read.remaining

@@ -1,5 +1,0 @@
-use Rattle.ipc_io.specs.WriterLaws.{stream_begins}
-use Rattle.ipc_io.proofs.laws.a_failed_writer_has_put_a_beginning_of_its_stream.Goals as goal
-
-pub returns : goal.returns
-returns g c = stream_begins g.W.Write.contents

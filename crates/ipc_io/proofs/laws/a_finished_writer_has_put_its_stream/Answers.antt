@@ -1,5 +1,0 @@
-use Rattle.ipc_io.specs.WriterLaws.{stream_put}
-use Rattle.ipc_io.proofs.laws.a_finished_writer_has_put_its_stream.Goals as goal
-
-pub returns : goal.returns
-returns g c = stream_put g.W.Write.contents

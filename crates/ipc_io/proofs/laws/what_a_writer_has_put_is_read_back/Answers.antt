@@ -1,8 +1,0 @@
-use Rattle.ipc_io.specs.WriterLaws.{stream_read, stream_same}
-use Rattle.ipc_io.proofs.laws.what_a_writer_has_put_is_read_back.Goals as goal
-
-pub returns-clause-read : goal.returns-clause-read
-returns-clause-read g c = stream_read g.W.Write.contents
-
-pub returns-clause-same : goal.returns-clause-same
-returns-clause-same g c = stream_same g.W.Write.contents

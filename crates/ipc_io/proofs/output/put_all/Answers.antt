@@ -1,5 +1,0 @@
-use Rattle.ipc_io.proofs.Puts.{put_more}
-use Rattle.ipc_io.proofs.output.put_all.Goals as goal
-
-pub bytes-preserved : goal.bytes-preserved
-bytes-preserved g c = put_more _ _ _ _ c.bytes.rest.now c.in-Ok.n c.bytes.invariant c.in-Ok.ensures.bytes

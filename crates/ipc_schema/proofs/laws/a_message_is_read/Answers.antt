@@ -1,5 +1,0 @@
-use Rattle.ipc_schema.specs.Examples.{worked}
-use Rattle.ipc_schema.proofs.laws.a_message_is_read.Goals as goal
-
-pub returns : goal.returns
-returns c = worked

@@ -1,7 +1,0 @@
-use Rattle.std.proofs.Common.{◌≡◌, ◌++◌, take}
-use Rattle.std.specs.List.{flat_map}
-use Rattle.ipc_flatbuf.specs.Bytes.{i32_bytes}
-use Rattle.ipc_schema.proofs.type_writing.put_each_id.Given as goal
-
-abbrev pub invariant-loop-id : goal.invariant-loop-id
-invariant-loop-id l = l.out.items ≡ l.initial.out.items ++ flat_map i32_bytes (take l.id-index l.ids)
