@@ -3,17 +3,17 @@ use Rattle.std.proofs.Common.{◌≡◌, ◌∙◌, ℕ, zero, suc, ◌+◌, ◌
 use Rattle.nest_any.specs.Trees.{tree_of, trees_of}
 use Rattle.nest_any.specs.declared.any.AnyMutableArray.{AnyMutableArray}
 use Rattle.json_read.proofs.EmptyLaws.{first-then}
-use Rattle.json_read.specs.Empty.{AreEmptyOf, IsEmptyOf}
-use Rattle.json_read.specs.Types.{field_fault, fields_fault, type_fault}
+use Rattle.json_read.specs.EmptyBuilders.{AreEmptyOf, IsEmptyOf}
+use Rattle.json_read.specs.UnsupportedTypes.{unsupported_field, unsupported_fields, unsupported_type}
 use Rattle.nest_memory.specs.TypeOf.{field_list_of, field_of}
 use Rattle.nest_memory.specs.TypeTree.{TypeTree, FieldTree, field, field_type}
 use Rattle.nest_memory.specs.declared.datatypes.field.Field.{Field}
 use Rattle.nest_memory.specs.declared.error.Error.{Error}
 
-pub read-of : (f : FieldTree) (t : TypeTree) → t ≡ field_type f → type_fault t ≡ field_fault f
-read-of (field x v b es) t e = ap type_fault e
+pub read-of : (f : FieldTree) (t : TypeTree) → t ≡ field_type f → unsupported_type t ≡ unsupported_field f
+read-of (field x v b es) t e = ap unsupported_type e
 
-pub field-read : (fs : List Field) (i : ℕ) (f : Field) → i < length fs → fields_fault (field_list_of fs) ≡ None → field_fault (field_of (get_or fs i f)) ≡ None
+pub field-read : (fs : List Field) (i : ℕ) (f : Field) → i < length fs → unsupported_fields (field_list_of fs) ≡ None → unsupported_field (field_of (get_or fs i f)) ≡ None
 field-read [] i f h e = absurd (omega arith)
 field-read (g ∷ gs) zero f h e = (first-then _ _ e).0
 field-read (g ∷ gs) (suc i) f h e = field-read gs i f (omega arith) (first-then _ _ e).1

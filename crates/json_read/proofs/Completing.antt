@@ -4,8 +4,8 @@ use Rattle.std.proofs.Common.{◌≡◌, ◌≢◌, ℕ, zero, suc, ◌+◌, ◌
 use Rattle.std.proofs.lemmas.Bool.Decides.{eqb_tells}
 use Rattle.json_read.proofs.Feeding.{eqb-same}
 use Rattle.nest_any.specs.Each.{each}
-use Rattle.json_read.specs.Fed.{FedBy, Completed}
-use Rattle.json_read.specs.Took.{Took}
+use Rattle.json_read.specs.StructMembers.{AddedIf, NullsAdded}
+use Rattle.json_read.specs.RowAdded.{RowAdded}
 use Rattle.nest_model.specs.BuilderAppend.{Accepted}
 use Rattle.nest_model.specs.BuilderAppendLaws.{type-accepted}
 use Rattle.nest_model.specs.BuilderItem as items
@@ -14,12 +14,12 @@ use Rattle.nest_model.specs.BuilderTree.{BuilderTree, BuilderTrees, no_builders,
 use Rattle.nest_model.specs.BuilderWhole.{IsWhole}
 use Rattle.nest_model.specs.Slot as slots
 
-pub took-null : (c d : BuilderTree) → Accepted items.null c d → Took slots.null c d
-took-null c d h = record { last = h.last; whole = h.whole; same_type = type-accepted items.null c d h }
+pub added-null : (c d : BuilderTree) → Accepted items.null c d → RowAdded slots.null c d
+added-null c d h = record { last = h.last; whole = h.whole; same_type = type-accepted items.null c d h }
 
 module _ {A : Type 0} (f : A → BuilderTree) where
-  pub completed-all : (n : ℕ) (xs ys : List A) → length ys ≡ length xs → ((k : ℕ) (d : A) → k < length xs → FedBy (builder_len (f (get_or xs k d)) == n) slots.null (f (get_or xs k d)) (f (get_or ys k d)))
-      → Completed n (each f xs) (each f ys)
+  pub completed-all : (n : ℕ) (xs ys : List A) → length ys ≡ length xs → ((k : ℕ) (d : A) → k < length xs → AddedIf (builder_len (f (get_or xs k d)) == n) slots.null (f (get_or xs k d)) (f (get_or ys k d)))
+      → NullsAdded n (each f xs) (each f ys)
   completed-all n [] [] e h = tt
   completed-all n [] (y ∷ ys) e h = absurd (omega (arith, e))
   completed-all n (x ∷ xs) [] e h = absurd (omega (arith, e))
@@ -27,9 +27,9 @@ module _ {A : Type 0} (f : A → BuilderTree) where
 
   -- the child at place i was written over, those behind it are as they were
   pub next-done : (n : ℕ) (xs ys : List A) (i : ℕ) (y e : A) → length ys ≡ length xs → i < length xs
-      → ((k : ℕ) (d : A) → k < i → FedBy (builder_len (f (get_or xs k d)) == n) slots.null (f (get_or xs k d)) (f (get_or ys k d)))
-      → FedBy (builder_len (f (get_or xs i e)) == n) slots.null (f (get_or xs i e)) (f y)
-      → (k : ℕ) (d : A) → k < i + 1 → FedBy (builder_len (f (get_or xs k d)) == n) slots.null (f (get_or xs k d)) (f (get_or (set ys i y) k d))
+      → ((k : ℕ) (d : A) → k < i → AddedIf (builder_len (f (get_or xs k d)) == n) slots.null (f (get_or xs k d)) (f (get_or ys k d)))
+      → AddedIf (builder_len (f (get_or xs i e)) == n) slots.null (f (get_or xs i e)) (f y)
+      → (k : ℕ) (d : A) → k < i + 1 → AddedIf (builder_len (f (get_or xs k d)) == n) slots.null (f (get_or xs k d)) (f (get_or (set ys i y) k d))
   next-done n [] ys i y e l h before q k d b = absurd (omega (arith, h))
   next-done n (x ∷ xs) [] i y e l h before q k d b = absurd (omega (arith, l))
   next-done n (x ∷ xs) (z ∷ ys) zero y e l h before q zero d b = q
@@ -39,9 +39,9 @@ module _ {A : Type 0} (f : A → BuilderTree) where
       next-done n xs ys i y e (omega (arith, l)) (omega (arith, h)) (λ j c w. before (suc j) c (omega (arith, w))) q k d (omega (arith, b))
 
   pub still-done : (n : ℕ) (xs ys : List A) (i : ℕ) (e : A) → length ys ≡ length xs → i < length xs
-      → ((k : ℕ) (d : A) → k < i → FedBy (builder_len (f (get_or xs k d)) == n) slots.null (f (get_or xs k d)) (f (get_or ys k d)))
-      → FedBy (builder_len (f (get_or xs i e)) == n) slots.null (f (get_or xs i e)) (f (get_or ys i e))
-      → (k : ℕ) (d : A) → k < i + 1 → FedBy (builder_len (f (get_or xs k d)) == n) slots.null (f (get_or xs k d)) (f (get_or ys k d))
+      → ((k : ℕ) (d : A) → k < i → AddedIf (builder_len (f (get_or xs k d)) == n) slots.null (f (get_or xs k d)) (f (get_or ys k d)))
+      → AddedIf (builder_len (f (get_or xs i e)) == n) slots.null (f (get_or xs i e)) (f (get_or ys i e))
+      → (k : ℕ) (d : A) → k < i + 1 → AddedIf (builder_len (f (get_or xs k d)) == n) slots.null (f (get_or xs k d)) (f (get_or ys k d))
   still-done n [] ys i e l h before q k d b = absurd (omega (arith, h))
   still-done n (x ∷ xs) [] i e l h before q k d b = absurd (omega (arith, l))
   still-done n (x ∷ xs) (z ∷ ys) zero e l h before q zero d b = q
@@ -62,10 +62,10 @@ eqb-other m n h = elim (eqb_tells m n) [
 ]
 
 module _ {A : Type 0} (f : A → BuilderTree) where
-  pub other-here : (n len : ℕ) (x y : A) → len ≡ builder_len (f x) → (len ≡ n → ⊥) → y ≡ x → FedBy (builder_len (f x) == n) slots.null (f x) (f y)
+  pub other-here : (n len : ℕ) (x y : A) → len ≡ builder_len (f x) → (len ≡ n → ⊥) → y ≡ x → AddedIf (builder_len (f x) == n) slots.null (f x) (f y)
   other-here n len x y e h s = rw (eqb-other (builder_len (f x)) n (λ q. h (e ∙ q))) (ap f s)
 
-  pub same-here : (n len : ℕ) (x y : A) → len ≡ builder_len (f x) → len ≡ n → Took slots.null (f x) (f y) → FedBy (builder_len (f x) == n) slots.null (f x) (f y)
+  pub same-here : (n len : ℕ) (x y : A) → len ≡ builder_len (f x) → len ≡ n → RowAdded slots.null (f x) (f y) → AddedIf (builder_len (f x) == n) slots.null (f x) (f y)
   same-here n len x y e h t = rw (eqb-same (builder_len (f x)) n (sym e ∙ h)) t
 
 pub left-more : {A : Type 0} (xs ys : List A) (i : ℕ) (y : A) → ((k : ℕ) (d : A) → i ≤ k → get_or ys k d ≡ get_or xs k d) → (k : ℕ) (d : A) → i + 1 ≤ k → get_or (set ys i y) k d ≡ get_or xs k d

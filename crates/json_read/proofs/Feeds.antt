@@ -5,7 +5,7 @@ use Rattle.std.specs.List.{onto_first}
 use Rattle.memchr.specs.Find.{Nowhere, Passes, is_byte}
 use Rattle.std.proofs.lemmas.List.{take_all}
 use Rattle.std.proofs.lemmas.Bool.{cond-true, cond-false}
-use Rattle.json_read.specs.Split.{EndsLines, lines_of}
+use Rattle.json_read.specs.LineSplit.{EndsLines, lines_of}
 
 -- no line feed below that place
 abbrev pub NoFeed : List ℕ → ℕ → Type 0

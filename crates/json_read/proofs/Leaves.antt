@@ -4,16 +4,16 @@ use Rattle.json.specs.Find.{is_null}
 use Rattle.json.specs.Json as json
 use Rattle.json.specs.Json.{Json}
 use Rattle.nest_array.specs.SeenScalar.{shown_type}
-use Rattle.json_read.specs.Leaf.{leaf_fault}
-use Rattle.json_read.specs.Meant.{fault_in, lies}
-use Rattle.json_read.specs.Took.{Took}
+use Rattle.json_read.specs.FlatValues.{flat_error}
+use Rattle.json_read.specs.JsonSlots.{flat_value_error, values_physical_type}
+use Rattle.json_read.specs.RowAdded.{RowAdded}
 use Rattle.nest_memory.specs.TypeTree.{TypeTree, size_of}
 use Rattle.nest_model.specs.BuilderAppend.{Accepted}
 use Rattle.nest_model.specs.BuilderAppendLaws.{type-accepted}
 use Rattle.nest_model.specs.BuilderItem.{Item, slot_of_item}
 use Rattle.nest_model.specs.BuilderTree.{BuilderTree}
 
-pub took_one : (x : Item) (a b : BuilderTree) → Accepted x a b → Took (slot_of_item x) a b
+pub took_one : (x : Item) (a b : BuilderTree) → Accepted x a b → RowAdded (slot_of_item x) a b
 took_one x a b h = record { last = h.last; whole = h.whole; same_type = type-accepted x a b h }
 
 pub null_is : (j : Json) → is_null j ≡ true → j ≡ json.null
@@ -24,7 +24,7 @@ null_is (json.string s) h = absurd (cc)
 null_is (json.array js) h = absurd (cc)
 null_is (json.object ms) h = absurd (cc)
 
-pub fault_of_valid : (t : TypeTree) (j : Json) → is_null j ≡ false → fault_in t j ≡ leaf_fault (lies t) (size_of (shown_type t)) j
+pub fault_of_valid : (t : TypeTree) (j : Json) → is_null j ≡ false → flat_value_error t j ≡ flat_error (values_physical_type t) (size_of (shown_type t)) j
 fault_of_valid t json.null h = absurd (cc)
 fault_of_valid t (json.boolean b) h = refl
 fault_of_valid t (json.number s) h = refl

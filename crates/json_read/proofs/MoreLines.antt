@@ -2,79 +2,79 @@
 use Rattle.std.proofs.Common.{◌≡◌, ◌∙◌, ℕ, zero, suc, ◌+◌, ◌<◌, ◌≤◌, List, [], ◌∷◌, ◌++◌, length, take, Bool, true, false, Result, Ok, Err, ◌==◌, if◌then◌else◌, refl, ap, sym, subst, arith}
 use Rattle.std.specs.List.{onto_first}
 use Rattle.nest_model.specs.Slot.{Slot}
-use Rattle.json_read.specs.Rows.{Row, Rows, rows_below, row_onto, slot_onto}
-use Rattle.json_read.specs.Split.{lines_of}
-use Rattle.json_read.specs.declared.error.LineReason.{LineReason}
+use Rattle.json_read.specs.LineRows.{Row, Rows, rows_from, prepend_row, prepend_slot}
+use Rattle.json_read.specs.LineSplit.{lines_of}
+use Rattle.json_read.specs.declared.error.LineError.{LineError}
 
 -- the places of lines, counted behind so many others
 shift : ℕ → Rows → Rows
 shift d (Ok ss) = Ok ss
 shift d (Err f) = Err (d + f.0, f.1)
 
-shift-onto : (d : ℕ) (s : Slot) (r : Rows) → slot_onto s (shift d r) ≡ shift d (slot_onto s r)
+shift-onto : (d : ℕ) (s : Slot) (r : Rows) → prepend_slot s (shift d r) ≡ shift d (prepend_slot s r)
 unfolding shift
 shift-onto d s (Ok ss) = refl
 shift-onto d s (Err f) = refl
 
 module _ (row : List ℕ → Row) where
-  shifted : (d m : ℕ) (ls : List (List ℕ)) → rows_below row (d + m) ls ≡ shift d (rows_below row m ls)
+  shifted : (d m : ℕ) (ls : List (List ℕ)) → rows_from row (d + m) ls ≡ shift d (rows_from row m ls)
   unfolding shift
   shifted d m [] = refl
-  shifted d m (l ∷ ls) = go (row l) (let e : d + m + 1 ≡ d + (m + 1) = omega arith in ap (λ k. rows_below row k ls) e ∙ shifted d (m + 1) ls)
+  shifted d m (l ∷ ls) = go (row l) (let e : d + m + 1 ≡ d + (m + 1) = omega arith in ap (λ k. rows_from row k ls) e ∙ shifted d (m + 1) ls)
     where
-      go : (r : Row) → rows_below row (d + m + 1) ls ≡ shift d (rows_below row (m + 1) ls) → row_onto r (d + m) (rows_below row (d + m + 1) ls) ≡ shift d (row_onto r m (rows_below row (m + 1) ls))
-      go (Ok s) h = ap (slot_onto s) h ∙ shift-onto d s (rows_below row (m + 1) ls)
+      go : (r : Row) → rows_from row (d + m + 1) ls ≡ shift d (rows_from row (m + 1) ls) → prepend_row r (d + m) (rows_from row (d + m + 1) ls) ≡ shift d (prepend_row r m (rows_from row (m + 1) ls))
+      go (Ok s) h = ap (prepend_slot s) h ∙ shift-onto d s (rows_from row (m + 1) ls)
       go (Err e) h = refl
 
-  behind-ok : (a : ℕ) (ls : List (List ℕ)) (ss : List Slot) → rows_below row 0 ls ≡ Ok ss → rows_below row a ls ≡ Ok ss
+  behind-ok : (a : ℕ) (ls : List (List ℕ)) (ss : List Slot) → rows_from row 0 ls ≡ Ok ss → rows_from row a ls ≡ Ok ss
   unfolding shift
-  behind-ok a ls ss h = ap (λ k. rows_below row k ls) (let e : a ≡ a + 0 = omega arith in e) ∙ shifted a 0 ls ∙ ap (shift a) h
+  behind-ok a ls ss h = ap (λ k. rows_from row k ls) (let e : a ≡ a + 0 = omega arith in e) ∙ shifted a 0 ls ∙ ap (shift a) h
 
-  behind-err : (a : ℕ) (ls : List (List ℕ)) (k : ℕ) (e : LineReason) → rows_below row 0 ls ≡ Err (k, e) → rows_below row a ls ≡ Err (a + k, e)
+  behind-err : (a : ℕ) (ls : List (List ℕ)) (k : ℕ) (e : LineError) → rows_from row 0 ls ≡ Err (k, e) → rows_from row a ls ≡ Err (a + k, e)
   unfolding shift
-  behind-err a ls k e h = ap (λ n. rows_below row n ls) (let q : a ≡ a + 0 = omega arith in q) ∙ shifted a 0 ls ∙ ap (shift a) h
+  behind-err a ls k e h = ap (λ n. rows_from row n ls) (let q : a ≡ a + 0 = omega arith in q) ∙ shifted a 0 ls ∙ ap (shift a) h
 
-  pub both-ok : (a : ℕ) (xs ys : List (List ℕ)) (ss zs : List Slot) → rows_below row a xs ≡ Ok ss → rows_below row 0 ys ≡ Ok zs → rows_below row a (xs ++ ys) ≡ Ok (ss ++ zs)
+  pub both-ok : (a : ℕ) (xs ys : List (List ℕ)) (ss zs : List Slot) → rows_from row a xs ≡ Ok ss → rows_from row 0 ys ≡ Ok zs → rows_from row a (xs ++ ys) ≡ Ok (ss ++ zs)
   both-ok a [] ys ss zs h k = behind-ok a ys zs k ∙ ap (λ ts. Ok (ts ++ zs)) (let e : [] ≡ ss = cc in e)
-  both-ok a (x ∷ xs) ys ss zs h k = go (row x) (rows_below row (a + 1) xs) ss h refl (λ ts e. both-ok (a + 1) xs ys ts zs e k)
+  both-ok a (x ∷ xs) ys ss zs h k = go (row x) (rows_from row (a + 1) xs) ss h refl (λ ts e. both-ok (a + 1) xs ys ts zs e k)
     where
-      go : (r : Row) (rest : Rows) (us : List Slot) → row_onto r a rest ≡ Ok us → rows_below row (a + 1) xs ≡ rest → ((ts : List Slot) → rows_below row (a + 1) xs ≡ Ok ts → rows_below row (a + 1) (xs ++ ys) ≡ Ok (ts ++ zs))
-          → row_onto r a (rows_below row (a + 1) (xs ++ ys)) ≡ Ok (us ++ zs)
-      go (Ok s) (Ok ts) us e q f = ap (slot_onto s) (f ts q) ∙ ap (λ vs. Ok (vs ++ zs)) (let p : s ∷ ts ≡ us = cc in p)
+      go : (r : Row) (rest : Rows) (us : List Slot) → prepend_row r a rest ≡ Ok us → rows_from row (a + 1) xs ≡ rest → ((ts : List Slot) → rows_from row (a + 1) xs ≡ Ok ts → rows_from row (a + 1) (xs ++ ys) ≡ Ok (ts ++ zs))
+          → prepend_row r a (rows_from row (a + 1) (xs ++ ys)) ≡ Ok (us ++ zs)
+      go (Ok s) (Ok ts) us e q f = ap (prepend_slot s) (f ts q) ∙ ap (λ vs. Ok (vs ++ zs)) (let p : s ∷ ts ≡ us = cc in p)
       go (Ok s) (Err f') us e q f = absurd cc
       go (Err r) rest us e q f = absurd cc
 
-  pub both-err : (a : ℕ) (xs ys : List (List ℕ)) (ss : List Slot) (k : ℕ) (e : LineReason) → rows_below row a xs ≡ Ok ss → rows_below row 0 ys ≡ Err (k, e) → rows_below row a (xs ++ ys) ≡ Err (a + length xs + k, e)
+  pub both-err : (a : ℕ) (xs ys : List (List ℕ)) (ss : List Slot) (k : ℕ) (e : LineError) → rows_from row a xs ≡ Ok ss → rows_from row 0 ys ≡ Err (k, e) → rows_from row a (xs ++ ys) ≡ Err (a + length xs + k, e)
   both-err a [] ys ss k e h g = behind-err a ys k e g ∙ ap (λ n. Err (n, e)) (let q : a + k ≡ a + 0 + k = omega arith in q)
-  both-err a (x ∷ xs) ys ss k e h g = go (row x) (rows_below row (a + 1) xs) h refl (λ ts q. both-err (a + 1) xs ys ts k e q g)
+  both-err a (x ∷ xs) ys ss k e h g = go (row x) (rows_from row (a + 1) xs) h refl (λ ts q. both-err (a + 1) xs ys ts k e q g)
     where
-      go : (r : Row) (rest : Rows) → row_onto r a rest ≡ Ok ss → rows_below row (a + 1) xs ≡ rest → ((ts : List Slot) → rows_below row (a + 1) xs ≡ Ok ts → rows_below row (a + 1) (xs ++ ys) ≡ Err (a + 1 + length xs + k, e))
-          → row_onto r a (rows_below row (a + 1) (xs ++ ys)) ≡ Err (a + length (x ∷ xs) + k, e)
-      go (Ok s) (Ok ts) p q f = ap (slot_onto s) (f ts q) ∙ ap (λ n. Err (n, e)) (let z : a + 1 + length xs + k ≡ a + suc (length xs) + k = omega arith in z)
+      go : (r : Row) (rest : Rows) → prepend_row r a rest ≡ Ok ss → rows_from row (a + 1) xs ≡ rest → ((ts : List Slot) → rows_from row (a + 1) xs ≡ Ok ts → rows_from row (a + 1) (xs ++ ys) ≡ Err (a + 1 + length xs + k, e))
+          → prepend_row r a (rows_from row (a + 1) (xs ++ ys)) ≡ Err (a + length (x ∷ xs) + k, e)
+      go (Ok s) (Ok ts) p q f = ap (prepend_slot s) (f ts q) ∙ ap (λ n. Err (n, e)) (let z : a + 1 + length xs + k ≡ a + suc (length xs) + k = omega arith in z)
       go (Ok s) (Err f') p q f = absurd cc
       go (Err r) rest p q f = absurd cc
 
-  -- the first line at fault is the first of all
-  pub first-err : (a n : ℕ) (ls : List (List ℕ)) (f : ℕ × LineReason) → rows_below row a (take n ls) ≡ Err f → rows_below row a ls ≡ Err f
+  -- the first line at error is the first of all
+  pub first-err : (a n : ℕ) (ls : List (List ℕ)) (f : ℕ × LineError) → rows_from row a (take n ls) ≡ Err f → rows_from row a ls ≡ Err f
   first-err a zero ls f h = absurd cc
   first-err a (suc n) [] f h = absurd cc
-  first-err a (suc n) (l ∷ ls) f h = go (row l) (rows_below row (a + 1) (take n ls)) h refl (λ g e. first-err (a + 1) n ls g e)
+  first-err a (suc n) (l ∷ ls) f h = go (row l) (rows_from row (a + 1) (take n ls)) h refl (λ g e. first-err (a + 1) n ls g e)
     where
-      go : (r : Row) (rest : Rows) → row_onto r a rest ≡ Err f → rows_below row (a + 1) (take n ls) ≡ rest → ((g : ℕ × LineReason) → rows_below row (a + 1) (take n ls) ≡ Err g → rows_below row (a + 1) ls ≡ Err g) → row_onto r a (rows_below row (a + 1) ls) ≡ Err f
+      go : (r : Row) (rest : Rows) → prepend_row r a rest ≡ Err f → rows_from row (a + 1) (take n ls) ≡ rest → ((g : ℕ × LineError) → rows_from row (a + 1) (take n ls) ≡ Err g → rows_from row (a + 1) ls ≡ Err g) → prepend_row r a (rows_from row (a + 1) ls) ≡ Err f
       go (Ok s) (Ok ts) p q k = absurd cc
-      go (Ok s) (Err g) p q k = ap (slot_onto s) (k g q) ∙ p
+      go (Ok s) (Err g) p q k = ap (prepend_slot s) (k g q) ∙ p
       go (Err r) rest p q k = p
 
-  -- a line at fault is one of them
-  pub err-within : (a : ℕ) (ls : List (List ℕ)) (k : ℕ) (e : LineReason) → rows_below row a ls ≡ Err (k, e) → k < a + length ls
+  -- a line at error is one of them
+  pub err-within : (a : ℕ) (ls : List (List ℕ)) (k : ℕ) (e : LineError) → rows_from row a ls ≡ Err (k, e) → k < a + length ls
   err-within a [] k e h = absurd cc
-  err-within a (l ∷ ls) k e h = go (row l) (rows_below row (a + 1) ls) h (λ q. err-within (a + 1) ls k e q) refl
+  err-within a (l ∷ ls) k e h = go (row l) (rows_from row (a + 1) ls) h (λ q. err-within (a + 1) ls k e q) refl
     where
-      go : (r : Row) (rest : Rows) → row_onto r a rest ≡ Err (k, e) → (rows_below row (a + 1) ls ≡ Err (k, e) → k < a + 1 + length ls) → rows_below row (a + 1) ls ≡ rest → k < a + suc (length ls)
+      go : (r : Row) (rest : Rows) → prepend_row r a rest ≡ Err (k, e) → (rows_from row (a + 1) ls ≡ Err (k, e) → k < a + 1 + length ls) → rows_from row (a + 1) ls ≡ rest → k < a + suc (length ls)
       go (Ok s) (Ok ts) p f q = absurd cc
       go (Ok s) (Err g) p f q = omega (arith, f (q ∙ p))
       go (Err r) rest p f q =
-          let pair : ◌≡◌ {A = ℕ × LineReason} (a, r) (k, e) = cc in
+          let pair : ◌≡◌ {A = ℕ × LineError} (a, r) (k, e) = cc in
           let z : a ≡ k = ap (λ x. x.0) pair in
           omega (arith, z)
 

@@ -10,17 +10,17 @@ use Rattle.nest_any.specs.Lent.{builder_at, with_children}
 use Rattle.nest_any.specs.Refusals.{IsOfLists, count_builders, struct_bits, struct_children}
 use Rattle.nest_any.specs.Trees.{tree_of, trees_of}
 use Rattle.nest_any.specs.declared.any.AnyMutableArray.{AnyMutableArray}
-use Rattle.json_read.specs.Apart.{NamesApart}
-use Rattle.json_read.specs.Fed.{Fed, FedAll, FedSome, Completed, child_fault, child_named, over_children}
-use Rattle.json_read.specs.Leaf.{first_of, item_numbers, leaf_fault}
-use Rattle.json_read.specs.Meant.{array_fault, count_of, fault_of, fault_in, field_slots, items_fault, item_slots, lies, member_slots, members_fault, object_fault, size_fault, slot_of, type_named}
-use Rattle.json_read.specs.Took.{Took, Refuses, IsList}
-use Rattle.json_read.specs.declared.reason.Reason.{Reason}
-use Rattle.json_read.specs.declared.reason.Reason.TheVariants.{RepeatedField, WrongSize}
-use Rattle.json_read.specs.declared.reason.Refusal.{Refusal}
+use Rattle.json_read.specs.DistinctNames.{HasDistinctFieldNames}
+use Rattle.json_read.specs.StructMembers.{MembersAddedTo, MembersAdded, MemberAdded, NullsAdded, child_error, child_named, over_children}
+use Rattle.json_read.specs.FlatValues.{first_error, item_numbers, flat_error}
+use Rattle.json_read.specs.JsonSlots.{array_error, count_of, value_error, flat_value_error, field_slots, items_error, item_slots, values_physical_type, member_slots, members_error, object_error, length_error, slot_of, type_named}
+use Rattle.json_read.specs.RowAdded.{RowAdded, IsPushError, IsList}
+use Rattle.json_read.specs.declared.value_error.ValueError.{ValueError}
+use Rattle.json_read.specs.declared.value_error.ValueError.TheVariants.{DuplicateField, WrongLength}
+use Rattle.json_read.specs.declared.value_error.PushError.{PushError}
 use Rattle.json_read.proofs.Feeding.{fed-none, fed-whole, fed-types}
-use Rattle.json_read.proofs.Stepping.{completed-over, completed-took, completed-whole, fault-step, fault-stop, fed-step}
-use Rattle.json_read.proofs.TypeParts.{list-fault, list-slot, struct-lies, struct-members}
+use Rattle.json_read.proofs.Stepping.{completed-over, completed-added, completed-whole, error-step, error-stop, fed-step}
+use Rattle.json_read.proofs.TypeParts.{list-error, list-slot, struct-lies, struct-members}
 use Rattle.nest_array.specs.SeenScalar.{shown_type}
 use Rattle.nest_memory.specs.Physical.{physical_type}
 use Rattle.nest_memory.specs.TypeTree.{Letters, TypeTree, FieldTrees, no_fields, more_fields, count_fields, fields_of, fixed_size, size_of}
@@ -32,13 +32,13 @@ use Rattle.nest_model.specs.BuilderWhole.{IsWhole}
 use Rattle.nest_model.specs.Layout.{field_types}
 use Rattle.nest_model.specs.Slot as slots
 use Rattle.nest_model.specs.Slot.{Slot, seal}
-use Rattle.json_write.specs.Json.{items_type, members_of}
+use Rattle.json_write.specs.JsonText.{items_type, members_of}
 
-pub on-ok : {A : Type 0} (r : Result A Refusal) (P Q : Type 0) → (P → Q) → OnOk r P → OnOk r Q
+pub on-ok : {A : Type 0} (r : Result A PushError) (P Q : Type 0) → (P → Q) → OnOk r P → OnOk r Q
 on-ok (Ok x) P Q f h = f h
 on-ok (Err e) P Q f h = tt
 
-pub if-err : {A : Type 0} (r : Result A Refusal) (P Q : Refusal → Type 0) → ((e : Refusal) → P e → Q e) → IfErr r P → IfErr r Q
+pub if-err : {A : Type 0} (r : Result A PushError) (P Q : PushError → Type 0) → ((e : PushError) → P e → Q e) → IfErr r P → IfErr r Q
 if-err (Ok x) P Q f h = tt
 if-err (Err e) P Q f h = f e h
 
@@ -55,39 +55,39 @@ items-count (v ∷ vs) = ap suc (items-count vs)
 pub value-list : {A : Type 0} (t : TypeTree) (vs : List (Value A)) → IsOfLists (physical_type t) → slot_of t (json.array (items_view vs)) ≡ slots.list (seal (map (λ v. slot_of (items_type t) (value_view v)) vs))
 value-list t vs h = list-slot t (item_numbers (items_view vs)) (item_slots (items_type t) (items_view vs)) h ∙ ap slots.list (items-sealed (items_type t) vs)
 
-pub fault-list : {A : Type 0} (t : TypeTree) (vs : List (Value A)) → IsOfLists (physical_type t) → fault_of t (json.array (items_view vs)) ≡ first_of (items_fault (items_type t) (items_view vs)) (size_fault (fixed_size t) (length vs))
-fault-list t vs h = list-fault t (items_view vs) (items_fault (items_type t) (items_view vs)) (length vs) h (items-count vs)
+pub error-list : {A : Type 0} (t : TypeTree) (vs : List (Value A)) → IsOfLists (physical_type t) → value_error t (json.array (items_view vs)) ≡ first_error (items_error (items_type t) (items_view vs)) (length_error (fixed_size t) (length vs))
+error-list t vs h = list-error t (items_view vs) (items_error (items_type t) (items_view vs)) (length vs) h (items-count vs)
 
-pub size-wrong : (o : Option ℕ) (s n : ℕ) → o ≡ Some s → (s ≡ n → ⊥) → size_fault o n ≡ Some WrongSize
-size-wrong o s n e h = ap (λ x. size_fault x n) e ∙ go (eqb_tells s n)
+pub size-wrong : (o : Option ℕ) (s n : ℕ) → o ≡ Some s → (s ≡ n → ⊥) → length_error o n ≡ Some WrongLength
+size-wrong o s n e h = ap (λ x. length_error x n) e ∙ go (eqb_tells s n)
   where
-    go : ((s == n ≡ true) × (s ≡ n)) ⊎ ((s == n ≡ false) × (s ≡ n → ⊥)) → size_fault (Some s) n ≡ Some WrongSize
+    go : ((s == n ≡ true) × (s ≡ n)) ⊎ ((s == n ≡ false) × (s ≡ n → ⊥)) → length_error (Some s) n ≡ Some WrongLength
     go (inl p) = absurd (h p.1)
     go (inr q) = rw q.0 refl
 
-pub size-right : (o : Option ℕ) (s n : ℕ) → o ≡ Some s → s ≡ n → size_fault o n ≡ None
-size-right o s n e h = ap (λ x. size_fault x n) e ∙ go (eqb_tells s n)
+pub size-right : (o : Option ℕ) (s n : ℕ) → o ≡ Some s → s ≡ n → length_error o n ≡ None
+size-right o s n e h = ap (λ x. length_error x n) e ∙ go (eqb_tells s n)
   where
-    go : ((s == n ≡ true) × (s ≡ n)) ⊎ ((s == n ≡ false) × (s ≡ n → ⊥)) → size_fault (Some s) n ≡ None
+    go : ((s == n ≡ true) × (s ≡ n)) ⊎ ((s == n ≡ false) × (s ≡ n → ⊥)) → length_error (Some s) n ≡ None
     go (inl p) = rw p.0 refl
     go (inr q) = absurd (q.1 h)
 
-pub first-later : (a b : Option Reason) → a ≡ None → first_of a b ≡ b
-first-later a b e = ap (λ x. first_of x b) e
+pub first-later : (a b : Option ValueError) → a ≡ None → first_error a b ≡ b
+first-later a b e = ap (λ x. first_error x b) e
 
-no-rows : (p : PhysicalType) (size : ℕ) (js : Items) (inside : Option Reason) → (p ≡ physical.List → ⊥) → (p ≡ physical.LargeList → ⊥) → (p ≡ physical.FixedSizeList → ⊥) → array_fault p size js inside ≡ leaf_fault p size (json.array js)
+no-rows : (p : PhysicalType) (size : ℕ) (js : Items) (inside : Option ValueError) → (p ≡ physical.List → ⊥) → (p ≡ physical.LargeList → ⊥) → (p ≡ physical.FixedSizeList → ⊥) → array_error p size js inside ≡ flat_error p size (json.array js)
 no-rows physical.List size js inside a b c = absurd (a refl)
 no-rows physical.LargeList size js inside a b c = absurd (b refl)
 no-rows physical.FixedSizeList size js inside a b c = absurd (c refl)
 no-rows p size js inside a b c = refl
 
-pub numbers-fault : (t : TypeTree) (j : Json) → IsList j → (lies t ≡ physical.List → ⊥) → (lies t ≡ physical.LargeList → ⊥) → (lies t ≡ physical.FixedSizeList → ⊥) → fault_in t j ≡ fault_of t j
-numbers-fault t (json.array js) h a b c = sym (no-rows (lies t) (size_of (shown_type t)) js (items_fault (items_type t) js) a b c)
-numbers-fault t json.null h a b c = absurd h
-numbers-fault t (json.boolean x) h a b c = absurd h
-numbers-fault t (json.number x) h a b c = absurd h
-numbers-fault t (json.string x) h a b c = absurd h
-numbers-fault t (json.object x) h a b c = absurd h
+pub numbers-error : (t : TypeTree) (j : Json) → IsList j → (values_physical_type t ≡ physical.List → ⊥) → (values_physical_type t ≡ physical.LargeList → ⊥) → (values_physical_type t ≡ physical.FixedSizeList → ⊥) → flat_value_error t j ≡ value_error t j
+numbers-error t (json.array js) h a b c = sym (no-rows (values_physical_type t) (size_of (shown_type t)) js (items_error (items_type t) js) a b c)
+numbers-error t json.null h a b c = absurd h
+numbers-error t (json.boolean x) h a b c = absurd h
+numbers-error t (json.number x) h a b c = absurd h
+numbers-error t (json.string x) h a b c = absurd h
+numbers-error t (json.object x) h a b c = absurd h
 
 -- ---- children
 
@@ -111,17 +111,17 @@ whole-child no_builders i c w e = absurd cc
 whole-child (more_builders d cs) zero c w e = let p : c ≡ d = cc in subst IsWhole (sym p) w.0
 whole-child (more_builders d cs) (suc i) c w e = whole-child cs i c w.1 e
 
-pub child-repeated : (c : Option BuilderTree) (d : BuilderTree) (n : ℕ) (j : Json) → c ≡ Some d → (builder_len d ≡ n → ⊥) → child_fault c n j ≡ Some RepeatedField
-child-repeated c d n j e h = ap (λ x. child_fault x n j) e ∙ go (eqb_tells (builder_len d) n)
+pub child-repeated : (c : Option BuilderTree) (d : BuilderTree) (n : ℕ) (j : Json) → c ≡ Some d → (builder_len d ≡ n → ⊥) → child_error c n j ≡ Some DuplicateField
+child-repeated c d n j e h = ap (λ x. child_error x n j) e ∙ go (eqb_tells (builder_len d) n)
   where
-    go : ((builder_len d == n ≡ true) × (builder_len d ≡ n)) ⊎ ((builder_len d == n ≡ false) × (builder_len d ≡ n → ⊥)) → child_fault (Some d) n j ≡ Some RepeatedField
+    go : ((builder_len d == n ≡ true) × (builder_len d ≡ n)) ⊎ ((builder_len d == n ≡ false) × (builder_len d ≡ n → ⊥)) → child_error (Some d) n j ≡ Some DuplicateField
     go (inl p) = absurd (h p.1)
     go (inr q) = rw q.0 refl
 
-pub child-reason : (c : Option BuilderTree) (d : BuilderTree) (n : ℕ) (j : Json) → c ≡ Some d → builder_len d ≡ n → child_fault c n j ≡ fault_of (builder_type d) j
-child-reason c d n j e h = ap (λ x. child_fault x n j) e ∙ go (eqb_tells (builder_len d) n)
+pub child-reason : (c : Option BuilderTree) (d : BuilderTree) (n : ℕ) (j : Json) → c ≡ Some d → builder_len d ≡ n → child_error c n j ≡ value_error (builder_type d) j
+child-reason c d n j e h = ap (λ x. child_error x n j) e ∙ go (eqb_tells (builder_len d) n)
   where
-    go : ((builder_len d == n ≡ true) × (builder_len d ≡ n)) ⊎ ((builder_len d == n ≡ false) × (builder_len d ≡ n → ⊥)) → child_fault (Some d) n j ≡ fault_of (builder_type d) j
+    go : ((builder_len d == n ≡ true) × (builder_len d ≡ n)) ⊎ ((builder_len d == n ≡ false) × (builder_len d ≡ n → ⊥)) → child_error (Some d) n j ≡ value_error (builder_type d) j
     go (inl p) = rw p.0 refl
     go (inr q) = absurd (q.1 h)
 
@@ -156,12 +156,12 @@ over-same (struct t bits cs) k = refl
 pub record Coming (old now : BuilderTree) (ps : List (Letters × Slot)) : Type 0 where
   pub kind : IsRecords old
   pub records : physical_type (builder_type old) ≡ physical.Struct
-  pub apart : NamesApart (builder_type old)
+  pub distinct : HasDistinctFieldNames (builder_type old)
   pub whole : IsWhole old
-  pub fed : Fed (fields_of (builder_type old)) ps (struct_children old) (struct_children now)
+  pub fed : MembersAddedTo (fields_of (builder_type old)) ps (struct_children old) (struct_children now)
   pub set : now ≡ over_children old (struct_children now)
 
-pub coming-ready : (old now : BuilderTree) (ps : List (Letters × Slot)) → Coming old now ps → HasWholeChildren now × (builder_types (struct_children now) ≡ field_types (fields_of (builder_type now))) × NamesApart (builder_type now)
+pub coming-ready : (old now : BuilderTree) (ps : List (Letters × Slot)) → Coming old now ps → HasWholeChildren now × (builder_types (struct_children now) ≡ field_types (fields_of (builder_type now))) × HasDistinctFieldNames (builder_type now)
 coming-ready (flat t xs) now ps h = absurd (let k = h.kind in cc)
 coming-ready (list large t rows c) now ps h = absurd (let k = h.kind in cc)
 coming-ready (fixed_size_list t bits c) now ps h = absurd (let k = h.kind in cc)
@@ -171,50 +171,50 @@ coming-ready (struct t bits cs) now ps h =
     let w = h.whole in (
       subst HasWholeChildren (sym h.set) (fed-whole (fields_of t) ps cs ds (length bits) h.fed w.0),
       subst (λ b. builder_types ds ≡ field_types (fields_of (builder_type b))) (sym h.set) (fed-types (fields_of t) ps cs ds h.fed ∙ w.1),
-      subst (λ b. NamesApart (builder_type b)) (sym h.set) h.apart,
+      subst (λ b. HasDistinctFieldNames (builder_type b)) (sym h.set) h.distinct,
     )
 
 -- a member more
 pub record Next (old new : BuilderTree) (ps : List (Letters × Slot)) (k : Letters) (j : Json) (rest : Members) : Type 0 where
-  pub fed : Fed (fields_of (builder_type old)) (ps ++ (k, slot_of (type_named k (fields_of (builder_type old))) j) ∷ []) (struct_children old) (struct_children new)
+  pub fed : MembersAddedTo (fields_of (builder_type old)) (ps ++ (k, slot_of (type_named k (fields_of (builder_type old))) j) ∷ []) (struct_children old) (struct_children new)
   pub set : new ≡ over_children old (struct_children new)
-  pub faults : members_fault (fields_of (builder_type old)) (map (λ p. p.0) ps) (member k j rest)
-      ≡ members_fault (fields_of (builder_type old)) (map (λ p. p.0) (ps ++ (k, slot_of (type_named k (fields_of (builder_type old))) j) ∷ [])) rest
+  pub faults : members_error (fields_of (builder_type old)) (map (λ p. p.0) ps) (member k j rest)
+      ≡ members_error (fields_of (builder_type old)) (map (λ p. p.0) (ps ++ (k, slot_of (type_named k (fields_of (builder_type old))) j) ∷ [])) rest
 
-pub coming-next : (old now new : BuilderTree) (ps : List (Letters × Slot)) (k : Letters) (j : Json) (rest : Members) (n : ℕ) → Coming old now ps → n ≡ builder_len old → FedSome k j n now new → Next old new ps k j rest
+pub coming-next : (old now new : BuilderTree) (ps : List (Letters × Slot)) (k : Letters) (j : Json) (rest : Members) (n : ℕ) → Coming old now ps → n ≡ builder_len old → MemberAdded k j n now new → Next old new ps k j rest
 coming-next (flat t xs) now new ps k j rest n h e f = absurd (let k = h.kind in cc)
 coming-next (list large t rows c) now new ps k j rest n h e f = absurd (let k = h.kind in cc)
 coming-next (fixed_size_list t bits c) now new ps k j rest n h e f = absurd (let k = h.kind in cc)
 coming-next (dictionary i t keys c) now new ps k j rest n h e f = absurd (let k = h.kind in cc)
 coming-next (struct t bits cs) now new ps k j rest n h e f =
     let ds = struct_children now in
-    let g = subst (λ b. FedSome k j (length bits) b new) h.set (subst (λ m. FedSome k j m now new) e f) in
-    let s = fed-step t bits cs ds ps h.records h.apart h.whole h.fed k j new g in
-    record { fed = s.0; set = s.1; faults = fault-step t bits cs ds ps h.records h.apart h.whole h.fed k j rest new g }
+    let g = subst (λ b. MemberAdded k j (length bits) b new) h.set (subst (λ m. MemberAdded k j m now new) e f) in
+    let s = fed-step t bits cs ds ps h.records h.distinct h.whole h.fed k j new g in
+    record { fed = s.0; set = s.1; faults = error-step t bits cs ds ps h.records h.distinct h.whole h.fed k j rest new g }
 
-pub coming-stop : (old now : BuilderTree) (ps : List (Letters × Slot)) (k : Letters) (j : Json) (rest : Members) (n : ℕ) (r : Refusal) → Coming old now ps → n ≡ builder_len old
-    → Refuses r (child_fault (child_named k (fields_of (builder_type now)) (struct_children now)) n j) → Refuses r (members_fault (fields_of (builder_type old)) (map (λ p. p.0) ps) (member k j rest))
+pub coming-stop : (old now : BuilderTree) (ps : List (Letters × Slot)) (k : Letters) (j : Json) (rest : Members) (n : ℕ) (r : PushError) → Coming old now ps → n ≡ builder_len old
+    → IsPushError r (child_error (child_named k (fields_of (builder_type now)) (struct_children now)) n j) → IsPushError r (members_error (fields_of (builder_type old)) (map (λ p. p.0) ps) (member k j rest))
 coming-stop (flat t xs) now ps k j rest n r h e f = absurd (let k = h.kind in cc)
 coming-stop (list large t rows c) now ps k j rest n r h e f = absurd (let k = h.kind in cc)
 coming-stop (fixed_size_list t bits c) now ps k j rest n r h e f = absurd (let k = h.kind in cc)
 coming-stop (dictionary i t keys c) now ps k j rest n r h e f = absurd (let k = h.kind in cc)
 coming-stop (struct t bits cs) now ps k j rest n r h e f =
     let ds = struct_children now in
-    let g = subst (λ b. Refuses r (child_fault (child_named k (fields_of (builder_type b)) ds) n j)) h.set f in
-    fault-stop t bits cs ds ps h.records h.apart h.whole h.fed k j rest r (subst (λ m. Refuses r (child_fault (child_named k (fields_of t) ds) m j)) e g)
+    let g = subst (λ b. IsPushError r (child_error (child_named k (fields_of (builder_type b)) ds) n j)) h.set f in
+    error-stop t bits cs ds ps h.records h.distinct h.whole h.fed k j rest r (subst (λ m. IsPushError r (child_error (child_named k (fields_of t) ds) m j)) e g)
 
-pub coming-told : (old now : BuilderTree) (ps : List (Letters × Slot)) (es : BuilderTrees) (n : ℕ) → Coming old now ps → n ≡ builder_len old → Completed n (struct_children now) es
-    → HasWholeChildren (with_children now es) × ((new : BuilderTree) → Told true (with_children now es) new → Took (slots.record_of (field_slots (fields_of (builder_type old)) ps)) old new)
+pub coming-told : (old now : BuilderTree) (ps : List (Letters × Slot)) (es : BuilderTrees) (n : ℕ) → Coming old now ps → n ≡ builder_len old → NullsAdded n (struct_children now) es
+    → HasWholeChildren (with_children now es) × ((new : BuilderTree) → Told true (with_children now es) new → RowAdded (slots.record_of (field_slots (fields_of (builder_type old)) ps)) old new)
 coming-told (flat t xs) now ps es n h e f = absurd (let k = h.kind in cc)
 coming-told (list large t rows c) now ps es n h e f = absurd (let k = h.kind in cc)
 coming-told (fixed_size_list t bits c) now ps es n h e f = absurd (let k = h.kind in cc)
 coming-told (dictionary i t keys c) now ps es n h e f = absurd (let k = h.kind in cc)
 coming-told (struct t bits cs) now ps es n h e f =
     let ds = struct_children now in
-    let g = subst (λ m. Completed m ds es) e f in
+    let g = subst (λ m. NullsAdded m ds es) e f in
     let over : with_children now es ≡ struct t bits es = ap (λ b. with_children b es) h.set ∙ ap (struct t bits) (completed-over (length bits) ds es g) in (
-      subst HasWholeChildren (sym over) (completed-whole t bits cs ds ps h.records h.apart h.whole h.fed es g),
-      λ new told. completed-took t bits cs ds ps h.records h.apart h.whole h.fed es new g (subst (λ b. Told true b new) over told),
+      subst HasWholeChildren (sym over) (completed-whole t bits cs ds ps h.records h.distinct h.whole h.fed es g),
+      λ new told. completed-added t bits cs ds ps h.records h.distinct h.whole h.fed es new g (subst (λ b. Told true b new) over told),
     )
 
 pub coming-children : (old now : BuilderTree) (ps : List (Letters × Slot)) → Coming old now ps → AreEachWhole (struct_children now)
@@ -227,5 +227,5 @@ coming-children (struct t bits cs) now ps h = let w = h.whole in fed-whole (fiel
 pub some-len : (c d : BuilderTree) → Some c ≡ Some d → builder_len c ≡ builder_len d
 some-len c d e = let p : c ≡ d = cc in ap builder_len p
 
-pub fault-object : (t : TypeTree) (ms : Members) → physical_type t ≡ physical.Struct → fault_of t (json.object ms) ≡ members_fault (fields_of t) [] ms
-fault-object t ms h = ap (λ p. object_fault p (members_fault (members_of t) [] ms)) (struct-lies t h) ∙ ap (λ fs. members_fault fs [] ms) (struct-members t h)
+pub error-object : (t : TypeTree) (ms : Members) → physical_type t ≡ physical.Struct → value_error t (json.object ms) ≡ members_error (fields_of t) [] ms
+error-object t ms h = ap (λ p. object_error p (members_error (members_of t) [] ms)) (struct-lies t h) ∙ ap (λ fs. members_error fs [] ms) (struct-members t h)

@@ -12,25 +12,25 @@ use Rattle.std.proofs.lemmas.Fmt.{decimal_is_IsNumeral_wide}
 use Rattle.std.proofs.lemmas.Str.Parse.{digit_from_value}
 use borrow.Author.Tests.{ne_eqb}
 use Rattle.json.specs.Json.{number}
-use Rattle.json_read.specs.Leaf.{Range, signed, unsigned, is_in, ranges_of, whole_fault, native_fault, number_fault, number_in, is_hex, are_hex_pairs, bytes_of_hex}
-use Rattle.json_read.specs.LeafLaws.{AreIn, NumbersReadBack, BytesReadBack}
-use Rattle.json_read.specs.ReadsBack.{AreBytes}
-use Rattle.json_read.specs.Whole.{are_digits, whole_of}
+use Rattle.json_read.specs.FlatValues.{Range, signed, unsigned, is_in, ranges_of, integer_error, native_error, number_error, number_in, is_hex, are_hex_pairs, bytes_of_hex}
+use Rattle.json_read.specs.FlatRoundTrip.{AreInRange, NumbersRoundTrip, BytesRoundTrip}
+use Rattle.json_read.specs.RoundTrip.{AreBytes}
+use Rattle.json_read.specs.Integers.{are_decimal_digits, integer_of}
 use Rattle.nest_memory.specs.declared.datatypes.physical_type.PrimitiveType.{PrimitiveType}
 use Rattle.nest_memory.specs.declared.datatypes.physical_type.PrimitiveType.TheVariants as primitive
 use Rattle.json_read.proofs.Wholes.{are-digits, signed-in, unsigned-in}
-use Rattle.json_write.specs.Json.{hex_byte}
+use Rattle.json_write.specs.JsonText.{hex_byte}
 
 -- ---- numbers
 
-unsigned-whole : (ds : List ℕ) → IsNumeral 10 ds → whole_of ds ≡ Some (pos (digits_value 10 ds))
+unsigned-whole : (ds : List ℕ) → IsNumeral 10 ds → integer_of ds ≡ Some (pos (digits_value 10 ds))
 unsigned-whole [] n = absurd (omega (arith, n.0))
 unsigned-whole (c ∷ cs) n =
     let digit = digit_from_value c n.1.0 in
     let no_minus : (c == 45) ≡ false = ne_eqb c 45 (λ e. omega (arith, digit.0, e)) in
     rw (no_minus, are-digits (c ∷ cs) n) refl
 
-pub decimal-back : (z : ℤ) → mag z < 2 ^ 128 → whole_of (signed_decimal z) ≡ Some z
+pub decimal-back : (z : ℤ) → mag z < 2 ^ 128 → integer_of (signed_decimal z) ≡ Some z
 decimal-back (pos n) h = let d = decimal_is_IsNumeral_wide n (omega arith) in unsigned-whole (decimal n) d.0 ∙ ap (λ x. Some (pos x)) d.1
 decimal-back (negsuc n) h =
     let d = decimal_is_IsNumeral_wide (suc n) (omega arith) in
@@ -44,19 +44,19 @@ unsigned-mag : (bits : ℕ) (z : ℤ) → bits ≤ 128 → is_in (unsigned bits)
 unsigned-mag bits (pos n) h e = omega (arith, unsigned-in bits n e, pow_mono h)
 unsigned-mag bits (negsuc m) h e = absurd (cc)
 
-number-back : (r : Range) (z : ℤ) → is_in r z ≡ true → mag z < 2 ^ 128 → (number_fault r (number (signed_decimal z)) ≡ None) × (number_in (number (signed_decimal z)) ≡ z)
-number-back r z e h = let d = decimal-back z h in (ap (whole_fault r) d ∙ rw e refl, ap (λ o. unwrap_or o (pos 0)) d)
+number-back : (r : Range) (z : ℤ) → is_in r z ≡ true → mag z < 2 ^ 128 → (number_error r (number (signed_decimal z)) ≡ None) × (number_in (number (signed_decimal z)) ≡ z)
+number-back r z e h = let d = decimal-back z h in (ap (integer_error r) d ∙ rw e refl, ap (λ o. unwrap_or o (pos 0)) d)
 
-one-back : (r : Range) (z : ℤ) → (number_fault r (number (signed_decimal z)) ≡ None) × (number_in (number (signed_decimal z)) ≡ z) → (number_fault r (number (signed_decimal z)) ≡ None) × (number_in (number (signed_decimal z)) ∷ [] ≡ z ∷ [])
+one-back : (r : Range) (z : ℤ) → (number_error r (number (signed_decimal z)) ≡ None) × (number_in (number (signed_decimal z)) ≡ z) → (number_error r (number (signed_decimal z)) ≡ None) × (number_in (number (signed_decimal z)) ∷ [] ≡ z ∷ [])
 one-back r z h = (h.0, ap (λ x. x ∷ []) h.1)
 
-signed-back : (bits : ℕ) (z : ℤ) → bits ≤ 128 → is_in (signed bits) z ≡ true → (number_fault (signed bits) (number (signed_decimal z)) ≡ None) × (number_in (number (signed_decimal z)) ≡ z)
+signed-back : (bits : ℕ) (z : ℤ) → bits ≤ 128 → is_in (signed bits) z ≡ true → (number_error (signed bits) (number (signed_decimal z)) ≡ None) × (number_in (number (signed_decimal z)) ≡ z)
 signed-back bits z h e = number-back (signed bits) z e (signed-mag bits z h e)
 
-unsigned-back : (bits : ℕ) (z : ℤ) → bits ≤ 128 → is_in (unsigned bits) z ≡ true → (number_fault (unsigned bits) (number (signed_decimal z)) ≡ None) × (number_in (number (signed_decimal z)) ≡ z)
+unsigned-back : (bits : ℕ) (z : ℤ) → bits ≤ 128 → is_in (unsigned bits) z ≡ true → (number_error (unsigned bits) (number (signed_decimal z)) ≡ None) × (number_in (number (signed_decimal z)) ≡ z)
 unsigned-back bits z h e = number-back (unsigned bits) z e (unsigned-mag bits z h e)
 
-pub numbers-back : (p : PrimitiveType) (t : TypeTree) (z : ℤ) (zs : List ℤ) → AreIn (ranges_of p) (z ∷ zs) → NumbersReadBack p t (z ∷ zs)
+pub numbers-back : (p : PrimitiveType) (t : TypeTree) (z : ℤ) (zs : List ℤ) → AreInRange (ranges_of p) (z ∷ zs) → NumbersRoundTrip p t (z ∷ zs)
 numbers-back primitive.Int8 t z [] h = one-back (signed 8) z (signed-back 8 z (lit≤ tt) h.0)
 numbers-back primitive.Int8 t z (y ∷ ys) h = absurd h.1
 numbers-back primitive.Int16 t z [] h = one-back (signed 16) z (signed-back 16 z (lit≤ tt) h.0)
@@ -100,7 +100,7 @@ digit-back d h = elim (cases_lt d 10) [
 hex-back : (d : ℕ) → d < 16 → is_hex (digit_char d) ≡ true
 hex-back d h = rw (digit-back d h) (lt-ltb d 16 h)
 
-pub bytes-back : (bs : List ℕ) → AreBytes bs → BytesReadBack bs
+pub bytes-back : (bs : List ℕ) → AreBytes bs → BytesRoundTrip bs
 bytes-back [] h = (refl, refl)
 bytes-back (b ∷ bs) h =
     let high : b / 16 < 16 = omega (arith, h.0) in

@@ -6,23 +6,23 @@ use Rattle.std.specs.Fmt.{signed_decimal}
 use Rattle.std.specs.Int.Signed.{mag}
 use Rattle.json.specs.Json as json
 use Rattle.json.specs.Json.{Json, Items, no_items, item, Members, no_members, member}
-use Rattle.json_read.specs.Apart.{NamesApart, FieldApart, FieldsApart}
-use Rattle.json_read.specs.Leaf.{number_in, item_numbers, bytes_of_hex}
-use Rattle.json_read.specs.Meant.{slot_of, item_slots, member_slots, field_slots, slot_named, type_named, array_slot, text_slot}
-use Rattle.json_read.specs.ReadsBack.{AreBytes, IsWritten, AreWritten}
+use Rattle.json_read.specs.DistinctNames.{HasDistinctFieldNames, FieldHasDistinctFieldNames, FieldsHaveDistinctFieldNames}
+use Rattle.json_read.specs.FlatValues.{number_in, item_numbers, bytes_of_hex}
+use Rattle.json_read.specs.JsonSlots.{slot_of, item_slots, member_slots, field_slots, slot_named, type_named, array_slot, string_slot}
+use Rattle.json_read.specs.RoundTrip.{AreBytes, CanRoundTrip, CanAllRoundTrip}
 use Rattle.json_read.proofs.ReadBack.{bytes-back, decimal-back}
 use Rattle.json_read.proofs.Feeding.{eq-false, eq-same}
 use Rattle.nest_memory.specs.TypeTree as types
 use Rattle.nest_memory.specs.TypeTree.{Letters, TypeTree, FieldTree, field, FieldTrees, no_fields, more_fields, field_type}
 use Rattle.nest_model.specs.Slot as slots
 use Rattle.nest_model.specs.Slot.{Slot, Slots, no_slots, more_slots}
-use Rattle.json_write.specs.Json.{items_type, members_of, field_name, hex_byte}
-use Rattle.json_write.specs.OneText.{AreOf128Bits, IsSlotOf, AreItems, AreMembers, NoneNamed, AreNamedApart, form, rows, records}
-use Rattle.json_write.specs.Tree.{tree_of_slot, tree_items, tree_members}
+use Rattle.json_write.specs.JsonText.{items_type, members_of, field_name, hex_byte}
+use Rattle.json_write.specs.TypedSlots.{NumbersFitIn128Bits, IsSlotOf, AreItems, AreMembers, LacksField, HaveDistinctNames, slot_kind, lists, structs}
+use Rattle.json_write.specs.JsonTree.{tree_of_slot, tree_items, tree_members}
 
 -- ---- types
 
-items-apart : (t : TypeTree) → NamesApart t → form t ≡ rows → NamesApart (items_type t)
+items-apart : (t : TypeTree) → HasDistinctFieldNames t → slot_kind t ≡ lists → HasDistinctFieldNames (items_type t)
 items-apart (types.list (field n t b es)) a e = a
 items-apart (types.fixed_size_list (field n t b es) s) a e = a
 items-apart (types.large_list (field n t b es)) a e = a
@@ -31,7 +31,7 @@ items-apart (types.dictionary k t b) a e = items-apart t a e
 items-apart (types.extension n t m) a e = items-apart t a e
 items-apart t a e = absurd cc
 
-members-apart : (t : TypeTree) → NamesApart t → form t ≡ records → AreNamedApart (members_of t) × FieldsApart (members_of t)
+members-apart : (t : TypeTree) → HasDistinctFieldNames t → slot_kind t ≡ structs → HaveDistinctNames (members_of t) × FieldsHaveDistinctFieldNames (members_of t)
 members-apart (types.struct fs) a e = a
 members-apart (types.dictionary k t b) a e = members-apart t a e
 members-apart (types.extension n t m) a e = members-apart t a e
@@ -44,13 +44,13 @@ AllTyped : FieldTrees → FieldTrees → Type 0
 AllTyped all no_fields = Unit {0}
 AllTyped all (more_fields f fs) = (type_named (field_name f) all ≡ field_type f) × AllTyped all fs
 
-one-before : (g : FieldTree) (all fs : FieldTrees) → NoneNamed (field_name g) fs → AllTyped all fs → AllTyped (more_fields g all) fs
+one-before : (g : FieldTree) (all fs : FieldTrees) → LacksField (field_name g) fs → AllTyped all fs → AllTyped (more_fields g all) fs
 unfolding AllTyped
 one-before g all no_fields h t = tt
 one-before g all (more_fields f fs) h t =
     (ap (λ b. if b then field_type g else type_named (field_name f) all) (eq-false (field_name g) (field_name f) h.0) ∙ t.0, one-before g all fs h.1 t.1)
 
-all-typed : (fs : FieldTrees) → AreNamedApart fs → AllTyped fs fs
+all-typed : (fs : FieldTrees) → HaveDistinctNames fs → AllTyped fs fs
 unfolding AllTyped
 all-typed no_fields a = tt
 all-typed (more_fields f fs) a =
@@ -62,11 +62,11 @@ named_slots fs no_slots = []
 named_slots no_fields (more_slots s ss) = []
 named_slots (more_fields f fs) (more_slots s ss) = (field_name f, s) ∷ named_slots fs ss
 
-one-more : (n : Letters) (s : Slot) (ps : List (Letters × Slot)) (fs : FieldTrees) → NoneNamed n fs → field_slots fs ((n, s) ∷ ps) ≡ field_slots fs ps
+one-more : (n : Letters) (s : Slot) (ps : List (Letters × Slot)) (fs : FieldTrees) → LacksField n fs → field_slots fs ((n, s) ∷ ps) ≡ field_slots fs ps
 one-more n s ps no_fields h = refl
 one-more n s ps (more_fields f fs) h = rw (eq-false n (field_name f) h.0, one-more n s ps fs h.1) refl
 
-slots-named : (fs : FieldTrees) (ss : Slots) → AreNamedApart fs → AreMembers fs ss → field_slots fs (named_slots fs ss) ≡ ss
+slots-named : (fs : FieldTrees) (ss : Slots) → HaveDistinctNames fs → AreMembers fs ss → field_slots fs (named_slots fs ss) ≡ ss
 unfolding named_slots
 slots-named no_fields no_slots a h = refl
 slots-named no_fields (more_slots s ss) a h = absurd h
@@ -86,7 +86,7 @@ decimal z h = ap (λ o. unwrap_or o (pos 0)) (decimal-back z h)
 hex : (bs : List ℕ) → AreBytes bs → bytes_of_hex (flat_map hex_byte bs) ≡ bs
 hex bs h = (bytes-back bs h).1
 
-numbers-back : (z y : ℤ) (zs : List ℤ) → AreOf128Bits (z ∷ y ∷ zs) → item_numbers (items_in (tree_of_slot types.null (slots.number (z ∷ y ∷ zs)))) ≡ z ∷ y ∷ zs
+numbers-back : (z y : ℤ) (zs : List ℤ) → NumbersFitIn128Bits (z ∷ y ∷ zs) → item_numbers (items_in (tree_of_slot types.null (slots.number (z ∷ y ∷ zs)))) ≡ z ∷ y ∷ zs
 unfolding items_in
 numbers-back z y [] h = rw (decimal z h.0, decimal y h.1.0) refl
 numbers-back z y (w ∷ zs) h = rw (decimal z h.0, numbers-back y w zs h.1) refl
@@ -94,7 +94,7 @@ numbers-back z y (w ∷ zs) h = rw (decimal z h.0, numbers-back y w zs h.1) refl
 mutual
   unfolding AllTyped named_slots items_in
 
-  pub slot-back : (t : TypeTree) (s : Slot) → NamesApart t → IsSlotOf t s → IsWritten s → slot_of t (tree_of_slot t s) ≡ s
+  pub slot-back : (t : TypeTree) (s : Slot) → HasDistinctFieldNames t → IsSlotOf t s → CanRoundTrip s → slot_of t (tree_of_slot t s) ≡ s
   slot-back t slots.null a h b = refl
   slot-back t (slots.truth x) a h b = refl
   slot-back t (slots.number []) a h b = rw h refl
@@ -108,11 +108,11 @@ mutual
       rw (members-back (members_of t) (members_of t) ss (all-typed (members_of t) p.0) p.1 h.1 b, slots-named (members_of t) ss p.0 h.1) refl
   slot-back t (slots.pick f u s) a h b = absurd b
 
-  items-back : (t : TypeTree) (ss : Slots) → NamesApart t → AreItems t ss → AreWritten ss → item_slots t (tree_items t ss) ≡ ss
+  items-back : (t : TypeTree) (ss : Slots) → HasDistinctFieldNames t → AreItems t ss → CanAllRoundTrip ss → item_slots t (tree_items t ss) ≡ ss
   items-back t no_slots a h b = refl
   items-back t (more_slots s ss) a h b = rw (slot-back t s a h.0 b.0, items-back t ss a h.1 b.1) refl
 
-  members-back : (all fs : FieldTrees) (ss : Slots) → AllTyped all fs → FieldsApart fs → AreMembers fs ss → AreWritten ss → member_slots all (tree_members fs ss) ≡ named_slots fs ss
+  members-back : (all fs : FieldTrees) (ss : Slots) → AllTyped all fs → FieldsHaveDistinctFieldNames fs → AreMembers fs ss → CanAllRoundTrip ss → member_slots all (tree_members fs ss) ≡ named_slots fs ss
   members-back all no_fields no_slots k a h b = refl
   members-back all no_fields (more_slots s ss) k a h b = absurd h
   members-back all (more_fields f fs) no_slots k a h b = absurd h

@@ -5,9 +5,9 @@ use Rattle.std.proofs.lemmas.Bool.{cases_lt}
 use Rattle.std.proofs.lemmas.List.{length-append, take-append-drop, take_all, drop_all}
 use Rattle.std.specs.List.{onto_first}
 use Rattle.nest_model.specs.Slot.{Slot}
-use Rattle.json_read.specs.Rows.{Row, Rows, rows_below, row_onto, slot_onto}
-use Rattle.json_read.specs.Split.{AreFirstLines, EndsLines, lines_of}
-use Rattle.json_read.specs.declared.error.LineReason.{LineReason}
+use Rattle.json_read.specs.LineRows.{Row, Rows, rows_from, prepend_row, prepend_slot}
+use Rattle.json_read.specs.LineSplit.{AreFirstLines, EndsLines, lines_of}
+use Rattle.json_read.specs.declared.error.LineError.{LineError}
 
 -- ---- rows
 
@@ -18,27 +18,27 @@ pub record Taken (r : Row) (rest : Rows) (ss : List Slot) : Type 0 where
   pub after : rest ≡ Ok others
   pub all : ss ≡ first ∷ others
 
-pub taken : (r : Row) (above : ℕ) (rest : Rows) (ss : List Slot) → row_onto r above rest ≡ Ok ss → Taken r rest ss
+pub taken : (r : Row) (above : ℕ) (rest : Rows) (ss : List Slot) → prepend_row r above rest ≡ Ok ss → Taken r rest ss
 taken (Ok s) above (Ok others) ss h = let e : s ∷ others ≡ ss = cc in record { first = s; others = others; row = refl; after = refl; all = sym e }
 taken (Ok s) above (Err f) ss h = cc
 taken (Err e) above rest ss h = cc
 
-pub rows-grow : (row : List ℕ → Row) (above : ℕ) (lines : List (List ℕ)) (line : List ℕ) (ss : List Slot) (s : Slot) → rows_below row above lines ≡ Ok ss → row line ≡ Ok s → rows_below row above (lines ++ line ∷ []) ≡ Ok (ss ++ s ∷ [])
+pub rows-grow : (row : List ℕ → Row) (above : ℕ) (lines : List (List ℕ)) (line : List ℕ) (ss : List Slot) (s : Slot) → rows_from row above lines ≡ Ok ss → row line ≡ Ok s → rows_from row above (lines ++ line ∷ []) ≡ Ok (ss ++ s ∷ [])
 rows-grow row above [] line ss s h e =
     let none : [] ≡ ss = cc in
-    ap (λ (r : Row). row_onto r above (Ok [])) e ∙ ap (λ (l : List Slot). Ok (l ++ s ∷ [])) none
+    ap (λ (r : Row). prepend_row r above (Ok [])) e ∙ ap (λ (l : List Slot). Ok (l ++ s ∷ [])) none
 rows-grow row above (x ∷ lines) line ss s h e =
     let t = taken _ above _ ss h in
-    ap (λ (r : Row). row_onto r above (rows_below row (above + 1) (lines ++ line ∷ []))) t.row ∙ ap (slot_onto t.first) (rows-grow row (above + 1) lines line t.others s t.after e)
+    ap (λ (r : Row). prepend_row r above (rows_from row (above + 1) (lines ++ line ∷ []))) t.row ∙ ap (prepend_slot t.first) (rows-grow row (above + 1) lines line t.others s t.after e)
     ∙ ap (λ (l : List Slot). Ok (l ++ s ∷ [])) (sym t.all)
 
-rows-stop : (row : List ℕ → Row) (above : ℕ) (lines : List (List ℕ)) (line : List ℕ) (more : List (List ℕ)) (ss : List Slot) (e : LineReason)
-    → rows_below row above lines ≡ Ok ss → row line ≡ Err e → rows_below row above (lines ++ line ∷ more) ≡ Err (above + length lines, e)
-rows-stop row above [] line more ss e h bad = ap (λ (r : Row). row_onto r above (rows_below row (above + 1) more)) bad ∙ (let z : above ≡ above + 0 = omega arith in ap (λ k. Err (k, e)) z)
+rows-stop : (row : List ℕ → Row) (above : ℕ) (lines : List (List ℕ)) (line : List ℕ) (more : List (List ℕ)) (ss : List Slot) (e : LineError)
+    → rows_from row above lines ≡ Ok ss → row line ≡ Err e → rows_from row above (lines ++ line ∷ more) ≡ Err (above + length lines, e)
+rows-stop row above [] line more ss e h bad = ap (λ (r : Row). prepend_row r above (rows_from row (above + 1) more)) bad ∙ (let z : above ≡ above + 0 = omega arith in ap (λ k. Err (k, e)) z)
 rows-stop row above (x ∷ lines) line more ss e h bad =
     let t = taken _ above _ ss h in
     let n : above + 1 + length lines ≡ above + length (x ∷ lines) = omega arith in
-    ap (λ (r : Row). row_onto r above (rows_below row (above + 1) (lines ++ line ∷ more))) t.row ∙ ap (slot_onto t.first) (rows-stop row (above + 1) lines line more t.others e t.after bad) ∙ ap (λ k. Err (k, e)) n
+    ap (λ (r : Row). prepend_row r above (rows_from row (above + 1) (lines ++ line ∷ more))) t.row ∙ ap (prepend_slot t.first) (rows-stop row (above + 1) lines line more t.others e t.after bad) ∙ ap (λ k. Err (k, e)) n
 
 -- ---- lines
 
@@ -80,7 +80,7 @@ pub record Read (row : List ℕ → Row) (text : List ℕ) (limit used count : �
   pub ends : used < length text → EndsLines (take used text)
   pub counted : length (lines_of (take used text)) ≡ count
   pub few : count ≤ limit
-  pub rows : rows_below row 0 (lines_of (take used text)) ≡ Ok ss
+  pub rows : rows_from row 0 (lines_of (take used text)) ≡ Ok ss
 
 pub read-none : (row : List ℕ → Row) (text : List ℕ) (limit : ℕ) → Read row text limit 0 0 []
 read-none row text limit = record { within = omega arith; ends = λ lt more. refl; counted = refl; few = omega arith; rows = refl }
@@ -98,21 +98,21 @@ module _ (row : List ℕ → Row) (text line : List ℕ) (limit used count n : �
     ends = λ lt. subst EndsLines (sym two) (ends-both (take used text) (take n (drop used text)) (read.ends open_) (is.ends (omega (arith, length-left))));
     counted = ap length more-lines ∙ length-append (lines_of (take used text)) (line ∷ []) ∙ ap (λ k. k + 1) read.counted;
     few = omega arith;
-    rows = ap (rows_below row 0) more-lines ∙ rows-grow row 0 (lines_of (take used text)) line ss s read.rows good;
+    rows = ap (rows_from row 0) more-lines ∙ rows-grow row 0 (lines_of (take used text)) line ss s read.rows good;
   }
 
-  stop-at : (a : After (drop used text) line) (e : LineReason) → count < limit → row line ≡ Err e → rows_below row 0 (take limit (lines_of text)) ≡ Err (count, e)
+  stop-at : (a : After (drop used text) line) (e : LineError) → count < limit → row line ≡ Err e → rows_from row 0 (take limit (lines_of text)) ≡ Err (count, e)
   stop-at a e few bad =
       let fs = lines_of (take used text) in
       let whole : lines_of text ≡ fs ++ line ∷ a.more = ap lines_of (sym (take-append-drop used text)) ∙ read.ends open_ (drop used text) ∙ ap (λ (ls : List (List ℕ)). fs ++ ls) a.split in
       let past = take-past fs line a.more limit (omega (arith, read.counted)) in
       let at : 0 + length fs ≡ count = omega (arith, read.counted) in
-      ap (λ (ls : List (List ℕ)). rows_below row 0 (take limit ls)) whole
-      ∙ ap (rows_below row 0) past.1
+      ap (λ (ls : List (List ℕ)). rows_from row 0 (take limit ls)) whole
+      ∙ ap (rows_from row 0) past.1
       ∙ rows-stop row 0 fs line past.0 ss e read.rows bad
       ∙ ap (λ k. Err (k, e)) at
 
-  pub read-stop : (e : LineReason) → count < limit → row line ≡ Err e → rows_below row 0 (take limit (lines_of text)) ≡ Err (count, e)
+  pub read-stop : (e : LineError) → count < limit → row line ≡ Err e → rows_from row 0 (take limit (lines_of text)) ≡ Err (count, e)
   read-stop e few bad = elim (cases_lt n (length (drop used text))) [ inl lt ↦ stop-at (after _ _ n is lt) e few bad | inr le ↦ stop-at (after-last _ _ n is le) e few bad ]
 
 -- where the loop ends

@@ -5,16 +5,16 @@ use Rattle.std.proofs.lemmas.List.{map_push}
 use Rattle.json.specs.Json.{Json, Members, member}
 use Rattle.nest_any.specs.Lent.{with_children, with_field, written_over}
 use Rattle.nest_any.specs.Refusals.{struct_children}
-use Rattle.json_read.specs.Apart.{NamesApart}
-use Rattle.json_read.specs.Fed.{Fed, FedSome, Completed, IsLimit, child_fault, child_named}
-use Rattle.json_read.specs.Leaf.{first_of}
-use Rattle.json_read.specs.Meant.{fault_of, field_slots, slot_of, type_named, members_fault}
-use Rattle.json_read.specs.Took.{Took, Refuses}
-use Rattle.json_read.specs.declared.reason.Reason.{Reason}
-use Rattle.json_read.specs.declared.reason.Reason.TheVariants.{RepeatedField}
-use Rattle.json_read.specs.declared.reason.Refusal.{Refusal}
-use Rattle.json_read.specs.declared.reason.Refusal.TheVariants as refusal
-use Rattle.json_read.proofs.Feeding.{eqb-same, fed-put, fed-types, members-fault, named-at, type-at, filled, filled-whole, record-took}
+use Rattle.json_read.specs.DistinctNames.{HasDistinctFieldNames}
+use Rattle.json_read.specs.StructMembers.{MembersAddedTo, MemberAdded, NullsAdded, IsLimitError, child_error, child_named}
+use Rattle.json_read.specs.FlatValues.{first_error}
+use Rattle.json_read.specs.JsonSlots.{value_error, field_slots, slot_of, type_named, members_error}
+use Rattle.json_read.specs.RowAdded.{RowAdded, IsPushError}
+use Rattle.json_read.specs.declared.value_error.ValueError.{ValueError}
+use Rattle.json_read.specs.declared.value_error.ValueError.TheVariants.{DuplicateField}
+use Rattle.json_read.specs.declared.value_error.PushError.{PushError}
+use Rattle.json_read.specs.declared.value_error.PushError.TheVariants as push_error
+use Rattle.json_read.proofs.Feeding.{eqb-same, fed-put, fed-types, members-error, named-at, type-at, filled, filled-whole, record-added}
 use Rattle.json_read.proofs.TypeParts.{struct-apart}
 use Rattle.nest_memory.specs.Physical.{physical_type}
 use Rattle.nest_memory.specs.TypeTree.{Letters, TypeTree, fields_of}
@@ -27,61 +27,61 @@ use Rattle.nest_model.specs.Slot.{Slot}
 
 -- ---- reasons
 
-pub refuses-first : (e : Refusal) (a b : Option Reason) → Refuses e a → Refuses e (first_of a b)
-refuses-first (refusal.Reason r) a b h = ap (λ x. first_of x b) h
-refuses-first refusal.Overflow a b h = tt
-refuses-first refusal.Memory a b h = tt
+pub refuses-first : (e : PushError) (a b : Option ValueError) → IsPushError e a → IsPushError e (first_error a b)
+refuses-first (push_error.Value r) a b h = ap (λ x. first_error x b) h
+refuses-first push_error.Overflow a b h = tt
+refuses-first push_error.Memory a b h = tt
 
-pub refuses-later : (e : Refusal) (a b : Option Reason) → a ≡ None → Refuses e b → Refuses e (first_of a b)
-refuses-later e a b n h = subst (λ x. Refuses e (first_of x b)) (sym n) h
+pub refuses-later : (e : PushError) (a b : Option ValueError) → a ≡ None → IsPushError e b → IsPushError e (first_error a b)
+refuses-later e a b n h = subst (λ x. IsPushError e (first_error x b)) (sym n) h
 
-pub limit-refuses : (e : Refusal) (f : Option Reason) → IsLimit e → Refuses e f
-limit-refuses (refusal.Reason r) f h = absurd h
-limit-refuses refusal.Overflow f h = tt
-limit-refuses refusal.Memory f h = tt
+pub limit-refuses : (e : PushError) (f : Option ValueError) → IsLimitError e → IsPushError e f
+limit-refuses (push_error.Value r) f h = absurd h
+limit-refuses push_error.Overflow f h = tt
+limit-refuses push_error.Memory f h = tt
 
 -- ---- a member
 
-child-fine : (c : Option BuilderTree) (d : BuilderTree) (n : ℕ) (j : Json) → c ≡ Some d → builder_len d ≡ n → fault_of (builder_type d) j ≡ None → child_fault c n j ≡ None
-child-fine c d n j e l f = ap (λ x. child_fault x n j) e ∙ ap (λ b. if b then fault_of (builder_type d) j else Some RepeatedField) (eqb-same (builder_len d) n l) ∙ f
+child-valid : (c : Option BuilderTree) (d : BuilderTree) (n : ℕ) (j : Json) → c ≡ Some d → builder_len d ≡ n → value_error (builder_type d) j ≡ None → child_error c n j ≡ None
+child-valid c d n j e l f = ap (λ x. child_error x n j) e ∙ ap (λ b. if b then value_error (builder_type d) j else Some DuplicateField) (eqb-same (builder_len d) n l) ∙ f
 
-module _ (t : TypeTree) (bits : List Bool) (cs ds : BuilderTrees) (ps : List (Letters × Slot)) (is : physical_type t ≡ physical.Struct) (apart : NamesApart t) (whole : IsWhole (struct t bits cs)) (fed : Fed (fields_of t) ps cs ds) where
+module _ (t : TypeTree) (bits : List Bool) (cs ds : BuilderTrees) (ps : List (Letters × Slot)) (is : physical_type t ≡ physical.Struct) (apart : HasDistinctFieldNames t) (whole : IsWhole (struct t bits cs)) (fed : MembersAddedTo (fields_of t) ps cs ds) where
   -- the member went to its child
-  pub fed-step : (k : Letters) (j : Json) (new : BuilderTree) → FedSome k j (length bits) (struct t bits ds) new
-      → (Fed (fields_of t) (ps ++ (k, slot_of (type_named k (fields_of t)) j) ∷ []) cs (struct_children new)) × (new ≡ struct t bits (struct_children new))
+  pub fed-step : (k : Letters) (j : Json) (new : BuilderTree) → MemberAdded k j (length bits) (struct t bits ds) new
+      → (MembersAddedTo (fields_of t) (ps ++ (k, slot_of (type_named k (fields_of t)) j) ∷ []) cs (struct_children new)) × (new ≡ struct t bits (struct_children new))
   fed-step k j new h =
       let names = (struct-apart t is apart).0 in
       let typed = fed-types (fields_of t) ps cs ds fed ∙ whole.1 in
-      let same = type-at k (fields_of t) ds h.place h.before typed names h.named h.stood in
-      let took = subst (λ u. Took (slot_of u j) h.before h.after) (sym same) h.took in
-      let put = fed-put (fields_of t) ps cs ds h.place k (slot_of (type_named k (fields_of t)) j) (length bits) h.before h.after names whole.0 fed h.named h.stood h.rows took in
-      (subst (λ b. Fed (fields_of t) (ps ++ (k, slot_of (type_named k (fields_of t)) j) ∷ []) cs (struct_children b)) (sym h.set) put, h.set ∙ ap (λ b. struct t bits (struct_children b)) (sym h.set))
+      let same = type-at k (fields_of t) ds h.index h.before typed names h.named h.child in
+      let added = subst (λ u. RowAdded (slot_of u j) h.before h.after) (sym same) h.added in
+      let put = fed-put (fields_of t) ps cs ds h.index k (slot_of (type_named k (fields_of t)) j) (length bits) h.before h.after names whole.0 fed h.named h.child h.rows added in
+      (subst (λ b. MembersAddedTo (fields_of t) (ps ++ (k, slot_of (type_named k (fields_of t)) j) ∷ []) cs (struct_children b)) (sym h.set) put, h.set ∙ ap (λ b. struct t bits (struct_children b)) (sym h.set))
 
   -- no reason was in it
-  pub fault-step : (k : Letters) (j : Json) (ms : Members) (new : BuilderTree) → FedSome k j (length bits) (struct t bits ds) new
-      → members_fault (fields_of t) (map (λ p. p.0) ps) (member k j ms) ≡ members_fault (fields_of t) (map (λ p. p.0) (ps ++ (k, slot_of (type_named k (fields_of t)) j) ∷ [])) ms
-  fault-step k j ms new h =
+  pub error-step : (k : Letters) (j : Json) (ms : Members) (new : BuilderTree) → MemberAdded k j (length bits) (struct t bits ds) new
+      → members_error (fields_of t) (map (λ p. p.0) ps) (member k j ms) ≡ members_error (fields_of t) (map (λ p. p.0) (ps ++ (k, slot_of (type_named k (fields_of t)) j) ∷ [])) ms
+  error-step k j ms new h =
       let names = (struct-apart t is apart).0 in
       let typed = fed-types (fields_of t) ps cs ds fed ∙ whole.1 in
-      let found = named-at k (fields_of t) ds h.place typed names h.named ∙ h.stood in
-      members-fault (fields_of t) ps cs ds k j ms (length bits) whole.1 whole.0 fed
-      ∙ ap (λ e. first_of e (members_fault (fields_of t) (map (λ p. p.0) ps ++ k ∷ []) ms)) (child-fine (child_named k (fields_of t) ds) h.before (length bits) j found h.rows h.fine)
-      ∙ ap (λ ns. members_fault (fields_of t) ns ms) (sym (map_push (λ p. p.0) ps (k, slot_of (type_named k (fields_of t)) j)))
+      let found = named-at k (fields_of t) ds h.index typed names h.named ∙ h.child in
+      members-error (fields_of t) ps cs ds k j ms (length bits) whole.1 whole.0 fed
+      ∙ ap (λ e. first_error e (members_error (fields_of t) (map (λ p. p.0) ps ++ k ∷ []) ms)) (child-valid (child_named k (fields_of t) ds) h.before (length bits) j found h.rows h.valid)
+      ∙ ap (λ ns. members_error (fields_of t) ns ms) (sym (map_push (λ p. p.0) ps (k, slot_of (type_named k (fields_of t)) j)))
 
   -- a reason was
-  pub fault-stop : (k : Letters) (j : Json) (ms : Members) (e : Refusal) → Refuses e (child_fault (child_named k (fields_of t) ds) (length bits) j) → Refuses e (members_fault (fields_of t) (map (λ p. p.0) ps) (member k j ms))
-  fault-stop k j ms e h =
-      subst (Refuses e) (sym (members-fault (fields_of t) ps cs ds k j ms (length bits) whole.1 whole.0 fed)) (refuses-first e (child_fault (child_named k (fields_of t) ds) (length bits) j) (members_fault (fields_of t) (map (λ p. p.0) ps ++ k ∷ []) ms) h)
+  pub error-stop : (k : Letters) (j : Json) (ms : Members) (e : PushError) → IsPushError e (child_error (child_named k (fields_of t) ds) (length bits) j) → IsPushError e (members_error (fields_of t) (map (λ p. p.0) ps) (member k j ms))
+  error-stop k j ms e h =
+      subst (IsPushError e) (sym (members-error (fields_of t) ps cs ds k j ms (length bits) whole.1 whole.0 fed)) (refuses-first e (child_error (child_named k (fields_of t) ds) (length bits) j) (members_error (fields_of t) (map (λ p. p.0) ps ++ k ∷ []) ms) h)
 
   -- ---- the record
 
-  pub completed-whole : (es : BuilderTrees) → Completed (length bits) ds es → HasWholeChildren (struct t bits es)
+  pub completed-whole : (es : BuilderTrees) → NullsAdded (length bits) ds es → HasWholeChildren (struct t bits es)
   completed-whole es h = filled-whole (fields_of t) ps cs es (filled (fields_of t) ps cs ds es (length bits) fed whole.0 h)
 
-  pub completed-took : (es : BuilderTrees) (new : BuilderTree) → Completed (length bits) ds es → Told true (struct t bits es) new → Took (slots.record_of (field_slots (fields_of t) ps)) (struct t bits cs) new
-  completed-took es new h k = record-took t bits (fields_of t) ps cs es new (filled (fields_of t) ps cs ds es (length bits) fed whole.0 h) whole.0 k
+  pub completed-added : (es : BuilderTrees) (new : BuilderTree) → NullsAdded (length bits) ds es → Told true (struct t bits es) new → RowAdded (slots.record_of (field_slots (fields_of t) ps)) (struct t bits cs) new
+  completed-added es new h k = record-added t bits (fields_of t) ps cs es new (filled (fields_of t) ps cs ds es (length bits) fed whole.0 h) whole.0 k
 
-pub completed-over : (n : ℕ) (ds es : BuilderTrees) → Completed n ds es → written_over ds es ≡ es
+pub completed-over : (n : ℕ) (ds es : BuilderTrees) → NullsAdded n ds es → written_over ds es ≡ es
 completed-over n no_builders no_builders h = refl
 completed-over n no_builders (more_builders e es) h = absurd h
 completed-over n (more_builders d ds) no_builders h = absurd h

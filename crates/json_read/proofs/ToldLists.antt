@@ -1,6 +1,6 @@
 -- Rows of items that were told over the items that waited.
 use Rattle.std.proofs.Common.{◌≡◌, ℕ, zero, suc, ◌+◌, ◌*◌, ◌<◌, ◌≤◌, Bool, true, false, List, [], ◌∷◌, ◌++◌, length, drop, refl, sym, ap, ◌∙◌, subst, arith}
-use Rattle.json_read.specs.Took.{Took, TookAll}
+use Rattle.json_read.specs.RowAdded.{RowAdded, RowsAdded}
 use Rattle.nest_build.specs.Children.{list_child, with_items}
 use Rattle.nest_any.specs.Refusals.{IsListBuilder}
 use Rattle.nest_memory.specs.TypeTree.{TypeTree, size_of}
@@ -27,21 +27,21 @@ tells (dictionary i t keys c) d k w v = absurd k
 tells (struct t bits cs) d k w v = absurd k
 
 -- a told list over more items is the list of these
-pub list-took : (ss : List Slot) (b d new : BuilderTree) → IsListBuilder b → IsWhole b → TookAll ss (list_child b) d → Told true (with_items b d) new → Took (slots.list (seal ss)) b new
-list-took ss (flat t xs) d new k w h q = absurd k
-list-took ss (list large t rows c) d new k w h q =
+pub list-added : (ss : List Slot) (b d new : BuilderTree) → IsListBuilder b → IsWhole b → RowsAdded ss (list_child b) d → Told true (with_items b d) new → RowAdded (slots.list (seal ss)) b new
+list-added ss (flat t xs) d new k w h q = absurd k
+list-added ss (list large t rows c) d new k w h q =
     let at_end : end_from 0 rows ≡ length (own_slots c) = sym w.2 ∙ sym (own-length c) in
     record {
       last = q.last ∙ rw (h.last, drop-front (own_slots c) ss (end_from 0 rows) at_end, items-longer 0 rows (own_slots c) ss w.3 (omega (arith, at_end))) refl;
       whole = q.whole;
       same_type = ap builder_type q.exact;
     }
-list-took ss (fixed_size_list t bits c) d new k w h q =
+list-added ss (fixed_size_list t bits c) d new k w h q =
     let at_end : length bits * size_of t ≡ length (own_slots c) = sym w.2 ∙ sym (own-length c) in
     record {
       last = q.last ∙ rw (h.last, drop-front (own_slots c) ss (length bits * size_of t) at_end, size-longer 0 (size_of t) bits (own_slots c) ss (omega (arith, at_end))) refl;
       whole = q.whole;
       same_type = ap builder_type q.exact;
     }
-list-took ss (dictionary i t keys c) d new k w h q = absurd k
-list-took ss (struct t bits cs) d new k w h q = absurd k
+list-added ss (dictionary i t keys c) d new k w h q = absurd k
+list-added ss (struct t bits cs) d new k w h q = absurd k

@@ -10,9 +10,9 @@ use Rattle.std.proofs.lemmas.Map.Text.{is_eq-slice_cmp}
 use Rattle.nest_memory.specs.TypeOf.{field_list_of, field_of}
 use Rattle.nest_memory.specs.TypeTree.{FieldTrees, more_fields}
 use Rattle.nest_memory.specs.declared.datatypes.field.Field.{Field}
-use Rattle.json_read.specs.Types.{has_twins}
-use Rattle.json_read.specs.Meant.{is_named}
-use Rattle.json_write.specs.Json.{field_name}
+use Rattle.json_read.specs.UnsupportedTypes.{has_duplicate_names}
+use Rattle.json_read.specs.JsonSlots.{is_named}
+use Rattle.json_write.specs.JsonText.{field_name}
 
 pub one-more : (fs : List Field) (i j : ℕ) (x : Field) → j < length fs → i ≡ j + 1 → x ≡ get_or fs j x → field_list_of (drop j fs) ≡ more_fields (field_of x) (field_list_of (drop i fs))
 one-more fs i j x lt e at = ap field_list_of (drop_more fs j x lt) ∙ (λ k. more_fields (field_of (sym at k)) (field_list_of (drop (sym e k) fs)))
@@ -21,16 +21,16 @@ or-right : (a b : Bool) → b ≡ true → (a || b) ≡ true
 or-right true b h = refl
 or-right false b h = h
 
-twins-later : (fs : List Field) (n : ℕ) → has_twins (field_list_of (drop n fs)) ≡ true → has_twins (field_list_of fs) ≡ true
+twins-later : (fs : List Field) (n : ℕ) → has_duplicate_names (field_list_of (drop n fs)) ≡ true → has_duplicate_names (field_list_of fs) ≡ true
 twins-later fs zero h = h
 twins-later [] (suc n) h = cc
 twins-later (f ∷ fs) (suc n) h = or-right _ _ (twins-later fs n h)
 
-pub twin-found : (fs : List Field) (i j : ℕ) (x : Field) → j < length fs → i ≡ j + 1 → x ≡ get_or fs j x → is_named (field_name (field_of x)) (field_list_of (drop i fs)) ≡ true → has_twins (field_list_of fs) ≡ true
-twin-found fs i j x lt e at named = twins-later fs j (ap has_twins (one-more fs i j x lt e at) ∙ ap (λ b. b || has_twins (field_list_of (drop i fs))) named)
+pub twin-found : (fs : List Field) (i j : ℕ) (x : Field) → j < length fs → i ≡ j + 1 → x ≡ get_or fs j x → is_named (field_name (field_of x)) (field_list_of (drop i fs)) ≡ true → has_duplicate_names (field_list_of fs) ≡ true
+twin-found fs i j x lt e at named = twins-later fs j (ap has_duplicate_names (one-more fs i j x lt e at) ∙ ap (λ b. b || has_duplicate_names (field_list_of (drop i fs))) named)
 
-pub no-twin : (fs : List Field) (i j : ℕ) (x : Field) → j < length fs → i ≡ j + 1 → x ≡ get_or fs j x → is_named (field_name (field_of x)) (field_list_of (drop i fs)) ≡ false → has_twins (field_list_of (drop i fs)) ≡ false → has_twins (field_list_of (drop j fs)) ≡ false
-no-twin fs i j x lt e at named apart = ap has_twins (one-more fs i j x lt e at) ∙ ap (λ b. b || has_twins (field_list_of (drop i fs))) named ∙ apart
+pub no-twin : (fs : List Field) (i j : ℕ) (x : Field) → j < length fs → i ≡ j + 1 → x ≡ get_or fs j x → is_named (field_name (field_of x)) (field_list_of (drop i fs)) ≡ false → has_duplicate_names (field_list_of (drop i fs)) ≡ false → has_duplicate_names (field_list_of (drop j fs)) ≡ false
+no-twin fs i j x lt e at named distinct = ap has_duplicate_names (one-more fs i j x lt e at) ∙ ap (λ b. b || has_duplicate_names (field_list_of (drop i fs))) named ∙ distinct
 
 -- the set of the names that are seen, by their bytes
 abbrev pub HasNames : BTreeSet (Bor (List ℕ)) → FieldTrees → Type 0

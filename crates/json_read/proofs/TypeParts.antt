@@ -6,10 +6,10 @@ use Rattle.nest_any.specs.Lent.{builder_at}
 use Rattle.nest_any.specs.Refusals.{IsListBuilder, IsOfLists}
 use Rattle.nest_array.specs.SeenScalar.{shown_type}
 use Rattle.nest_build.specs.Children.{list_child}
-use Rattle.json_read.specs.Apart.{NamesApart, FieldApart, FieldsApart}
-use Rattle.json_read.specs.Leaf.{first_of}
-use Rattle.json_read.specs.Meant.{array_slot, array_fault, count_of, lies, size_fault}
-use Rattle.json_read.specs.declared.reason.Reason.{Reason}
+use Rattle.json_read.specs.DistinctNames.{HasDistinctFieldNames, FieldHasDistinctFieldNames, FieldsHaveDistinctFieldNames}
+use Rattle.json_read.specs.FlatValues.{first_error}
+use Rattle.json_read.specs.JsonSlots.{array_slot, array_error, count_of, values_physical_type, length_error}
+use Rattle.json_read.specs.declared.value_error.ValueError.{ValueError}
 use Rattle.nest_memory.specs.Physical.{physical_type}
 use Rattle.nest_memory.specs.TypeTree as types
 use Rattle.nest_memory.specs.TypeTree.{TypeTree, FieldTree, field, FieldTrees, no_fields, more_fields, item_type, fields_of, fixed_size, size_of}
@@ -19,8 +19,8 @@ use Rattle.nest_model.specs.BuilderWhole.{IsWhole}
 use Rattle.nest_model.specs.Layout.{field_types}
 use Rattle.nest_model.specs.Slot as slots
 use Rattle.nest_model.specs.Slot.{Slots}
-use Rattle.json_write.specs.Json.{items_type, members_of}
-use Rattle.json_write.specs.OneText.{AreNamedApart, form}
+use Rattle.json_write.specs.JsonText.{items_type, members_of}
+use Rattle.json_write.specs.TypedSlots.{HaveDistinctNames, slot_kind}
 
 pub of-lists : (b : BuilderTree) → IsListBuilder b → IsOfLists (physical_type (builder_type b))
 of-lists (flat t xs) k = absurd k
@@ -30,7 +30,7 @@ of-lists (fixed_size_list t bits c) k = inr (inr k)
 of-lists (dictionary i t keys c) k = absurd k
 of-lists (struct t bits cs) k = absurd k
 
-pub list-slot : (t : TypeTree) (zs : List ℤ) (ss : Slots) → IsOfLists (physical_type t) → array_slot (form t) zs ss ≡ slots.list ss
+pub list-slot : (t : TypeTree) (zs : List ℤ) (ss : Slots) → IsOfLists (physical_type t) → array_slot (slot_kind t) zs ss ≡ slots.list ss
 list-slot (types.list f) zs ss h = refl
 list-slot (types.large_list f) zs ss h = refl
 list-slot (types.fixed_size_list f s) zs ss h = refl
@@ -39,25 +39,25 @@ list-slot t zs ss (inl e) = absurd cc
 list-slot t zs ss (inr (inl e)) = absurd cc
 list-slot t zs ss (inr (inr e)) = absurd cc
 
-first-none : (a : Option Reason) → a ≡ first_of a None
+first-none : (a : Option ValueError) → a ≡ first_error a None
 first-none None = refl
 first-none (Some e) = refl
 
-pub list-fault : (t : TypeTree) (js : Items) (inside : Option Reason) (n : ℕ) → IsOfLists (physical_type t) → n ≡ count_of js → array_fault (lies t) (size_of (shown_type t)) js inside ≡ first_of inside (size_fault (fixed_size t) n)
-list-fault (types.list f) js inside n h e = first-none inside
-list-fault (types.large_list f) js inside n h e = first-none inside
-list-fault (types.fixed_size_list f s) js inside n h e = ap (λ m. first_of inside (size_fault (Some s) m)) (sym e)
-list-fault (types.extension m t d) js inside n h e = list-fault t js inside n h e
-list-fault t js inside n (inl h) e = absurd cc
-list-fault t js inside n (inr (inl h)) e = absurd cc
-list-fault t js inside n (inr (inr h)) e = absurd cc
+pub list-error : (t : TypeTree) (js : Items) (inside : Option ValueError) (n : ℕ) → IsOfLists (physical_type t) → n ≡ count_of js → array_error (values_physical_type t) (size_of (shown_type t)) js inside ≡ first_error inside (length_error (fixed_size t) n)
+list-error (types.list f) js inside n h e = first-none inside
+list-error (types.large_list f) js inside n h e = first-none inside
+list-error (types.fixed_size_list f s) js inside n h e = ap (λ m. first_error inside (length_error (Some s) m)) (sym e)
+list-error (types.extension m t d) js inside n h e = list-error t js inside n h e
+list-error t js inside n (inl h) e = absurd cc
+list-error t js inside n (inr (inl h)) e = absurd cc
+list-error t js inside n (inr (inr h)) e = absurd cc
 
-item-apart : (f : FieldTree) (u : TypeTree) → Some (types.field_type f) ≡ Some u → FieldApart f → (types.field_type f ≡ u) × NamesApart u
+item-apart : (f : FieldTree) (u : TypeTree) → Some (types.field_type f) ≡ Some u → FieldHasDistinctFieldNames f → (types.field_type f ≡ u) × HasDistinctFieldNames u
 item-apart (field n t b es) u e a =
     let p : t ≡ u = cc in
-    (p, subst NamesApart p a)
+    (p, subst HasDistinctFieldNames p a)
 
-item-parts : (t u : TypeTree) → IsOfLists (physical_type t) → item_type t ≡ Some u → NamesApart t → (items_type t ≡ u) × NamesApart u
+item-parts : (t u : TypeTree) → IsOfLists (physical_type t) → item_type t ≡ Some u → HasDistinctFieldNames t → (items_type t ≡ u) × HasDistinctFieldNames u
 item-parts (types.list f) u h e a = item-apart f u e a
 item-parts (types.large_list f) u h e a = item-apart f u e a
 item-parts (types.fixed_size_list f s) u h e a = item-apart f u e a
@@ -67,7 +67,7 @@ item-parts t u (inr (inl h)) e a = absurd cc
 item-parts t u (inr (inr h)) e a = absurd cc
 
 -- the items of a list's type are of its child's
-pub child-parts : (b : BuilderTree) → IsListBuilder b → IsWhole b → NamesApart (builder_type b) → (items_type (builder_type b) ≡ builder_type (list_child b)) × NamesApart (builder_type (list_child b)) × IsWhole (list_child b)
+pub child-parts : (b : BuilderTree) → IsListBuilder b → IsWhole b → HasDistinctFieldNames (builder_type b) → (items_type (builder_type b) ≡ builder_type (list_child b)) × HasDistinctFieldNames (builder_type (list_child b)) × IsWhole (list_child b)
 child-parts (flat t xs) k w a = absurd k
 child-parts (list large t rows c) k w a =
     let p = item-parts t (builder_type c) (of-lists (list large t rows c) k) w.1 a in
@@ -84,20 +84,20 @@ struct-members (types.extension n t m) e = struct-members t e
 struct-members (types.union fs ids mode) e = cc
 struct-members t e = refl
 
-pub struct-lies : (t : TypeTree) → physical_type t ≡ physical.Struct → lies t ≡ physical.Struct
+pub struct-lies : (t : TypeTree) → physical_type t ≡ physical.Struct → values_physical_type t ≡ physical.Struct
 struct-lies (types.dictionary l t b) e = cc
 struct-lies (types.extension n t m) e = struct-lies t e
 struct-lies t e = e
 
-pub struct-apart : (t : TypeTree) → physical_type t ≡ physical.Struct → NamesApart t → AreNamedApart (fields_of t) × FieldsApart (fields_of t)
+pub struct-apart : (t : TypeTree) → physical_type t ≡ physical.Struct → HasDistinctFieldNames t → HaveDistinctNames (fields_of t) × FieldsHaveDistinctFieldNames (fields_of t)
 struct-apart (types.struct fs) e a = a
 struct-apart (types.extension n t m) e a = struct-apart t e a
 struct-apart t e a = absurd cc
 
-field-apart : (f : FieldTree) (u : TypeTree) → u ≡ types.field_type f → FieldApart f → NamesApart u
-field-apart (field n t b es) u e a = subst NamesApart (sym e) a
+field-apart : (f : FieldTree) (u : TypeTree) → u ≡ types.field_type f → FieldHasDistinctFieldNames f → HasDistinctFieldNames u
+field-apart (field n t b es) u e a = subst HasDistinctFieldNames (sym e) a
 
-pub child-apart : (fs : FieldTrees) (cs : BuilderTrees) (i : ℕ) (c : BuilderTree) → builder_types cs ≡ field_types fs → FieldsApart fs → builder_at cs i ≡ Some c → NamesApart (builder_type c)
+pub child-apart : (fs : FieldTrees) (cs : BuilderTrees) (i : ℕ) (c : BuilderTree) → builder_types cs ≡ field_types fs → FieldsHaveDistinctFieldNames fs → builder_at cs i ≡ Some c → HasDistinctFieldNames (builder_type c)
 child-apart fs no_builders i c e a p = absurd cc
 child-apart no_fields (more_builders d cs) i c e a p = absurd cc
 child-apart (more_fields f fs) (more_builders d cs) zero c e a p =

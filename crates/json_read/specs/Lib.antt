@@ -1,16 +1,16 @@
--- What contracts of this crate cite.
-pub mod Apart
-pub mod Empty
+-- Definitions that the contracts of this crate cite.
+pub mod DistinctNames
+pub mod EmptyBuilders
 pub mod Examples
-pub mod Fed
-pub mod Leaf
-pub mod LeafLaws
-pub mod Lines
-pub mod Meant
-pub mod Numbers
-pub mod ReadsBack
-pub mod Rows
-pub mod Split
-pub mod Took
-pub mod Types
-pub mod Whole
+pub mod StructMembers
+pub mod FlatValues
+pub mod FlatRoundTrip
+pub mod JsonLines
+pub mod JsonSlots
+pub mod NativeNumbers
+pub mod RoundTrip
+pub mod LineRows
+pub mod LineSplit
+pub mod RowAdded
+pub mod UnsupportedTypes
+pub mod Integers

@@ -1,11 +1,11 @@
-//! Builders without rows, of a data type.
+//! Empty builders of a data type.
 ghost use Rattle.std.specs.Prelude.{◌≡◌, ◌∷◌, ◌++◌, [], IfErr, IfOk, IsOkAnd, IsOkUnless, None, OnOk, alloc_error, false, true};
 ghost use Rattle.nest_any.specs.Flat.{flat_layout};
 ghost use Rattle.nest_any.specs.Trees.{tree_of, trees_of};
 ghost use Rattle.nest_any.specs.Words.{IsWhole, Memory, Pass, builder_len, builder_type, is_flat, nested_checks, nested_over, own_slots, physical_type, type_of};
-ghost use Rattle.json_read.specs.Apart.{NamesApart};
-ghost use Rattle.json_read.specs.Empty.{AreEmptyOf, HoldsEmpty, IsEmptyOf};
-ghost use Rattle.json_read.specs.Types.{Explains, fields_fault, type_fault};
+ghost use Rattle.json_read.specs.DistinctNames.{HasDistinctFieldNames};
+ghost use Rattle.json_read.specs.EmptyBuilders.{AreEmptyOf, HoldsEmpty, IsEmptyOf};
+ghost use Rattle.json_read.specs.UnsupportedTypes.{IsNewBuilderError, unsupported_fields, unsupported_type};
 ghost use Rattle.nest_memory.specs.TypeOf.{field_list_of};
 ghost use Rattle.nest_memory.specs.declared.datatypes.physical_type.PhysicalType.TheVariants as physical;
 ghost use Rattle.nest_model.specs.Fits.{Fits};
@@ -13,9 +13,9 @@ ghost use Rattle.nest_model.specs.Layout as layouts;
 ghost use Rattle.nest_model.specs.Layout.{layout_type};
 ghost use Rattle.nest_model.specs.Meaning.{slots_of};
 
-use crate::error::NoBuilder;
+use crate::error::NewBuilderError;
 use crate::natives::natives;
-use crate::types::check_type;
+use crate::unsupported::check_type;
 use nest_any::{AnyMutableArray, AnyMutableFlat, MutableStructArray};
 use nest_build::fixed_size_binary::MutableFixedSizeBinaryArray;
 use nest_build::null::MutableNullArray;
@@ -28,32 +28,33 @@ use nest_memory::datatypes::physical_type::PhysicalType;
 use nest_memory::error::Error;
 use std::alloc::Global;
 
-/// The builder of that data type, without a row at any level.
+/// Returns an empty builder of the data type.
 ///
 /// # Errors
-/// `Type` with the first reason why rows of the type are not read, a type before its children, these from the left; `Memory`.
-pub fn builder_of(alloc: Global, data_type: &DataType) -> Result<AnyMutableArray, NoBuilder>
-    ensures read { OnOk result (type_fault (type_of data_type.now) ≡ None) }
+/// - `Type`: JSON of the type cannot be read. Of several reasons it is the first, a type before its children, these in order.
+/// - `Memory`: an allocation fails.
+pub fn new_builder(alloc: Global, data_type: &DataType) -> Result<AnyMutableArray, NewBuilderError>
+    ensures supported { OnOk result (unsupported_type (type_of data_type.now) ≡ None) }
     ensures whole { IfOk result (λ b. IsWhole (tree_of b)) }
     ensures no_slot { IfOk result (λ b. own_slots (tree_of b) ≡ []) }
     ensures no_row { IfOk result (λ b. builder_len (tree_of b) ≡ 0) }
     ensures same_type { IfOk result (λ b. builder_type (tree_of b) ≡ type_of data_type.now) }
-    ensures apart { OnOk result (NamesApart (type_of data_type.now)) }
-    ensures fault { IfErr result (λ e. Explains e (type_fault (type_of data_type.now))) }
+    ensures distinct { OnOk result (HasDistinctFieldNames (type_of data_type.now)) }
+    ensures error { IfErr result (λ e. IsNewBuilderError e (unsupported_type (type_of data_type.now))) }
 {
     if let Err(error) = check_type(alloc, data_type) {
         return Err(error);
     }
     match made(alloc, data_type) {
         Ok(builder) => Ok(builder),
-        Err(_) => Err(NoBuilder::Memory),
+        Err(_) => Err(NewBuilderError::Memory),
     }
 }
 
-/// The builder of a type whose rows are read.
+/// Returns an empty builder of a supported data type.
 #[cycle(made)]
 fn made(alloc: Global, data_type: &DataType) -> Result<AnyMutableArray, Error>
-    requires { type_fault (type_of data_type.now) ≡ None }
+    requires { unsupported_type (type_of data_type.now) ≡ None }
     ensures ok { IfOk result (λ b. IsEmptyOf (type_of data_type.now) (tree_of b)) }
     ensures memory { IsOkUnless result (Memory alloc_error) }
 {
@@ -81,11 +82,11 @@ fn made(alloc: Global, data_type: &DataType) -> Result<AnyMutableArray, Error>
     }
 }
 
-/// The same of lists and of dictionaries, over the builder of their items or values.
+/// Returns an empty builder of lists or dictionaries, with a child builder of their items or values.
 #[cycle(made)]
 fn nested(alloc: Global, data_type: &DataType, inner: &DataType) -> Result<AnyMutableArray, Error>
     requires holds { HoldsEmpty (type_of data_type.now) (type_of inner.now) }
-    requires read { type_fault (type_of inner.now) ≡ None }
+    requires supported { unsupported_type (type_of inner.now) ≡ None }
     ensures ok { IfOk result (λ b. IsEmptyOf (type_of data_type.now) (tree_of b)) }
     ensures memory { IsOkUnless result (Memory alloc_error) }
 {
@@ -95,6 +96,7 @@ fn nested(alloc: Global, data_type: &DataType, inner: &DataType) -> Result<AnyMu
     }
 }
 
+/// Returns an empty builder of the data type over its child builder.
 fn over(
     alloc: Global,
     data_type: &DataType,
@@ -114,11 +116,11 @@ fn over(
     }
 }
 
-/// The same of records, over a builder for each field.
+/// Returns an empty builder of structs, with a child builder for each field.
 #[cycle(made)]
 fn records(alloc: Global, data_type: &DataType) -> Result<AnyMutableArray, Error>
     requires kind { physical_type (type_of data_type.now) ≡ physical.Struct }
-    requires read { type_fault (type_of data_type.now) ≡ None }
+    requires supported { unsupported_type (type_of data_type.now) ≡ None }
     ensures ok { IfOk result (λ b. IsEmptyOf (type_of data_type.now) (tree_of b)) }
     ensures memory { IsOkUnless result (Memory alloc_error) }
 {
@@ -137,9 +139,10 @@ fn records(alloc: Global, data_type: &DataType) -> Result<AnyMutableArray, Error
     }
 }
 
+/// Returns an empty builder for each field.
 #[cycle(made)]
 fn children(alloc: Global, fields: &[Field]) -> Result<Vec<AnyMutableArray>, Error>
-    requires { fields_fault (field_list_of fields.now) ≡ None }
+    requires { unsupported_fields (field_list_of fields.now) ≡ None }
     ensures ok { IfOk result (λ v. AreEmptyOf (field_list_of fields.now) (trees_of v.items)) }
     ensures memory { IsOkUnless result (Memory alloc_error) }
 {
@@ -154,6 +157,7 @@ fn children(alloc: Global, fields: &[Field]) -> Result<Vec<AnyMutableArray>, Err
     Ok(children)
 }
 
+/// Adds a builder to the children, or returns the error that it is.
 fn add(
     children: &mut Vec<AnyMutableArray>,
     made: Result<AnyMutableArray, Error>,
@@ -171,6 +175,7 @@ fn add(
     }
 }
 
+/// Returns an empty builder of nulls.
 fn nulls(alloc: Global, data_type: &DataType) -> Result<AnyMutableArray, Error>
     requires { physical_type (type_of data_type.now) ≡ physical.Null }
     ensures ok { IfOk result (λ b. IsEmptyOf (type_of data_type.now) (tree_of b)) }
@@ -180,10 +185,10 @@ fn nulls(alloc: Global, data_type: &DataType) -> Result<AnyMutableArray, Error>
     Ok(AnyMutableArray::Null(MutableNullArray::new(alloc, owned, 0)))
 }
 
-/// The same of other values without children.
+/// Returns an empty builder of a type without children.
 fn leaf(alloc: Global, data_type: &DataType) -> Result<AnyMutableArray, Error>
     requires kind { is_flat (physical_type (type_of data_type.now)) ≡ true }
-    requires read { type_fault (type_of data_type.now) ≡ None }
+    requires supported { unsupported_type (type_of data_type.now) ≡ None }
     ensures ok { IfOk result (λ b. IsEmptyOf (type_of data_type.now) (tree_of b)) }
     ensures memory { IsOkUnless result (Memory alloc_error) }
 {
@@ -193,9 +198,10 @@ fn leaf(alloc: Global, data_type: &DataType) -> Result<AnyMutableArray, Error>
     }
 }
 
+/// Returns an empty builder of a primitive, boolean or binary type.
 fn flat(alloc: Global, data_type: &DataType) -> Result<AnyMutableFlat, Error>
     requires kind { is_flat (physical_type (type_of data_type.now)) ≡ true }
-    requires read { type_fault (type_of data_type.now) ≡ None }
+    requires supported { unsupported_type (type_of data_type.now) ≡ None }
     ensures none { IfOk result (λ b. slots_of (flat_layout b) ≡ []) }
     ensures same_type { IfOk result (λ b. layout_type (flat_layout b) ≡ type_of data_type.now) }
     ensures memory { IsOkUnless result (Memory alloc_error) }
@@ -222,6 +228,7 @@ fn flat(alloc: Global, data_type: &DataType) -> Result<AnyMutableFlat, Error>
     }
 }
 
+/// Returns an empty builder of fixed-size binary.
 fn bytes(alloc: Global, data_type: &DataType) -> Result<MutableFixedSizeBinaryArray, Error>
     requires { Fits (layouts.fixed_size_binary (type_of data_type.now) [] None) }
     ensures ok { IfOk result (λ b. b ≡ layouts.fixed_size_binary (type_of data_type.now) [] None) }

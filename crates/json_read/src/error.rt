@@ -1,102 +1,102 @@
-//! Why text is no array.
+//! Errors of reading JSON lines.
 ghost use Rattle.std.specs.Prelude.{◌≡◌};
-ghost use Rattle.json_read.specs.declared.error.NoBuilder.TheVariants as no_builder;
+ghost use Rattle.json_read.specs.declared.error.NewBuilderError.TheVariants as builder_error;
 
-use crate::reason::Reason;
+use crate::value_error::ValueError;
 use std::alloc::{AllocError, AllocFailed};
 use thiserror::Error;
 
-/// Why rows of a data type are not read from JSON.
+/// A data type whose values cannot be read from JSON.
 #[derive(Clone, Copy, Debug, PartialEq, Eq, Error)]
-pub enum Unread {
-    /// A type of floating point, of which there are no arrays.
-    #[error("a type of floating point")]
-    Float,
+pub enum UnsupportedTypeError {
+    /// A floating-point type: no array of one can be built.
+    #[error("floating-point type")]
+    FloatingPoint,
     /// A map.
-    #[error("a map")]
+    #[error("map type")]
     Map,
     /// A union.
-    #[error("a union")]
+    #[error("union type")]
     Union,
-    /// A struct with two fields of one name: a member could be either.
-    #[error("a struct with two fields of one name")]
-    TwinFields,
-    /// A struct without a field.
-    #[error("a struct without a field")]
-    NoFields,
-    /// Lists of no item each, or bytes of no byte each.
-    #[error("a fixed size of 0")]
+    /// A struct with two fields of the same name, which a member cannot distinguish.
+    #[error("struct type with duplicate field names")]
+    DuplicateFieldNames,
+    /// A struct without fields.
+    #[error("struct type without fields")]
+    EmptyStruct,
+    /// Fixed-size lists or fixed-size binary of size 0.
+    #[error("fixed-size type of size 0")]
     ZeroSize,
-    /// A dictionary whose values are nested, nulls or dictionaries themselves.
-    #[error("a dictionary of values that are nested, nulls or dictionaries")]
-    NestedValues,
-    /// An extension of a type of texts or of bytes by offsets, which no builder carries.
-    #[error("an extension of a type of texts or of bytes of any length")]
-    Extension,
+    /// A dictionary whose values are nested, of type null or dictionaries.
+    #[error("dictionary type with values of a nested, null or dictionary type")]
+    DictionaryValues,
+    /// An extension of a variable-size binary or UTF-8 type, for which no builder exists.
+    #[error("extension of a variable-size binary or UTF-8 type")]
+    VariableSizeExtension,
 }
 
-/// Why there is no builder of a data type.
+/// Error returned by `new_builder`.
 #[derive(Clone, Copy, Debug, PartialEq, Eq, Error)]
-pub enum NoBuilder {
-    /// Its rows are not read, for the first reason, a type before its children, these from the left.
-    #[error("{0} is not read from JSON")]
-    Type(Unread),
-    /// A request for memory was refused.
+pub enum NewBuilderError {
+    /// JSON of the type cannot be read. Of several reasons it is the first, a type before its children, these in order.
+    #[error("cannot be read from JSON: {0}")]
+    Type(UnsupportedTypeError),
+    /// An allocation failed.
     #[error("out of memory")]
     Memory,
 }
 
-/// Why a line is no row.
+/// A line that is no slot of the data type.
 #[derive(Clone, Copy, Debug, PartialEq, Eq, Error)]
-pub enum LineReason {
-    /// It is no UTF-8, or not one value of JSON.
-    #[error("not one value of JSON")]
-    NotJson,
-    /// It is no slot of the type, for the first reason in the order of the text.
+pub enum LineError {
+    /// The line is not UTF-8, or not one JSON value.
+    #[error("invalid JSON")]
+    InvalidJson,
+    /// The value is no slot of the data type.
     #[error("{0}")]
-    Reason(Reason),
+    Value(ValueError),
 }
 
-/// Why a line was not taken.
+/// Error returned when a line is added to a builder.
 #[derive(Clone, Copy)]
-pub(crate) enum LineFault {
-    /// It is no row, for the first reason in the order of its text.
-    Row(LineReason),
-    /// A level of the array would pass its limit.
+pub(crate) enum PushLineError {
+    /// The line is no slot of the data type.
+    Line(LineError),
+    /// The array or a child array would exceed its maximum size.
     Overflow,
-    /// A request for memory was refused.
+    /// An allocation failed.
     Memory,
 }
 
-/// Why text is no array of a data type.
+/// Error returned by `read_json_lines` and `read_first_json_lines`.
 #[derive(Clone, Copy, Debug, PartialEq, Eq, Error)]
-pub enum TextFault {
-    /// The type's rows are not read, for the first reason, a type before its children, these from the left.
-    #[error("{0} is not read from JSON")]
-    Type(Unread),
-    /// The first line that is no row, counted from 0, and why.
-    #[error("line {line}, counted from 0: {reason}")]
-    Line { line: usize, reason: LineReason },
-    /// A level of the array would pass its limit: its length, its offsets, or what its keys can name.
-    #[error("more than one array holds")]
+pub enum JsonReadError {
+    /// JSON of the type cannot be read. Of several reasons it is the first, a type before its children, these in order.
+    #[error("cannot be read from JSON: {0}")]
+    Type(UnsupportedTypeError),
+    /// The first invalid line, counted from 0, and its error.
+    #[error("line {line} (counted from 0): {reason}")]
+    Line { line: usize, reason: LineError },
+    /// The array or a child array would exceed the maximum length, the offset type or the key type.
+    #[error("array exceeds its maximum size")]
     Overflow,
-    /// A request for memory was refused.
+    /// An allocation failed.
     #[error("out of memory")]
     Memory,
 }
 
-impl From<AllocError> for NoBuilder {
-    ghost from_gives = { λ _ e. e ≡ no_builder.Memory };
+impl From<AllocError> for NewBuilderError {
+    ghost from_gives = { λ _ e. e ≡ builder_error.Memory };
 
-    fn from(_e: AllocError) -> NoBuilder {
-        NoBuilder::Memory
+    fn from(_error: AllocError) -> NewBuilderError {
+        NewBuilderError::Memory
     }
 }
 
-impl<T: Drop> From<AllocFailed<T>> for NoBuilder {
-    ghost from_gives = { λ _ e. e ≡ no_builder.Memory };
+impl<T: Drop> From<AllocFailed<T>> for NewBuilderError {
+    ghost from_gives = { λ _ e. e ≡ builder_error.Memory };
 
-    fn from(_e: AllocFailed<T>) -> NoBuilder {
-        NoBuilder::Memory
+    fn from(_error: AllocFailed<T>) -> NewBuilderError {
+        NewBuilderError::Memory
     }
 }

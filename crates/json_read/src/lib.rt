@@ -1,28 +1,26 @@
-//! Rows of JSON as arrays: the slot that a JSON value is under a data type, by builders of any kind.
+//! Reads JSON values (RFC 8259), one a line, as the slots of an array of a given data type.
 //!
-//! A statement whose value is never read (`let _len = ..`, `x.known()`) shows the prover a fact that the next step needs, and does
-//! nothing when it runs.
+//! A statement whose value is never used (`let _len = ..`, `x.known()`) gives the prover a fact and has no effect at run time.
 #![tactic(auto)]
 
 mod builders;
-mod bytes;
 mod error;
+mod fields;
+mod flat;
+mod hexadecimal;
 pub mod laws;
-mod leaf;
-mod lies;
+mod line_split;
 mod lines;
-mod names;
+mod list_rows;
 mod natives;
 mod numbers;
-mod pushing;
-mod reason;
-mod records;
-mod rows;
-mod split;
-mod types;
+mod push;
+mod struct_rows;
+mod unsupported;
+mod value_error;
+mod values_type;
 
-pub use builders::builder_of;
-pub use error::{LineReason, NoBuilder, TextFault, Unread};
-pub use lines::{Rows, read_rows, rows_of_text};
-pub use reason::{Reason, Refusal};
-
+pub use builders::new_builder;
+pub use error::{JsonReadError, LineError, NewBuilderError, UnsupportedTypeError};
+pub use lines::{JsonRows, read_first_json_lines, read_json_lines};
+pub use value_error::ValueError;

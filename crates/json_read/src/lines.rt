@@ -1,20 +1,20 @@
-//! Lines of text as the rows of one array.
+//! Lines of JSON as the slots of an array.
 ghost use Rattle.std.specs.Prelude.{◌≡◌, ◌^◌, ◌≤◌, [], IfErr, IfOk, None, Ok, OnErr, OnOk, length, take};
 ghost use Rattle.json.specs.Value.{value_view};
 ghost use Rattle.nest_any.specs.Trees.{tree_of};
 ghost use Rattle.nest_any.specs.Words.{IsWhole, builder_type, layout_of, layout_type, own_slots, slots_of, type_of};
-ghost use Rattle.json_read.specs.Apart.{NamesApart};
-ghost use Rattle.json_read.specs.Lines.{RefusesRow, RefusesText, RowsThere, TookRow, fault_of_row, is_no_row, is_struct, row_fault, row_of, rows_of, text_fault};
-ghost use Rattle.json_read.specs.Meant.{slot_of};
-ghost use Rattle.json_read.specs.Split.{AreFirstLines, lines_of};
-ghost use Rattle.json_read.specs.Took.{Refuses, Took};
-ghost use Rattle.json_read.specs.Types.{type_fault};
+ghost use Rattle.json_read.specs.DistinctNames.{HasDistinctFieldNames};
+ghost use Rattle.json_read.specs.JsonLines.{IsLineError, IsJsonReadError, StructRowsAreValid, LineAdded, row_error, spec_is_null_struct, spec_is_struct, spec_push_line_error, line_row, line_rows, spec_json_read_error};
+ghost use Rattle.json_read.specs.JsonSlots.{slot_of};
+ghost use Rattle.json_read.specs.LineSplit.{AreFirstLines, lines_of};
+ghost use Rattle.json_read.specs.RowAdded.{IsPushError, RowAdded};
+ghost use Rattle.json_read.specs.UnsupportedTypes.{unsupported_type};
 
-use crate::builders::builder_of;
-use crate::error::{LineFault, LineReason, NoBuilder, TextFault};
-use crate::pushing::push_value;
-use crate::reason::{Reason, Refusal};
-use crate::split::line_ends;
+use crate::builders::new_builder;
+use crate::error::{JsonReadError, LineError, NewBuilderError, PushLineError};
+use crate::line_split::line_ends;
+use crate::push::push_value;
+use crate::value_error::{PushError, ValueError};
 use json::{Error, Scratch, Value};
 use nest_any::AnyMutableArray;
 use nest_array::AnyArray;
@@ -23,80 +23,87 @@ use nest_memory::datatypes::DataType;
 use nest_memory::datatypes::physical_type::PhysicalType;
 use std::alloc::Global;
 
-/// The rows of the first lines of a text, and where the others begin.
+/// The array of the first lines of a text, and their extent.
 #[derive(Drop)]
-pub struct Rows {
+pub struct JsonRows {
     /// A slot for each line.
     pub array: AnyArray,
-    /// How many bytes the lines have, with their line feeds.
+    /// The number of bytes of these lines, with their line feeds.
     pub used: usize,
-    /// How many lines they are.
+    /// The number of these lines.
     pub lines: usize,
 }
 
-/// The rows that a text is, a line each. A line feed ends each line but the last, which may lack it. Null is no row of a struct.
+/// Reads lines of JSON as an array of the data type, a slot a line. A line feed ends each line; the last may lack it. The value of a
+/// line may not be null if the data type is a struct.
 ///
 /// # Errors
-/// `Type` with the first reason why rows of the type are not read. `Line` with the first line that is no row, counted from 0, and the
-/// first reason in its order. `Overflow` where a level would pass its limit, `Memory`: before a later line is looked at.
-pub fn rows_of_text(alloc: Global, data_type: &DataType, text: &[u8]) -> Result<AnyArray, TextFault>
-    ensures read { OnOk result (type_fault (type_of data_type.now) ≡ None) }
-    ensures rows { IfOk result (λ a. rows_of (type_of data_type.now) (lines_of text.now) ≡ Ok (slots_of (layout_of a))) }
-    ensures there { IfOk result (λ a. RowsThere (type_of data_type.now) (slots_of (layout_of a))) }
+/// - `Type`: JSON of the type cannot be read. Of several reasons it is the first, a type before its children, these in order.
+/// - `Line`: the first invalid line, counted from 0. Of several errors it is the first in the line.
+/// - `Overflow`: the array or a child array would exceed its maximum size; no later line has been read.
+/// - `Memory`: an allocation fails; no later line has been read.
+pub fn read_json_lines(
+    alloc: Global,
+    data_type: &DataType,
+    text: &[u8],
+) -> Result<AnyArray, JsonReadError>
+    ensures supported { OnOk result (unsupported_type (type_of data_type.now) ≡ None) }
+    ensures rows { IfOk result (λ a. line_rows (type_of data_type.now) (lines_of text.now) ≡ Ok (slots_of (layout_of a))) }
+    ensures valid { IfOk result (λ a. StructRowsAreValid (type_of data_type.now) (slots_of (layout_of a))) }
     ensures same_type { IfOk result (λ a. layout_type (layout_of a) ≡ type_of data_type.now) }
-    ensures fault { IfErr result (λ e. RefusesText e (type_of data_type.now) (lines_of text.now)) }
+    ensures error { IfErr result (λ e. IsJsonReadError e (type_of data_type.now) (lines_of text.now)) }
 {
-    match read_rows(alloc, data_type, text, text.len()) {
+    match read_first_json_lines(alloc, data_type, text, text.len()) {
         Ok(rows) => {
-            let Rows {
+            let JsonRows {
                 array,
                 used: _,
                 lines: _,
             } = rows;
             Ok(array)
         }
-        Err(fault) => Err(fault),
+        Err(error) => Err(error),
     }
 }
 
-/// The same of the first lines alone, `limit` at most. A caller goes on behind the bytes that were used.
+/// Reads at most the first `limit` lines, as `read_json_lines` does. The next line begins after the bytes that were used.
 ///
 /// # Errors
-/// As `rows_of_text`, of these lines.
-pub fn read_rows(
+/// Those of `read_json_lines` for these lines.
+pub fn read_first_json_lines(
     alloc: Global,
     data_type: &DataType,
     text: &[u8],
     limit: usize,
-) -> Result<Rows, TextFault>
-    ensures read { OnOk result (type_fault (type_of data_type.now) ≡ None) }
-    ensures rows { IfOk result (λ r. rows_of (type_of data_type.now) (lines_of (take r.used text.now)) ≡ Ok (slots_of (layout_of r.array))) }
-    ensures there { IfOk result (λ r. RowsThere (type_of data_type.now) (slots_of (layout_of r.array))) }
+) -> Result<JsonRows, JsonReadError>
+    ensures supported { OnOk result (unsupported_type (type_of data_type.now) ≡ None) }
+    ensures rows { IfOk result (λ r. line_rows (type_of data_type.now) (lines_of (take r.used text.now)) ≡ Ok (slots_of (layout_of r.array))) }
+    ensures valid { IfOk result (λ r. StructRowsAreValid (type_of data_type.now) (slots_of (layout_of r.array))) }
     ensures lines { IfOk result (λ r. AreFirstLines text.now limit r.used r.lines) }
     ensures same_type { IfOk result (λ r. layout_type (layout_of r.array) ≡ type_of data_type.now) }
-    ensures fault { IfErr result (λ e. RefusesText e (type_of data_type.now) (take limit (lines_of text.now))) }
+    ensures error { IfErr result (λ e. IsJsonReadError e (type_of data_type.now) (take limit (lines_of text.now))) }
 {
-    match builder_of(alloc, data_type) {
-        Err(NoBuilder::Type(reason)) => Err(TextFault::Type(reason)),
-        Err(NoBuilder::Memory) => Err(TextFault::Memory),
+    match new_builder(alloc, data_type) {
+        Err(NewBuilderError::Type(reason)) => Err(JsonReadError::Type(reason)),
+        Err(NewBuilderError::Memory) => Err(JsonReadError::Memory),
         Ok(builder) => fill(alloc, builder, text, limit),
     }
 }
 
-/// The rows of an empty builder's type.
+/// Reads lines with an empty builder.
 fn fill(
     alloc: Global,
     builder: AnyMutableArray,
     text: &[u8],
     limit: usize,
-) -> Result<Rows, TextFault>
+) -> Result<JsonRows, JsonReadError>
     requires whole { IsWhole (tree_of builder) }
     requires empty { own_slots (tree_of builder) ≡ [] }
-    requires apart { NamesApart (builder_type (tree_of builder)) }
-    ensures rows { IfOk result (λ r. rows_of (builder_type (tree_of builder)) (lines_of (take r.used text.now)) ≡ Ok (slots_of (layout_of r.array))) }
+    requires distinct { HasDistinctFieldNames (builder_type (tree_of builder)) }
+    ensures rows { IfOk result (λ r. line_rows (builder_type (tree_of builder)) (lines_of (take r.used text.now)) ≡ Ok (slots_of (layout_of r.array))) }
     ensures lines { IfOk result (λ r. AreFirstLines text.now limit r.used r.lines) }
     ensures same_type { IfOk result (λ r. layout_type (layout_of r.array) ≡ builder_type (tree_of builder)) }
-    ensures fault { IfErr result (λ e. RefusesText e (builder_type (tree_of builder)) (take limit (lines_of text.now))) }
+    ensures error { IfErr result (λ e. IsJsonReadError e (builder_type (tree_of builder)) (take limit (lines_of text.now))) }
 {
     let mut builder = builder;
     match push_lines(alloc, &mut builder, text, limit) {
@@ -104,32 +111,32 @@ fn fill(
             let array = MutableArray::as_box(&mut builder);
             drop(builder);
             match array {
-                Ok(array) => Ok(Rows { array, used, lines }),
-                Err(_) => Err(TextFault::Memory),
+                Ok(array) => Ok(JsonRows { array, used, lines }),
+                Err(_) => Err(JsonReadError::Memory),
             }
         }
-        Err(fault) => {
+        Err(error) => {
             drop(builder);
-            Err(fault)
+            Err(error)
         }
     }
 }
 
-/// Adds the rows of the first lines to a builder without rows: how many bytes and how many lines they are.
+/// Adds the first lines to an empty builder; returns the number of their bytes and their number.
 fn push_lines(
     alloc: Global,
     builder: &mut AnyMutableArray,
     text: &[u8],
     limit: usize,
-) -> Result<(usize, usize), TextFault>
+) -> Result<(usize, usize), JsonReadError>
     requires whole { IsWhole (tree_of builder.old) }
     requires empty { own_slots (tree_of builder.old) ≡ [] }
-    requires apart { NamesApart (builder_type (tree_of builder.old)) }
-    ensures rows { IfOk result (λ r. rows_of (builder_type (tree_of builder.old)) (lines_of (take r.0 text.now)) ≡ Ok (own_slots (tree_of builder.new))) }
+    requires distinct { HasDistinctFieldNames (builder_type (tree_of builder.old)) }
+    ensures rows { IfOk result (λ r. line_rows (builder_type (tree_of builder.old)) (lines_of (take r.0 text.now)) ≡ Ok (own_slots (tree_of builder.new))) }
     ensures lines { IfOk result (λ r. AreFirstLines text.now limit r.0 r.1) }
     ensures whole { OnOk result (IsWhole (tree_of builder.new)) }
     ensures same_type { OnOk result (builder_type (tree_of builder.new) ≡ builder_type (tree_of builder.old)) }
-    ensures fault { IfErr result (λ e. RefusesText e (builder_type (tree_of builder.old)) (take limit (lines_of text.now))) }
+    ensures error { IfErr result (λ e. IsJsonReadError e (builder_type (tree_of builder.old)) (take limit (lines_of text.now))) }
 {
     let mut scratch = Scratch::new(alloc);
     let mut used = 0;
@@ -139,7 +146,7 @@ fn push_lines(
         let (end, next) = line_ends(rest);
         match push_line(alloc, builder, &rest[..end], &mut scratch) {
             Ok(()) => {}
-            Err(fault) => return Err(text_fault(lines, fault)),
+            Err(error) => return Err(json_read_error(lines, error)),
         }
         used += next;
         lines += 1;
@@ -147,17 +154,17 @@ fn push_lines(
     Ok((used, lines))
 }
 
-/// Adds the row that a line is.
+/// Adds the slot of a line.
 fn push_line(
     alloc: Global,
     builder: &mut AnyMutableArray,
     line: &[u8],
     scratch: &mut Scratch,
-) -> Result<(), LineFault>
+) -> Result<(), PushLineError>
     requires whole { IsWhole (tree_of builder.old) }
-    requires apart { NamesApart (builder_type (tree_of builder.old)) }
-    ensures took { OnOk result (TookRow (row_of (builder_type (tree_of builder.old)) line.now) (tree_of builder.old) (tree_of builder.new)) }
-    ensures fault { IfErr result (λ e. RefusesRow e (row_of (builder_type (tree_of builder.old)) line.now)) }
+    requires distinct { HasDistinctFieldNames (builder_type (tree_of builder.old)) }
+    ensures added { OnOk result (LineAdded (line_row (builder_type (tree_of builder.old)) line.now) (tree_of builder.old) (tree_of builder.new)) }
+    ensures error { IfErr result (λ e. IsLineError e (line_row (builder_type (tree_of builder.old)) line.now)) }
 {
     match Value::from_slice(alloc, line, scratch) {
         Ok(value) => {
@@ -165,57 +172,64 @@ fn push_line(
             drop(value);
             match pushed {
                 Ok(()) => Ok(()),
-                Err(refusal) => Err(row_fault(refusal)),
+                Err(error) => Err(push_line_error(error)),
             }
         }
-        Err(Error::Invalid) => Err(LineFault::Row(LineReason::NotJson)),
-        Err(_) => Err(LineFault::Memory),
+        Err(Error::Invalid) => Err(PushLineError::Line(LineError::InvalidJson)),
+        Err(_) => Err(PushLineError::Memory),
     }
 }
 
-/// Adds the row that a value is.
-fn push_row(alloc: Global, builder: &mut AnyMutableArray, value: &Value<'_>) -> Result<(), Refusal>
+/// Adds the slot of the value of a line.
+fn push_row(
+    alloc: Global,
+    builder: &mut AnyMutableArray,
+    value: &Value<'_>,
+) -> Result<(), PushError>
     requires whole { IsWhole (tree_of builder.old) }
-    requires apart { NamesApart (builder_type (tree_of builder.old)) }
-    ensures took { OnOk result (Took (slot_of (builder_type (tree_of builder.old)) (value_view value.now)) (tree_of builder.old) (tree_of builder.new)) }
-    ensures fine { OnOk result (fault_of_row (builder_type (tree_of builder.old)) (value_view value.now) ≡ None) }
-    ensures fault { IfErr result (λ e. Refuses e (fault_of_row (builder_type (tree_of builder.old)) (value_view value.now))) }
+    requires distinct { HasDistinctFieldNames (builder_type (tree_of builder.old)) }
+    ensures added { OnOk result (RowAdded (slot_of (builder_type (tree_of builder.old)) (value_view value.now)) (tree_of builder.old) (tree_of builder.new)) }
+    ensures valid { OnOk result (row_error (builder_type (tree_of builder.old)) (value_view value.now) ≡ None) }
+    ensures error { IfErr result (λ e. IsPushError e (row_error (builder_type (tree_of builder.old)) (value_view value.now))) }
 {
-    if is_no_row(builder, value) {
-        return Err(Refusal::Reason(Reason::OtherKind));
+    if is_null_struct(builder, value) {
+        return Err(PushError::Value(ValueError::WrongType));
     }
     push_value(alloc, builder, value)
 }
 
-// A null where rows are records.
-fn is_no_row(builder: &AnyMutableArray, value: &Value<'_>) -> bool
-    ensures { result ≡ is_no_row (builder_type (tree_of builder.now)) (value_view value.now) }
+// Returns whether the value is a null struct.
+fn is_null_struct(builder: &AnyMutableArray, value: &Value<'_>) -> bool
+    ensures { result ≡ spec_is_null_struct (builder_type (tree_of builder.now)) (value_view value.now) }
 {
     value.is_null() && is_struct(builder.data_type().to_physical_type())
 }
 
+// Returns whether the type is a struct.
 fn is_struct(kind: PhysicalType) -> bool
-    ensures { result ≡ is_struct kind }
+    ensures { result ≡ spec_is_struct kind }
 {
     matches!(kind, PhysicalType::Struct)
 }
 
-fn row_fault(refusal: Refusal) -> LineFault
-    ensures { result ≡ row_fault refusal }
+// Converts the error of a value to that of its line.
+fn push_line_error(error: PushError) -> PushLineError
+    ensures { result ≡ spec_push_line_error error }
 {
-    match refusal {
-        Refusal::Reason(reason) => LineFault::Row(LineReason::Reason(reason)),
-        Refusal::Overflow => LineFault::Overflow,
-        Refusal::Memory => LineFault::Memory,
+    match error {
+        PushError::Value(error) => PushLineError::Line(LineError::Value(error)),
+        PushError::Overflow => PushLineError::Overflow,
+        PushError::Memory => PushLineError::Memory,
     }
 }
 
-fn text_fault(line: usize, fault: LineFault) -> TextFault
-    ensures { result ≡ text_fault line fault }
+// Adds the number of the line to its error.
+fn json_read_error(line: usize, error: PushLineError) -> JsonReadError
+    ensures { result ≡ spec_json_read_error line error }
 {
-    match fault {
-        LineFault::Row(reason) => TextFault::Line { line, reason },
-        LineFault::Overflow => TextFault::Overflow,
-        LineFault::Memory => TextFault::Memory,
+    match error {
+        PushLineError::Line(reason) => JsonReadError::Line { line, reason },
+        PushLineError::Overflow => JsonReadError::Overflow,
+        PushLineError::Memory => JsonReadError::Memory,
     }
 }

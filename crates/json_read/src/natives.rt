@@ -1,7 +1,7 @@
-//! Builders without rows, of native values of any kind.
+//! Empty builders of primitive types.
 ghost use Rattle.std.specs.Prelude.{◌≡◌, [], false};
 ghost use Rattle.nest_flat.specs.AnyMutablePrimitive.{built_layout};
-ghost use Rattle.json_read.specs.Empty.{is_float};
+ghost use Rattle.json_read.specs.EmptyBuilders.{is_float};
 ghost use Rattle.nest_memory.specs.Physical.{physical_type};
 ghost use Rattle.nest_memory.specs.TypeOf.{type_of};
 ghost use Rattle.nest_memory.specs.declared.datatypes.physical_type.PhysicalType.TheVariants as physical;
@@ -14,14 +14,14 @@ use nest_memory::datatypes::DataType;
 use nest_memory::datatypes::physical_type::PrimitiveType;
 use std::alloc::Global;
 
-// The builder of one native type, in its variant.
+// Makes an empty builder of one native type.
 macro_rules! natives_of {
     ($kind:ident, $alloc:ident, $data_type:ident) => {
         AnyMutablePrimitive::$kind(MutablePrimitiveArray::new($alloc).to($data_type))
     };
 }
 
-/// The builder of a type of such values, none of which is of floating point.
+/// Returns an empty builder of a primitive type, which must not be floating-point.
 pub(crate) fn natives(
     alloc: Global,
     kind: PrimitiveType,

@@ -1,36 +1,38 @@
-//! Native values from numbers of JSON.
+//! Native values from JSON numbers.
 ghost use Rattle.std.specs.Prelude.{◌≡◌, ◌≢◌, MatchResult, Some, None, is_some, pos, slice_index, []};
 ghost use Rattle.std.specs.Char.{is_ascii_digit};
 ghost use Rattle.std.specs.List.{list_all};
 ghost use Rattle.json.specs.Json.{array, item, no_items, number};
 ghost use Rattle.json.specs.Value.{value_view, items_view};
-ghost use Rattle.json_read.specs.Leaf.{Range, number_fault, numbers_fault};
-ghost use Rattle.json_read.specs.Numbers.{HasSeveral, ReadsNative, ReadsSigned, ReadsUnsigned, misfit_of};
-ghost use Rattle.json_read.specs.Whole.{are_digits, whole_of};
-ghost use Rattle.json_read.specs.declared.reason.Reason.TheVariants.{WrongSize};
+ghost use Rattle.json_read.specs.FlatValues.{Range, number_error, numbers_error};
+ghost use Rattle.json_read.specs.NativeNumbers.{HasSeveralNumbers, ReadsNative, ReadsSigned, ReadsUnsigned, spec_range_error};
+ghost use Rattle.json_read.specs.Integers.{are_decimal_digits, integer_of};
+ghost use Rattle.json_read.specs.declared.value_error.ValueError.TheVariants.{WrongLength};
 ghost use Rattle.nest_memory.specs.declared.datatypes.physical_type.PrimitiveType.TheVariants.{DaysMs, Int256, MonthDayNano};
 
-use crate::reason::Reason;
+use crate::value_error::ValueError;
 use json::Value;
 use nest_flat::any_native::AnyNative;
 use nest_memory::datatypes::physical_type::PrimitiveType;
 use nest_memory::types::{days_ms, i256, months_days_ns};
 
+// Returns whether all bytes are digits.
 fn all_digits(text: &[u8]) -> bool
     ensures { result ≡ list_all is_ascii_digit text.now }
 {
     text.iter().all(|b| b.is_ascii_digit())
 }
 
+// Returns whether the text is one digit or more.
 fn are_digits(text: &[u8]) -> bool
-    ensures { result ≡ are_digits text.now }
+    ensures { result ≡ are_decimal_digits text.now }
 {
     all_digits(text) && !text.is_empty()
 }
 
-// Whether a whole number is written.
-fn is_whole(text: &[u8]) -> bool
-    ensures { result ≡ is_some (whole_of text.now) }
+// Returns whether the text is an integer.
+fn is_integer(text: &[u8]) -> bool
+    ensures { result ≡ is_some (integer_of text.now) }
 {
     match text {
         [b'-', digits @ ..] => are_digits(digits),
@@ -38,28 +40,28 @@ fn is_whole(text: &[u8]) -> bool
     }
 }
 
-// Why the text is no number of a range that does not have what is written.
-fn misfit(text: &str) -> Reason
-    ensures { result ≡ misfit_of text.now }
+// Returns the error of a number that the range does not have.
+fn range_error(text: &str) -> ValueError
+    ensures { result ≡ spec_range_error text.now }
 {
-    if is_whole(text.as_bytes()) {
-        Reason::OutOfRange
+    if is_integer(text.as_bytes()) {
+        ValueError::OutOfRange
     } else {
-        Reason::NotWhole
+        ValueError::NotAnInteger
     }
 }
 
-// The text of a number that begins with no plus, which the readers below would pass over.
-fn text_of<'a>(value: &Value<'a>) -> Result<&'a str, Reason>
+// Returns the text of a number. It does not begin with a plus, which the parsers below would accept.
+fn text_of<'a>(value: &Value<'a>) -> Result<&'a str, ValueError>
     ensures { MatchResult result
         (λ text. (value_view value.now ≡ number text.now) × (slice_index text.now 0 ≢ 43))
-        (λ e. (r : Range) → number_fault r (value_view value.now) ≡ Some e) }
+        (λ e. (r : Range) → number_error r (value_view value.now) ≡ Some e) }
 {
     match value.as_number() {
-        None => Err(Reason::OtherKind),
+        None => Err(ValueError::WrongType),
         Some(text) => {
             if text.as_bytes().first() == Some(&b'+') {
-                Err(Reason::NotWhole)
+                Err(ValueError::NotAnInteger)
             } else {
                 Ok(text)
             }
@@ -67,48 +69,48 @@ fn text_of<'a>(value: &Value<'a>) -> Result<&'a str, Reason>
     }
 }
 
-// Nothing but a 0 that has a minus is a whole number without a sign and no digits.
-fn zero_of(text: &str) -> Result<(), Reason>
+// Returns `Ok` for `-0`, the only unsigned integer with a minus.
+fn zero_of(text: &str) -> Result<(), ValueError>
     requires { slice_index text.now 0 ≢ 43 }
     ensures { MatchResult result
-        (λ _. whole_of text.now ≡ Some (pos 0))
-        (λ e. (whole_of text.now ≢ Some (pos 0)) × (e ≡ misfit_of text.now)) }
+        (λ _. integer_of text.now ≡ Some (pos 0))
+        (λ e. (integer_of text.now ≢ Some (pos 0)) × (e ≡ spec_range_error text.now)) }
 {
     match fast_float::parse_i64(text.as_bytes()) {
         Ok(number) => {
             if number == 0 {
                 Ok(())
             } else {
-                Err(misfit(text))
+                Err(range_error(text))
             }
         }
-        Err(_) => Err(misfit(text)),
+        Err(_) => Err(range_error(text)),
     }
 }
 
-// ---- the widest numbers, each by one pass over its digits
+// ---- the widest integers, each in one pass over its digits
 
-fn signed_64(value: &Value<'_>) -> Result<i64, Reason>
+fn signed_64(value: &Value<'_>) -> Result<i64, ValueError>
     ensures { ReadsSigned 64 (value_view value.now) result }
 {
     let text = text_of(value)?;
     match fast_float::parse_i64(text.as_bytes()) {
         Ok(number) => Ok(number),
-        Err(_) => Err(misfit(text)),
+        Err(_) => Err(range_error(text)),
     }
 }
 
-fn signed_128(value: &Value<'_>) -> Result<i128, Reason>
+fn signed_128(value: &Value<'_>) -> Result<i128, ValueError>
     ensures { ReadsSigned 128 (value_view value.now) result }
 {
     let text = text_of(value)?;
     match i128::from_str_radix(text, 10) {
         Ok(number) => Ok(number),
-        Err(_) => Err(misfit(text)),
+        Err(_) => Err(range_error(text)),
     }
 }
 
-fn unsigned_64(value: &Value<'_>) -> Result<u64, Reason>
+fn unsigned_64(value: &Value<'_>) -> Result<u64, ValueError>
     ensures { ReadsUnsigned 64 (value_view value.now) result }
 {
     let text = text_of(value)?;
@@ -121,7 +123,7 @@ fn unsigned_64(value: &Value<'_>) -> Result<u64, Reason>
     }
 }
 
-fn unsigned_128(value: &Value<'_>) -> Result<u128, Reason>
+fn unsigned_128(value: &Value<'_>) -> Result<u128, ValueError>
     ensures { ReadsUnsigned 128 (value_view value.now) result }
 {
     let text = text_of(value)?;
@@ -134,89 +136,90 @@ fn unsigned_128(value: &Value<'_>) -> Result<u128, Reason>
     }
 }
 
-// ---- the narrower ones
+// ---- narrower integers
 
-fn signed_8(value: &Value<'_>) -> Result<i8, Reason>
+fn signed_8(value: &Value<'_>) -> Result<i8, ValueError>
     ensures { ReadsSigned 8 (value_view value.now) result }
 {
     match i8::try_from(signed_64(value)?) {
         Ok(number) => Ok(number),
-        Err(_) => Err(Reason::OutOfRange),
+        Err(_) => Err(ValueError::OutOfRange),
     }
 }
 
-fn unsigned_8(value: &Value<'_>) -> Result<u8, Reason>
+fn unsigned_8(value: &Value<'_>) -> Result<u8, ValueError>
     ensures { ReadsUnsigned 8 (value_view value.now) result }
 {
     match u8::try_from(unsigned_64(value)?) {
         Ok(number) => Ok(number),
-        Err(_) => Err(Reason::OutOfRange),
+        Err(_) => Err(ValueError::OutOfRange),
     }
 }
 
-fn signed_16(value: &Value<'_>) -> Result<i16, Reason>
+fn signed_16(value: &Value<'_>) -> Result<i16, ValueError>
     ensures { ReadsSigned 16 (value_view value.now) result }
 {
     match i16::try_from(signed_64(value)?) {
         Ok(number) => Ok(number),
-        Err(_) => Err(Reason::OutOfRange),
+        Err(_) => Err(ValueError::OutOfRange),
     }
 }
 
-fn signed_32(value: &Value<'_>) -> Result<i32, Reason>
+fn signed_32(value: &Value<'_>) -> Result<i32, ValueError>
     ensures { ReadsSigned 32 (value_view value.now) result }
 {
     match i32::try_from(signed_64(value)?) {
         Ok(number) => Ok(number),
-        Err(_) => Err(Reason::OutOfRange),
+        Err(_) => Err(ValueError::OutOfRange),
     }
 }
 
-fn unsigned_16(value: &Value<'_>) -> Result<u16, Reason>
+fn unsigned_16(value: &Value<'_>) -> Result<u16, ValueError>
     ensures { ReadsUnsigned 16 (value_view value.now) result }
 {
     match u16::try_from(unsigned_64(value)?) {
         Ok(number) => Ok(number),
-        Err(_) => Err(Reason::OutOfRange),
+        Err(_) => Err(ValueError::OutOfRange),
     }
 }
 
-fn unsigned_32(value: &Value<'_>) -> Result<u32, Reason>
+fn unsigned_32(value: &Value<'_>) -> Result<u32, ValueError>
     ensures { ReadsUnsigned 32 (value_view value.now) result }
 {
     match u32::try_from(unsigned_64(value)?) {
         Ok(number) => Ok(number),
-        Err(_) => Err(Reason::OutOfRange),
+        Err(_) => Err(ValueError::OutOfRange),
     }
 }
 
-// ---- values of several numbers
+// ---- native values of several numbers
 
-// The first item, and those after it.
-fn next<'v, 'a>(items: &'v [Value<'a>]) -> Result<(&'v Value<'a>, &'v [Value<'a>]), Reason>
+// Returns the first item and the items after it.
+fn next<'v, 'a>(items: &'v [Value<'a>]) -> Result<(&'v Value<'a>, &'v [Value<'a>]), ValueError>
     ensures { MatchResult result
         (λ parts. items_view items.now ≡ item (value_view parts.0.now) (items_view parts.1.now))
-        (λ e. (items_view items.now ≡ no_items) × (e ≡ WrongSize)) }
+        (λ e. (items_view items.now ≡ no_items) × (e ≡ WrongLength)) }
 {
     match items.split_first() {
         Some(parts) => Ok(parts),
-        None => Err(Reason::WrongSize),
+        None => Err(ValueError::WrongLength),
     }
 }
 
-// No item more.
-fn end(items: &[Value<'_>]) -> Result<(), Reason>
+// Returns `Ok` if no item is left.
+fn end(items: &[Value<'_>]) -> Result<(), ValueError>
     ensures { MatchResult result
         (λ _. items_view items.now ≡ no_items)
-        (λ e. numbers_fault [] (items_view items.now) ≡ Some e) }
+        (λ e. numbers_error [] (items_view items.now) ≡ Some e) }
 {
     match items.split_first() {
         None => Ok(()),
-        Some(_) => Err(Reason::WrongSize),
+        Some(_) => Err(ValueError::WrongLength),
     }
 }
 
-fn halves_of(items: &[Value<'_>]) -> Result<AnyNative, Reason>
+// Returns the 256-bit integer of its high and low halves.
+fn int256_of(items: &[Value<'_>]) -> Result<AnyNative, ValueError>
     ensures { ReadsNative Int256 (array (items_view items.now)) result }
 {
     let (item, rest) = next(items)?;
@@ -227,7 +230,8 @@ fn halves_of(items: &[Value<'_>]) -> Result<AnyNative, Reason>
     Ok(AnyNative::Int256(i256::from_words(high, low)))
 }
 
-fn days_of(items: &[Value<'_>]) -> Result<AnyNative, Reason>
+// Returns the interval of its days and milliseconds.
+fn days_ms_of(items: &[Value<'_>]) -> Result<AnyNative, ValueError>
     ensures { ReadsNative DaysMs (array (items_view items.now)) result }
 {
     let (item, rest) = next(items)?;
@@ -238,7 +242,8 @@ fn days_of(items: &[Value<'_>]) -> Result<AnyNative, Reason>
     Ok(AnyNative::DaysMs(days_ms { days, milliseconds }))
 }
 
-fn months_of(items: &[Value<'_>]) -> Result<AnyNative, Reason>
+// Returns the interval of its months, days and nanoseconds.
+fn month_day_nano_of(items: &[Value<'_>]) -> Result<AnyNative, ValueError>
     ensures { ReadsNative MonthDayNano (array (items_view items.now)) result }
 {
     let (item, rest) = next(items)?;
@@ -251,22 +256,22 @@ fn months_of(items: &[Value<'_>]) -> Result<AnyNative, Reason>
     Ok(AnyNative::MonthDayNano(months_days_ns { months, days, ns }))
 }
 
-// Values of several numbers.
-fn natives_of(kind: PrimitiveType, value: &Value<'_>) -> Result<AnyNative, Reason>
-    requires { HasSeveral kind }
+// Returns the native value of the numbers of a JSON array.
+fn native_of_numbers(kind: PrimitiveType, value: &Value<'_>) -> Result<AnyNative, ValueError>
+    requires { HasSeveralNumbers kind }
     ensures { ReadsNative kind (value_view value.now) result }
 {
     let Value::Array(items) = value else {
-        return Err(Reason::OtherKind);
+        return Err(ValueError::WrongType);
     };
     match kind {
-        PrimitiveType::Int256 => halves_of(items),
-        PrimitiveType::DaysMs => days_of(items),
-        _ => months_of(items),
+        PrimitiveType::Int256 => int256_of(items),
+        PrimitiveType::DaysMs => days_ms_of(items),
+        _ => month_day_nano_of(items),
     }
 }
 
-// One number of so many bits, in the variant of its kind.
+// Reads one number as the variant of its type.
 macro_rules! one {
     ($read:ident, $kind:ident, $value:expr) => {
         match $read($value) {
@@ -276,12 +281,13 @@ macro_rules! one {
     };
 }
 
-/// The native value of a kind that a number is, or a list of them where it has several.
+/// Returns the native value of a JSON number, or of a JSON array if the value has several numbers.
 ///
 /// # Errors
-/// `OtherKind` of any other value, and of floating points; of numbers in order `NotWhole` and `OutOfRange`; `WrongSize` of a list of
-/// another length.
-pub(crate) fn native_of(kind: PrimitiveType, value: &Value<'_>) -> Result<AnyNative, Reason>
+/// - `WrongType`: any other JSON value, and any value of a floating-point type.
+/// - `NotAnInteger`, `OutOfRange`: the first number with an error.
+/// - `WrongLength`: an array of another length.
+pub(crate) fn native_of(kind: PrimitiveType, value: &Value<'_>) -> Result<AnyNative, ValueError>
     ensures { ReadsNative kind (value_view value.now) result }
 {
     match kind {
@@ -295,10 +301,10 @@ pub(crate) fn native_of(kind: PrimitiveType, value: &Value<'_>) -> Result<AnyNat
         PrimitiveType::UInt32 => one!(unsigned_32, UInt32, value),
         PrimitiveType::UInt64 => one!(unsigned_64, UInt64, value),
         PrimitiveType::Float16 | PrimitiveType::Float32 | PrimitiveType::Float64 => {
-            Err(Reason::OtherKind)
+            Err(ValueError::WrongType)
         }
         PrimitiveType::Int256 | PrimitiveType::DaysMs | PrimitiveType::MonthDayNano => {
-            natives_of(kind, value)
+            native_of_numbers(kind, value)
         }
     }
 }

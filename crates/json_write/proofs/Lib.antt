@@ -1,8 +1,8 @@
-mod Heads
-mod Natives
+mod MemberPrefixes
+mod NativeValues
 mod Nesting
-mod OneText
-mod Pieces
-mod Quoting
-mod SingleSlots
+mod Injective
+mod Literals
+mod Escapes
+mod ScalarText
 mod Typed

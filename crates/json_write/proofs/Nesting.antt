@@ -1,4 +1,4 @@
--- The text of rows, records and picks, one more piece at a time.
+-- The text of lists, structs and unions, one more part at a time.
 use Rattle.std.specs.Prelude.{Option, Some, not, if◌then◌else◌, ◌⊎◌, List as Seq}
 use Rattle.std.proofs.Common.{◌≡◌, ℕ, zero, suc, ◌+◌, ◌<◌, ◌≤◌, Bool, true, false, nat_lt, List, [], ◌∷◌, ◌++◌, length, get_or, pos, codes, refl, sym, ap, ◌∙◌, subst, inl, inr, arith, append_assoc, append-nil, lt-ltb}
 use Rattle.std.proofs.lemmas.Option.{same_Some}
@@ -27,9 +27,9 @@ use Rattle.nest_model.specs.Part.{valid_at, place}
 use Rattle.nest_model.specs.Reads.{items-cut}
 use Rattle.nest_model.specs.Slot as slots
 use Rattle.nest_model.specs.Slot.{Slot, Slots, seal}
-use Rattle.json_write.specs.Json.{items_type, members_of, field_name, name_at, comma, json_of_slot, json_items, json_members, json_list, json_of_window, shown}
+use Rattle.json_write.specs.JsonText.{items_type, members_of, field_name, field_name_at, comma, json_of_slot, json_items, json_members, json_list, json_of_window, slot_json}
 
--- whether a place comes after another, where the first does or doesn't
+-- whether an item follows another
 abbrev is_after : Bool → ℕ → Bool
 is_after after zero = after
 is_after after (suc k) = true
@@ -54,7 +54,7 @@ items-more t after f o (suc k) =
     ∙ ap (λ x. comma after ++ x) (sym (append_assoc (json_of_slot t (f o)) (json_items t true (seal (run f (suc o) k))) _))
     ∙ sym (append_assoc (comma after) _ _)
 
--- the text of k items, what stands before the next, and it
+-- the text of k items, the separator and the next item
 pub items-next : (t : TypeTree) (f : ℕ → Slot) (o k : ℕ)
     → (json_items t false (seal (run f o k)) ++ comma (nat_lt 0 k)) ++ json_of_slot t (f (o + k)) ≡ json_items t false (seal (run f o (k + 1)))
 items-next t f o k =
@@ -64,7 +64,7 @@ items-next t f o k =
     ∙ sym (items-more t false f o k)
     ∙ ap (λ n. json_items t false (seal (run f o n))) z
 
--- the items of a type are of the type that it names
+-- the items have the item type
 pub items-type-of : (t u : TypeTree) → item_type t ≡ Some u → items_type t ≡ u
 items-type-of (types.list f) u e = same_Some _ _ e
 items-type-of (types.fixed_size_list f s) u e = same_Some _ _ e
@@ -79,7 +79,7 @@ row-cases t ss true false e = refl
 row-cases t ss false true e = refl
 row-cases t ss false false e = cc
 
--- a row, by the window of its items
+-- a list slot, by the window of its items
 pub record IsRow (a : Layout) (i : ℕ) (r : Bool) (w : WindowParts) : Type 0 where
   pub items : slot a i ≡ where_valid (validity_of a) i (slots.list (seal (window_slots w)))
   pub nulls : r ≡ not (valid_at (validity_of a) i)
@@ -87,7 +87,7 @@ pub record IsRow (a : Layout) (i : ℕ) (r : Bool) (w : WindowParts) : Type 0 wh
   pub within : w.offset + w.count ≤ len w.array
 
 pub row-text : (a c : Layout) (i o n : ℕ) (r : Bool) (w : WindowParts) → IsRow a i r w → c ≡ w.array → o ≡ w.offset → n ≡ w.count
-    → (if r then codes "null" else json_list (layout_type c) (run (slot c) o n)) ≡ shown a i
+    → (if r then codes "null" else json_list (layout_type c) (run (slot c) o n)) ≡ slot_json a i
 row-text a c i o n r w h e p q =
     ap (λ b. if r then codes "null" else json_list (layout_type b) (run (slot b) o n)) e
     ∙ ap (λ m. if r then codes "null" else json_list (layout_type w.array) (run (slot w.array) m n)) p
@@ -97,7 +97,7 @@ row-text a c i o n r w h e p q =
     ∙ row-cases (layout_type a) (window_slots w) (valid_at (validity_of a) i) r h.nulls
     ∙ sym (ap (json_of_slot (layout_type a)) h.items)
 
--- rows of each kind of lists, by what their arrays tell
+-- slots of each list layout
 pub list-row : (l : Bool) (a : Layout) (i o n : ℕ) (r : Bool) (w : WindowParts) → TopFits a → a ≡ layouts.list l (layout_type a) (offsets_of a) (child_of a) (validity_of a)
     → w ≡ window_parts (child_of a) o n → w.offset + w.count ≤ len w.array → slot a i ≡ where_valid (validity_of a) i (slots.list (seal (window_slots w))) → r ≡ is_null_at a i → IsRow a i r w
 list-row l a i o n r w f k p h s e =
@@ -128,7 +128,7 @@ fixed-row a i o n r w f k p h s e =
       within = h;
     }
 
--- of a type that is no dictionary, the members are the fields
+-- the members of a type that is no dictionary are its fields
 pub members-type : (t : TypeTree) → ((k : IntegerType) → physical_type t ≡ physical.Dictionary k → ⊥) → members_of t ≡ fields_of t
 members-type (types.dictionary k t b) h = absurd (h k refl)
 members-type (types.extension n t m) h = members-type t h
@@ -146,7 +146,7 @@ record-text t fs ss s p e h =
     ap (λ gs. 123 ∷ (json_members gs false ss ++ 125 ∷ [])) (e ∙ sym (members-type t (struct-no-dictionary t p)))
     ∙ sym (ap (json_of_slot t) h)
 
--- what the first field and its child are
+-- the first field and its child
 pub record First (x : AnyArray) (f : Field) (fs : Seq Field) (cs : Seq AnyArray) (i : ℕ) : Type 0 where
   pub typed : layout_type (layout_of x) ≡ field_type (field_of f)
   pub rest_typed : EachType (field_list_of fs) (layouts_of cs)
@@ -171,16 +171,16 @@ text-step d s q x r =
 pub member-text : (x : AnyArray) (f : Field) (all fs : Seq Field) (every cs : Seq AnyArray) (i : ℕ) (after : Bool) (done name whole : List ℕ) → all ≡ f ∷ fs → every ≡ x ∷ cs
     → layout_type (layout_of x) ≡ field_type (field_of f) → name ≡ field_name (field_of f)
     → done ++ json_members (field_list_of all) after (each (layouts_of every) i) ≡ whole
-    → ((((done ++ comma after) ++ quoted name) ++ codes ":") ++ shown (layout_of x) i) ++ json_members (field_list_of fs) true (each (layouts_of cs) i) ≡ whole
+    → ((((done ++ comma after) ++ quoted name) ++ codes ":") ++ slot_json (layout_of x) i) ++ json_members (field_list_of fs) true (each (layouts_of cs) i) ≡ whole
 member-text x f all fs every cs i after done name whole e h t q w =
     let rest = json_members (field_list_of fs) true (each (layouts_of cs) i) in
-    text-step done (comma after) (quoted name) (shown (layout_of x) i) rest
-    ∙ ap (λ n. done ++ (comma after ++ (quoted n ++ 58 ∷ (shown (layout_of x) i ++ rest)))) q
+    text-step done (comma after) (quoted name) (slot_json (layout_of x) i) rest
+    ∙ ap (λ n. done ++ (comma after ++ (quoted n ++ 58 ∷ (slot_json (layout_of x) i ++ rest)))) q
     ∙ ap (λ u. done ++ (comma after ++ (quoted (field_name (field_of f)) ++ 58 ∷ (json_of_slot u (slot (layout_of x) i) ++ rest)))) t
     ∙ sym (ap (λ gs. done ++ json_members (field_list_of gs) after (each (layouts_of every) i)) e ∙ ap (λ ys. done ++ json_members (field_list_of (f ∷ fs)) after (each (layouts_of ys) i)) h)
     ∙ w
 
--- and where no child or no field is left
+-- no child or no field is left
 pub members-none : (all : Seq Field) (every : Seq AnyArray) (i : ℕ) (after : Bool) (done whole : List ℕ) → EachType (field_list_of all) (layouts_of every) → (length all ≡ 0) ⊎ (length every ≡ 0)
     → done ++ json_members (field_list_of all) after (each (layouts_of every) i) ≡ whole → done ≡ whole
 members-none [] [] i after done whole t e w = sym (append-nil done) ∙ w
@@ -189,7 +189,7 @@ members-none (f ∷ fs) [] i after done whole t e w = absurd t
 members-none (f ∷ fs) (x ∷ xs) i after done whole t (inl e) w = absurd (omega arith)
 members-none (f ∷ fs) (x ∷ xs) i after done whole t (inr e) w = absurd (omega arith)
 
--- a dictionary shows its values, an extension its storage
+-- a dictionary has the text of its values, an extension that of its storage
 json-dictionary : (k : IntegerType) (t : TypeTree) (b : Bool) (s : Slot) → json_of_slot (types.dictionary k t b) s ≡ json_of_slot t s
 json-dictionary k t b slots.null = refl
 json-dictionary k t b (slots.truth x) = refl
@@ -219,21 +219,21 @@ keyed-text (types.dictionary k t b) u s h = json-logical u s ∙ ap (λ x. json_
 keyed-text (types.extension n t m) u s h = keyed-text t u s h ∙ sym (json-extension n t m s)
 keyed-text t u s h = absurd h
 
--- the name of a pick's field
-pub name-shown : (fs : Seq Field) (k : ℕ) (d : Field) → k < length fs → name_at (field_list_of fs) k ≡ field_name (field_of (get_or fs k d))
+-- the name of the selected field of a union
+pub name-shown : (fs : Seq Field) (k : ℕ) (d : Field) → k < length fs → field_name_at (field_list_of fs) k ≡ field_name (field_of (get_or fs k d))
 name-shown [] k d h = absurd (omega arith)
 name-shown (f ∷ fs) zero d h = refl
 name-shown (f ∷ fs) (suc k) d h = name-shown fs k d (omega arith)
 
-pub pick-text : (t : TypeTree) (k : ℕ) (name : List ℕ) (c : Layout) (i : ℕ) (s : Slot) → physical_type t ≡ physical.Union → name ≡ name_at (fields_of t) k → s ≡ slots.pick k (layout_type c) (slot c i)
-    → (((codes "{" ++ quoted name) ++ codes ":") ++ shown c i) ++ codes "}" ≡ json_of_slot t s
+pub pick-text : (t : TypeTree) (k : ℕ) (name : List ℕ) (c : Layout) (i : ℕ) (s : Slot) → physical_type t ≡ physical.Union → name ≡ field_name_at (fields_of t) k → s ≡ slots.pick k (layout_type c) (slot c i)
+    → (((codes "{" ++ quoted name) ++ codes ":") ++ slot_json c i) ++ codes "}" ≡ json_of_slot t s
 pick-text t k name c i s p e h =
-    append_assoc ((codes "{" ++ quoted name) ++ codes ":") (shown c i) (codes "}")
-    ∙ append_assoc (codes "{" ++ quoted name) (codes ":") (shown c i ++ codes "}")
-    ∙ ap (λ n. 123 ∷ (quoted n ++ 58 ∷ (shown c i ++ codes "}"))) (e ∙ ap (λ gs. name_at gs k) (sym (members-type t (union-no-dictionary t p))))
+    append_assoc ((codes "{" ++ quoted name) ++ codes ":") (slot_json c i) (codes "}")
+    ∙ append_assoc (codes "{" ++ quoted name) (codes ":") (slot_json c i ++ codes "}")
+    ∙ ap (λ n. 123 ∷ (quoted n ++ 58 ∷ (slot_json c i ++ codes "}"))) (e ∙ ap (λ gs. field_name_at gs k) (sym (members-type t (union-no-dictionary t p))))
     ∙ sym (ap (json_of_slot t) h)
 
--- where a union's fields stand
+-- the index of a field of a union
 pub name-place : (a : Layout) (fs : Seq Field) (k : ℕ) → TopFits a → IsUnionOf a → field_list_of fs ≡ fields_of (layout_type a) → k < count_layouts (children_of a) → k < length fs
 name-place a fs k h u e l =
     let f = union-facts (layout_type a) (types_of a) (children_of a) (union_offsets_of a) (start_of a) (subst TopFits u h) in
@@ -244,15 +244,15 @@ name-place a fs k h u e l =
 pub union-typed : (a : Layout) → TopFits a → IsUnionOf a → physical_type (layout_type a) ≡ physical.Union
 union-typed a h u = (union-facts (layout_type a) (types_of a) (children_of a) (union_offsets_of a) (start_of a) (subst TopFits u h)).typed
 
--- a key's value, by the values' type
-pub keyed-shown : (a c : Layout) (i k : ℕ) → TopFits a → IsDictionaryOf a → is_null_at a i ≡ false → c ≡ child_of a → pos k ≡ key_at (keys_of a) i → shown c k ≡ shown a i
+-- the value of a dictionary key
+pub keyed-shown : (a c : Layout) (i k : ℕ) → TopFits a → IsDictionaryOf a → is_null_at a i ≡ false → c ≡ child_of a → pos k ≡ key_at (keys_of a) i → slot_json c k ≡ slot_json a i
 keyed-shown a c i k h d v e p =
-    ap (λ b. shown b k) e
+    ap (λ b. slot_json b k) e
     ∙ keyed-text (layout_type a) (layout_type (child_of a)) (slot (child_of a) k) (dictionary-facts (layout_type a) (keys_of a) (child_of a) (subst TopFits d h)).value_typed
     ∙ ap (λ z. json_of_slot (layout_type a) (slot (child_of a) (place z))) p
     ∙ sym (ap (json_of_slot (layout_type a)) (keyed-slot a i d v))
 
--- a window's text, by what it tells
+-- the text of a window
 pub window-text : (c : Layout) (o n : ℕ) (w : WindowParts) → c ≡ w.array → o ≡ w.offset → n ≡ w.count → w.offset + w.count ≤ len w.array
     → json_list (layout_type c) (run (slot c) o n) ≡ json_of_window w
 window-text c o n w e p q h =

@@ -1,17 +1,17 @@
-//! JSON by `Display`. Nothing takes memory.
+//! `Display` of values as JSON, without allocation.
 ghost use Rattle.std.specs.Prelude.{◌≡◌};
 
-use crate::written::WriteJson;
+use crate::traits::WriteJson;
 use std::fmt;
 
-/// An array, a window or a scalar as JSON.
+/// Wrapper that displays an array, a window or a scalar as JSON.
 #[derive(Drop)]
 pub struct Json<'a, T> {
     value: &'a T,
 }
 
 impl<'a, T: WriteJson> Json<'a, T> {
-    /// All slots of an array or of a window, or the slot of a scalar.
+    /// Wraps a value: an array or a window is displayed as the list of its slots, a scalar as its slot.
     pub fn of(value: &'a T) -> Json<'a, T>
         ensures { result.value.now ≡ value.now }
     {

@@ -1,4 +1,4 @@
-//! What is promised of the text, as functions with empty bodies.
+//! Properties of the JSON text, as functions with empty bodies.
 ghost use Rattle.std.specs.Prelude.{◌≡◌, ◌≤◌, [], ◌∷◌, ◌++◌, Some, map};
 ghost use Rattle.std.specs.List.{join_with_byte};
 ghost use Rattle.json.specs.Json.{document, max_depth};
@@ -9,39 +9,40 @@ ghost use Rattle.nest_memory.specs.TypeTree.{TypeTree};
 ghost use Rattle.nest_model.specs.Array.{IsArray};
 ghost use Rattle.nest_model.specs.Layout.{layout_type};
 ghost use Rattle.nest_model.specs.Slot.{Slot, seal};
-ghost use Rattle.json_write.specs.Json.{json_of_slot, json_of_window};
-ghost use Rattle.json_write.specs.OneText.{NamesPicks, IsSlotOf, AreItems, Has128Bits, Have128Bits};
-ghost use Rattle.json_write.specs.Tree.{tree_of_window};
+ghost use Rattle.json_write.specs.JsonText.{json_of_slot, json_of_window};
+ghost use Rattle.json_write.specs.TypedSlots.{HasDistinctUnionNames, IsSlotOf, AreItems, FitsIn128Bits, FitIn128Bits};
+ghost use Rattle.json_write.specs.JsonTree.{tree_of_window};
 
 use nest_array::Window;
 
-/// The text of a window is JSON: what the tokens of a tree print, and, where the numbers are numbers of 64 bits and the nesting is not
-/// too deep for the kit's reader, what is read as that tree.
-pub fn text_is_json(window: &Window)
+/// The text of a window is JSON: it prints the tokens of a JSON value. The kit's parser reads it as that value, if the numbers have
+/// 64 bits and the nesting is within the parser's limit.
+pub fn text_is_valid_json(window: &Window)
     ensures printed { json_of_window window.now ≡ print (json_tokens (tree_of_window window.now)) }
     ensures read { HasNumbers (tree_of_window window.now) → depth (tree_of_window window.now) ≤ max_depth
         → document (json_of_window window.now) ≡ Some (tree_of_window window.now) }
 {}
 
-/// The text of a window is the texts of its slots under its array's data type, with commas between, in brackets.
-pub fn slots_are_joined(window: &Window)
+/// The text of a window is a JSON array of its slots, under the data type of its array.
+pub fn slots_are_comma_separated(window: &Window)
     ensures { json_of_window window.now ≡ 91 ∷ (join_with_byte 44 (map (json_of_slot (layout_type window.now.array)) (window_slots window.now)) ++ 93 ∷ []) }
 {}
 
-/// Two slots of one data type that have one text are one slot. It is asked that no two fields of one union have the same name, since the
-/// text of a pick has no more of its field than the name; and that whole numbers have at most 128 bits, as those of native values have.
-pub fn one_text_one_slot()
-    ensures { (t : TypeTree) (s z : Slot) → NamesPicks t → IsSlotOf t s → IsSlotOf t z → Has128Bits s → Has128Bits z → json_of_slot t s ≡ json_of_slot t z → s ≡ z }
+/// Two slots of one data type are equal if their texts are equal. The fields of each union must have distinct names, since a union slot is
+/// written with the name of its field alone. Integers must fit in 128 bits, as those of all native values do.
+pub fn equal_texts_have_equal_slots()
+    ensures { (t : TypeTree) (s z : Slot) → HasDistinctUnionNames t → IsSlotOf t s → IsSlotOf t z → FitsIn128Bits s → FitsIn128Bits z → json_of_slot t s ≡ json_of_slot t z → s ≡ z }
 {}
 
-/// The slots of a window over an array that fits at every level are slots of its data type.
-pub fn slots_are_typed(window: &Window)
+/// The slots of a window over a valid array are slots of its data type.
+pub fn slots_have_the_data_type(window: &Window)
     ensures { IsArray window.now.array → AreItems (layout_type window.now.array) (seal (window_slots window.now)) }
 {}
 
-/// Two windows that have one text, over arrays of one data type, have the same slots, where `one_text_one_slot` holds of them.
-pub fn one_text_one_window(window: &Window, other: &Window)
+/// Two windows over arrays of one data type have equal slots if their texts are equal, under the conditions of
+/// `equal_texts_have_equal_slots`.
+pub fn equal_texts_have_equal_windows(window: &Window, other: &Window)
     ensures { IsArray window.now.array → IsArray other.now.array → layout_type window.now.array ≡ layout_type other.now.array
-        → NamesPicks (layout_type window.now.array) → Have128Bits (seal (window_slots window.now)) → Have128Bits (seal (window_slots other.now))
+        → HasDistinctUnionNames (layout_type window.now.array) → FitIn128Bits (seal (window_slots window.now)) → FitIn128Bits (seal (window_slots other.now))
         → json_of_window window.now ≡ json_of_window other.now → window_slots window.now ≡ window_slots other.now }
 {}

@@ -1,19 +1,17 @@
-//! Arrays of any nesting as JSON.
+//! Writes arrays, windows and scalars of any data type as JSON (RFC 8259).
 //!
-//! A statement whose value is never read (`let _len = ..`, `x.known()`) shows the prover a fact that the next step needs, and does
-//! nothing when it runs.
+//! A statement whose value is never used (`let _len = ..`, `x.known()`) gives the prover a fact and has no effect at run time.
 #![tactic(auto)]
 
 pub mod display;
+mod flat;
 pub mod laws;
-mod leaves;
-mod letters;
 mod nested;
-pub mod records;
+pub mod output;
+mod quoting;
 mod scalar;
-pub mod writing;
-pub mod written;
+pub mod struct_rows;
+pub mod traits;
 
 pub use display::Json;
-pub use written::WriteJson;
-
+pub use traits::WriteJson;

@@ -1,4 +1,4 @@
-//! Slots of arrays of any kind: one cycle over children. A child weighs less than what holds it.
+//! Slots of arrays of any data type, by mutual recursion over child arrays.
 ghost use Rattle.std.specs.Prelude.{◌≡◌, ◌+◌, ◌≤◌, ◌<◌, codes, false, if◌then◌else◌};
 ghost use Rattle.std.specs.Fmt.{WritesOnOk};
 ghost use Rattle.nest_array.specs.Seen.{layout_of, layouts_of};
@@ -6,13 +6,13 @@ ghost use Rattle.nest_memory.specs.TypeOf.{field_list_of, field_of};
 ghost use Rattle.nest_model.specs.Fits.{EachCovers, EachType};
 ghost use Rattle.nest_model.specs.Layout.{layout_type};
 ghost use Rattle.nest_model.specs.Meaning.{each, len, run, slot};
-ghost use Rattle.nest_model.specs.Slot.{seal};
-ghost use Rattle.json_write.specs.Json.{field_name, json_items, json_list, json_members, shown};
+ghost use Rattle.json_write.specs.JsonText.{field_name, json_list, json_members, slot_json, slots_json};
 
-use crate::leaves::{
-    write_binary, write_block, write_native, write_natives, write_text, write_truth,
+use crate::flat::{
+    write_any_primitive, write_any_primitive_items, write_binary, write_boolean,
+    write_fixed_size_binary, write_string,
 };
-use crate::letters::{write_comma, write_quoted};
+use crate::quoting::{write_comma, write_quoted};
 use nest_array::{
     AnyArray, DictionaryArray, FixedSizeListArray, LargeListArray, ListArray, MapArray,
     StructArray, UnionArray,
@@ -21,7 +21,7 @@ use nest_memory::datatypes::Field;
 use std::fmt;
 use std::fmt::Formatter;
 
-/// Slot i.
+/// Writes slot `i`.
 #[cycle(show)]
 pub(crate) fn write_slot<W: fmt::Write>(
     f: &mut Formatter<W>,
@@ -29,103 +29,104 @@ pub(crate) fn write_slot<W: fmt::Write>(
     i: usize,
 ) -> fmt::Result
     requires { i < len (layout_of array.now) }
-    ensures { WritesOnOk W.write_str_gives f.old result (shown (layout_of array.now) i) f.new }
+    ensures { WritesOnOk W.write_str_gives f.old result (slot_json (layout_of array.now) i) f.new }
 {
     match array {
         AnyArray::Null(array) => {
             array.known();
             f.write_str("null")
         }
-        AnyArray::Boolean(array) => write_truth(f, array, i),
-        AnyArray::Primitive(array) => write_native(f, array, i),
+        AnyArray::Boolean(array) => write_boolean(f, array, i),
+        AnyArray::Primitive(array) => write_any_primitive(f, array, i),
         AnyArray::Binary(array) => write_binary(f, array, i),
         AnyArray::LargeBinary(array) => write_binary(f, array, i),
-        AnyArray::Utf8(array) => write_text(f, array, i),
-        AnyArray::LargeUtf8(array) => write_text(f, array, i),
-        AnyArray::FixedSizeBinary(array) => write_block(f, array, i),
+        AnyArray::Utf8(array) => write_string(f, array, i),
+        AnyArray::LargeUtf8(array) => write_string(f, array, i),
+        AnyArray::FixedSizeBinary(array) => write_fixed_size_binary(f, array, i),
         AnyArray::FixedSizeList(array) => write_fixed_size_list(f, array, i),
         AnyArray::List(array) => write_list(f, array, i),
         AnyArray::LargeList(array) => write_large_list(f, array, i),
-        AnyArray::Struct(array) => write_record(f, array, i),
+        AnyArray::Struct(array) => write_struct(f, array, i),
         AnyArray::Map(array) => write_map(f, array, i),
-        AnyArray::Union(array) => write_pick(f, array, i),
-        AnyArray::Dictionary(array) => write_keyed(f, array, i),
+        AnyArray::Union(array) => write_union(f, array, i),
+        AnyArray::Dictionary(array) => write_dictionary(f, array, i),
     }
 }
 
-/// The n slots from place o, in brackets.
+/// Writes `count` slots from index `start` as a JSON array.
 #[cycle(show)]
-pub(crate) fn write_run<W: fmt::Write>(
+pub(crate) fn write_array<W: fmt::Write>(
     f: &mut Formatter<W>,
     array: &AnyArray,
-    o: usize,
-    n: usize,
+    start: usize,
+    count: usize,
 ) -> fmt::Result
-    requires { o + n ≤ len (layout_of array.now) }
-    ensures { WritesOnOk W.write_str_gives f.old result (json_list (layout_type (layout_of array.now)) (run (slot (layout_of array.now)) o n)) f.new }
+    requires { start + count ≤ len (layout_of array.now) }
+    ensures { WritesOnOk W.write_str_gives f.old result (json_list (layout_type (layout_of array.now)) (run (slot (layout_of array.now)) start count)) f.new }
 {
     f.write_str("[")?;
-    write_items(f, array, o, n)?;
+    write_items(f, array, start, count)?;
     f.write_str("]")
 }
 
-/// The n slots from place o, with commas between.
+/// Writes `count` slots from index `start`, separated by commas.
 #[cycle(show)]
 pub(crate) fn write_items<W: fmt::Write>(
     f: &mut Formatter<W>,
     array: &AnyArray,
-    o: usize,
-    n: usize,
+    start: usize,
+    count: usize,
 ) -> fmt::Result
-    requires { o + n ≤ len (layout_of array.now) }
-    ensures { WritesOnOk W.write_str_gives f.old result (json_items (layout_type (layout_of array.now)) false (seal (run (slot (layout_of array.now)) o n))) f.new }
+    requires { start + count ≤ len (layout_of array.now) }
+    ensures { WritesOnOk W.write_str_gives f.old result (slots_json (layout_of array.now) start count) f.new }
 {
     match array {
-        AnyArray::Primitive(array) => write_natives(f, array, o, n),
-        _ => write_each(f, array, o, n),
+        AnyArray::Primitive(array) => write_any_primitive_items(f, array, start, count),
+        _ => write_each_item(f, array, start, count),
     }
 }
 
 #[cycle(show)]
-fn write_each<W: fmt::Write>(
+fn write_each_item<W: fmt::Write>(
     f: &mut Formatter<W>,
     array: &AnyArray,
-    o: usize,
-    n: usize,
+    start: usize,
+    count: usize,
 ) -> fmt::Result
-    requires { o + n ≤ len (layout_of array.now) }
-    ensures { WritesOnOk W.write_str_gives f.old result (json_items (layout_type (layout_of array.now)) false (seal (run (slot (layout_of array.now)) o n))) f.new }
+    requires { start + count ≤ len (layout_of array.now) }
+    ensures { WritesOnOk W.write_str_gives f.old result (slots_json (layout_of array.now) start count) f.new }
 {
     let _end = array.len();
-    for k in 0..n {
+    for k in 0..count {
         write_comma(f, k > 0)?;
-        write_slot(f, array, o + k)?;
+        write_slot(f, array, start + k)?;
     }
     Ok(())
 }
 
+/// Returns the name of the field.
 pub(crate) fn name(field: &Field) -> &str
     ensures { result.now ≡ field_name (field_of field.now) }
 {
     &field.name
 }
 
-/// A row of items, or null.
+/// Writes the items of a list slot as a JSON array, or `null`.
 #[cycle(show)]
-fn write_row<W: fmt::Write>(
+fn write_list_slot<W: fmt::Write>(
     f: &mut Formatter<W>,
     null: bool,
     items: &AnyArray,
-    o: usize,
-    n: usize,
+    start: usize,
+    count: usize,
 ) -> fmt::Result
-    requires { o + n ≤ len (layout_of items.now) }
-    ensures { WritesOnOk W.write_str_gives f.old result (if null then codes "null" else json_list (layout_type (layout_of items.now)) (run (slot (layout_of items.now)) o n)) f.new }
+    requires { start + count ≤ len (layout_of items.now) }
+    ensures { WritesOnOk W.write_str_gives f.old result (if null then codes "null" else json_list (layout_type (layout_of items.now)) (run (slot (layout_of items.now)) start count)) f.new }
 {
     if null {
         f.write_str("null")
     } else {
-        write_run(f, items, o, n)
+        write_array(f, items, start, count)
     }
 }
 
@@ -136,12 +137,12 @@ pub(crate) fn write_list<W: fmt::Write>(
     i: usize,
 ) -> fmt::Result
     requires { i < len array.now }
-    ensures { WritesOnOk W.write_str_gives f.old result (shown array.now i) f.new }
+    ensures { WritesOnOk W.write_str_gives f.old result (slot_json array.now i) f.new }
 {
     array.known();
     let row = array.window(i);
     row.known();
-    write_row(f, array.is_null(i), row.array(), row.offset(), row.len())
+    write_list_slot(f, array.is_null(i), row.array(), row.offset(), row.len())
 }
 
 #[cycle(show)]
@@ -151,12 +152,12 @@ pub(crate) fn write_large_list<W: fmt::Write>(
     i: usize,
 ) -> fmt::Result
     requires { i < len array.now }
-    ensures { WritesOnOk W.write_str_gives f.old result (shown array.now i) f.new }
+    ensures { WritesOnOk W.write_str_gives f.old result (slot_json array.now i) f.new }
 {
     array.known();
     let row = array.window(i);
     row.known();
-    write_row(f, array.is_null(i), row.array(), row.offset(), row.len())
+    write_list_slot(f, array.is_null(i), row.array(), row.offset(), row.len())
 }
 
 #[cycle(show)]
@@ -166,12 +167,12 @@ pub(crate) fn write_fixed_size_list<W: fmt::Write>(
     i: usize,
 ) -> fmt::Result
     requires { i < len array.now }
-    ensures { WritesOnOk W.write_str_gives f.old result (shown array.now i) f.new }
+    ensures { WritesOnOk W.write_str_gives f.old result (slot_json array.now i) f.new }
 {
     array.known();
     let row = array.window(i);
     row.known();
-    write_row(f, array.is_null(i), row.array(), row.offset(), row.len())
+    write_list_slot(f, array.is_null(i), row.array(), row.offset(), row.len())
 }
 
 #[cycle(show)]
@@ -181,22 +182,22 @@ pub(crate) fn write_map<W: fmt::Write>(
     i: usize,
 ) -> fmt::Result
     requires { i < len array.now }
-    ensures { WritesOnOk W.write_str_gives f.old result (shown array.now i) f.new }
+    ensures { WritesOnOk W.write_str_gives f.old result (slot_json array.now i) f.new }
 {
     array.known();
     let row = array.window(i);
     row.known();
-    write_row(f, array.is_null(i), row.array(), row.offset(), row.len())
+    write_list_slot(f, array.is_null(i), row.array(), row.offset(), row.len())
 }
 
 #[cycle(show)]
-pub(crate) fn write_record<W: fmt::Write>(
+pub(crate) fn write_struct<W: fmt::Write>(
     f: &mut Formatter<W>,
     array: &StructArray,
     i: usize,
 ) -> fmt::Result
     requires { i < len array.now }
-    ensures { WritesOnOk W.write_str_gives f.old result (shown array.now i) f.new }
+    ensures { WritesOnOk W.write_str_gives f.old result (slot_json array.now i) f.new }
 {
     array.known();
     if array.is_null(i) {
@@ -207,7 +208,7 @@ pub(crate) fn write_record<W: fmt::Write>(
     f.write_str("}")
 }
 
-/// The slot of each child at place i, after its field's name.
+/// Writes slot `i` of each child array as a member named after its field.
 #[cycle(show)]
 fn write_members<W: fmt::Write>(
     f: &mut Formatter<W>,
@@ -231,13 +232,13 @@ fn write_members<W: fmt::Write>(
 }
 
 #[cycle(show)]
-pub(crate) fn write_pick<W: fmt::Write>(
+pub(crate) fn write_union<W: fmt::Write>(
     f: &mut Formatter<W>,
     array: &UnionArray,
     i: usize,
 ) -> fmt::Result
     requires { i < len array.now }
-    ensures { WritesOnOk W.write_str_gives f.old result (shown array.now i) f.new }
+    ensures { WritesOnOk W.write_str_gives f.old result (slot_json array.now i) f.new }
 {
     array.known();
     let (k, place) = array.index(i);
@@ -251,13 +252,13 @@ pub(crate) fn write_pick<W: fmt::Write>(
 }
 
 #[cycle(show)]
-pub(crate) fn write_keyed<W: fmt::Write>(
+pub(crate) fn write_dictionary<W: fmt::Write>(
     f: &mut Formatter<W>,
     array: &DictionaryArray,
     i: usize,
 ) -> fmt::Result
     requires { i < len array.now }
-    ensures { WritesOnOk W.write_str_gives f.old result (shown array.now i) f.new }
+    ensures { WritesOnOk W.write_str_gives f.old result (slot_json array.now i) f.new }
 {
     array.known();
     if array.is_null(i) {

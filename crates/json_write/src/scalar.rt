@@ -1,19 +1,20 @@
-//! The slot of a scalar.
+//! Scalars.
 ghost use Rattle.std.specs.Prelude.{◌≡◌, false};
 ghost use Rattle.std.specs.Fmt.{WritesOnOk};
 ghost use Rattle.nest_memory.specs.TypeOf.{field_list_of, type_of};
 ghost use Rattle.nest_model.specs.Layout.{field_types};
 ghost use Rattle.nest_array.specs.ScalarParts.{slots_in, types_in};
-ghost use Rattle.json_write.specs.Json.{json_members, json_of_slot, members_of, name_at};
+ghost use Rattle.json_write.specs.JsonText.{json_members, json_of_slot, members_of, field_name_at};
 
-use crate::leaves::write_number;
-use crate::letters::{write_bytes, write_comma, write_quoted};
-use crate::nested::{name, write_run};
+use crate::flat::write_number;
+use crate::nested::{name, write_array};
+use crate::quoting::{write_bytes, write_comma, write_quoted};
 use nest_array::{AnyScalar, ScalarValue};
 use nest_memory::datatypes::{DataType, Field};
 use std::fmt;
 use std::fmt::Formatter;
 
+/// Writes the slot of a scalar.
 #[cycle(scalar_json)]
 pub(crate) fn write_scalar<W: fmt::Write>(f: &mut Formatter<W>, scalar: &AnyScalar) -> fmt::Result
     ensures { WritesOnOk W.write_str_gives f.old result (json_of_slot scalar.now.data_type scalar.now.slot) f.new }
@@ -25,15 +26,15 @@ pub(crate) fn write_scalar<W: fmt::Write>(f: &mut Formatter<W>, scalar: &AnyScal
         ScalarValue::Native(value) => write_number(f, *value),
         ScalarValue::Text(text) => write_quoted(f, text),
         ScalarValue::Bytes(bytes) => write_bytes(f, bytes),
-        ScalarValue::List(items) => write_run(f, items, 0, items.len()),
+        ScalarValue::List(items) => write_array(f, items, 0, items.len()),
         ScalarValue::Struct(values) => {
             f.write_str("{")?;
-            write_values(f, members(scalar.data_type()), values)?;
+            write_scalar_members(f, members(scalar.data_type()), values)?;
             f.write_str("}")
         }
         ScalarValue::Pick(k, value) => {
             f.write_str("{")?;
-            write_quoted(f, name_of(members(scalar.data_type()), *k))?;
+            write_quoted(f, name_at(members(scalar.data_type()), *k))?;
             f.write_str(":")?;
             write_scalar(f, value)?;
             f.write_str("}")
@@ -41,9 +42,9 @@ pub(crate) fn write_scalar<W: fmt::Write>(f: &mut Formatter<W>, scalar: &AnyScal
     }
 }
 
-/// Each scalar after its field's name.
+/// Writes each scalar as a member named after its field.
 #[cycle(scalar_json)]
-fn write_values<W: fmt::Write>(
+fn write_scalar_members<W: fmt::Write>(
     f: &mut Formatter<W>,
     fields: &[Field],
     values: &[AnyScalar],
@@ -62,7 +63,7 @@ fn write_values<W: fmt::Write>(
     Ok(())
 }
 
-/// The fields of a record or of a pick, below dictionaries and extensions.
+/// Returns the fields of a struct or a union, of a dictionary's values or an extension's storage.
 fn members(data_type: &DataType) -> &[Field]
     ensures { field_list_of result.now ≡ members_of (type_of data_type.now) }
 {
@@ -74,9 +75,9 @@ fn members(data_type: &DataType) -> &[Field]
     }
 }
 
-/// The name of field k, empty where there is none.
-fn name_of(fields: &[Field], k: usize) -> &str
-    ensures { result.now ≡ name_at (field_list_of fields.now) k }
+/// Returns the name of field `k`, or an empty name if there is none.
+fn name_at(fields: &[Field], k: usize) -> &str
+    ensures { result.now ≡ field_name_at (field_list_of fields.now) k }
 {
     match fields.get(k) {
         Some(field) => name(field),

@@ -1,4 +1,4 @@
--- How many items rows at places have.
+-- The number of items of rows at indices.
 use Rattle.std.proofs.Common.{◌≡◌, ℕ, suc, ◌+◌, ◌≤◌, ◌^◌, inl, inr, Bool, true, false, cond, ℤ, List, [], ◌∷◌, length, get_or, refl, sym, ap, ◌∙◌, subst, arith}
 use Rattle.std.specs.Prelude.{IfErr, Result, Ok, Err, sum_by}
 use Rattle.nest_memory.specs.declared.error.Error.{Error}
@@ -43,7 +43,7 @@ module _ (t : TypeTree) (os : List ℕ) (c : Layout) (va : Validity) where
       ∙ ap (λ n. count_at os va i + n) (items-chosen is (λ k d l. h (suc k) d (omega arith)))
       ∙ sym (sum_by-cons (count_at os va) i is)
 
--- rows of numbers at places pass no limit but that of their items
+-- rows of integers at indices exceed no limit but that of their items
 pub passes-items : (a c : Layout) (p : PrimitiveType) (t : TypeTree) (vs : List (List ℤ)) (va : Validity) (is : List ℕ) → a ≡ layouts.list false (layout_type a) (offsets_of a) (child_of a) (validity_of a) → c ≡ child_of a → c ≡ layouts.primitive p t vs va
     → AreBelow is (len a) → PassesLimits a is → 2 ^ 31 ≤ item_count (chosen (slots_of a) is)
 passes-items a c p t vs va is k e f below passes =
@@ -54,7 +54,7 @@ passes-items a c p t vs va is k e f below passes =
       | inr items ↦ absurd (subst (λ z. PassesLimits z (item_places (offsets_of a) (validity_of a) is)) (sym e ∙ f) items)
     ]
 
--- a taking that overflows passes a limit
+-- a take that overflows exceeds a limit
 pub limits-passed : {A : Type 0} (taken : Result A Error) (e : Error) (a : Layout) (is : List ℕ) → taken ≡ Err e → e ≡ Overflow → IfErr taken (λ x. RefusesTake x a is) → PassesLimits a is
 limits-passed (Ok x) e a is k f h = absurd cc
 limits-passed (Err x) e a is k f (inl memory) = absurd cc

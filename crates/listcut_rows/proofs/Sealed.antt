@@ -1,4 +1,4 @@
--- A list of slots inside a slot, and back.
+-- The slots of a list slot.
 use Rattle.std.proofs.Common.{◌≡◌, List, [], ◌∷◌, refl, ap}
 use Rattle.nest_model.specs.Slot.{Slot, Slots, no_slots, more_slots, seal, unseal}
 

@@ -1,8 +1,9 @@
+-- Definitions that the contracts of this crate cite.
 pub mod Rows
-pub mod RowsTree
+pub mod RowsBuilder
 pub mod Grammar
-pub mod Spelling
+pub mod RowText
 pub mod Outcome
-pub mod SeenRow
-pub mod SeenRequest
+pub mod RowSlots
+pub mod Selections
 pub mod Words

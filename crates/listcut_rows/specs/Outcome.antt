@@ -1,34 +1,34 @@
--- What the program owes.
+-- The result of the program.
 use Rattle.std.specs.Io.KnownBytes.{Appends, Keeps}
 use Rattle.std.specs.List.{list_all}
 use Rattle.std.specs.Prelude.{◌≡◌, ℕ, ◌+◌, ◌^◌, ◌≤◌, ◌++◌, ⊤, List, Option, Some, None, Result, Ok, Err, if◌then◌else◌, nat_le, nat_lt, length}
 use Rattle.nest_model.specs.Chosen.{chosen}
 use Rattle.nest_model.specs.Slot.{Slot}
 use Rattle.nest_memory.specs.Cut.{cut}
-use Rattle.listcut_rows.specs.declared.fault.Fault.{Fault}
-use Rattle.listcut_rows.specs.declared.fault.Fault.TheVariants.{Arguments, Input, Line, Range, Size, Output, Memory}
-use Rattle.listcut_rows.specs.Grammar.{Request, cut_of, rows_at, rows_of, request_of}
+use Rattle.listcut_rows.specs.declared.error.ListcutError.{ListcutError}
+use Rattle.listcut_rows.specs.declared.error.ListcutError.TheVariants.{Arguments, Input, Line, Range, Size, Output, Memory}
+use Rattle.listcut_rows.specs.Grammar.{Selection, slice_rows, take_rows, parsed_rows, parsed_selection}
 use Rattle.listcut_rows.specs.Rows.{item_count}
-use Rattle.listcut_rows.specs.Spelling.{text_of}
+use Rattle.listcut_rows.specs.RowText.{rows_text}
 
--- reading fails only at the first faulty line, or for want of memory
-abbrev pub ReadFault : Fault → Result (List Slot) ℕ → Type 0
-ReadFault (Line number) reading = reading ≡ Err number
-ReadFault Memory reading = Unit {0}
-ReadFault Arguments reading = ⊥
-ReadFault Input reading = ⊥
-ReadFault Range reading = ⊥
-ReadFault Size reading = ⊥
-ReadFault Output reading = ⊥
+-- an error of parsing: the first invalid line, or a failed allocation
+abbrev pub IsReadError : ListcutError → Result (List Slot) ℕ → Type 0
+IsReadError (Line number) reading = reading ≡ Err number
+IsReadError Memory reading = Unit {0}
+IsReadError Arguments reading = ⊥
+IsReadError Input reading = ⊥
+IsReadError Range reading = ⊥
+IsReadError Size reading = ⊥
+IsReadError Output reading = ⊥
 
--- some beginning of the bytes went out
-abbrev pub WritesBeginning : Option (List ℕ) → Option (List ℕ) → List ℕ → Type 0
-WritesBeginning old new bytes = (front : List ℕ) × (rest : List ℕ) × (bytes ≡ front ++ rest) × Appends old new front
+-- a prefix of the bytes was written
+abbrev pub WritesPrefix : Option (List ℕ) → Option (List ℕ) → List ℕ → Type 0
+WritesPrefix old new bytes = (front : List ℕ) × (rest : List ℕ) × (bytes ≡ front ++ rest) × Appends old new front
 
--- all of the bytes go out, or after a fault of the output a beginning of them, or for want of memory none
-abbrev pub Writes : Result ⊤ Fault → Option (List ℕ) → Option (List ℕ) → List ℕ → Type 0
+-- all bytes were written, a prefix of them if the output failed, or none if an allocation failed
+abbrev pub Writes : Result ⊤ ListcutError → Option (List ℕ) → Option (List ℕ) → List ℕ → Type 0
 Writes (Ok done) old new bytes = Appends old new bytes
-Writes (Err Output) old new bytes = WritesBeginning old new bytes
+Writes (Err Output) old new bytes = WritesPrefix old new bytes
 Writes (Err Memory) old new bytes = Keeps old new
 Writes (Err Arguments) old new bytes = ⊥
 Writes (Err Input) old new bytes = ⊥
@@ -38,52 +38,52 @@ Writes (Err Size) old new bytes = ⊥
 
 -- ---- a run of the program
 
--- the rows of a cut, if there are so many rows; the rows at places, in their order, if there is a row at each
-abbrev pub asked : Request → List Slot → Result (List Slot) Fault
-asked (cut_of window) rows = if nat_le (window.0 + window.1) (length rows) then Ok (cut rows window.0 window.1) else Err Range
-asked (rows_at places) rows = if list_all (λ place. nat_lt place (length rows)) places then Ok (chosen rows places) else Err Range
+-- the rows of a slice or at indices, in their order, if it is in bounds
+abbrev pub selected_rows : Selection → List Slot → Result (List Slot) ListcutError
+selected_rows (slice_rows window) rows = if nat_le (window.0 + window.1) (length rows) then Ok (cut rows window.0 window.1) else Err Range
+selected_rows (take_rows indices) rows = if list_all (λ index. nat_lt index (length rows)) indices then Ok (chosen rows indices) else Err Range
 
-abbrev pub answer_for : Option Request → Result (List Slot) ℕ → Result (List Slot) Fault
-answer_for None reading = Err Arguments
-answer_for (Some request) (Err number) = Err (Line number)
-answer_for (Some request) (Ok rows) = asked request rows
+abbrev pub result_for : Option Selection → Result (List Slot) ℕ → Result (List Slot) ListcutError
+result_for None reading = Err Arguments
+result_for (Some request) (Err number) = Err (Line number)
+result_for (Some request) (Ok rows) = selected_rows request rows
 
--- what the argument words ask of an input: its rows that they name, or the first refusal
-abbrev pub answer_to : List (List ℕ) → List ℕ → Result (List Slot) Fault
-answer_to words input = answer_for (request_of words) (rows_of input)
+-- the rows of the input that the arguments select, or the first error
+abbrev pub expected_result : List (List ℕ) → List ℕ → Result (List Slot) ListcutError
+expected_result arguments input = result_for (parsed_selection arguments) (parsed_rows input)
 
--- the answer is rows that have 2^31 items or more
-abbrev pub PassesItems : Result (List Slot) Fault → Type 0
-PassesItems answer = (rows : List Slot) × (answer ≡ Ok rows) × (2 ^ 31 ≤ item_count rows)
+-- the selected rows have 2^31 items or more
+abbrev pub ExceedsItemLimit : Result (List Slot) ListcutError → Type 0
+ExceedsItemLimit expected = (rows : List Slot) × (expected ≡ Ok rows) × (2 ^ 31 ≤ item_count rows)
 
--- the rows that are asked for aren't made where one is past the rows, where they have too many items, or for want of memory
-abbrev pub ChoiceFault : Fault → Result (List Slot) Fault → Type 0
-ChoiceFault Range answer = answer ≡ Err Range
-ChoiceFault Size answer = PassesItems answer
-ChoiceFault Memory answer = Unit {0}
-ChoiceFault Arguments answer = ⊥
-ChoiceFault Input answer = ⊥
-ChoiceFault (Line number) answer = ⊥
-ChoiceFault Output answer = ⊥
+-- an error of selecting: out of bounds, too many items, or a failed allocation
+abbrev pub IsSelectError : ListcutError → Result (List Slot) ListcutError → Type 0
+IsSelectError Range expected = expected ≡ Err Range
+IsSelectError Size expected = ExceedsItemLimit expected
+IsSelectError Memory expected = Unit {0}
+IsSelectError Arguments expected = ⊥
+IsSelectError Input expected = ⊥
+IsSelectError (Line number) expected = ⊥
+IsSelectError Output expected = ⊥
 
--- A refusal is the answer, and comes with nothing written; so do too many items, and want of memory or input, whatever the answer is.
--- Else the rows of the answer are written, or a beginning of them.
-abbrev pub Answers : Result ⊤ Fault → Result (List Slot) Fault → Option (List ℕ) → Option (List ℕ) → Type 0
-Answers (Ok done) answer old new = (rows : List Slot) × (answer ≡ Ok rows) × Appends old new (text_of rows)
-Answers (Err Output) answer old new = (rows : List Slot) × (answer ≡ Ok rows) × WritesBeginning old new (text_of rows)
-Answers (Err Memory) answer old new = Keeps old new
-Answers (Err Input) answer old new = Keeps old new
-Answers (Err Arguments) answer old new = (answer ≡ Err Arguments) × Keeps old new
-Answers (Err (Line number)) answer old new = (answer ≡ Err (Line number)) × Keeps old new
-Answers (Err Range) answer old new = (answer ≡ Err Range) × Keeps old new
-Answers (Err Size) answer old new = PassesItems answer × Keeps old new
+-- An error is the expected one, and nothing was written; so are too many items, and a failed read or allocation whatever is expected.
+-- Otherwise the expected rows were written, or a prefix of their text.
+abbrev pub IsRunResult : Result ⊤ ListcutError → Result (List Slot) ListcutError → Option (List ℕ) → Option (List ℕ) → Type 0
+IsRunResult (Ok done) expected old new = (rows : List Slot) × (expected ≡ Ok rows) × Appends old new (rows_text rows)
+IsRunResult (Err Output) expected old new = (rows : List Slot) × (expected ≡ Ok rows) × WritesPrefix old new (rows_text rows)
+IsRunResult (Err Memory) expected old new = Keeps old new
+IsRunResult (Err Input) expected old new = Keeps old new
+IsRunResult (Err Arguments) expected old new = (expected ≡ Err Arguments) × Keeps old new
+IsRunResult (Err (Line number)) expected old new = (expected ≡ Err (Line number)) × Keeps old new
+IsRunResult (Err Range) expected old new = (expected ≡ Err Range) × Keeps old new
+IsRunResult (Err Size) expected old new = ExceedsItemLimit expected × Keeps old new
 
--- neither the words nor the rows nor the output are at fault
-abbrev pub IsInputOrMemory : Fault → Type 0
-IsInputOrMemory Input = Unit {0}
-IsInputOrMemory Memory = Unit {0}
-IsInputOrMemory Arguments = ⊥
-IsInputOrMemory (Line number) = ⊥
-IsInputOrMemory Range = ⊥
-IsInputOrMemory Size = ⊥
-IsInputOrMemory Output = ⊥
+-- an error of the input or a failed allocation
+abbrev pub IsInputOrMemoryError : ListcutError → Type 0
+IsInputOrMemoryError Input = Unit {0}
+IsInputOrMemoryError Memory = Unit {0}
+IsInputOrMemoryError Arguments = ⊥
+IsInputOrMemoryError (Line number) = ⊥
+IsInputOrMemoryError Range = ⊥
+IsInputOrMemoryError Size = ⊥
+IsInputOrMemoryError Output = ⊥

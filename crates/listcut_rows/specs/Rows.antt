@@ -1,20 +1,20 @@
--- The program's rows, each as its slot: Null, or a List of Null and whole numbers.
+-- The slots of rows: null, or a list of nulls and integers.
 use Rattle.std.specs.Prelude.{ℕ, ◌^◌, ◌<◌, List, [], ◌∷◌, length, sum_by, FitsSigned}
 use Rattle.std.specs.Int.{w64}
 use Rattle.std.specs.List.{AllByRecursion}
 use Rattle.nest_model.specs.Slot as slots
 use Rattle.nest_model.specs.Slot.{Slot, unseal}
 
--- how many items a row has
+-- the number of items of a row
 abbrev pub row_len : Slot → ℕ
 row_len (slots.list items) = length (unseal items)
 row_len other = 0
 
--- how many items the rows have together
+-- the number of items of all rows
 abbrev pub item_count : List Slot → ℕ
 item_count rows = sum_by row_len rows
 
--- ---- which slots are rows of the program
+-- ---- the slots that are rows
 
 abbrev pub IsItem : Slot → Type 0
 IsItem slots.null = Unit {0}
@@ -26,6 +26,6 @@ IsRow slots.null = Unit {0}
 IsRow (slots.list items) = AllByRecursion IsItem (unseal items)
 IsRow other = ⊥
 
--- each is null or a list of nulls and numbers of 64 bits, and they have fewer than 2^31 items
+-- each row is null or a list of nulls and 64-bit integers, and together they have fewer than 2^31 items
 abbrev pub AreRows : List Slot → Type 0
 AreRows rows = AllByRecursion IsRow rows × (item_count rows < 2 ^ 31)

@@ -1,14 +1,14 @@
--- The words of this crate's contracts, by one name.
-pub use Rattle.listcut_rows.specs.Grammar.{cut_of, has_leading_zero, item_of, items_of, lines_of, number_of, places_of, request_of, row_of, rows_at, rows_of, whole_below, window_of}
-pub use Rattle.listcut_rows.specs.Outcome.{Answers, ChoiceFault, IsInputOrMemory, PassesItems, ReadFault, Writes, answer_to, asked}
+-- The definitions that the contracts of this crate cite.
+pub use Rattle.listcut_rows.specs.Grammar.{slice_rows, spec_has_leading_zero, parsed_item, parsed_items, lines_of, parsed_number, parsed_indices, parsed_selection, parsed_row, take_rows, parsed_rows, number_below, parsed_slice}
+pub use Rattle.listcut_rows.specs.Outcome.{IsRunResult, IsSelectError, IsInputOrMemoryError, ExceedsItemLimit, IsReadError, Writes, expected_result, selected_rows}
 pub use Rattle.listcut_rows.specs.Rows.{AreRows, item_count}
-pub use Rattle.listcut_rows.specs.SeenRequest.{SpellingFault, seen_request}
-pub use Rattle.listcut_rows.specs.SeenRow.{item_slot, seen_row}
-pub use Rattle.listcut_rows.specs.Spelling.{IsFirstFault, IsTextOf, item_text, row_text, text_of}
-pub use Rattle.listcut_rows.specs.declared.fault.Fault.TheVariants.{Memory}
+pub use Rattle.listcut_rows.specs.Selections.{IsArgumentError, selection_of}
+pub use Rattle.listcut_rows.specs.RowSlots.{item_slot, slot_of_row}
+pub use Rattle.listcut_rows.specs.RowText.{IsFirstInvalidLine, IsTextOf, item_text, row_text, rows_text}
+pub use Rattle.listcut_rows.specs.declared.error.ListcutError.TheVariants.{Memory}
 pub use Rattle.nest_array.specs.Seen.{layout_of}
 pub use Rattle.nest_array.specs.Types.{default_list_type}
-pub use Rattle.listcut_rows.specs.RowsTree.{items_in, tree_of}
+pub use Rattle.listcut_rows.specs.RowsBuilder.{item_total, tree_of}
 pub use Rattle.nest_memory.specs.Cut.{cut}
 pub use Rattle.nest_memory.specs.TypeTree.{item_type}
 pub use Rattle.nest_model.specs.BuilderLevels.{own_slots}

@@ -1,16 +1,14 @@
-//! The rows of the program `listcut`: lists of whole numbers of 64 bits as lines of text, read, cut, taken and written.
+//! The library of the program `listcut`: it reads lists of 64-bit integers, one a line, selects rows and writes them.
 //!
-//! A statement whose value is never read (`let _len = ..`, `x.known()`) shows the prover a fact that the next step needs, and does
-//! nothing when it runs.
+//! A statement whose value is never used (`let _len = ..`, `x.known()`) gives the prover a fact and has no effect at run time.
 #![tactic(auto)]
 
-mod choosing;
-pub mod fault;
+pub mod command;
+pub mod error;
+pub mod input;
 mod int64;
 pub mod laws;
-mod lists;
 mod numbers;
-pub mod reading;
-mod request;
-pub mod running;
-pub mod writing;
+pub mod output;
+mod select;
+mod selection;

@@ -1,10 +1,10 @@
-//! Whole numbers from bytes.
+//! Parses decimal numbers.
 ghost use Rattle.std.specs.Prelude.{◌≡◌, ℕ, ◌+◌, ◌^◌, neg_ℤ, pos, map, string_bytes, option_map};
-ghost use Rattle.listcut_rows.specs.Words.{has_leading_zero, number_of, whole_below, window_of};
+ghost use Rattle.listcut_rows.specs.Words.{spec_has_leading_zero, parsed_number, number_below, parsed_slice};
 
-/// Whether there is no digit, or a zero before further ones.
+/// Returns whether there is no digit, or a zero before other digits.
 fn has_leading_zero(digits: &[u8]) -> bool
-    ensures { result ≡ has_leading_zero digits.now }
+    ensures { result ≡ spec_has_leading_zero digits.now }
 {
     match digits {
         [] => true,
@@ -12,9 +12,9 @@ fn has_leading_zero(digits: &[u8]) -> bool
     }
 }
 
-/// The number that digits write: `0`, or a nonzero digit with further digits, where it is below 2^64.
-pub fn whole_number(digits: &[u8]) -> Option<u64>
-    ensures { result ≡ whole_below (2 ^ 64) digits.now }
+/// Parses decimal digits without a leading zero as a number below 2^64.
+pub fn parse_unsigned(digits: &[u8]) -> Option<u64>
+    ensures { result ≡ number_below (2 ^ 64) digits.now }
 {
     if has_leading_zero(digits) {
         return None;
@@ -35,57 +35,57 @@ pub fn whole_number(digits: &[u8]) -> Option<u64>
     Some(value)
 }
 
-/// The largest number of 64 bits.
-const LARGEST: u64 = 9223372036854775807;
+/// The greatest 64-bit integer.
+const MAX: u64 = 9223372036854775807;
 
-/// The number of 64 bits that these digits write.
-fn from_zero(digits: &[u8]) -> Option<i64>
-    ensures { result ≡ option_map pos (whole_below (2 ^ 63) digits.now) }
+/// Parses digits as a non-negative 64-bit integer.
+fn parse_non_negative(digits: &[u8]) -> Option<i64>
+    ensures { result ≡ option_map pos (number_below (2 ^ 63) digits.now) }
 {
-    let n = whole_number(digits)?;
-    if n <= LARGEST { Some(n as i64) } else { None }
+    let n = parse_unsigned(digits)?;
+    if n <= MAX { Some(n as i64) } else { None }
 }
 
-/// The number of 64 bits that these digits write after a `-`.
-fn below_zero(digits: &[u8]) -> Option<i64>
-    ensures { result ≡ option_map (λ n. neg_ℤ (pos n)) (whole_below (2 ^ 63 + 1) digits.now) }
+/// Parses the digits after a `-` as a 64-bit integer.
+fn parse_negated(digits: &[u8]) -> Option<i64>
+    ensures { result ≡ option_map (λ n. neg_ℤ (pos n)) (number_below (2 ^ 63 + 1) digits.now) }
 {
-    let n = whole_number(digits)?;
-    if n <= LARGEST {
+    let n = parse_unsigned(digits)?;
+    if n <= MAX {
         Some(-(n as i64))
-    } else if n == LARGEST + 1 {
+    } else if n == MAX + 1 {
         Some(i64::MIN)
     } else {
         None
     }
 }
 
-/// The number that an item spells.
+/// Parses an item as a 64-bit integer.
 pub fn parse_number(bytes: &[u8]) -> Option<i64>
-    ensures { result ≡ number_of bytes.now }
+    ensures { result ≡ parsed_number bytes.now }
 {
     match bytes {
         [] => None,
         [first, digits @ ..] => {
             if *first != b'-' {
-                from_zero(bytes)
+                parse_non_negative(bytes)
             } else if digits == b"0".as_slice() {
                 None
             } else {
-                below_zero(digits)
+                parse_negated(digits)
             }
         }
     }
 }
 
-/// The offset and the length that the words spell.
-pub fn parse_window(words: &[String]) -> Option<(u64, u64)>
-    ensures { result ≡ window_of (map string_bytes words.now) }
+/// Parses two arguments as an offset and a length.
+pub fn parse_slice(arguments: &[String]) -> Option<(u64, u64)>
+    ensures { result ≡ parsed_slice (map string_bytes arguments.now) }
 {
-    match words {
+    match arguments {
         [offset, len] => Some((
-            whole_number(offset.as_bytes())?,
-            whole_number(len.as_bytes())?,
+            parse_unsigned(offset.as_bytes())?,
+            parse_unsigned(len.as_bytes())?,
         )),
         _ => None,
     }

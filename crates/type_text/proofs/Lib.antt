@@ -1,9 +1,9 @@
 -- Lemmas of this crate.
-pub mod Fronts
-pub mod Numerals
-pub mod Parts
-pub mod Rows
-pub mod Again
+pub mod Prefixes
+pub mod Numbers
+pub mod Steps
+pub mod FieldRows
+pub mod RoundTrip
 pub mod Sound
-pub mod Answered
-pub mod Exact
+pub mod Results
+pub mod OnlyRepresentable

@@ -1,5 +1,5 @@
--- What contracts of this crate cite.
+-- Definitions that the contracts of this crate cite.
 pub mod Examples
-pub mod Heads
-pub mod Reading
-pub mod Told
+pub mod Keywords
+pub mod Representable
+pub mod TypeParser

@@ -1,36 +1,35 @@
-//! Laws of what is read, as functions with empty bodies.
+//! Properties of the parser, as functions with empty bodies.
 ghost use Rattle.std.specs.Prelude.{◌≡◌, ℕ, List, [], true, false, codes, Ok};
 ghost use Rattle.nest_memory.specs.TypeText.{text_of_type};
-ghost use Rattle.nest_memory.specs.TypeTree as types;
-ghost use Rattle.nest_memory.specs.TypeTree.{TypeTree, more_fields, no_fields};
-ghost use Rattle.type_text.specs.Examples.{AreBoth, no_pairs, null_map, nulls};
-ghost use Rattle.type_text.specs.Reading.{parse};
-ghost use Rattle.type_text.specs.Told.{IsTold};
+ghost use Rattle.nest_memory.specs.TypeTree.{TypeTree};
+ghost use Rattle.type_text.specs.Examples.{ShareText, map_of_null, null_map, one_field, two_fields};
+ghost use Rattle.type_text.specs.Representable.{IsRepresentable};
+ghost use Rattle.type_text.specs.TypeParser.{parsed_type};
 
-/// A data type of at most 64 levels of which the text tells everything is read from its text.
-pub fn types_are_read_back()
-    ensures { (t : TypeTree) → IsTold 64 t → parse (text_of_type t) ≡ Ok t }
+/// Every data type of at most 64 levels that its text represents in full is parsed from its text.
+pub fn representable_types_round_trip()
+    ensures { (t : TypeTree) → IsRepresentable 64 t → parsed_type (text_of_type t) ≡ Ok t }
 {}
 
-/// A data type that is read has the text that was given, all of it.
-pub fn texts_are_kept()
-    ensures { (bs : List ℕ) (t : TypeTree) → parse bs ≡ Ok t → text_of_type t ≡ bs }
+/// A parsed data type has exactly the given text.
+pub fn parsed_types_have_the_text()
+    ensures { (bs : List ℕ) (t : TypeTree) → parsed_type bs ≡ Ok t → text_of_type t ≡ bs }
 {}
 
-/// What is read is a data type of at most 64 levels of which the text tells everything: no other is read as itself.
-pub fn what_is_read_is_told()
-    ensures { (bs : List ℕ) (t : TypeTree) → parse bs ≡ Ok t → IsTold 64 t }
+/// Only data types of at most 64 levels that their text represents in full are parsed.
+pub fn parsed_types_are_representable()
+    ensures { (bs : List ℕ) (t : TypeTree) → parsed_type bs ≡ Ok t → IsRepresentable 64 t }
 {}
 
-/// Data types of at most 64 levels of which the text tells everything have one text only where they are one.
-pub fn one_text_one_type()
-    ensures { (t u : TypeTree) → IsTold 64 t → IsTold 64 u → text_of_type t ≡ text_of_type u → t ≡ u }
+/// Two data types that their text represents in full are equal if their texts are equal.
+pub fn equal_texts_have_equal_types()
+    ensures { (t u : TypeTree) → IsRepresentable 64 t → IsRepresentable 64 u → text_of_type t ≡ text_of_type u → t ≡ u }
 {}
 
-/// The shortest texts of two types each: of all types; of maps of the format, where the quotes hold the name of the values
-/// or that of the entries; and of structs, where two fields without a name are one with a long one.
-pub fn two_types_of_one_text()
-    ensures entries { AreBoth (codes "map<null>") (no_pairs true) (no_pairs false) }
-    ensures quotes { AreBoth (codes "map<null, null ('')>") (null_map [] (codes "entries")) (null_map (codes "value") []) }
-    ensures names { AreBoth (codes "struct<: null, : null>") (types.struct (more_fields (nulls []) (more_fields (nulls []) no_fields))) (types.struct (more_fields (nulls (codes ": null, ")) no_fields)) }
+/// Shortest texts that two types share: of any types; of valid maps, where the quotes hold the name of the values or of the
+/// entries; and of structs, where two unnamed fields print as one field with a long name.
+pub fn types_that_share_a_text()
+    ensures entries { ShareText (codes "map<null>") (map_of_null true) (map_of_null false) }
+    ensures quotes { ShareText (codes "map<null, null ('')>") (null_map [] (codes "entries")) (null_map (codes "value") []) }
+    ensures names { ShareText (codes "struct<: null, : null>") two_fields one_field }
 {}

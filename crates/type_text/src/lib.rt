@@ -1,14 +1,13 @@
-//! Data types read back from their text, the one that `Display` of `DataType` writes.
+//! Data types parsed from text: the inverse of `Display` for `DataType`.
 #![tactic(auto)]
 
 mod error;
-mod flat;
-mod head;
+mod keyword;
 pub mod laws;
-mod letters;
+mod lexer;
 mod nested;
+mod parametric;
 mod parse;
 
-pub use error::ParseError;
-pub use parse::{DEPTH, parse_type};
-
+pub use error::ParseTypeError;
+pub use parse::{MAX_DEPTH, parse_type};

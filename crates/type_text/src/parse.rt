@@ -1,70 +1,75 @@
-//! A data type from its whole text.
+//! Parses a complete text as a data type.
 ghost use Rattle.std.specs.Prelude.{◌≡◌, length, IfErr, IfOk, Ok};
 ghost use Rattle.nest_memory.specs.TypeOf.{type_of};
 ghost use Rattle.nest_memory.specs.TypeText.{text_of_type};
 ghost use Rattle.nest_memory.specs.TypeTree.{TypeTree};
-ghost use Rattle.type_text.specs.Reading.{Answers, Gives, IsWithin, Refuses, parse, read_whole};
-ghost use Rattle.type_text.specs.Told.{IsTold};
+ghost use Rattle.type_text.specs.TypeParser.{ParsesAs, ReadsAs, IsWithin, IsErrorOf, parsed_type, read_complete_type};
+ghost use Rattle.type_text.specs.Representable.{IsRepresentable};
 
-use crate::error::{Fault, ParseError, Stop};
+use crate::error::{ParseTypeError, PartError, SyntaxError};
 use crate::nested::type_at;
 use nest_memory::datatypes::DataType;
 use std::alloc::{AllocError, Global};
 
-/// How many levels of types inside of types are read: a list of numbers has two.
-pub const DEPTH: u32 = 64;
+/// The maximum nesting depth of a data type: a list of numbers has depth 2.
+pub const MAX_DEPTH: u32 = 64;
 
-/// The data type whose text this is, as `Display` of `DataType` writes it: the form of pyarrow's `str(data_type)`, which is
-/// `DataType::ToString` of Arrow's C++ library.
+/// Parses a data type from the text that `Display` of `DataType` writes, which is the text of pyarrow's `str(data_type)`
+/// and of `DataType::ToString` in Arrow C++.
 ///
-/// What is answered has exactly the text that was given (`kept`), and each type of which the text tells everything is read
-/// from its text (`told`). The text does not tell everything of these, and each is refused or read as another type of the
-/// same text:
+/// `Display` of the result is exactly the given text (`sound`), and every type that its text represents in full is parsed
+/// from its text (`complete`). The text doesn't represent these types in full. Each of them is rejected, or parsed as
+/// another type of the same text:
 ///
 /// - a type with metadata, of a field or of an extension;
-/// - a name that holds the mark that ends it: `: ` in a field's, `, ` in an extension's, `]` in a time zone, `')` in a map's;
-///   and a first field of a struct or a union whose name begins with `>`;
-/// - a union without ids, with negative ones, or with more or fewer ids than fields;
-/// - a map whose entries are no struct of two fields, or are nullable, whose keys are nullable or whose values are not, or
-///   of which only the entries have a name of their own and the keys are not sorted: the quotes are read as the values' name.
+/// - a name that contains its own terminator: `: ` in a field's name, `, ` in an extension's, `]` in a time zone, `')` in a
+///   name of a map; and a first field of a struct or a union whose name begins with `>`;
+/// - a union without type ids, with negative ones, or with more or fewer ids than fields;
+/// - a map whose entries are not a struct of two fields or are nullable, whose keys are nullable, or whose values are not;
+/// - a map of unsorted keys where only the entries have a name of their own: it is parsed as the name of the values.
 ///
 /// # Errors
 ///
-/// - `Text(i)`: at byte `i` stands something else than what has to: the beginning of a type, a unit, a mark as `>` or
-///   `, indices=`, a number without a leading zero and below 2^64 (an id below 2^31), a name with its end somewhere behind
-///   it, or, behind the type, the end of the text. The usual name in quotes is refused at the space before them.
-/// - `Depth(i)`: at byte `i` a type begins that stands inside of `DEPTH` others.
-/// - `Memory`: there was no memory for the type's names and parts.
-pub fn parse_type(alloc: Global, text: &str) -> Result<DataType, ParseError>
-    ensures exact { Answers result (parse text.now) }
-    ensures kept { IfOk result (λ t. text_of_type (type_of t) ≡ text.now) }
-    ensures told { (t : TypeTree) → IsTold 64 t → text_of_type t ≡ text.now → Answers result (Ok t) }
+/// - `Syntax(i)`: the text from byte `i` on is not what the syntax requires there: a type, a unit, punctuation such as `>` or
+///   `, indices=`, a number below 2^64 (a type id below 2^31) without a leading zero, a name with its terminator, or, after
+///   the type, the end of the text. A default name in quotes is an error at the space before the quotes.
+/// - `TooDeep(i)`: a type that is nested in `MAX_DEPTH` others begins at byte `i`.
+/// - `Memory`: an allocation fails.
+pub fn parse_type(alloc: Global, text: &str) -> Result<DataType, ParseTypeError>
+    ensures exact { ParsesAs result (parsed_type text.now) }
+    ensures sound { IfOk result (λ t. text_of_type (type_of t) ≡ text.now) }
+    ensures complete { (t : TypeTree) → IsRepresentable 64 t → text_of_type t ≡ text.now → ParsesAs result (Ok t) }
     ensures within { IfErr result (IsWithin (length text.now)) }
 {
-    match whole(alloc, text) {
+    match complete_type(alloc, text) {
         Ok(data_type) => Ok(data_type),
-        Err(stop) => Err(error_of(text.len(), stop)),
+        Err(error) => Err(locate(text.len(), error)),
     }
 }
 
-/// The error for a stop in a text of that length.
-fn error_of(len: usize, stop: Stop) -> ParseError
-    ensures { Refuses len stop result }
+/// Converts an error of the parser to the error for a text of `len` bytes.
+fn locate(len: usize, error: PartError) -> ParseTypeError
+    ensures { IsErrorOf len error result }
 {
-    match stop {
-        Stop::Fault(Fault::Text(left)) => ParseError::Text(len.saturating_sub(left)),
-        Stop::Fault(Fault::Depth(left)) => ParseError::Depth(len.saturating_sub(left)),
-        Stop::Memory => ParseError::Memory(AllocError),
+    match error {
+        PartError::Syntax(SyntaxError::Unexpected(remaining)) => ParseTypeError::Syntax(
+            len.saturating_sub(remaining),
+        ),
+        PartError::Syntax(SyntaxError::TooDeep(remaining)) => ParseTypeError::TooDeep(
+            len.saturating_sub(remaining),
+        ),
+        PartError::Memory => ParseTypeError::Memory(AllocError),
     }
 }
 
-#[tactic(auto, unfolding(crate::specs::Reading::read_whole))]
-fn whole(alloc: Global, text: &str) -> Result<DataType, Stop>
-    ensures { Gives type_of result (read_whole text.now) }
+/// Reads a data type that nothing follows.
+#[tactic(auto, unfolding(crate::specs::TypeParser::read_complete_type))]
+fn complete_type(alloc: Global, text: &str) -> Result<DataType, PartError>
+    ensures { ReadsAs type_of result (read_complete_type text.now) }
 {
-    let (data_type, rest) = type_at(alloc, DEPTH, text)?;
+    let (data_type, rest) = type_at(alloc, MAX_DEPTH, text)?;
     if !rest.is_empty() {
-        return Err(Stop::Fault(Fault::Text(rest.len())));
+        return Err(PartError::Syntax(SyntaxError::Unexpected(rest.len())));
     }
     Ok(data_type)
 }

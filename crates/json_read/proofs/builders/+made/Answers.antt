@@ -12,8 +12,8 @@ use Rattle.nest_model.specs.BuilderTree as builders
 use Rattle.nest_model.specs.NullKinds.{field_weight, fields_weight, fields-lighter, item-lighter, value-lighter}
 use Rattle.json_read.proofs.ChildLaws.{children-grow, field-read, read-of}
 use Rattle.json_read.proofs.EmptyLaws.{fields-read, item-read, item-there, keys-hold, lists-hold, no-map, no-union, records-empty, records-fit, value-read, value-there}
-use Rattle.json_read.specs.Empty.{AreEmptyOf, IsEmptyOf}
-use Rattle.json_read.specs.Types.{field_fault, fields_fault}
+use Rattle.json_read.specs.EmptyBuilders.{AreEmptyOf, IsEmptyOf}
+use Rattle.json_read.specs.UnsupportedTypes.{unsupported_field, unsupported_fields}
 use Rattle.json_read.proofs.builders.+made.Goals as goal
 
 pub children-made-child-requires : goal.children-made-child-requires
@@ -25,7 +25,7 @@ children-made-child-requires t c =
     let q = weight-of f u c.data_type.ensures in (
       omega (arith, e, w, q),
       read-of f u c.data_type.ensures
-          ∙ ap (λ x. field_fault (field_of x)) c.index-fields-i.is
+          ∙ ap (λ x. unsupported_field (field_of x)) c.index-fields-i.is
           ∙ field-read c.args.fields.now c.loop-i.i c.index-fields-i.result (omega arith) c.requires,
     )
 
@@ -73,19 +73,19 @@ pub records-children-requires : goal.records-children-requires
 records-children-requires t c =
     let a = type_of c.args.data_type.now in
     let e = ap fields_weight c.fields.ensures.fields in
-    (omega (arith, e, fields-lighter a), ap fields_fault c.fields.ensures.fields ∙ (fields-read a c.requires.kind c.requires.read).1)
+    (omega (arith, e, fields-lighter a), ap unsupported_fields c.fields.ensures.fields ∙ (fields-read a c.requires.kind c.requires.supported).1)
 
 pub records-new-records-requires-clause-whole : goal.records-new-records-requires-clause-whole
 records-new-records-requires-clause-whole t c =
     let a = type_of c.args.data_type.now in
     let bs = trees_of c.in-Ok.children.items in
-    (records-fit a bs c.requires.kind c.requires.read (subst (λ fs. AreEmptyOf fs bs) c.fields.ensures.fields c.in-Ok.ensures.ok)).0
+    (records-fit a bs c.requires.kind c.requires.supported (subst (λ fs. AreEmptyOf fs bs) c.fields.ensures.fields c.in-Ok.ensures.ok)).0
 
 pub records-new-records-requires-clause-fit : goal.records-new-records-requires-clause-fit
 records-new-records-requires-clause-fit t c =
     let a = type_of c.args.data_type.now in
     let bs = trees_of c.in-Ok.children.items in
-    subst (λ u. Pass (struct_checks u bs None)) (sym c.in-Ok-clone.ensures.ok) (records-fit a bs c.requires.kind c.requires.read (subst (λ fs. AreEmptyOf fs bs) c.fields.ensures.fields c.in-Ok.ensures.ok)).1
+    subst (λ u. Pass (struct_checks u bs None)) (sym c.in-Ok-clone.ensures.ok) (records-fit a bs c.requires.kind c.requires.supported (subst (λ fs. AreEmptyOf fs bs) c.fields.ensures.fields c.in-Ok.ensures.ok)).1
 
 pub records-returns-in-Ok-clone-clause-ok : goal.records-returns-in-Ok-clone-clause-ok
 records-returns-in-Ok-clone-clause-ok t c =

@@ -2,7 +2,7 @@ use Rattle.std.proofs.Common.{◌+◌, ◌*◌, take}
 use Rattle.nest_any.specs.Trees.{trees_of}
 use Rattle.nest_memory.specs.TypeOf.{field_list_of, type_of}
 use Rattle.nest_model.specs.NullKinds.{fields_weight, type_weight}
-use Rattle.json_read.specs.Empty.{AreEmptyOf}
+use Rattle.json_read.specs.EmptyBuilders.{AreEmptyOf}
 use Rattle.json_read.proofs.builders.+made.Given as goal
 
 abbrev pub decreases-made : goal.decreases-made

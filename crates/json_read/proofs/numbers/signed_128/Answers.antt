@@ -7,4 +7,4 @@ pub returns-in-Ok : goal.returns-in-Ok
 returns-in-Ok c = signed-ok w128 128 _ c.in_ok-text.text.now c.in-Ok.number refl c.in_ok-text.ensures c.in-Ok.ensures.value
 
 pub returns-in-Err : goal.returns-in-Err
-returns-in-Err c = signed-err w128 128 _ c.in_ok-text.text.now refl c.in_ok-text.ensures c.in-Err.ensures.value ∙ ap Some (sym c.misfit.ensures)
+returns-in-Err c = signed-err w128 128 _ c.in_ok-text.text.now refl c.in_ok-text.ensures c.in-Err.ensures.value ∙ ap Some (sym c.range_error.ensures)

@@ -6,4 +6,4 @@ returns-then-number-eq0 c =
     zero-read c.args.text.now c.in-Ok.number c.requires (rw c.as_bytes.ensures.value at c.in-Ok.ensures) c.if-number-eq0.true
 
 pub returns-in-Err : goal.returns-in-Err
-returns-in-Err c = (never-zero c.args.text.now c.requires (rw c.as_bytes.ensures.value at c.in-Err.ensures), c.misfit-in-Err.ensures)
+returns-in-Err c = (never-zero c.args.text.now c.requires (rw c.as_bytes.ensures.value at c.in-Err.ensures), c.range_error-in-Err.ensures)

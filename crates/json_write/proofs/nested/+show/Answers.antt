@@ -14,29 +14,29 @@ use Rattle.nest_model.specs.Layout.{layout_type, count_layouts, weight, weight_a
 use Rattle.nest_model.specs.Meaning.{each, len, run, slot}
 use Rattle.nest_model.specs.Slot as slots
 use Rattle.nest_model.specs.Slot.{seal}
-use Rattle.json_write.specs.Json.{comma, field_name, json_items, json_members, name_at, shown}
+use Rattle.json_write.specs.JsonText.{comma, field_name, json_items, json_members, field_name_at, slot_json}
 use Rattle.json_write.proofs.Nesting.{items-next, row-text, list-row, map-row, fixed-row, record-text, first-member, member-text, members-none, keyed-shown, name-place, name-shown, pick-text, union-typed}
 use Rattle.json_write.proofs.nested.+show.Goals as goal
 
-pub write_each-loop-k-init : goal.write_each-loop-k-init
-write_each-loop-k-init g t c plain = record { wrote = writes_in_calls_nil _ _; plain = plain }
+pub write_each_item-loop-k-init : goal.write_each_item-loop-k-init
+write_each_item-loop-k-init g t c plain = record { wrote = writes_in_calls_nil _ _; plain = plain }
 
-pub write_each-loop-k-preserved : goal.write_each-loop-k-preserved
-write_each-loop-k-preserved g t c plain =
+pub write_each_item-loop-k-preserved : goal.write_each_item-loop-k-preserved
+write_each_item-loop-k-preserved g t c plain =
     let a = layout_of c.args.array.now in
     let done = c.loop-k.invariant plain in
     let one = c.write_comma.ensures done.plain (search rules) in
     let two = c.write_slot.ensures one.plain (search rules) in
-    has_written_of_eq _ _ _ _ _ (items-next (layout_type a) (slot a) c.args.o c.loop-k.k) (has_written_append _ _ _ _ _ _ (has_written_append _ _ _ _ _ _ done one) two)
+    has_written_of_eq _ _ _ _ _ (items-next (layout_type a) (slot a) c.args.start c.loop-k.k) (has_written_append _ _ _ _ _ _ (has_written_append _ _ _ _ _ _ done one) two)
 
-pub write_each-returns : goal.write_each-returns
-write_each-returns g t c plain ok =
+pub write_each_item-returns : goal.write_each_item-returns
+write_each_item-returns g t c plain ok =
     let a = layout_of c.args.array.now in
-    let end : c.loop-k.k ≡ c.args.n = omega arith in
-    has_written_of_eq _ _ _ _ _ (ap (λ n. json_items (layout_type a) false (seal (run (slot a) c.args.o n))) end) (c.loop-k.invariant plain)
+    let end : c.loop-k.k ≡ c.args.count = omega arith in
+    has_written_of_eq _ _ _ _ _ (ap (λ n. json_items (layout_type a) false (seal (run (slot a) c.args.start n))) end) (c.loop-k.invariant plain)
 
-pub write_list-write_row-requires : goal.write_list-write_row-requires
-write_list-write_row-requires g t c κs within =
+pub write_list-write_list_slot-requires : goal.write_list-write_list_slot-requires
+write_list-write_list_slot-requires g t c κs within =
     let w = ap weight (c.array.ensures ∙ ap (λ (x : WindowParts). x.array) c.window-row.ensures.parts) in
     let v = ap weight c.known.ensures.kind in
     let u = ap len c.array.ensures in (omega (arith, w, v), (within, omega (arith, u, c.offset.ensures, c.len.ensures, c.known-2.ensures)))
@@ -46,10 +46,10 @@ write_list-returns g t c plain ok =
     let a = c.args.array.now in
     let w = c.window-row.result in
     let row = list-row false a c.args.i _ _ c.is_null.result w c.known.ensures.fits c.known.ensures.kind c.window-row.ensures.parts c.known-2.ensures c.window-row.ensures.items c.is_null.ensures.place in
-    has_written_of_eq _ _ _ _ _ (row-text a (layout_of c.array.result.now) c.args.i c.offset.result c.len.result c.is_null.result w row c.array.ensures c.offset.ensures c.len.ensures) (c.write_row.ensures plain ok)
+    has_written_of_eq _ _ _ _ _ (row-text a (layout_of c.array.result.now) c.args.i c.offset.result c.len.result c.is_null.result w row c.array.ensures c.offset.ensures c.len.ensures) (c.write_list_slot.ensures plain ok)
 
-pub write_large_list-write_row-requires : goal.write_large_list-write_row-requires
-write_large_list-write_row-requires g t c κs within =
+pub write_large_list-write_list_slot-requires : goal.write_large_list-write_list_slot-requires
+write_large_list-write_list_slot-requires g t c κs within =
     let w = ap weight (c.array.ensures ∙ ap (λ (x : WindowParts). x.array) c.window-row.ensures.parts) in
     let v = ap weight c.known.ensures.kind in
     let u = ap len c.array.ensures in (omega (arith, w, v), (within, omega (arith, u, c.offset.ensures, c.len.ensures, c.known-2.ensures)))
@@ -59,10 +59,10 @@ write_large_list-returns g t c plain ok =
     let a = c.args.array.now in
     let w = c.window-row.result in
     let row = list-row true a c.args.i _ _ c.is_null.result w c.known.ensures.fits c.known.ensures.kind c.window-row.ensures.parts c.known-2.ensures c.window-row.ensures.items c.is_null.ensures.place in
-    has_written_of_eq _ _ _ _ _ (row-text a (layout_of c.array.result.now) c.args.i c.offset.result c.len.result c.is_null.result w row c.array.ensures c.offset.ensures c.len.ensures) (c.write_row.ensures plain ok)
+    has_written_of_eq _ _ _ _ _ (row-text a (layout_of c.array.result.now) c.args.i c.offset.result c.len.result c.is_null.result w row c.array.ensures c.offset.ensures c.len.ensures) (c.write_list_slot.ensures plain ok)
 
-pub write_fixed_size_list-write_row-requires : goal.write_fixed_size_list-write_row-requires
-write_fixed_size_list-write_row-requires g t c κs within =
+pub write_fixed_size_list-write_list_slot-requires : goal.write_fixed_size_list-write_list_slot-requires
+write_fixed_size_list-write_list_slot-requires g t c κs within =
     let w = ap weight (c.array.ensures ∙ ap (λ (x : WindowParts). x.array) c.window-row.ensures.parts) in
     let v = ap weight c.known.ensures.kind in
     let u = ap len c.array.ensures in (omega (arith, w, v), (within, omega (arith, u, c.offset.ensures, c.len.ensures, c.known-2.ensures)))
@@ -72,10 +72,10 @@ write_fixed_size_list-returns g t c plain ok =
     let a = c.args.array.now in
     let w = c.window-row.result in
     let row = fixed-row a c.args.i _ _ c.is_null.result w c.known.ensures.fits c.known.ensures.kind c.window-row.ensures.parts c.known-2.ensures c.window-row.ensures.items c.is_null.ensures.place in
-    has_written_of_eq _ _ _ _ _ (row-text a (layout_of c.array.result.now) c.args.i c.offset.result c.len.result c.is_null.result w row c.array.ensures c.offset.ensures c.len.ensures) (c.write_row.ensures plain ok)
+    has_written_of_eq _ _ _ _ _ (row-text a (layout_of c.array.result.now) c.args.i c.offset.result c.len.result c.is_null.result w row c.array.ensures c.offset.ensures c.len.ensures) (c.write_list_slot.ensures plain ok)
 
-pub write_map-write_row-requires : goal.write_map-write_row-requires
-write_map-write_row-requires g t c κs within =
+pub write_map-write_list_slot-requires : goal.write_map-write_list_slot-requires
+write_map-write_list_slot-requires g t c κs within =
     let w = ap weight (c.array.ensures ∙ ap (λ (x : WindowParts). x.array) c.window-row.ensures.parts) in
     let v = ap weight c.known.ensures.kind in
     let u = ap len c.array.ensures in (omega (arith, w, v), (within, omega (arith, u, c.offset.ensures, c.len.ensures, c.known-2.ensures)))
@@ -85,11 +85,11 @@ write_map-returns g t c plain ok =
     let a = c.args.array.now in
     let w = c.window-row.result in
     let row = map-row a c.args.i _ _ c.is_null.result w c.known.ensures.fits c.known.ensures.kind c.window-row.ensures.parts c.known-2.ensures c.window-row.ensures.items c.is_null.ensures.place in
-    has_written_of_eq _ _ _ _ _ (row-text a (layout_of c.array.result.now) c.args.i c.offset.result c.len.result c.is_null.result w row c.array.ensures c.offset.ensures c.len.ensures) (c.write_row.ensures plain ok)
+    has_written_of_eq _ _ _ _ _ (row-text a (layout_of c.array.result.now) c.args.i c.offset.result c.len.result c.is_null.result w row c.array.ensures c.offset.ensures c.len.ensures) (c.write_list_slot.ensures plain ok)
 
 pub write_slot-returns-in-Null : goal.write_slot-returns-in-Null
 write_slot-returns-in-Null g t c plain ok =
-    has_written_of_eq _ _ _ _ _ (sym (ap (λ x. shown (layout_of x) c.args.i) c.in-Null.is ∙ ap (λ b. shown b c.args.i) c.known.ensures.kind)) (c.write_str.ensures.writes plain ok)
+    has_written_of_eq _ _ _ _ _ (sym (ap (λ x. slot_json (layout_of x) c.args.i) c.in-Null.is ∙ ap (λ b. slot_json b c.args.i) c.known.ensures.kind)) (c.write_str.ensures.writes plain ok)
 
 pub write_members-loop-field-init : goal.write_members-loop-field-init
 write_members-loop-field-init g t c =
@@ -134,7 +134,7 @@ write_members-loop-field-preserved g t c =
           let two = c.write_quoted.ensures one.plain (search rules) in
           let three = c.write_str.ensures.writes two.plain (search rules) in
           let four = c.write_slot.ensures three.plain (search rules) in (
-            (((done ++ comma c.loop-field.after) ++ quoted c.name.result.now) ++ codes ":") ++ shown (layout_of c.in-Some.child.now) c.args.i,
+            (((done ++ comma c.loop-field.after) ++ quoted c.name.result.now) ++ codes ":") ++ slot_json (layout_of c.in-Some.child.now) c.args.i,
             has_written_append _ _ _ _ _ _ (has_written_append _ _ _ _ _ _ (has_written_append _ _ _ _ _ _ (has_written_append _ _ _ _ _ _ wrote one) two) three) four,
             member-text c.in-Some.child.now c.in-Some.field.now l.a.rest.now c.next.new.self.a.rest.now l.b.rest.now c.next.new.self.b.rest.now c.args.i c.loop-field.after done _ _ e h x.typed c.name.ensures whole,
           ),
@@ -147,8 +147,8 @@ write_members-returns g t c plain ok =
     let (done, wrote, whole) = text plain in
     has_written_of_eq _ _ _ _ _ (members-none l.a.rest.now l.b.rest.now c.args.i c.loop-field.after done _ typed (elim c.in-None.ensures.steps [ inl x ↦ inl x.1.0 | inr x ↦ inr x.1.0 ]) whole) wrote
 
-pub write_record-write_members-requires : goal.write_record-write_members-requires
-write_record-write_members-requires g t c κs within =
+pub write_struct-write_members-requires : goal.write_struct-write_members-requires
+write_struct-write_members-requires g t c κs within =
     let a = c.args.array.now in
     let cs = layouts_of c.values.result.now in
     let x = struct-known a cs c.known.ensures.fits c.known.ensures.kind c.values.ensures in
@@ -164,8 +164,8 @@ write_record-write_members-requires g t c κs within =
       ),
     )
 
-pub write_record-returns : goal.write_record-returns
-write_record-returns g t c plain ok =
+pub write_struct-returns : goal.write_struct-returns
+write_struct-returns g t c plain ok =
     let a = c.args.array.now in
     let cs = layouts_of c.values.result.now in
     let x = struct-known a cs c.known.ensures.fits c.known.ensures.kind c.values.ensures in
@@ -175,39 +175,39 @@ write_record-returns g t c plain ok =
     has_written_of_eq _ _ _ _ _ (record-text (layout_type a) _ _ _ x.typed c.fields.ensures (record-shown a cs c.args.i _ c.known.ensures.kind c.values.ensures c.is_null.ensures.place c.if-is_null.false))
     (has_written_append _ _ _ _ _ _ (has_written_append _ _ _ _ _ _ one two) three)
 
-pub write_keyed-returns : goal.write_keyed-returns
-write_keyed-returns g t c plain ok =
+pub write_dictionary-returns : goal.write_dictionary-returns
+write_dictionary-returns g t c plain ok =
     let a = c.args.array.now in
     let valid = sym c.is_null.ensures.place ∙ c.if-is_null.false in
     has_written_of_eq _ _ _ _ _ (keyed-shown a _ c.args.i _ c.known.ensures.fits c.known.ensures.kind valid c.values.ensures c.key_value.ensures.key) (c.write_slot.ensures plain ok)
 
-pub write_pick-bounds-fields-k : goal.write_pick-bounds-fields-k
-write_pick-bounds-fields-k g t c =
+pub write_union-bounds-fields-k : goal.write_union-bounds-fields-k
+write_union-bounds-fields-k g t c =
     let a = c.args.array.now in
     name-place a _ _ c.known.ensures.fits c.known.ensures.kind (c.get_fields-fields.ensures ∙ ap fields_of c.data_type.ensures) c.index-k.ensures.field_there
 
-pub write_pick-bounds-children-k : goal.write_pick-bounds-children-k
-write_pick-bounds-children-k g t c =
+pub write_union-bounds-children-k : goal.write_union-bounds-children-k
+write_union-bounds-children-k g t c =
     let n = layouts-count c.fields-children.result.now in
     let e = ap count_layouts c.fields-children.ensures in
     omega (arith, n, e, c.index-k.ensures.field_there)
 
-pub write_pick-write_slot-requires : goal.write_pick-write_slot-requires
-write_pick-write_slot-requires g t c κs within =
+pub write_union-write_slot-requires : goal.write_union-write_slot-requires
+write_union-write_slot-requires g t c κs within =
     let a = c.args.array.now in
     let there = child-there _ (children_of a) _ _ c.fields-children.ensures c.index-k.ensures.field_there c.index-children-k.is in
     let w = child-lighter a _ _ _ c.known.ensures.kind c.fields-children.ensures c.index-k.ensures.field_there c.index-children-k.is in
     let l = ap len there in
     (omega (arith, w), (within, omega (arith, l, c.index-k.ensures.slot_there)))
 
-pub write_pick-returns : goal.write_pick-returns
-write_pick-returns g t c plain ok =
+pub write_union-returns : goal.write_union-returns
+write_union-returns g t c plain ok =
     let a = c.args.array.now in
     let k = c.index-k.result.0 in
     let there = child-there _ (children_of a) k _ c.fields-children.ensures c.index-k.ensures.field_there c.index-children-k.is in
     let fields = c.get_fields-fields.ensures ∙ ap fields_of c.data_type.ensures in
     let named = name-place a _ k c.known.ensures.fits c.known.ensures.kind fields c.index-k.ensures.field_there in
-    let name = c.name.ensures ∙ ap (λ f. field_name (field_of f)) c.index-fields-k.is ∙ sym (name-shown c.get_fields-fields.result.now k c.index-fields-k.result named) ∙ ap (λ fs. name_at fs k) fields in
+    let name = c.name.ensures ∙ ap (λ f. field_name (field_of f)) c.index-fields-k.is ∙ sym (name-shown c.get_fields-fields.result.now k c.index-fields-k.result named) ∙ ap (λ fs. field_name_at fs k) fields in
     let one = c.write_str.ensures.writes plain (search rules) in
     let two = c.write_quoted.ensures one.plain (search rules) in
     let three = c.write_str-2.ensures.writes two.plain (search rules) in

@@ -6,13 +6,13 @@ use Rattle.nest_model.specs.Fits.{EachCovers, EachType}
 use Rattle.nest_model.specs.Layout.{layout_type, weight, weight_all}
 use Rattle.nest_model.specs.Meaning.{each, run, slot}
 use Rattle.nest_model.specs.Slot.{seal}
-use Rattle.json_write.specs.Json.{json_items, json_members}
+use Rattle.json_write.specs.JsonText.{json_items, json_members}
 use Rattle.json_write.proofs.nested.+show.Given as goal
 
-abbrev pub invariant-write_each-loop-k : goal.invariant-write_each-loop-k
-invariant-write_each-loop-k g l =
+abbrev pub invariant-write_each_item-loop-k : goal.invariant-write_each_item-loop-k
+invariant-write_each_item-loop-k g l =
     IsPlainFormatter l.initial.f
-    → HasWritten g.W.Write.write_str_gives l.initial.f (json_items (layout_type (layout_of l.array)) false (seal (run (slot (layout_of l.array)) l.o l.k))) l.f
+    → HasWritten g.W.Write.write_str_gives l.initial.f (json_items (layout_type (layout_of l.array)) false (seal (run (slot (layout_of l.array)) l.start l.k))) l.f
 
 abbrev pub invariant-write_members-loop-field : goal.invariant-write_members-loop-field
 invariant-write_members-loop-field g l =
@@ -25,17 +25,17 @@ invariant-write_members-loop-field g l =
 abbrev pub decreases-write_slot : goal.decreases-write_slot
 decreases-write_slot g l = 8 * weight (layout_of l.array.now) + 1
 
-abbrev pub decreases-write_run : goal.decreases-write_run
-decreases-write_run g l = 8 * weight (layout_of l.array.now) + 4
+abbrev pub decreases-write_array : goal.decreases-write_array
+decreases-write_array g l = 8 * weight (layout_of l.array.now) + 4
 
 abbrev pub decreases-write_items : goal.decreases-write_items
 decreases-write_items g l = 8 * weight (layout_of l.array.now) + 3
 
-abbrev pub decreases-write_each : goal.decreases-write_each
-decreases-write_each g l = 8 * weight (layout_of l.array.now) + 2
+abbrev pub decreases-write_each_item : goal.decreases-write_each_item
+decreases-write_each_item g l = 8 * weight (layout_of l.array.now) + 2
 
-abbrev pub decreases-write_row : goal.decreases-write_row
-decreases-write_row g l = 8 * weight (layout_of l.items.now) + 5
+abbrev pub decreases-write_list_slot : goal.decreases-write_list_slot
+decreases-write_list_slot g l = 8 * weight (layout_of l.items.now) + 5
 
 abbrev pub decreases-write_list : goal.decreases-write_list
 decreases-write_list g l = 8 * weight l.array.now
@@ -49,14 +49,14 @@ decreases-write_fixed_size_list g l = 8 * weight l.array.now
 abbrev pub decreases-write_map : goal.decreases-write_map
 decreases-write_map g l = 8 * weight l.array.now
 
-abbrev pub decreases-write_record : goal.decreases-write_record
-decreases-write_record g l = 8 * weight l.array.now
+abbrev pub decreases-write_struct : goal.decreases-write_struct
+decreases-write_struct g l = 8 * weight l.array.now
 
 abbrev pub decreases-write_members : goal.decreases-write_members
 decreases-write_members g l = 8 * weight_all (layouts_of l.children.now) + 2
 
-abbrev pub decreases-write_pick : goal.decreases-write_pick
-decreases-write_pick g l = 8 * weight l.array.now
+abbrev pub decreases-write_union : goal.decreases-write_union
+decreases-write_union g l = 8 * weight l.array.now
 
-abbrev pub decreases-write_keyed : goal.decreases-write_keyed
-decreases-write_keyed g l = 8 * weight l.array.now
+abbrev pub decreases-write_dictionary : goal.decreases-write_dictionary
+decreases-write_dictionary g l = 8 * weight l.array.now

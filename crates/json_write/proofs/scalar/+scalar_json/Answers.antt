@@ -7,12 +7,12 @@ use Rattle.nest_array.specs.Seen.{layout_of}
 use Rattle.nest_array.specs.SeenScalar.{ValueFits, slot_of_value}
 use Rattle.nest_memory.specs.TypeOf.{field_list_of}
 use Rattle.nest_model.specs.Slot.{node_count, count_within}
-use Rattle.json_write.specs.Json.{comma, json_members, json_of_slot, members_of}
-use Rattle.json_write.proofs.SingleSlots.{members-shown, items-text, first-value, value-text, values-none}
+use Rattle.json_write.specs.JsonText.{comma, json_members, json_of_slot, members_of}
+use Rattle.json_write.proofs.ScalarText.{members-shown, items-text, first-value, value-text, values-none}
 use Rattle.json_write.proofs.scalar.+scalar_json.Goals as goal
 
-pub write_values-loop-field-init : goal.write_values-loop-field-init
-write_values-loop-field-init g t c =
+pub write_scalar_members-loop-field-init : goal.write_scalar_members-loop-field-init
+write_scalar_members-loop-field-init g t c =
     let all = c.args.fields.now in
     let every = c.args.values.now in
     let it = c.into_iter-field-iterator.result in
@@ -28,15 +28,15 @@ write_values-loop-field-init g t c =
       ),
     )
 
-pub write_values-write_scalar-requires : goal.write_values-write_scalar-requires
-write_values-write_scalar-requires g t c κs within =
+pub write_scalar_members-write_scalar-requires : goal.write_scalar_members-write_scalar-requires
+write_scalar_members-write_scalar-requires g t c κs within =
     let l = c.loop-field.field-iterator in
     let (typed, lighter, text) = c.loop-field.invariant in
     let x = first-value c.in-Some.value.now c.in-Some.field.now l.a.rest.now c.next.new.self.a.rest.now l.b.rest.now c.next.new.self.b.rest.now c.in-Some.ensures.steps.0 c.in-Some.ensures.steps.1 typed in
     (omega (arith, x.lighter, lighter), within)
 
-pub write_values-loop-field-preserved : goal.write_values-loop-field-preserved
-write_values-loop-field-preserved g t c =
+pub write_scalar_members-loop-field-preserved : goal.write_scalar_members-loop-field-preserved
+write_scalar_members-loop-field-preserved g t c =
     let l = c.loop-field.field-iterator in
     let (typed, lighter, text) = c.loop-field.invariant in
     let e = c.in-Some.ensures.steps.0 in
@@ -56,15 +56,15 @@ write_values-loop-field-preserved g t c =
           ),
     )
 
-pub write_values-returns : goal.write_values-returns
-write_values-returns g t c plain ok =
+pub write_scalar_members-returns : goal.write_scalar_members-returns
+write_scalar_members-returns g t c plain ok =
     let l = c.loop-field.field-iterator in
     let (typed, lighter, text) = c.loop-field.invariant in
     let (done, wrote, whole) = text plain in
     has_written_of_eq _ _ _ _ _ (values-none l.a.rest.now l.b.rest.now c.loop-field.after done _ typed (elim c.in-None.ensures.steps [ inl x ↦ inl x.1.0 | inr x ↦ inr x.1.0 ]) whole) wrote
 
-pub write_scalar-write_values-requires : goal.write_scalar-write_values-requires
-write_scalar-write_values-requires g t c κs within =
+pub write_scalar-write_scalar_members-requires : goal.write_scalar-write_scalar_members-requires
+write_scalar-write_scalar_members-requires g t c κs within =
     let dt = c.args.scalar.now.data_type in
     let fits = subst (ValueFits dt) c.in-Struct.is c.value.ensures.fits in
     let w = ap node_count (sym c.value.ensures.slot ∙ ap slot_of_value c.in-Struct.is) in
@@ -76,4 +76,4 @@ pub write_scalar-returns-in-List : goal.write_scalar-returns-in-List
 write_scalar-returns-in-List g t c plain ok =
     let dt = c.args.scalar.now.data_type in
     let fits = subst (ValueFits dt) c.in-List.is c.value.ensures.fits in
-    has_written_of_eq _ _ _ _ _ (items-text dt (layout_of c.in-List.items) _ _ c.len.ensures fits (sym (ap slot_of_value c.in-List.is) ∙ c.value.ensures.slot)) (c.write_run.ensures plain ok)
+    has_written_of_eq _ _ _ _ _ (items-text dt (layout_of c.in-List.items) _ _ c.len.ensures fits (sym (ap slot_of_value c.in-List.is) ∙ c.value.ensures.slot)) (c.write_array.ensures plain ok)

@@ -1,7 +1,7 @@
 use Rattle.std.proofs.Common.{◌≡◌, ◌+◌, ◌*◌, ◌-◌, length}
 use Rattle.std.specs.Str.{IsUtf8}
-use Rattle.type_text.specs.Reading.{fields_on, read_type, views}
-use Rattle.type_text.proofs.Parts.{with_front}
+use Rattle.type_text.specs.TypeParser.{read_some_fields, read_type, fields_and_ids}
+use Rattle.type_text.proofs.Steps.{with_front}
 use Rattle.type_text.proofs.nested.+types.Given as goal
 
 abbrev pub decreases-type_at : goal.decreases-type_at
@@ -28,14 +28,17 @@ decreases-union l = 8 * l.levels + 5
 abbrev pub decreases-map : goal.decreases-map
 decreases-map l = 8 * l.levels + 5
 
+abbrev pub decreases-map_fields : goal.decreases-map_fields
+decreases-map_fields l = 8 * l.levels + 4
+
 abbrev pub decreases-dictionary : goal.decreases-dictionary
 decreases-dictionary l = 8 * l.levels + 5
 
 abbrev pub decreases-extension : goal.decreases-extension
 decreases-extension l = 8 * l.levels + 5
 
-abbrev pub decreases-items : goal.decreases-items
-decreases-items l = 8 * l.levels + 2
+abbrev pub decreases-item_field : goal.decreases-item_field
+decreases-item_field l = 8 * l.levels + 2
 
 abbrev pub decreases-fields : goal.decreases-fields
 decreases-fields l = 8 * l.levels + 4
@@ -46,10 +49,10 @@ decreases-some_fields l = 8 * l.levels + 3
 abbrev pub decreases-field : goal.decreases-field
 decreases-field l = 8 * l.levels + 1
 
-abbrev pub decreases-part : goal.decreases-part
-decreases-part l = 8 * l.levels + 1
+abbrev pub decreases-entry_field : goal.decreases-entry_field
+decreases-entry_field l = 8 * l.levels + 1
 
--- what was read so far and what is read of the rest is what is read of the text
+-- the fields so far and what is parsed of the rest are what is parsed of the text
 abbrev pub invariant-some_fields-loop : goal.invariant-some_fields-loop
 invariant-some_fields-loop l =
-    IsUtf8 l.rest × (with_front (views (l.fields, l.ids)) (fields_on l.has_ids (read_type l.levels) (length l.text - l.counter) l.rest) ≡ fields_on l.has_ids (read_type l.levels) (length l.text) l.text)
+    IsUtf8 l.rest × (with_front (fields_and_ids (l.fields, l.ids)) (read_some_fields l.has_ids (read_type l.levels) (length l.text - l.counter) l.rest) ≡ read_some_fields l.has_ids (read_type l.levels) (length l.text) l.text)

@@ -1,5 +1,0 @@
-use Rattle.json_read.proofs.ReadBack.{bytes-back}
-use Rattle.json_read.proofs.laws.bytes_are_read_back.Goals as goal
-
-pub returns : goal.returns
-returns c bs h = bytes-back bs h

@@ -1,5 +1,0 @@
-use Rattle.json_read.proofs.ReadBack.{numbers-back}
-use Rattle.json_read.proofs.laws.numbers_are_read_back.Goals as goal
-
-pub returns : goal.returns
-returns c p t z zs h = numbers-back p t z zs h

@@ -1,5 +1,0 @@
-use Rattle.json_read.proofs.RoundTrip.{slot-back}
-use Rattle.json_read.proofs.laws.slots_are_read_back.Goals as goal
-
-pub returns : goal.returns
-returns c t s a h b = slot-back t s a h b

@@ -1,0 +1,5 @@
+use Rattle.json_read.proofs.RoundTrip.{slot-back}
+use Rattle.json_read.proofs.laws.slots_round_trip.Goals as goal
+
+pub returns : goal.returns
+returns c t s a h b = slot-back t s a h b

@@ -1,0 +1,62 @@
+//! Errors of adding JSON values to builders.
+ghost use Rattle.std.specs.Prelude.{◌≡◌};
+ghost use Rattle.json_read.specs.declared.value_error.PushError.TheVariants.{Memory};
+
+use std::alloc::{AllocError, AllocFailed};
+use thiserror::Error;
+
+/// A JSON value that is no slot of the data type.
+#[derive(Clone, Copy, Debug, PartialEq, Eq, Error)]
+pub enum ValueError {
+    /// The value has another JSON type than the data type requires, such as a string for an integer.
+    #[error("value of another type")]
+    WrongType,
+    /// The number has a fraction or an exponent.
+    #[error("number is not an integer")]
+    NotAnInteger,
+    /// The integer is out of the range of its type.
+    #[error("integer out of range")]
+    OutOfRange,
+    /// The string of a binary value is not pairs of hexadecimal digits.
+    #[error("binary value is not a string of hexadecimal digit pairs")]
+    InvalidHex,
+    /// The number of items, bytes or numbers is not that of the data type.
+    #[error("wrong number of items or bytes")]
+    WrongLength,
+    /// The name of the member is not that of a field.
+    #[error("unknown field")]
+    UnknownField,
+    /// A member before has the same name.
+    #[error("duplicate field")]
+    DuplicateField,
+}
+
+/// Error returned when a value is added to a builder.
+#[derive(Clone, Copy, Debug, PartialEq, Eq, Error)]
+pub enum PushError {
+    /// The value is no slot of the data type. Of several errors it is the first in the order of the text.
+    #[error("{0}")]
+    Value(ValueError),
+    /// The array or a child array would exceed the maximum length, the offset type or the key type.
+    #[error("array exceeds its maximum size")]
+    Overflow,
+    /// An allocation failed.
+    #[error("out of memory")]
+    Memory,
+}
+
+impl From<AllocError> for PushError {
+    ghost from_gives = { λ _ e. e ≡ Memory };
+
+    fn from(_error: AllocError) -> PushError {
+        PushError::Memory
+    }
+}
+
+impl<T: Drop> From<AllocFailed<T>> for PushError {
+    ghost from_gives = { λ _ e. e ≡ Memory };
+
+    fn from(_error: AllocFailed<T>) -> PushError {
+        PushError::Memory
+    }
+}
