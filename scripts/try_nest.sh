@@ -1,15 +1,15 @@
 #!/usr/bin/env bash
-# Runs the built program as a shell does: what it prints, what it says of a fault, and its exit status.
+# Runs the built program and compares its output, its error message and its exit status.
 # Usage, at the top of the repository and after the gate or `(cd crates/nest && rt run -- --help)`:
-#     bash scripts/try_nest.sh           prints a line for each run that differs, and fails then
+#     bash scripts/try_nest.sh           prints a line for each difference, and fails if there is one
 set -u
 program=crates/nest/out/nest
 room=$(mktemp -d)
 trap 'rm -rf "$room"' EXIT
 failed=0
 
-# Streams and files of another writer: a column `a` of numbers and a column `b` of texts in batches of 2, 0 and 1 rows; one whose
-# body is compressed; three rows without a column; columns `a` and `b` of booleans.
+# Streams and files of another implementation: an int32 column `a` and a string column `b` in record batches of 2, 0 and 1 rows; a
+# compressed one; three rows without a column; boolean columns `a` and `b`.
 unpack() {
     base64 -d | gzip -dc >"$room/$1"
 }
@@ -20,19 +20,24 @@ unpack bare <<<'H4sIAAAAAAACA/v///9/AwYGBgEg5mLgZuAAkixANg9UjIWBESjGAWZBSAgAavsf
 unpack truths <<<'H4sIAAAAAAAC/2VQwQ3CMAy8hqiKSB4G+mAM3szQJWArNkBMwG48wtk1SkktXe5i+5I4tdb6BCDEHhmJa6QunosYmEumlhUIxJmYrefInOBg1WIe8bpiGAnyjV3q5dZCHdH43zc5tE99d+KKFnxufXtPwcnuL3ZSuxdej9hxmom8nK8zZa+rvrgOq3xwzthGXOlfX+r20nmkq3/8Ax6eeI1tLuUvfqcw3pABAAA='
 head -c 500 "$room/file" >"$room/cut"
 printf 'a,b\n1,2\n' >"$room/csv"
-# Of the stream: without its batch of 0 rows; without its last batch; with another number in its last row.
+# The stream without its record batch of 0 rows, without its last record batch, and with another integer in its last row.
 { head -c 424 "$room/stream"; tail -c +633 "$room/stream"; } >"$room/parts"
 { head -c 632 "$room/stream"; tail -c 8 "$room/stream"; } >"$room/shorter"
 { head -c 840 "$room/stream"; printf '\4'; tail -c +842 "$room/stream"; } >"$room/unlike"
 
-# STATUS OUTPUT FAULT WORD..
+# The messages of the crates of the IPC formats.
+continuation='message does not begin with the continuation indicator FF FF FF FF'
+compressed='compressed bodies are not supported'
+magic='file does not begin and end with ARROW1'
+
+# expect STATUS OUTPUT MESSAGE ARGUMENT ..
 expect() {
-    local status=$1 output=$2 fault=$3
+    local status=$1 output=$2 message=$3
     shift 3
     local said got
     said=$("$program" "$@" 2>&1 >"$room/wrote" <"$room/stream")
     got=$?
-    if [ "$got" != "$status" ] || [ "$said" != "$fault" ] || ! printf "$output" | cmp -s - "$room/wrote"; then
+    if [ "$got" != "$status" ] || [ "$said" != "$message" ] || ! printf "$output" | cmp -s - "$room/wrote"; then
         echo "nest $*: status $got, said '$said', wrote '$(cat "$room/wrote")'"
         failed=1
     fi
@@ -46,43 +51,43 @@ for file in "$room/stream" "$room/file" -; do
     expect 0 '{"a":null,"b":"b"}\n' '' rows "$file" 1 1
     expect 0 '' '' rows "$file" 3 1
     expect 0 '{"a":null,"b":"b"}\n{"a":3,"b":null}\n' '' cut "$file" 1 5
-    expect 1 '' "nest: $file: the column is not of booleans" where "$file" b
+    expect 1 '' "nest: $file: the column is not boolean" where "$file" b
     expect 1 '' "nest: $file: there is no column of that name" where "$file" c
     expect 0 '{"a":3,"b":null}\n{"a":1,"b":"a"}\n{"a":3,"b":null}\n' '' take "$file" 2 0 2
     expect 0 '' '' take "$file"
-    expect 1 '' "nest: $file: there is no row at a place" take "$file" 0 3
+    expect 1 '' "nest: $file: a row index is out of range" take "$file" 0 3
     expect 0 '' '' convert "$file" "$room/as.arrows"
     expect 0 "$all" '' rows "$room/as.arrows"
     expect 0 '' '' convert "$room/as.arrows" "$room/as"
     expect 0 "$all" '' rows "$room/as"
     case $(head -c 4 "$room/as.arrows" | od -An -tx1)$(head -c 6 "$room/as") in
     ' ff ff ff ffARROW1') ;;
-    *) echo 'nest convert: another form'; failed=1 ;;
+    *) echo 'nest convert: another format'; failed=1 ;;
     esac
 done
 expect 0 '' '' convert "$room/as" "$room/as"
 expect 0 "$all" '' rows "$room/as"
 expect 0 '{"a":true,"b":false}\n{"a":true,"b":true}\n{"a":true,"b":false}\n{"a":true,"b":true}\n{"a":true,"b":true}\n' '' where "$room/truths" a
-expect 1 '' "nest: $room/packed: batch 0: the body is compressed; it has to be written without compression" convert "$room/packed" "$room/as"
+expect 1 '' "nest: $room/packed: record batch 0: $compressed; write it without compression" convert "$room/packed" "$room/as"
 expect 0 "$all" '' rows "$room/as"
 expect 1 '' "nest: $room/none/as: output cannot be written" convert "$room/file" "$room/none/as"
-expect 1 '' "nest: $room/packed: batch 0: the body is compressed; it has to be written without compression" rows "$room/packed"
+expect 1 '' "nest: $room/packed: record batch 0: $compressed; write it without compression" rows "$room/packed"
 expect 0 '' '' rows "$room/packed" 0 0
-expect 1 '' "nest: $room/csv: a message does not begin with FF FF FF FF" rows "$room/csv"
-expect 1 '' "nest: $room/cut: the file does not begin and end with ARROW1" schema "$room/cut"
-expect 1 '' "nest: $room/bare: batch 0: a batch has no columns of the schema" rows "$room/bare"
+expect 1 '' "nest: $room/csv: $continuation" rows "$room/csv"
+expect 1 '' "nest: $room/cut: $magic" schema "$room/cut"
+expect 1 '' "nest: $room/bare: record batch 0: the record batch has no columns of the schema" rows "$room/bare"
 expect 0 '' '' schema "$room/bare"
 expect 1 '' "nest: $room/none: input cannot be read" rows "$room/none"
-# The second batch ends early, the third has no mark: rows before stand; a file that is no seekable input.
+# The second record batch is truncated, or the third has no continuation indicator: earlier rows are printed. Inputs that cannot seek.
 two='{"a":1,"b":"a"}\n{"a":null,"b":"b"}\n'
 head -c 500 "$room/stream" >"$room/early"
 { head -c 632 "$room/stream"; printf '\0'; tail -c +634 "$room/stream"; } >"$room/unmarked"
 expect 0 "$two" '' rows "$room/early" 0 2
 expect 0 '' '' cut "$room/early" 0 0
-expect 1 "$two" "nest: $room/unmarked: batch 2: a message does not begin with FF FF FF FF" rows "$room/unmarked"
+expect 1 "$two" "nest: $room/unmarked: record batch 2: $continuation" rows "$room/unmarked"
 expect 0 "$two" '' rows "$room/unmarked" 0 2
 expect 0 '{"a":1,"b":"a"}\n' '' take "$room/unmarked" 0
-expect 1 '' "nest: $room/unmarked: batch 2: a message does not begin with FF FF FF FF" take "$room/unmarked" 0 2
+expect 1 '' "nest: $room/unmarked: record batch 2: $continuation" take "$room/unmarked" 0 2
 [ "$("$program" rows - <"$room/file")" = "$("$program" rows "$room/file")" ] || { echo 'nest rows: a file as standard input'; failed=1; }
 for input in stream file; do
     [ "$(cat "$room/$input" | "$program" cut /dev/stdin 1 1)" = '{"a":null,"b":"b"}' ] || { echo 'nest cut: a pipe'; failed=1; }
@@ -90,7 +95,7 @@ for input in stream file; do
     [ "$(cat "$room/$input" | "$program" convert - - | "$program" rows -)" = "$("$program" rows "$room/file")" ] || { echo 'nest convert: a pipe'; failed=1; }
     cat "$room/$input" | "$program" equal /dev/stdin "$room/file" || { echo 'nest equal: a pipe'; failed=1; }
 done
-# Equal rows in other batches and forms; another schema, another row, rows that one lacks; tables without a column.
+# Equal rows in other record batches and formats; another schema, another row, missing rows; tables without a column.
 "$program" convert "$room/stream" "$room/other.arrows"
 for other in "$room/stream" "$room/file" "$room/other.arrows" -; do
     expect 0 '' '' equal "$room/stream" "$other"
@@ -103,22 +108,22 @@ expect 0 '' '' equal "$room/file" "$room/parts"
 expect 1 'row 2\n' '' equal "$room/file" "$room/shorter"
 expect 1 'row 2\n' '' equal "$room/shorter" "$room/parts"
 expect 1 'row 2\n' '' equal "$room/parts" "$room/unlike"
-# A fault is told with its batch, where the rows before it are those that the other begins with; a difference before it is told instead.
-expect 1 '' "nest: $room/packed: batch 0: the body is compressed; it has to be written without compression" equal "$room/packed" "$room/file"
-expect 1 '' "nest: $room/packed: batch 0: the body is compressed; it has to be written without compression" equal "$room/file" "$room/packed"
-expect 1 '' "nest: $room/csv: a message does not begin with FF FF FF FF" equal "$room/packed" "$room/csv"
-expect 1 '' "nest: $room/unmarked: batch 2: a message does not begin with FF FF FF FF" equal "$room/file" "$room/unmarked"
+# An error is reported with its record batch if no row before it differs, else the difference is printed.
+expect 1 '' "nest: $room/packed: record batch 0: $compressed; write it without compression" equal "$room/packed" "$room/file"
+expect 1 '' "nest: $room/packed: record batch 0: $compressed; write it without compression" equal "$room/file" "$room/packed"
+expect 1 '' "nest: $room/csv: $continuation" equal "$room/packed" "$room/csv"
+expect 1 '' "nest: $room/unmarked: record batch 2: $continuation" equal "$room/file" "$room/unmarked"
 [ "$(cat "$room/stream" | "$program" equal /dev/stdin "$room/unlike")" = 'row 2' ] || { echo 'nest equal: a pipe'; failed=1; }
-expect 1 '' "nest: $room/csv: a message does not begin with FF FF FF FF" equal "$room/file" "$room/csv"
+expect 1 '' "nest: $room/csv: $continuation" equal "$room/file" "$room/csv"
 expect 1 '' "nest: $room/none: input cannot be read" equal "$room/file" "$room/none"
-# Some columns, in the order of the schema, of streams and files, before and behind the other words; a name that no column has.
+# Projected columns, in the order of the schema, of streams and files, with the option anywhere; an unknown name.
 for file in "$room/stream" "$room/file" -; do
     expect 0 'b: string\n' '' schema "$file" --columns b
     expect 0 'a: int32\nb: string\n' '' --columns b,a,c schema "$file"
     expect 0 '{"b":"a"}\n{"b":"b"}\n{"b":null}\n' '' rows --columns b "$file"
     expect 0 '{"a":3}\n' '' take "$file" --columns a 2
     expect 0 '' '' schema "$file" --columns c
-    expect 1 '' "nest: $file: batch 0: a batch has no columns of the schema" rows "$file" --columns c
+    expect 1 '' "nest: $file: record batch 0: the record batch has no columns of the schema" rows "$file" --columns c
     expect 1 '' "nest: $file: there is no column of that name" where "$file" a --columns b
     expect 0 '' '' convert "$file" "$room/b" --columns b
     expect 0 '{"b":"a"}\n{"b":"b"}\n{"b":null}\n' '' rows "$room/b"
@@ -127,7 +132,7 @@ expect 0 '' '' equal "$room/parts" "$room/unlike" --columns b
 expect 1 'row 2\n' '' equal "$room/parts" "$room/unlike" --columns a
 expect 0 '' '' equal "$room/parts" "$room/bare" --columns c
 expect 1 'row 3\n' '' equal "$room/bare" "$room/truths" --columns c
-# Several as one, as a file, as a stream and on standard output; other schemas; an output that is an input.
+# Concatenations as a file, as a stream and on standard output; different schemas; an output that is an input.
 expect 0 '' '' concat "$room/file" "$room/parts" -o "$room/both"
 expect 0 "$all$all" '' rows "$room/both"
 expect 0 '' '' concat -o "$room/both.arrows" "$room/both" -
@@ -137,54 +142,54 @@ expect 0 '' '' equal "$room/one" "$room/shorter"
 expect 0 '' '' concat "$room/parts" "$room/unlike" --columns b -o "$room/b"
 expect 0 'b: string\n' '' schema "$room/b"
 expect 0 '' '' concat "$room/one" "$room/one" -o "$room/one"
-expect 1 '' "nest: $room/truths: its schema is not that of $room/file" concat "$room/file" "$room/parts" "$room/truths" -o "$room/none"
-expect 1 '' "nest: $room/packed: batch 0: the body is compressed; it has to be written without compression" concat "$room/file" "$room/packed" -o "$room/none"
-expect 1 '' "nest: $room/unmarked: batch 2: a message does not begin with FF FF FF FF" concat "$room/file" "$room/unmarked" -o "$room/none"
-expect 1 '' "nest: $room/csv: a message does not begin with FF FF FF FF" concat "$room/csv" "$room/file" -o "$room/none"
+expect 1 '' "nest: $room/truths: the schema differs from that of $room/file" concat "$room/file" "$room/parts" "$room/truths" -o "$room/none"
+expect 1 '' "nest: $room/packed: record batch 0: $compressed; write it without compression" concat "$room/file" "$room/packed" -o "$room/none"
+expect 1 '' "nest: $room/unmarked: record batch 2: $continuation" concat "$room/file" "$room/unmarked" -o "$room/none"
+expect 1 '' "nest: $room/csv: $continuation" concat "$room/csv" "$room/file" -o "$room/none"
 expect 1 '' "nest: $room/absent: input cannot be read" concat "$room/file" "$room/absent" -o "$room/none"
-[ ! -e "$room/none" ] || { echo 'nest concat: an output of a fault'; failed=1; }
-# On standard output; to a full one; to a file that is there, which stays as it was where a file has a fault.
+[ ! -e "$room/none" ] || { echo 'nest concat: an output after an error'; failed=1; }
+# To standard output, to a full one, and to an existing file, which is unchanged after an error.
 [ "$("$program" concat "$room/file" "$room/parts" -o - | "$program" rows -)" = "$(printf "$all$all")" ] || { echo 'nest concat: a pipe'; failed=1; }
 said=$("$program" concat "$room/file" "$room/parts" -o - 2>&1 >/dev/full)
 [ "$? $said" = '1 nest: -: output cannot be written' ] || { echo "nest concat to a full device: $said"; failed=1; }
 expect 0 '' '' concat "$room/file" -o "$room/kept"
-expect 1 '' "nest: $room/packed: batch 0: the body is compressed; it has to be written without compression" concat "$room/parts" "$room/packed" -o "$room/kept"
+expect 1 '' "nest: $room/packed: record batch 0: $compressed; write it without compression" concat "$room/parts" "$room/packed" -o "$room/kept"
 expect 0 "$all" '' rows "$room/kept"
 expect 0 '' '' concat "$room/parts" "$room/file" "$room/parts" -o "$room/kept"
 expect 0 "$all$all$all" '' rows "$room/kept"
-# Rows that are chosen, as a stream, as a file and on standard output: the same as are written as lines; some columns; an output that is the
-# input; each fault, none of which leaves an output; rows without a column are counted.
-# NAME WORD..: with an output the rows that are written without one.
-chosen() {
+# Selected rows as a stream, as a file and on standard output are those that are printed; projected columns; an output that is the input;
+# each error, which leaves no output; rows without a column.
+# selected COMMAND ARGUMENT ..
+selected() {
     local want
     want=$("$program" "$@" <"$room/stream")
-    for out in "$room/chosen.arrows" "$room/chosen"; do
+    for out in "$room/selected.arrows" "$room/selected"; do
         expect 0 '' '' "$@" -o "$out"
         [ "$("$program" rows "$out")" = "$want" ] || { echo "nest $* -o $out: other rows"; failed=1; }
     done
-    case $(head -c 4 "$room/chosen.arrows" | od -An -tx1)$(head -c 6 "$room/chosen") in
+    case $(head -c 4 "$room/selected.arrows" | od -An -tx1)$(head -c 6 "$room/selected") in
     ' ff ff ff ffARROW1') ;;
-    *) echo "nest $*: another form"; failed=1 ;;
+    *) echo "nest $*: another format"; failed=1 ;;
     esac
     [ "$("$program" "$@" -o - <"$room/stream" | "$program" rows -)" = "$want" ] || { echo "nest $* -o -: other rows"; failed=1; }
 }
 for file in "$room/stream" "$room/file" -; do
     for words in '0 0' '0 1' '1 1' '1 2' '0 3' '1 9' '2 1' '3 1' '9 18446744073709551615'; do
-        chosen cut "$file" $words
+        selected cut "$file" $words
     done
     for words in '' '0' '2 0 2' '1 1 1' '0 1 2'; do
-        chosen take "$file" $words
+        selected take "$file" $words
     done
-    chosen cut "$file" 1 2 --columns b
-    chosen take --columns a "$file" 2
-    expect 1 '' "nest: $file: there is no row at a place" take "$file" 0 3 -o "$room/none"
-    expect 1 '' "nest: $file: the column is not of booleans" where "$file" b -o "$room/none"
+    selected cut "$file" 1 2 --columns b
+    selected take --columns a "$file" 2
+    expect 1 '' "nest: $file: a row index is out of range" take "$file" 0 3 -o "$room/none"
+    expect 1 '' "nest: $file: the column is not boolean" where "$file" b -o "$room/none"
     expect 1 '' "nest: $file: there is no column of that name" where "$file" c -o "$room/none"
     expect 1 '' "nest: $file: there is no column of that name" where "$file" a --columns b -o "$room/none"
 done
-chosen where "$room/truths" a
-chosen where "$room/truths" b
-chosen where "$room/truths" a --columns a
+selected where "$room/truths" a
+selected where "$room/truths" b
+selected where "$room/truths" a --columns a
 "$program" convert "$room/file" "$room/same"
 expect 0 '' '' cut -o "$room/same" "$room/same" 1 2
 expect 0 '{"a":null,"b":"b"}\n{"a":3,"b":null}\n' '' rows "$room/same"
@@ -194,15 +199,15 @@ expect 0 '' '' cut "$room/bare" 1 9 -o "$room/two"
 expect 0 '' '' take "$room/bare" 0 2 -o "$room/other"
 expect 0 '' '' equal "$room/two" "$room/other"
 expect 1 'row 2\n' '' equal "$room/two" "$room/bare"
-expect 1 '' "nest: $room/bare: there is no row at a place" take "$room/bare" 3 -o "$room/none"
+expect 1 '' "nest: $room/bare: a row index is out of range" take "$room/bare" 3 -o "$room/none"
 expect 1 '' "nest: $room/bare: there is no column of that name" where "$room/bare" a -o "$room/none"
-expect 1 '' "nest: $room/packed: batch 0: the body is compressed; it has to be written without compression" cut "$room/packed" 0 1 -o "$room/none"
-expect 1 '' "nest: $room/csv: a message does not begin with FF FF FF FF" take "$room/csv" 0 -o "$room/none"
+expect 1 '' "nest: $room/packed: record batch 0: $compressed; write it without compression" cut "$room/packed" 0 1 -o "$room/none"
+expect 1 '' "nest: $room/csv: $continuation" take "$room/csv" 0 -o "$room/none"
 expect 1 '' "nest: $room/absent: input cannot be read" where "$room/absent" a -o "$room/none"
 expect 1 '' "nest: $room/no/out: output cannot be written" cut "$room/file" 0 1 -o "$room/no/out"
-[ ! -e "$room/none" ] || { echo 'nest: an output of a fault'; failed=1; }
-# Batch by batch into a new file: a fault in a batch, or of the columns, leaves none; rows before a batch with a fault are cut without it; an output that is there
-# stays as it was, and one that is the input is written from all of it; a device is written as it is.
+[ ! -e "$room/none" ] || { echo 'nest: an output after an error'; failed=1; }
+# New files: an error leaves none; a slice before an invalid record batch is written. An existing output is unchanged after an error, may be the
+# input, and may be a device.
 : >"$room/none.json"
 expect 0 '' '' convert "$room/file" /dev/null
 expect 1 '' 'nest: /dev/full: output cannot be written' convert "$room/file" /dev/full
@@ -224,21 +229,21 @@ for out in "$room/new.arrows" "$room/new"; do
         cmp -s "$out" "$room/first" || { echo "nest cut $words -o $out: other bytes"; failed=1; }
     done
     rm -f "$out"
-    expect 1 '' "nest: $room/unmarked: batch 2: a message does not begin with FF FF FF FF" convert "$room/unmarked" "$out"
-    expect 1 '' "nest: $room/unmarked: batch 2: a message does not begin with FF FF FF FF" cut "$room/unmarked" 1 2 -o "$out"
-    expect 1 '' "nest: $room/csv: a message does not begin with FF FF FF FF" convert "$room/csv" "$out"
+    expect 1 '' "nest: $room/unmarked: record batch 2: $continuation" convert "$room/unmarked" "$out"
+    expect 1 '' "nest: $room/unmarked: record batch 2: $continuation" cut "$room/unmarked" 1 2 -o "$out"
+    expect 1 '' "nest: $room/csv: $continuation" convert "$room/csv" "$out"
     expect 1 '' "nest: $room/absent: input cannot be read" convert "$room/absent" "$out"
     expect 1 '' "nest: $room/truths: there is no column of that name" where "$room/truths" c -o "$out"
-    [ ! -e "$out" ] || { echo 'nest: a new output of a fault'; failed=1; }
+    [ ! -e "$out" ] || { echo 'nest: a new output after an error'; failed=1; }
     expect 0 '' '' cut "$room/unmarked" 1 1 -o "$out"
     expect 0 '{"a":null,"b":"b"}\n' '' rows "$out"
-    expect 1 '' "nest: $room/unmarked: batch 2: a message does not begin with FF FF FF FF" convert "$room/unmarked" "$out"
+    expect 1 '' "nest: $room/unmarked: record batch 2: $continuation" convert "$room/unmarked" "$out"
     expect 0 '{"a":null,"b":"b"}\n' '' rows "$out"
     rm -f "$out"
     expect 0 '' '' convert "$room/file" "$out"
     expect 0 '' '' cut "$out" 1 1 -o "$out"
     expect 0 '{"a":null,"b":"b"}\n' '' rows "$out"
-    # By another name of it, and with its rights; where the file beside it is there already it stays as it is.
+    # Through a link, with the permissions of the file; if OUT.part exists, nothing is written.
     chmod 604 "$out"
     ln -sf "$out" "$room/link.arrows"
     expect 0 '' '' convert "$room/stream" "$room/link.arrows"
@@ -253,13 +258,13 @@ for out in "$room/new.arrows" "$room/new"; do
     expect 0 '' '' rows "$out"
     [ ! -e "$out.part" ] || { echo "nest: $out.part is left"; failed=1; }
 done
-# Where it cannot be written over an output, a program that runs say, it stays beside it.
+# If the output cannot be replaced, say it is a running program, it is kept as OUT.part.
 cp "$(command -v sleep)" "$room/busy"
 "$room/busy" 600 &
 busy=$!
 for _ in {1..500}; do [ "/proc/$busy/exe" -ef "$room/busy" ] && break || sleep 0.01; done
 beside() {
-    expect 1 '' "nest: $room/busy: output cannot be written; all of it is in $room/busy.part" "$@"
+    expect 1 '' "nest: $room/busy: output cannot be replaced; it is complete in $room/busy.part" "$@"
     expect 0 "$all" '' rows "$room/busy.part"
     cmp -s "$room/busy" "$(command -v sleep)" || { echo "nest $*: a program was written over"; failed=1; }
     rm -f "$room/busy.part"
@@ -272,40 +277,40 @@ beside concat "$room/file" -o "$room/busy"
 beside from-json 'struct<a: int32, b: string>' "$room/rows.json" "$room/busy"
 kill $busy
 [ "$("$program" convert "$room/stream" - | "$program" rows -)" = "$("$program" rows "$room/stream")" ] || { echo 'nest convert: standard output'; failed=1; }
-misplaced='nest: --columns and -o each stand once, with a word behind; try --help'
-expect 2 '' "$misplaced" cut "$room/file" 0 1 -o
-expect 2 '' "$misplaced" take "$room/file" 0 -o "$room/none" -o "$room/none"
-expect 2 '' "$misplaced" where "$room/truths" a -o "$room/none" -o
-expect 2 '' "$misplaced" rows "$room/file" --columns
-expect 2 '' "$misplaced" rows "$room/file" --columns a --columns b
-unknown='nest: unknown words; try --help'
-expect 2 '' "$unknown" cut "$room/file" 1 -o "$room/none"
-expect 2 '' "$unknown" take "$room/file" 01 -o "$room/none"
-expect 2 '' "$unknown" where "$room/truths" a b -o "$room/none"
-expect 2 '' "$unknown" cut -o "$room/none"
-expect 2 '' "$unknown" convert "$room/file" "$room/as" -o "$room/none"
-expect 2 '' "$unknown" concat "$room/file"
-expect 2 '' "$unknown" concat -o "$room/none"
-expect 2 '' "$unknown" rows "$room/file" -o "$room/none"
-expect 2 '' "$unknown" --columns a rows
-expect 2 '' "$unknown"
-expect 2 '' "$unknown" rows
-expect 2 '' "$unknown" show "$room/file"
-expect 2 '' "$unknown" convert "$room/file"
-expect 2 '' "$unknown" convert "$room/file" - -
-expect 2 '' "$unknown" equal "$room/file"
-expect 2 '' "$unknown" equal "$room/file" "$room/file" "$room/file"
-expect 2 '' "$unknown" schema "$room/file" 0
-expect 2 '' "$unknown" rows "$room/file" 1
-expect 2 '' "$unknown" rows "$room/file" 1 x
-expect 2 '' "$unknown" cut "$room/file"
-expect 2 '' "$unknown" cut "$room/file" 1
-expect 2 '' "$unknown" where "$room/file"
-expect 2 '' "$unknown" where "$room/truths" a b
-expect 2 '' "$unknown" take "$room/file" 01
-expect 2 '' "$unknown" take "$room/file" 18446744073709551616
+options='nest: --columns and -o take one value each; try --help'
+expect 2 '' "$options" cut "$room/file" 0 1 -o
+expect 2 '' "$options" take "$room/file" 0 -o "$room/none" -o "$room/none"
+expect 2 '' "$options" where "$room/truths" a -o "$room/none" -o
+expect 2 '' "$options" rows "$room/file" --columns
+expect 2 '' "$options" rows "$room/file" --columns a --columns b
+invalid='nest: invalid arguments; try --help'
+expect 2 '' "$invalid" cut "$room/file" 1 -o "$room/none"
+expect 2 '' "$invalid" take "$room/file" 01 -o "$room/none"
+expect 2 '' "$invalid" where "$room/truths" a b -o "$room/none"
+expect 2 '' "$invalid" cut -o "$room/none"
+expect 2 '' "$invalid" convert "$room/file" "$room/as" -o "$room/none"
+expect 2 '' "$invalid" concat "$room/file"
+expect 2 '' "$invalid" concat -o "$room/none"
+expect 2 '' "$invalid" rows "$room/file" -o "$room/none"
+expect 2 '' "$invalid" --columns a rows
+expect 2 '' "$invalid"
+expect 2 '' "$invalid" rows
+expect 2 '' "$invalid" show "$room/file"
+expect 2 '' "$invalid" convert "$room/file"
+expect 2 '' "$invalid" convert "$room/file" - -
+expect 2 '' "$invalid" equal "$room/file"
+expect 2 '' "$invalid" equal "$room/file" "$room/file" "$room/file"
+expect 2 '' "$invalid" schema "$room/file" 0
+expect 2 '' "$invalid" rows "$room/file" 1
+expect 2 '' "$invalid" rows "$room/file" 1 x
+expect 2 '' "$invalid" cut "$room/file"
+expect 2 '' "$invalid" cut "$room/file" 1
+expect 2 '' "$invalid" where "$room/file"
+expect 2 '' "$invalid" where "$room/truths" a b
+expect 2 '' "$invalid" take "$room/file" 01
+expect 2 '' "$invalid" take "$room/file" 18446744073709551616
 
-# Lines of JSON: members in any order and missing ones, in either form, from standard input; the first line that is no row, and types that are none.
+# Lines of JSON: fields in any order and missing ones, in either format, from standard input; the first invalid line, and invalid types.
 rows='struct<a: int32, b: string, c: list<item: int8>>'
 printf '{"b":"x","a":1}\n{"c":[1,null]}\n' >"$room/lines"
 laid='{"a":1,"b":"x","c":null}\n{"a":null,"b":null,"c":[1,null]}\n'
@@ -316,23 +321,23 @@ for out in "$room/made" "$room/made.arrows"; do
 done
 "$program" rows "$room/made" | "$program" from-json "$rows" - - | cmp -s - "$room/made" || { echo 'nest from-json: its own lines'; failed=1; }
 printf '{"a":1}\n{"a":2147483648}\n' >"$room/past"
-expect 1 '' "nest: $room/past: line 2: a number past its type" from-json "$rows" "$room/past" "$room/as"
+expect 1 '' "nest: $room/past: line 2: integer out of range" from-json "$rows" "$room/past" "$room/as"
 printf '{"a":1}\n\n' >"$room/past"
-expect 1 '' "nest: $room/past: line 2: not one value of JSON" from-json "$rows" "$room/past" "$room/as"
+expect 1 '' "nest: $room/past: line 2: invalid JSON" from-json "$rows" "$room/past" "$room/as"
 printf '{"d":1}' >"$room/past"
-expect 1 '' "nest: $room/past: line 1: a member that is no field of the type" from-json "$rows" "$room/past" "$room/as"
-expect 1 '' "nest: struct<a: double>: a type of floating point is not read from JSON" from-json 'struct<a: double>' "$room/lines" "$room/as"
+expect 1 '' "nest: $room/past: line 1: unknown field" from-json "$rows" "$room/past" "$room/as"
+expect 1 '' "nest: struct<a: double>: cannot be read from JSON: floating-point type" from-json 'struct<a: double>' "$room/lines" "$room/as"
 expect 1 '' "nest: $room/none: input cannot be read" from-json "$rows" "$room/none" "$room/as"
 expect 1 '' "nest: $room/none/as: output cannot be written" from-json "$rows" "$room/lines" "$room/none/as"
-expect 2 '' 'nest: int8: a row is a record, so its type is a struct' from-json int8 "$room/lines" "$room/as"
-expect 2 '' "nest: struct: no data type's text goes on as this one does from byte 0 on" from-json struct "$room/lines" "$room/as"
-expect 2 '' 'nest: unknown words; try --help' from-json "$rows" "$room/lines"
+expect 2 '' 'nest: int8: the type of a row is a struct' from-json int8 "$room/lines" "$room/as"
+expect 2 '' "nest: struct: invalid data type at byte 0" from-json struct "$room/lines" "$room/as"
+expect 2 '' "$invalid" from-json "$rows" "$room/lines"
 
 said=$("$program" --help | head -1)
-[ "${said%% FILE*}" = 'nest schema' ] || { echo "nest --help: $said"; failed=1; }
+[ "${said%% FILE*}" = 'Usage: nest COMMAND' ] || { echo "nest --help: $said"; failed=1; }
 [ "$("$program" convert "$room/stream" - | "$program" rows -)" = "$("$program" rows "$room/stream")" ] || { echo 'nest convert | nest rows'; failed=1; }
 said=$("$program" rows - 2>&1 <&-)
 [ "$? $said" = '1 nest: -: input cannot be read' ] || { echo "nest with no input: $said"; failed=1; }
 said=$("$program" rows "$room/file" 2>&1 >/dev/full)
-[ "$? $said" = "1 nest: $room/file: batch 0: output cannot be written" ] || { echo "nest to a full device: $said"; failed=1; }
+[ "$? $said" = "1 nest: $room/file: record batch 0: output cannot be written" ] || { echo "nest to a full device: $said"; failed=1; }
 exit $failed

@@ -9,7 +9,7 @@ use Rattle.std.proofs.lemmas.List.Folds.{list_all_more}
 use Rattle.std.proofs.lemmas.Int.Digits.{digits_value_more}
 use Rattle.std.proofs.lemmas.Str.{digit_value_digit}
 use Rattle.std.proofs.lemmas.Str.Parse.{digits_value-take-le}
-use Rattle.cli_args.specs.Numbers.{has_leading_zero, is_whole, whole_below}
+use Rattle.cli_args.specs.Numbers.{is_empty_or_has_leading_zero, is_integer, integer_below}
 
 -- a beginning is of digits, and writes this number of 64 bits
 pub record ReadSoFar (ds : List ℕ) (i n : ℕ) : Type 0 where
@@ -38,18 +38,18 @@ read-more ds i n m r lt e h f =
     }
 
 -- a number that is past the limit with one digit more stays past it
-pub read-past : (ds : List ℕ) (i n : ℕ) → ReadSoFar ds i n → i < length ds → is_ascii_digit (get_or ds i 0) ≡ true → 2 ^ 64 + 48 ≤ n * 10 + get_or ds i 0 → None ≡ whole_below (2 ^ 64) ds
+pub read-past : (ds : List ℕ) (i n : ℕ) → ReadSoFar ds i n → i < length ds → is_ascii_digit (get_or ds i 0) ≡ true → 2 ^ 64 + 48 ≤ n * 10 + get_or ds i 0 → None ≡ integer_below (2 ^ 64) ds
 read-past ds i n r lt e h =
     let v = digits-more ds i n r lt e in
     let k = digits_value-take-le 10 ds (i + 1) (omega arith) in
     sym (cond-false _ _ _ (and_right _ _ (le-ltb (digits_value 10 ds) (2 ^ 64) (omega arith))))
 
 -- all were read
-pub read-whole : (ds : List ℕ) (i n : ℕ) → ReadSoFar ds i n → length ds ≤ i → has_leading_zero ds ≡ false → Some n ≡ whole_below (2 ^ 64) ds
+pub read-whole : (ds : List ℕ) (i n : ℕ) → ReadSoFar ds i n → length ds ≤ i → is_empty_or_has_leading_zero ds ≡ false → Some n ≡ integer_below (2 ^ 64) ds
 read-whole [] i n r le e = absurd cc
 read-whole (c ∷ cs) i n r le e =
     let all = take_all i (c ∷ cs) le in
     let d = sym (ap (list_all is_ascii_digit) all) ∙ r.digits in
     let v = r.value ∙ ap (digits_value 10) all in
-    let w : is_whole (c ∷ cs) ≡ true = and_from _ _ d (grind arith) in
+    let w : is_integer (c ∷ cs) ≡ true = and_from _ _ d (grind arith) in
     ap (λ (x : ℕ). Some x) v ∙ sym (cond-true _ _ _ (and_from _ _ w (lt-ltb (digits_value 10 (c ∷ cs)) (2 ^ 64) (omega (arith, r.fits)))))

@@ -1,10 +1,9 @@
--- What contracts cite.
 pub mod Numbers
-pub mod Asked
-pub mod Forms
-pub mod Options
-pub mod Seen
-pub mod SeenOptions
+pub mod Requests
+pub mod Formats
+pub mod Arguments
+pub mod RequestTrees
+pub mod ArgumentTrees
 pub mod Imports
-pub mod SeenImport
+pub mod ImportTrees
 pub mod Examples

@@ -1,28 +1,28 @@
-//! Lines of JSON that are to be an Arrow file or stream.
+//! The command `from-json`.
 ghost use Rattle.std.specs.Prelude.{◌≡◌, map, option_map, string_bytes};
-ghost use Rattle.cli_args.specs.Imports.{import_of, import_of_words};
-ghost use Rattle.cli_args.specs.SeenImport.{seen_import};
-ghost use Rattle.cli_args.specs.SeenOptions.{seen_options};
+ghost use Rattle.cli_args.specs.ArgumentTrees.{arguments_tree};
+ghost use Rattle.cli_args.specs.Imports.{import_of_positional, import_request};
+ghost use Rattle.cli_args.specs.ImportTrees.{import_tree};
 
-use crate::options::Options;
+use crate::arguments::Arguments;
 
-/// What is to be made of lines of JSON.
+/// A request to write lines of JSON as an Arrow file or stream.
 #[derive(Clone, Copy)]
-pub struct Import<'a> {
-    /// The text of the rows' type.
+pub struct ImportRequest<'a> {
+    /// The data type of a row, as text.
     pub row_type: &'a String,
-    /// Where the lines come from.
+    /// The name of the input.
     pub input: &'a String,
-    /// Where the bytes go.
+    /// The name of the output.
     pub output: &'a String,
 }
 
-fn import_in(words: &[String]) -> Option<Import<'_>>
-    ensures { option_map seen_import result ≡ import_of_words (map string_bytes words.now) }
+fn positional_import(arguments: &[String]) -> Option<ImportRequest<'_>>
+    ensures { option_map import_tree result ≡ import_of_positional (map string_bytes arguments.now) }
 {
-    match words {
+    match arguments {
         [command, row_type, input, output] if command.as_bytes() == b"from-json".as_slice() => {
-            Some(Import {
+            Some(ImportRequest {
                 row_type,
                 input,
                 output,
@@ -32,12 +32,12 @@ fn import_in(words: &[String]) -> Option<Import<'_>>
     }
 }
 
-/// What the words of a call ask to be made of lines of JSON, if they do: `from-json`, a type, an input and an output, without an option.
-pub fn parse_import(options: &Options) -> Option<Import<'_>>
-    ensures { option_map seen_import result ≡ import_of (seen_options options.now) }
+/// Parses `from-json TYPE INPUT OUTPUT`, which takes no option. Returns `None` for any other arguments.
+pub fn parse_import(arguments: &Arguments) -> Option<ImportRequest<'_>>
+    ensures { option_map import_tree result ≡ import_request (arguments_tree arguments.now) }
 {
-    if options.columns.is_some() || options.out.is_some() {
+    if arguments.columns.is_some() || arguments.out.is_some() {
         return None;
     }
-    import_in(&options.words)
+    positional_import(&arguments.positional)
 }

@@ -1,15 +1,14 @@
-//! The words that the program `nest` is called with, and what they ask.
+//! The command line of the program `nest`.
 #![tactic(auto)]
 
-mod form;
+mod arguments;
+mod format;
 mod import;
 pub mod laws;
 mod numbers;
-mod options;
 mod request;
 
-pub use form::{Form, form_of};
-pub use import::{Import, parse_import};
-pub use options::{Options, parse_names, parse_options};
-pub use request::{Choice, Request, parse_choice, parse_request};
-
+pub use arguments::{Arguments, parse_arguments, parse_column_names};
+pub use format::{Format, format_of};
+pub use import::{ImportRequest, parse_import};
+pub use request::{Request, Selection, parse_request, parse_selection};

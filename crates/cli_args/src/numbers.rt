@@ -1,12 +1,12 @@
-//! Whole numbers from words.
+//! Integers on the command line.
 ghost use Rattle.std.specs.Prelude.{◌≡◌, ◌^◌, IfOk, map, option_map, string_bytes};
-ghost use Rattle.cli_args.specs.Numbers.{has_leading_zero, places_of, whole_below, window_of};
+ghost use Rattle.cli_args.specs.Numbers.{integer_below, integer_pair, integers_of, is_empty_or_has_leading_zero};
 
 use std::alloc::{AllocError, Global};
 
-/// Whether there is no digit, or a zero before further ones.
-fn has_leading_zero(digits: &[u8]) -> bool
-    ensures { result ≡ has_leading_zero digits.now }
+/// Returns whether there is no digit, or a zero before further digits.
+fn is_not_canonical(digits: &[u8]) -> bool
+    ensures { result ≡ is_empty_or_has_leading_zero digits.now }
 {
     match digits {
         [] => true,
@@ -14,11 +14,11 @@ fn has_leading_zero(digits: &[u8]) -> bool
     }
 }
 
-/// The number that digits write: `0`, or a nonzero digit with further digits, where it is below 2^64.
-fn whole_number(digits: &[u8]) -> Option<u64>
-    ensures { result ≡ whole_below (2 ^ 64) digits.now }
+/// Parses an unsigned integer: `0`, or a nonzero digit and further digits. Returns `None` for 2^64 and above.
+fn parse_integer(digits: &[u8]) -> Option<u64>
+    ensures { result ≡ integer_below (2 ^ 64) digits.now }
 {
-    if has_leading_zero(digits) {
+    if is_not_canonical(digits) {
         return None;
     }
     let mut value = 0u64;
@@ -37,29 +37,29 @@ fn whole_number(digits: &[u8]) -> Option<u64>
     Some(value)
 }
 
-/// The place and the number that two words spell.
-pub fn parse_window(words: &[String]) -> Option<(u64, u64)>
-    ensures { result ≡ window_of (map string_bytes words.now) }
+/// Parses the offset and the length of a slice, two integers.
+pub fn parse_slice(arguments: &[String]) -> Option<(u64, u64)>
+    ensures { result ≡ integer_pair (map string_bytes arguments.now) }
 {
-    match words {
+    match arguments {
         [offset, len] => Some((
-            whole_number(offset.as_bytes())?,
-            whole_number(len.as_bytes())?,
+            parse_integer(offset.as_bytes())?,
+            parse_integer(len.as_bytes())?,
         )),
         _ => None,
     }
 }
 
-/// The places that the words spell, if each spells one.
-pub fn parse_places(alloc: Global, words: &[String]) -> Result<Option<Vec<usize>>, AllocError>
-    ensures { IfOk result (λ found. option_map (λ places. places.items) found ≡ places_of (map string_bytes words.now)) }
+/// Parses each argument as an index.
+pub fn parse_indices(alloc: Global, arguments: &[String]) -> Result<Option<Vec<usize>>, AllocError>
+    ensures { IfOk result (λ found. option_map (λ indices. indices.items) found ≡ integers_of (map string_bytes arguments.now)) }
 {
-    let mut places = Vec::new(alloc);
-    for word in words {
-        let Some(place) = whole_number(word.as_bytes()) else {
+    let mut indices = Vec::new(alloc);
+    for argument in arguments {
+        let Some(index) = parse_integer(argument.as_bytes()) else {
             return Ok(None);
         };
-        places.push(place as usize)?;
+        indices.push(index as usize)?;
     }
-    Ok(Some(places))
+    Ok(Some(indices))
 }

@@ -1,132 +1,131 @@
-//! What is asked of a file or a stream.
+//! What a command prints or selects.
 ghost use Rattle.std.specs.Prelude.{◌≡◌, IfOk, map, option_map, string_bytes};
-ghost use Rattle.cli_args.specs.Asked.{alone, chosen_of, column_of_words, columns, cut_of_words, places_of_words, query_of, rows, rows_of_words};
-ghost use Rattle.cli_args.specs.Seen.{seen, seen_choice};
+ghost use Rattle.cli_args.specs.RequestTrees.{request_tree, selection_tree};
+ghost use Rattle.cli_args.specs.Requests.{columns, indices_of_arguments, request_of_arguments, rows, rows_of_arguments, selection_of_arguments, slice_of_arguments, where_of_arguments, without_arguments};
 
-use crate::numbers::{parse_places, parse_window};
+use crate::numbers::{parse_indices, parse_slice};
 use std::alloc::{AllocError, Global};
 
-/// Which rows.
+/// A selection of rows.
 #[derive(Drop)]
-pub enum Choice {
-    /// All of them.
+pub enum Selection {
+    /// All rows.
     All,
-    /// Those from a place on, so many at most.
-    Cut(usize, usize),
-    /// The row at each place, in the order of the places.
-    Places(Vec<usize>),
-    /// Those at which the column of this name is true.
-    True(String),
+    /// A slice: its offset, and its length at most.
+    Slice(usize, usize),
+    /// The row at each index, in the order of the indices.
+    Indices(Vec<usize>),
+    /// The rows where the boolean column of this name is true.
+    Where(String),
 }
 
-/// What is to be written.
+/// What to print of an input.
 #[derive(Drop)]
 pub enum Request {
-    /// A line for each column.
+    /// The schema, a line for each column.
     Columns,
     /// Rows, a line each.
-    Rows(Choice),
+    Rows(Selection),
 }
 
-fn columns_request(words: &[String]) -> Option<Request>
-    ensures { option_map seen result ≡ alone columns (map string_bytes words.now) }
+fn columns_request(arguments: &[String]) -> Option<Request>
+    ensures { option_map request_tree result ≡ without_arguments columns (map string_bytes arguments.now) }
 {
-    if words.is_empty() {
+    if arguments.is_empty() {
         Some(Request::Columns)
     } else {
         None
     }
 }
 
-fn cut_choice(words: &[String]) -> Option<Choice>
-    ensures { option_map seen_choice result ≡ cut_of_words (map string_bytes words.now) }
+fn slice_selection(arguments: &[String]) -> Option<Selection>
+    ensures { option_map selection_tree result ≡ slice_of_arguments (map string_bytes arguments.now) }
 {
-    match parse_window(words) {
-        Some((o, n)) => Some(Choice::Cut(o as usize, n as usize)),
+    match parse_slice(arguments) {
+        Some((o, n)) => Some(Selection::Slice(o as usize, n as usize)),
         None => None,
     }
 }
 
-fn places_choice(alloc: Global, words: &[String]) -> Result<Option<Choice>, AllocError>
-    ensures { IfOk result (λ c. option_map seen_choice c ≡ places_of_words (map string_bytes words.now)) }
+fn indices_selection(alloc: Global, arguments: &[String]) -> Result<Option<Selection>, AllocError>
+    ensures { IfOk result (λ c. option_map selection_tree c ≡ indices_of_arguments (map string_bytes arguments.now)) }
 {
-    match parse_places(alloc, words)? {
-        Some(places) => Ok(Some(Choice::Places(places))),
+    match parse_indices(alloc, arguments)? {
+        Some(indices) => Ok(Some(Selection::Indices(indices))),
         None => Ok(None),
     }
 }
 
-fn column_choice(alloc: Global, words: &[String]) -> Result<Option<Choice>, AllocError>
-    ensures { IfOk result (λ c. option_map seen_choice c ≡ column_of_words (map string_bytes words.now)) }
+fn where_selection(alloc: Global, arguments: &[String]) -> Result<Option<Selection>, AllocError>
+    ensures { IfOk result (λ c. option_map selection_tree c ≡ where_of_arguments (map string_bytes arguments.now)) }
 {
-    match words {
-        [name] => Ok(Some(Choice::True(String::from_str(alloc, name.as_str())?))),
+    match arguments {
+        [name] => Ok(Some(Selection::Where(String::from_str(alloc, name.as_str())?))),
         _ => Ok(None),
     }
 }
 
-/// Which rows a command's name and the words behind its file choose, if they choose any: `cut` those from a place on, so many at
-/// most; `take` and places the row at each; `where` those at which the column of that name is true. A number is `0` or a nonzero
-/// digit with further digits, below 2^64.
-pub fn parse_choice(
+/// Parses the arguments after the input of a command that selects rows: `cut START COUNT`, `take INDEX ..` or `where COLUMN`. Returns
+/// `None` for another command or invalid arguments. An integer is `0`, or a nonzero digit and further digits, below 2^64.
+pub fn parse_selection(
     alloc: Global,
     command: &String,
-    words: &[String],
-) -> Result<Option<Choice>, AllocError>
-    ensures { IfOk result (λ c. option_map seen_choice c ≡ chosen_of (string_bytes command.now) (map string_bytes words.now)) }
+    arguments: &[String],
+) -> Result<Option<Selection>, AllocError>
+    ensures { IfOk result (λ c. option_map selection_tree c ≡ selection_of_arguments (string_bytes command.now) (map string_bytes arguments.now)) }
 {
     let name = command.as_bytes();
     if name == b"cut".as_slice() {
-        Ok(cut_choice(words))
+        Ok(slice_selection(arguments))
     } else if name == b"take".as_slice() {
-        places_choice(alloc, words)
+        indices_selection(alloc, arguments)
     } else if name == b"where".as_slice() {
-        column_choice(alloc, words)
+        where_selection(alloc, arguments)
     } else {
         Ok(None)
     }
 }
 
-fn rows_request(words: &[String]) -> Option<Request>
-    ensures { option_map seen result ≡ rows_of_words (map string_bytes words.now) }
+fn rows_request(arguments: &[String]) -> Option<Request>
+    ensures { option_map request_tree result ≡ rows_of_arguments (map string_bytes arguments.now) }
 {
-    if words.is_empty() {
-        return Some(Request::Rows(Choice::All));
+    if arguments.is_empty() {
+        return Some(Request::Rows(Selection::All));
     }
-    match cut_choice(words) {
-        Some(choice) => Some(Request::Rows(choice)),
+    match slice_selection(arguments) {
+        Some(selection) => Some(Request::Rows(selection)),
         None => None,
     }
 }
 
-fn choice_request(
+fn selection_request(
     alloc: Global,
     command: &String,
-    words: &[String],
+    arguments: &[String],
 ) -> Result<Option<Request>, AllocError>
-    ensures { IfOk result (λ r. option_map seen r ≡ option_map rows (chosen_of (string_bytes command.now) (map string_bytes words.now))) }
+    ensures { IfOk result (λ r. option_map request_tree r ≡ option_map rows (selection_of_arguments (string_bytes command.now) (map string_bytes arguments.now))) }
 {
-    match parse_choice(alloc, command, words)? {
-        Some(choice) => Ok(Some(Request::Rows(choice))),
+    match parse_selection(alloc, command, arguments)? {
+        Some(selection) => Ok(Some(Request::Rows(selection))),
         None => Ok(None),
     }
 }
 
-/// What a command's name and the words behind its file ask, if they ask anything: `schema` the columns; `rows` all rows, or those
-/// from a place on, so many at most; else the rows of [`parse_choice`].
+/// Parses the arguments after the input of a command that prints: `schema`, `rows`, `rows START COUNT`, or a command of
+/// [`parse_selection`]. Returns `None` for another command or invalid arguments.
 pub fn parse_request(
     alloc: Global,
     command: &String,
-    words: &[String],
+    arguments: &[String],
 ) -> Result<Option<Request>, AllocError>
-    ensures { IfOk result (λ r. option_map seen r ≡ query_of (string_bytes command.now) (map string_bytes words.now)) }
+    ensures { IfOk result (λ r. option_map request_tree r ≡ request_of_arguments (string_bytes command.now) (map string_bytes arguments.now)) }
 {
     let name = command.as_bytes();
     if name == b"schema".as_slice() {
-        Ok(columns_request(words))
+        Ok(columns_request(arguments))
     } else if name == b"rows".as_slice() {
-        Ok(rows_request(words))
+        Ok(rows_request(arguments))
     } else {
-        choice_request(alloc, command, words)
+        selection_request(alloc, command, arguments)
     }
 }

@@ -1,16 +1,17 @@
-mod Rows
-mod Steps
-pub mod StreamWalk
-pub mod FileWalk
+mod SelectedRows
+mod RequestSteps
+pub mod StreamBatches
+pub mod FileBatches
 pub mod FirstLaws
 mod Lists
-pub mod Walk
-pub mod Sources
-mod Looks
-mod Whole
+pub mod BufferSteps
+pub mod Readers
+pub mod PrintSteps
+mod Buffers
+mod AllBatches
 mod SameBytes
-mod Alone
-mod Ranks
-mod TakenRows
-mod Taken
-mod Turns
+mod EqualFiles
+mod Positions
+mod RowsAtIndices
+mod IndexedRows
+mod TakeSteps

@@ -1,8 +1,8 @@
--- Lists behind a beginning that they share.
+-- Lists with equal prefixes.
 use Rattle.std.proofs.Common.{◌≡◌, ◌⊎◌, inl, inr, ℕ, zero, suc, ◌+◌, ◌<◌, ◌≤◌, List, [], ◌∷◌, ◌++◌, length, take, drop, Some, refl, sym, ap, ◌∙◌, arith, append-nil, length-append}
 use Rattle.std.proofs.lemmas.List.{take-take}
 use Rattle.nest_memory.specs.Cut.{cut}
-use Rattle.cli_rows.specs.Difference.{AreEqualFor, IsDifference}
+use Rattle.cli_rows.specs.Difference.{AreEqualUpTo, IsDifference}
 
 module _ {A : Type 0} where
   take-behind : (front xs : List A) (k : ℕ) → take (length front + k) (front ++ xs) ≡ front ++ take k xs
@@ -13,15 +13,13 @@ module _ {A : Type 0} where
   drop-behind [] xs k = let e : 0 + k ≡ k = omega arith in ap (λ n. drop n xs) e
   drop-behind (y ∷ front) xs k = let e : length (y ∷ front) + k ≡ suc (length front + k) = omega arith in ap (λ n. drop n (y ∷ front ++ xs)) e ∙ drop-behind front xs k
 
-  -- a difference behind equal items
   pub differ-behind : (front xs ys : List A) (k : ℕ) → IsDifference xs ys (Some k) → IsDifference (front ++ xs) (front ++ ys) (Some (length front + k))
   differ-behind front xs ys k d = (
     take-behind front xs k ∙ ap (λ l. front ++ l) d.0 ∙ sym (take-behind front ys k),
     λ same. d.1 (sym (ap (take 1) (drop-behind front xs k)) ∙ same ∙ ap (take 1) (drop-behind front ys k)),
   )
 
-  -- equal items behind equal items
-  pub equal-behind : (n k : ℕ) (front xs ys : List A) → n ≤ length front + k → k ≤ length xs → k ≤ length ys → take k xs ≡ take k ys → AreEqualFor n (front ++ xs) (front ++ ys)
+  pub equal-behind : (n k : ℕ) (front xs ys : List A) → n ≤ length front + k → k ≤ length xs → k ≤ length ys → take k xs ≡ take k ys → AreEqualUpTo n (front ++ xs) (front ++ ys)
   equal-behind n k front xs ys h within other e =
       let a = length-append front xs in
       let b = length-append front ys in
@@ -29,10 +27,7 @@ module _ {A : Type 0} where
       let same : take (length front + k) (front ++ xs) ≡ take (length front + k) (front ++ ys) = take-behind front xs k ∙ ap (λ l. front ++ l) e ∙ sym (take-behind front ys k) in
       (omega (arith, a, h, within), omega (arith, b, h, other), short xs ∙ ap (take n) same ∙ sym (short ys))
 
--- ---- a difference of beginnings
-
 module _ {A : Type 0} where
-  -- more items, behind one that is there, or none
   abbrev pub IsRest : ℕ → List A → List A → Type 0
   IsRest k xs more = (k < length xs) ⊎ (more ≡ [])
 

@@ -1,11 +1,11 @@
--- Two devices that are read side by side.
+-- Two readers that are read in step.
 use Rattle.std.proofs.Common.{◌≡◌, ℕ, ◌+◌, ◌≤◌, List, ◌++◌, length, take, drop, Option, Some, None, refl, sym, ap, ◌∙◌, arith}
 use Rattle.std.proofs.lemmas.List.{take-take, take-append-drop, drop-take, take_all}
 use Rattle.std.proofs.lemmas.Option.{same_Some}
 use Rattle.std.specs.Option.{option_map}
 use Rattle.std.specs.Io.KnownBytes.{Keeps}
 use Rattle.ipc_io.specs.Seeks.{IsAt}
-use Rattle.cli_read.specs.Alike.{AreAlike, ReadsAlike}
+use Rattle.cli_read.specs.EqualBytes.{HaveEqualBytes, ReadsEqualBytes}
 
 abbrev pub Standing : Type 0
 Standing = Option (ℕ × List ℕ)
@@ -19,7 +19,6 @@ kept_on (Some xs) None c h k = absurd h
 kept_on (Some xs) (Some ys) None h k = absurd k
 kept_on (Some xs) (Some ys) (Some zs) h k = k ∙ h
 
--- both stand behind so many bytes, which are the same, where the bytes of both are known
 abbrev pub AreBehind : Option (List ℕ) → Option (List ℕ) → Standing → Standing → Type 0
 AreBehind known_left known_right left right =
     (xs ys : List ℕ) → known_left ≡ Some xs → known_right ≡ Some ys → (n : ℕ) × (left ≡ Some (n, xs)) × (right ≡ Some (n, ys)) × (take n xs ≡ take n ys)
@@ -37,7 +36,7 @@ take-more m n xs =
     sym both ∙ take-append-drop m (take (m + n) xs)
 
 pub behind-more : (a b : Option (List ℕ)) (left right l r : Standing) (m : ℕ) → AreBehind a b left right
-    → ((n : ℕ) (xs ys : List ℕ) → left ≡ Some (n, xs) → right ≡ Some (n, ys) → ReadsAlike xs ys n (Some m) l r) → AreBehind a b l r
+    → ((n : ℕ) (xs ys : List ℕ) → left ≡ Some (n, xs) → right ≡ Some (n, ys) → ReadsEqualBytes xs ys n (Some m) l r) → AreBehind a b l r
 behind-more a b left right l r m behind reads xs ys e f =
     let (n, at, bt, same) = behind xs ys e f in
     let more = reads n xs ys at bt in (
@@ -51,7 +50,7 @@ all-alike : (n : ℕ) (xs ys : List ℕ) → take n xs ≡ take n ys → length 
 all-alike n xs ys e x y = sym (take_all n xs x) ∙ e ∙ take_all n ys y
 
 pub behind-end : (a b : Option (List ℕ)) (left right l r : Standing) → AreBehind a b left right
-    → ((n : ℕ) (xs ys : List ℕ) → left ≡ Some (n, xs) → right ≡ Some (n, ys) → ReadsAlike xs ys n (Some 0) l r) → AreAlike a b
+    → ((n : ℕ) (xs ys : List ℕ) → left ≡ Some (n, xs) → right ≡ Some (n, ys) → ReadsEqualBytes xs ys n (Some 0) l r) → HaveEqualBytes a b
 behind-end None b left right l r behind reads = tt
 behind-end (Some xs) None left right l r behind reads = tt
 behind-end (Some xs) (Some ys) left right l r behind reads =

@@ -1,20 +1,16 @@
--- What contracts cite.
-pub mod Firsts
-pub mod Asking
-pub mod Outcome
-pub mod Under
-pub mod Words
-pub mod Beginning
--- What contracts cite.
-pub mod Left
+pub mod Decoded
+pub mod RemainingRequests
+pub mod Printed
+pub mod FirstBytes
+pub mod Remaining
 pub mod Inputs
-pub mod Told
-pub mod CompareExamples
--- Words of functions within.
-pub mod Sources
-pub mod Pending
-pub mod Alike
--- What contracts cite.
-pub mod Places
+pub mod Comparisons
+pub mod InputExamples
+pub mod Readers
+pub mod RowBuffers
+pub mod EqualBytes
+pub mod Indices
 pub mod Takes
-pub mod Taking
+pub mod TakeStates
+pub mod TakeSteps
+pub mod CompareSteps

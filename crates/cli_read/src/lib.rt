@@ -1,6 +1,17 @@
-//! cli_read
+//! Arrow streams and files read one record batch at a time: schemas and rows as text, rows by index, and the first difference of two
+//! inputs. The memory is that of one record batch of each input, of the known dictionaries, and of the rows that are returned.
 #![tactic(auto)]
 
-pub mod batches;
-pub mod compare;
-pub mod taking;
+mod by_index;
+mod comparison;
+mod input;
+pub mod laws;
+mod printer;
+mod reader;
+mod rows;
+
+pub use by_index::{take, take_encoded, take_lines};
+pub use comparison::{CompareError, compare};
+pub use input::{Input, is_file, read_first_bytes};
+pub use printer::print;
+pub use reader::{BatchReader, open};

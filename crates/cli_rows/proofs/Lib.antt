@@ -1,16 +1,15 @@
-mod Found
-mod Columns
+mod Offsets
+mod TrueRows
 mod Steps
-mod Alike
+mod EqualWindows
 mod OnlyOne
-mod NextLine
-mod Made
+mod Lines
+mod RecordArrays
 mod ByName
-mod WholeAlike
-pub mod Batches
-pub mod Chosen
-mod Gathered
-mod JoinedRows
-mod Joins
+mod EqualLists
+pub mod BatchArrays
+pub mod SelectedBatches
+mod Collected
+mod ConcatenatedRows
 mod OneDifference
-mod Written
+mod Outputs

@@ -1,17 +1,17 @@
--- Two inputs differ first in one way.
+-- Two tables have one first difference.
 use Rattle.std.proofs.Common.{◌≡◌, ℕ, List, Option, Some, None, refl, ap}
 use Rattle.cli_rows.specs.Difference.{IsDifference}
 use Rattle.cli_rows.specs.Rows.{Row}
-use Rattle.cli_rows.specs.Compared.{IsFirstDifference, held_rows}
-use Rattle.cli_rows.specs.Holding.{HeldTree}
-use Rattle.cli_rows.specs.declared.whole.comparing.Difference.{Difference}
-use Rattle.cli_rows.specs.declared.whole.comparing.Difference.TheVariants as differences
+use Rattle.cli_rows.specs.Compared.{IsTableDifference, table_rows}
+use Rattle.cli_rows.specs.Tables.{TableTree}
+use Rattle.cli_rows.specs.declared.difference.Difference.{Difference}
+use Rattle.cli_rows.specs.declared.difference.Difference.TheVariants as differences
 
-module _ (one : (xs ys : List Row) (d e : Option ℕ) → IsDifference xs ys d → IsDifference xs ys e → d ≡ e) (s t : HeldTree) where
-  rows : (d e : Option ℕ) → IsDifference (held_rows s) (held_rows t) d → IsDifference (held_rows s) (held_rows t) e → d ≡ e
-  rows d e p q = one (held_rows s) (held_rows t) d e p q
+module _ (one : (xs ys : List Row) (d e : Option ℕ) → IsDifference xs ys d → IsDifference xs ys e → d ≡ e) (s t : TableTree) where
+  rows : (d e : Option ℕ) → IsDifference (table_rows s) (table_rows t) d → IsDifference (table_rows s) (table_rows t) e → d ≡ e
+  rows d e p q = one (table_rows s) (table_rows t) d e p q
 
-  pub one-difference : (d e : Option Difference) → IsFirstDifference s t d → IsFirstDifference s t e → d ≡ e
+  pub one-difference : (d e : Option Difference) → IsTableDifference s t d → IsTableDifference s t e → d ≡ e
   one-difference None None p q = refl
   one-difference None (Some differences.Schema) p q = absurd (q p.0)
   one-difference None (Some (differences.Row k)) p q = let same = rows None (Some k) p.1 q.1 in absurd cc

@@ -1,4 +1,4 @@
--- Lists differ first at one place.
+-- Two lists have one first difference.
 use Rattle.std.proofs.Common.{◌≡◌, ℕ, ◌+◌, ◌<◌, ◌≤◌, List, take, drop, Option, Some, None, refl, sym, ap, ◌∙◌, arith}
 use Rattle.std.proofs.Math.Nat.{lt_of_not-le}
 use Rattle.nest_memory.specs.Cut.{cut}
@@ -6,7 +6,6 @@ use Rattle.nest_model.specs.Runs.{cut-cut}
 use Rattle.cli_rows.specs.Difference.{IsDifference}
 
 module _ {A : Type 0} where
-  -- an item of a beginning
   item-before : (k i : ℕ) (xs : List A) → i < k → cut (take k xs) i 1 ≡ cut xs i 1
   item-before k i xs h = let e : 0 + i ≡ i = omega arith in cut-cut xs 0 k i 1 (omega (arith, h)) ∙ ap (λ j. take 1 (drop j xs)) e
 

@@ -1,5 +1,5 @@
--- How what two inputs hold differs.
-use Rattle.std.specs.Prelude.{◌≡◌, ◌++◌, ℕ, List, [], ◌∷◌, map, codes, Option, Some, None, Result, Ok, Err}
+-- Differences of tables.
+use Rattle.std.specs.Prelude.{◌≡◌, ◌++◌, ℕ, List, [], ◌∷◌, map, codes, Option, Some, None, Result}
 use Rattle.std.specs.Fmt.{decimal}
 use Rattle.std.specs.List.{AllByRecursion, flat_map}
 use Rattle.nest_memory.specs.TypeTree as types
@@ -7,71 +7,55 @@ use Rattle.nest_memory.specs.TypeTree.{FieldTree}
 use Rattle.nest_model.specs.Fits.{Fits}
 use Rattle.nest_model.specs.Layout as layouts
 use Rattle.nest_model.specs.Layout.{Layout}
-use Rattle.ipc_flatbuf.specs.Reading.{Fails}
-use Rattle.ipc_flatbuf.specs.declared.error.Fault as formats
-use Rattle.ipc.specs.Streams.{Arrays}
+use Rattle.ipc_flatbuf.specs.ReadResults.{FailsOrRunsOut}
+use Rattle.ipc_flatbuf.specs.declared.error.IpcReadError as formats
+use Rattle.ipc.specs.Streams.{RecordBatchTree}
 use Rattle.cli_rows.specs.Rows.{Row, rows_of}
 use Rattle.cli_rows.specs.Difference.{IsDifference}
-use Rattle.cli_rows.specs.Tables.{record_type, records}
-use Rattle.cli_rows.specs.declared.answer.refusal.Refusal.{Refusal}
-use Rattle.cli_rows.specs.declared.answer.refusal.Refusal.TheVariants as refusals
-use Rattle.cli_rows.specs.declared.whole.comparing.Difference.{Difference}
-use Rattle.cli_rows.specs.declared.whole.comparing.Difference.TheVariants.{Schema, Row as ARow}
-use Rattle.cli_rows.specs.declared.whole.error.Fault.{Fault}
-use Rattle.cli_rows.specs.declared.whole.error.Fault.TheVariants.{Input, Format, Form, Columns, Place, NoColumn, NotBoolean, Output, Memory}
-use Rattle.cli_rows.specs.Holding.{HeldTree}
-use Rattle.cli_rows.specs.Outcome.{HasHeld}
+use Rattle.cli_rows.specs.Records.{record_type, records}
+use Rattle.cli_rows.specs.declared.error.CliError.{CliError}
+use Rattle.cli_rows.specs.declared.difference.Difference.{Difference}
+use Rattle.cli_rows.specs.declared.difference.Difference.TheVariants.{Schema, Row as ARow}
+use Rattle.cli_rows.specs.declared.error.CliError.TheVariants.{Read, MismatchedColumns, Memory}
+use Rattle.cli_rows.specs.Tables.{TableTree}
+use Rattle.cli_rows.specs.Output.{HasTable}
 
 -- ---- rows
 
--- a batch as one array: of records of its columns; without a column, of as many nulls as it has rows
-abbrev pub batch_array : List FieldTree → Arrays → Layout
+-- a record batch as one array: records of its columns, or without a column as many nulls as it has rows
+abbrev pub batch_array : List FieldTree → RecordBatchTree → Layout
 batch_array [] b = layouts.null types.null b.rows
 batch_array (f ∷ fs) b = records (record_type (f ∷ fs)) b.columns
 
-abbrev pub batch_arrays : HeldTree → List Layout
+abbrev pub batch_arrays : TableTree → List Layout
 batch_arrays h = map (batch_array h.schema.fields) h.batches
 
--- the rows of the batches, batch after batch
-abbrev pub held_rows : HeldTree → List Row
-held_rows h = flat_map rows_of (batch_arrays h)
+-- the rows of all record batches
+abbrev pub table_rows : TableTree → List Row
+table_rows h = flat_map rows_of (batch_arrays h)
 
 -- ---- differences
 
--- equal schemas and rows; or other schemas; or equal ones, and rows that are equal up to this place, where they are others or one has none
-abbrev pub IsFirstDifference : HeldTree → HeldTree → Option Difference → Type 0
-IsFirstDifference s t None = (s.schema ≡ t.schema) × (held_rows s ≡ held_rows t)
-IsFirstDifference s t (Some Schema) = s.schema ≡ t.schema → ⊥
-IsFirstDifference s t (Some (ARow k)) = (s.schema ≡ t.schema) × IsDifference (held_rows s) (held_rows t) (Some k)
+-- equal schemas and rows; or different schemas; or equal schemas and rows that differ first at this index
+abbrev pub IsTableDifference : TableTree → TableTree → Option Difference → Type 0
+IsTableDifference s t None = (s.schema ≡ t.schema) × (table_rows s ≡ table_rows t)
+IsTableDifference s t (Some Schema) = s.schema ≡ t.schema → ⊥
+IsTableDifference s t (Some (ARow k)) = (s.schema ≡ t.schema) × IsDifference (table_rows s) (table_rows t) (Some k)
 
--- the line that tells it
-abbrev pub line_of : Difference → List ℕ
-line_of Schema = codes "schema" ++ 10 ∷ []
-line_of (ARow k) = codes "row " ++ (decimal k ++ 10 ∷ [])
+-- the line that is printed of a difference
+abbrev pub spec_difference_text : Difference → List ℕ
+spec_difference_text Schema = codes "schema" ++ 10 ∷ []
+spec_difference_text (ARow k) = codes "row " ++ (decimal k ++ 10 ∷ [])
 
--- of two inputs that were read
-abbrev pub Compares : Result HeldTree formats.Fault → Result HeldTree formats.Fault → Option Difference → Type 0
-Compares left right difference = HasHeld left (λ s. HasHeld right (λ t. IsFirstDifference s t difference))
+-- the difference of two inputs that were decoded
+abbrev pub ComparesTables : Result TableTree formats.IpcReadError → Result TableTree formats.IpcReadError → Option Difference → Type 0
+ComparesTables left right difference = HasTable left (λ s. HasTable right (λ t. IsTableDifference s t difference))
 
--- ---- faults
+-- ---- errors
 
--- why the rows of an input are not compared: the first fault of the bytes, unless it is want of memory; the columns of a batch are no rows; or
--- memory is wanting
-abbrev pub IsUnread : Fault → Result HeldTree formats.Fault → Type 0
-IsUnread (Format fault) read = Fails fault read
-IsUnread Columns read = HasHeld read (λ h. AllByRecursion Fits (batch_arrays h) → ⊥)
-IsUnread Memory read = Unit {0}
-IsUnread (Form why) read = ⊥
-IsUnread Place read = ⊥
-IsUnread NoColumn read = ⊥
-IsUnread NotBoolean read = ⊥
-IsUnread Input read = ⊥
-IsUnread Output read = ⊥
-
--- what is told where the columns of a batch are no rows, and where memory is wanting
-abbrev pub fault_of : Refusal → Fault
-fault_of refusals.Columns = Columns
-fault_of refusals.Place = Memory
-fault_of refusals.NoColumn = Memory
-fault_of refusals.NotBoolean = Memory
-fault_of refusals.Memory = Memory
+-- why an input has no rows: the first error of its bytes; the columns of a batch do not match the schema; or an allocation failed
+abbrev pub IsRowsError : CliError → Result TableTree formats.IpcReadError → Type 0
+IsRowsError (Read error) read = FailsOrRunsOut error read
+IsRowsError MismatchedColumns read = HasTable read (λ h. AllByRecursion Fits (batch_arrays h) → ⊥)
+IsRowsError Memory read = Unit {0}
+IsRowsError error read = ⊥

@@ -1,29 +1,25 @@
--- What contracts cite.
 pub mod Rows
-pub mod Truths
-pub mod Choice
-pub mod Located
+pub mod Booleans
+pub mod Selection
+pub mod RowOffsets
 pub mod Difference
 pub mod SelectExamples
-pub mod Lists
--- Laws, for proofs.
+pub mod ListExamples
 pub mod RowLaws
--- What contracts cite.
 pub mod Text
 pub mod TextExamples
--- What contracts cite.
+pub mod Records
+pub mod ColumnNames
+pub mod RequestText
+pub mod ColumnExamples
+pub mod RowErrors
+pub mod RequestErrors
 pub mod Tables
-pub mod Named
-pub mod Answer
-pub mod AnswerExamples
-pub mod Unmade
-pub mod Refusals
--- What contracts cite.
-pub mod Holding
-pub mod Outcome
-pub mod Converted
+pub mod Output
+pub mod Encodings
 pub mod Compared
-pub mod Joined
-pub mod Selected
-pub mod Words
-pub mod WholeExamples
+pub mod Concatenated
+pub mod SelectedTables
+pub mod TableExamples
+pub mod Errors
+pub mod RowOrder

@@ -1,4 +1,4 @@
--- Rows of arrays one after another, and cuts of them.
+-- Rows of arrays one after another, and slices of them.
 use Rattle.std.proofs.Common.{◌≡◌, ℕ, zero, suc, ◌+◌, ◌-◌, ◌<◌, ◌≤◌, min, List, [], ◌∷◌, ◌++◌, length, take, drop, get_or, map, refl, sym, ap, ◌∙◌, arith, append_assoc, append-nil, length-drop}
 use Rattle.std.specs.List.{flat_map}
 use Rattle.std.proofs.lemmas.List.{length-map, drop_all, drop_more, drop_min, flat_map_more, take_all, take_min, take_more, take-map}
@@ -24,7 +24,7 @@ take-both zero xs ys = let e : 0 ≡ 0 - length xs = omega arith in ap (λ k. ta
 take-both (suc n) [] ys = let e : suc n ≡ suc n - 0 = omega arith in ap (λ k. take k ys) e
 take-both (suc n) (x ∷ xs) ys = let e : n - length xs ≡ suc n - length (x ∷ xs) = omega arith in ap (λ zs. x ∷ zs) (take-both n xs ys ∙ ap (λ k. take n xs ++ take k ys) e)
 
--- a cut of two lists, one after another
+-- a slice of two lists, one after the other
 cut-both : {X : Type 0} (xs ys : List X) (o n from many : ℕ) → from ≡ min o (length xs) → many ≡ min n (length xs - from)
     → cut (xs ++ ys) o n ≡ cut xs from many ++ cut ys (o - from) (n - many)
 cut-both xs ys o n from many f m =
@@ -48,7 +48,7 @@ drop-map f (suc n) (x ∷ xs) = drop-map f n xs
 pub cut-map : {X Y : Type 0} (f : X → Y) (xs : List X) (o n : ℕ) → cut (map f xs) o n ≡ map f (cut xs o n)
 cut-map f xs o n = ap (take n) (drop-map f o xs) ∙ take-map f n (drop o xs)
 
--- a cut within the first of two lists
+-- a slice within the first of two lists
 pub cut-front : {X : Type 0} (front behind : List X) (o n : ℕ) → o + n ≤ length front → cut front o n ≡ cut (front ++ behind) o n
 cut-front [] behind zero zero h = refl
 cut-front [] behind zero (suc n) h = absurd (omega arith)
@@ -65,7 +65,7 @@ cut-none (suc o) (suc n) = refl
 
 -- ---- rows
 
--- those of the arrays from one on
+-- the rows of the arrays from one on
 abbrev pub rows_behind : List AnyArray → ℕ → List Row
 rows_behind xs i = flat_map rows_of (map layout_of (drop i xs))
 
@@ -80,11 +80,11 @@ behind-none xs i h = ap (λ ys. flat_map rows_of (map layout_of ys)) (drop_all i
 pub rows-length : (a : Layout) → length (rows_of a) ≡ len a
 rows-length a = length-map (slots_of a) (λ s. (layout_type a, s)) ∙ slots-length a
 
--- the rows of a window are a cut of its array's
+-- the rows of a window are a slice of the rows of its array
 pub window-rows : (a : Layout) (o n : ℕ) → rows_in (window_parts a o n) ≡ cut (rows_of a) o n
 window-rows a o n = sym (cut-map (λ s. (layout_type a, s)) (slots_of a) o n)
 
--- what one more window adds to those that were chosen, and what is left to be cut
+-- one more window of a slice, and the rest of the slice
 pub cut-more : (xs : List AnyArray) (i : ℕ) (x : AnyArray) (o n from many : ℕ) (old new : List WindowParts) (w : WindowParts) (whole : List Row)
     → i < length xs → x ≡ get_or xs i x → from ≡ min o (len (layout_of x)) → many ≡ min n (len (layout_of x) - from) → w ≡ window_parts (layout_of x) from many → new ≡ old ++ w ∷ []
     → flat_map rows_in old ++ cut (rows_behind xs i) o n ≡ whole
@@ -124,7 +124,7 @@ flat-more f g xs i x old new y h e pushed same so_far =
     ∙ ap (λ z. flat_map g (take i xs ++ z ∷ [])) e
     ∙ ap (flat_map g) (sym (take_more xs i x h))
 
--- the same, of rows that are appended
+-- the same for rows that are appended
 pub rows-more : {X A : Type 0} (g : X → List A) (xs : List X) (i : ℕ) (x : X) (old new : List A) → i < length xs → x ≡ get_or xs i x → new ≡ old ++ g x
     → old ≡ flat_map g (take i xs) → new ≡ flat_map g (take (i + 1) xs)
 rows-more g xs i x old new h e pushed so_far =

@@ -8,7 +8,7 @@ use Rattle.nest_model.specs.Meaning.{slots_of}
 use Rattle.nest_model.specs.Slot.{Slot}
 use Rattle.nest_array.specs.WindowParts.{WindowParts, window_slots}
 
--- a row: a slot, under the data type of its array
+-- a row: a slot, and the data type of its array
 abbrev pub Row : Type 0
 Row = TypeTree × Slot
 
@@ -18,6 +18,6 @@ rows_of a = map (λ s. (layout_type a, s)) (slots_of a)
 abbrev pub rows_in : WindowParts → List Row
 rows_in w = map (λ s. (layout_type w.array, s)) (window_slots w)
 
--- the row at each place, in the order of the places
-abbrev pub rows_at : {A : Type 0} → List A → List ℕ → List A
-rows_at rows places = flat_map (λ p. cut rows p 1) places
+-- the row at each index, in the order of the indices
+abbrev pub rows_at_indices : {A : Type 0} → List A → List ℕ → List A
+rows_at_indices rows places = flat_map (λ p. cut rows p 1) places

@@ -1,50 +1,49 @@
--- Tables: columns, in batches.
-use Rattle.std.specs.Prelude.{List, [], ◌∷◌, map, None}
-use Rattle.std.specs.List.{AllByRecursion, flat_map}
-use Rattle.nest_memory.specs.TypeOf.{field_of, field_trees}
-use Rattle.nest_memory.specs.TypeTree as types
-use Rattle.nest_memory.specs.TypeTree.{FieldTree, TypeTree}
+-- What the bytes of an Arrow file or stream hold.
+use Rattle.std.specs.Prelude.{Bool, List, ℕ, map, nat_eq, codes, Result, Ok, if◌then◌else◌}
+use Rattle.std.specs.List.{AllByRecursion, flat_map, starts_with}
 use Rattle.nest_model.specs.Fits.{Fits}
-use Rattle.nest_model.specs.Layout as layouts
-use Rattle.nest_model.specs.Layout.{Layout, Layouts, no_layouts, more_layouts}
-use Rattle.nest_array.specs.Seen.{layout_of}
-use Rattle.nest_array.specs.declared.any.AnyArray.{AnyArray}
+use Rattle.nest_model.specs.Layout.{Layout}
+use Rattle.ipc_flatbuf.specs.ReadResults.{◌>>=◌}
+use Rattle.ipc_flatbuf.specs.declared.error.IpcReadError.{IpcReadError}
+use Rattle.ipc_schema.specs.Schemas.{SchemaModel, schema_of}
+use Rattle.ipc_schema.specs.Projections.{ProjectionModel}
+use Rattle.ipc.specs.Streams.{RecordBatchTree, StreamTree, record_batch_of, projected_stream_in}
+use Rattle.ipc.specs.Files.{FileTree, projected_file_in}
+use Rattle.cli_rows.specs.Records.{record_type, records}
 use Rattle.cli_rows.specs.Rows.{Row, rows_of}
-use Rattle.cli_rows.specs.declared.answer.table.Table.{Table}
+use Rattle.cli_rows.specs.declared.table.Table.{Table}
 
--- a field for each column, and batches of columns
+-- the schema, and the batches
 pub record TableTree : Type 0 where
-  pub fields : List FieldTree
-  pub batches : List (List Layout)
+  pub schema : SchemaModel
+  pub batches : List RecordBatchTree
 
--- the columns side by side
-abbrev pub side_by_side : List Layout → Layouts
-side_by_side [] = no_layouts
-side_by_side (a ∷ as_) = more_layouts a (side_by_side as_)
+-- a file begins with its magic, a stream never does
+abbrev pub is_file_prefix : List ℕ → Bool
+is_file_prefix bytes = starts_with nat_eq bytes (codes "ARROW1")
 
--- a batch as one array of records
-abbrev pub records : TypeTree → List Layout → Layout
-records t columns = layouts.struct t (side_by_side columns) None
+abbrev pub table_of_file : FileTree → TableTree
+table_of_file f = record { schema = f.schema; batches = f.batches }
 
--- the data type of its records: a struct of the fields
-abbrev pub record_type : List FieldTree → TypeTree
-record_type fields = types.struct (field_trees fields)
+abbrev pub table_of_stream : StreamTree → TableTree
+table_of_stream s = record { schema = s.schema; batches = s.batches }
 
+-- that of a file, or that of the stream which the bytes begin with
+abbrev pub decoded_table : ProjectionModel → List ℕ → Result TableTree IpcReadError
+decoded_table picks bytes = if is_file_prefix bytes then (projected_file_in picks bytes >>= λ f. Ok (table_of_file f)) else (projected_stream_in picks bytes >>= λ s. Ok (table_of_stream s))
+
+-- the columns of each batch as an array of records
 abbrev pub table_records : TableTree → List Layout
-table_records t = map (records (record_type t.fields)) t.batches
+table_records t = map (records (record_type t.schema.fields)) (map (λ b. b.columns) t.batches)
 
--- the records of its batches, batch after batch
-abbrev pub table_rows : TableTree → List Row
-table_rows t = flat_map rows_of (table_records t)
+-- the records of all batches
+abbrev pub record_rows : TableTree → List Row
+record_rows t = flat_map rows_of (table_records t)
 
--- there is a column, the columns have the fields' data types, and in each batch they are of one length
-abbrev pub HasRows : TableTree → Type 0
-HasRows t = AllByRecursion Fits (table_records t)
+-- there is a column, the columns have the types of the schema, and in each batch they are of one length
+abbrev pub MatchesSchema : TableTree → Type 0
+MatchesSchema t = AllByRecursion Fits (table_records t)
 
--- ---- tables of the code
-
-abbrev pub columns_of : List AnyArray → List Layout
-columns_of columns = map layout_of columns
-
+-- a table of the code
 abbrev pub table_of : Table → TableTree
-table_of t = record { fields = map field_of t.fields.items; batches = map (λ b. columns_of b.items) t.batches.items }
+table_of h = record { schema = schema_of h.schema; batches = map record_batch_of h.batches.items }

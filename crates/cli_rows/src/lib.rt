@@ -1,7 +1,33 @@
-//! cli_rows
+//! Tables of the Arrow IPC formats as the program `nest` handles them: errors, row selection, and schemas and rows as text.
+//!
+//! A statement whose value is never read (`let _len = ..`, `x.known()`) shows the prover a fact that the next step needs, and does
+//! nothing when it runs.
 #![tactic(auto)]
 
-pub mod select;
-pub mod text;
-pub mod answer;
-pub mod whole;
+mod batches;
+mod columns;
+mod difference;
+mod encoding;
+mod error;
+pub mod laws;
+mod output;
+mod print;
+mod records;
+mod schema;
+mod select;
+mod table;
+mod take;
+mod text;
+
+pub use batches::{batches_of_arrays, push_batch, selected_batches};
+pub use columns::selection_error;
+pub use difference::{Difference, difference_text};
+pub use encoding::encode_table;
+pub use error::{BatchError, CliError};
+pub use output::{read_input, write_output};
+pub use print::{request_text, table_text};
+pub use records::{record_arrays, row_array};
+pub use schema::{copy_fields, copy_schema, row_type, same_schema};
+pub use select::{in_row_order, is_complete, skip_rows, window_difference};
+pub use table::Table;
+pub use take::take_rows;

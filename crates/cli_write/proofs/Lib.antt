@@ -1,9 +1,9 @@
-mod Joined
+mod ConcatSteps
 pub mod Lists
-mod Sinks
-pub mod Steps
-mod Ahead
-mod Batching
-mod Fed
-mod Truths
-mod Turns
+mod Writers
+pub mod CopySteps
+mod UnreadBytes
+mod ParsedLines
+mod Newlines
+mod BooleanLines
+mod ImportSteps

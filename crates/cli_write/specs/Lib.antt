@@ -1,13 +1,12 @@
--- What contracts cite.
-pub mod Asking
-pub mod Copied
-pub mod Joining
--- Words of sinks, and of functions within.
-pub mod Sinks
-pub mod Walks
--- What contracts cite.
-pub mod Examples
-pub mod Imported
--- Words of functions within.
-pub mod Unused
-pub mod ImportWalks
+pub mod RemainingSelections
+pub mod Copies
+pub mod Concat
+pub mod Writers
+pub mod CopyStates
+pub mod LineExamples
+pub mod Imports
+pub mod LineBuffers
+pub mod ImportStates
+pub mod CopySteps
+pub mod ConcatSteps
+pub mod ImportSteps

@@ -1,100 +1,98 @@
-//! What is read batch by batch: a file, or standard input.
+//! Files and standard input as inputs.
 use crate::is;
+use cli_read::{Input, is_file, read_first_bytes};
+use cli_rows::{CliError, read_input};
 use ipc_io::SeekRead;
-use cli_read::batches::{is_file, read_beginning};
-use cli_read::compare::Input;
-use cli_rows::whole::error::Fault;
-use cli_rows::whole::running::read_input;
 use std::fs::File;
 use std::io::{Chain, Cursor, ErrorKind, Read, Seek, SeekFrom, StdinLock};
 use std::rt::Files;
 use std::{fs, io};
 
-/// A device. One that does not seek stands behind the first bytes of it, which were read before.
+/// A source of bytes. One that cannot seek is chained after its first bytes.
 #[derive(Drop)]
-pub enum Device {
-    /// A file that seeks.
+pub enum Source {
+    /// A file that can seek.
     File(File),
-    /// All bytes of what does not seek.
+    /// All bytes of a source that cannot seek.
     Bytes(Cursor<Vec<u8>>),
-    /// A file that does not.
+    /// A file that cannot seek.
     Pipe(Chain<Cursor<Vec<u8>>, File>),
     /// Standard input.
     Stdin(Chain<Cursor<Vec<u8>>, StdinLock<'static>>),
 }
 
-impl Read for Device {
+impl Read for Source {
     fn read(&mut self, buf: &mut [u8]) -> io::Result<usize> {
         match self {
-            Device::File(x) => x.read(buf),
-            Device::Bytes(x) => x.read(buf),
-            Device::Pipe(x) => x.read(buf),
-            Device::Stdin(x) => x.read(buf),
+            Source::File(x) => x.read(buf),
+            Source::Bytes(x) => x.read(buf),
+            Source::Pipe(x) => x.read(buf),
+            Source::Stdin(x) => x.read(buf),
         }
     }
 }
 
-impl Seek for Device {
+impl Seek for Source {
     fn seek(&mut self, to: SeekFrom) -> io::Result<u64> {
         match self {
-            Device::File(x) => x.seek(to),
-            Device::Bytes(x) => x.seek(to),
-            Device::Pipe(_) => Err(io::Error::from(ErrorKind::Unsupported)),
-            Device::Stdin(_) => Err(io::Error::from(ErrorKind::Unsupported)),
+            Source::File(x) => x.seek(to),
+            Source::Bytes(x) => x.seek(to),
+            Source::Pipe(_) => Err(io::Error::from(ErrorKind::Unsupported)),
+            Source::Stdin(_) => Err(io::Error::from(ErrorKind::Unsupported)),
         }
     }
 }
 
-impl SeekRead for Device {
-    fn read_there(&mut self, buf: &mut [u8]) -> io::Result<usize> {
+impl SeekRead for Source {
+    fn read_at_position(&mut self, buf: &mut [u8]) -> io::Result<usize> {
         self.read(buf)
     }
 }
 
-/// What does not seek and is a file, which is read from its end: all bytes of it.
-fn whole<R: Read>(rt: &impl AllocGlobal, device: &mut R) -> Result<Input<Device>, Fault> {
-    let bytes = read_input(rt.alloc(), device)?;
-    Ok(Input::File(Device::Bytes(Cursor::new(bytes))))
+/// Reads an Arrow file that cannot seek into memory: it is read from its end.
+fn read_file<R: Read>(rt: &impl AllocGlobal, source: &mut R) -> Result<Input<Source>, CliError> {
+    let bytes = read_input(rt.alloc(), source)?;
+    Ok(Input::File(Source::Bytes(Cursor::new(bytes))))
 }
 
-/// Standard input.
-fn open_stdin(rt: &HostRuntime) -> Result<Input<Device>, Fault> {
+/// Opens standard input.
+fn open_stdin(rt: &HostRuntime) -> Result<Input<Source>, CliError> {
     let mut reader = rt.reader();
-    let head = read_beginning(rt.alloc(), &mut reader)?;
-    let is_whole = is_file(&head);
-    let mut device = Cursor::new(head).chain(reader);
-    if is_whole {
-        return whole(rt, &mut device);
+    let head = read_first_bytes(rt.alloc(), &mut reader)?;
+    let is_arrow_file = is_file(&head);
+    let mut source = Cursor::new(head).chain(reader);
+    if is_arrow_file {
+        return read_file(rt, &mut source);
     }
-    Ok(Input::Stream(Device::Stdin(device)))
+    Ok(Input::Stream(Source::Stdin(source)))
 }
 
-/// A file that was opened, from its first byte on.
-fn open_file(rt: &impl AllocGlobal, mut opened: File) -> Result<Input<Device>, Fault> {
-    let head = read_beginning(rt.alloc(), &mut opened)?;
-    let is_whole = is_file(&head);
+/// Returns an open file as an input, from its first byte.
+fn open_file(rt: &impl AllocGlobal, mut opened: File) -> Result<Input<Source>, CliError> {
+    let head = read_first_bytes(rt.alloc(), &mut opened)?;
+    let is_arrow_file = is_file(&head);
     if opened.seek(SeekFrom::Start(0)).is_ok() {
-        let device = Device::File(opened);
-        return Ok(if is_whole {
-            Input::File(device)
+        let source = Source::File(opened);
+        return Ok(if is_arrow_file {
+            Input::File(source)
         } else {
-            Input::Stream(device)
+            Input::Stream(source)
         });
     }
-    let mut device = Cursor::new(head).chain(opened);
-    if is_whole {
-        return whole(rt, &mut device);
+    let mut source = Cursor::new(head).chain(opened);
+    if is_arrow_file {
+        return read_file(rt, &mut source);
     }
-    Ok(Input::Stream(Device::Pipe(device)))
+    Ok(Input::Stream(Source::Pipe(source)))
 }
 
-/// A file, or standard input, as a file or as a stream by its first bytes.
-pub fn open_input(rt: &HostRuntime, file: &String) -> Result<Input<Device>, Fault> {
+/// Opens a file or standard input, as an Arrow file or stream by its first bytes.
+pub fn open_input(rt: &HostRuntime, file: &String) -> Result<Input<Source>, CliError> {
     if is(file, "-") {
         return open_stdin(rt);
     }
     match fs::open(rt, file.as_str()) {
         Ok(opened) => open_file(rt, opened),
-        Err(_) => Err(Fault::Input),
+        Err(_) => Err(CliError::Input),
     }
 }

@@ -1,25 +1,25 @@
-//! Where batches go as Arrow, and the line that counts their rows.
-use cli_write::copy::Progress;
-use cli_rows::whole::error::Fault;
+//! Outputs, and the progress line.
+use cli_rows::CliError;
+use cli_write::Progress;
 use std::fs::File;
 use std::process::ExitCode;
 use std::{fs, io};
 
-/// After so many batches the line is written anew.
+/// The number of record batches between two updates of the line.
 const BATCHES: usize = 16;
 
-/// A line on standard error that counts rows, where it is a terminal.
+/// A line on standard error that counts rows, if standard error is a terminal.
 #[derive(Drop)]
-pub struct Line<'a> {
+pub struct ProgressLine<'a> {
     rt: &'a HostRuntime,
     rows: usize,
     batches: usize,
     is_shown: bool,
 }
 
-impl<'a> Line<'a> {
-    pub fn new(rt: &'a HostRuntime, is_shown: bool) -> Line<'a> {
-        Line {
+impl<'a> ProgressLine<'a> {
+    pub fn new(rt: &'a HostRuntime, is_shown: bool) -> ProgressLine<'a> {
+        ProgressLine {
             rt,
             rows: 0,
             batches: 0,
@@ -27,7 +27,7 @@ impl<'a> Line<'a> {
         }
     }
 
-    /// Takes the line away.
+    /// Erases the line.
     pub fn clear(&self) {
         if self.is_shown {
             let _ = eprint!(self.rt; "\r\x1b[K");
@@ -35,8 +35,8 @@ impl<'a> Line<'a> {
     }
 }
 
-impl Progress for Line<'_> {
-    fn went(&mut self, rows: usize) {
+impl Progress for ProgressLine<'_> {
+    fn rows_read(&mut self, rows: usize) {
         self.rows = self.rows.saturating_add(rows);
         self.batches = self.batches.wrapping_add(1);
         if self.is_shown && self.batches % BATCHES == 0 {
@@ -46,26 +46,26 @@ impl Progress for Line<'_> {
     }
 }
 
-/// Where batches go.
+/// An output: its name, its writer, and whether the progress line is shown.
 #[derive(Drop)]
 pub struct Output<'a, W> {
     pub name: &'a String,
-    pub device: W,
-    pub is_counted: bool,
+    pub writer: W,
+    pub is_terminal: bool,
 }
 
-/// How what is written comes to its name.
+/// Where an output is written until it is complete.
 #[derive(Drop)]
 pub enum Place {
-    /// Under its name, where nothing was: it is removed again where not all of it is there.
-    Made,
-    /// Under its name, where no file was: a device, say.
-    There,
-    /// Under this one, since the file of its own name may be the input: it takes that one's place once all of it is there.
+    /// A new file, which is removed if the output is incomplete.
+    Created,
+    /// Not a regular file, say a device.
+    Device,
+    /// This file beside an existing one, which may be the input and is replaced when the output is complete.
     Beside(String),
 }
 
-/// Whether there is a file.
+/// Returns whether a regular file exists.
 fn is_file(rt: &HostRuntime, name: &String) -> bool {
     match fs::metadata(rt, name.as_str()) {
         Ok(metadata) => metadata.is_file(),
@@ -73,68 +73,68 @@ fn is_file(rt: &HostRuntime, name: &String) -> bool {
     }
 }
 
-/// Opens a file beside an output.
-fn create_beside(rt: &HostRuntime, out: &String) -> Result<(File, Place), Fault> {
+/// Opens a new file beside an output.
+fn open_beside(rt: &HostRuntime, out: &String) -> Result<(File, Place), CliError> {
     let Ok(name) = format!(in rt.alloc(); "{out}.part") else {
-        return Err(Fault::Memory);
+        return Err(CliError::Memory);
     };
     match File::create_new(rt, name.as_str()) {
-        Ok(made) => Ok((made, Place::Beside(name))),
+        Ok(created) => Ok((created, Place::Beside(name))),
         Err(_) => {
             drop(name);
-            Err(Fault::Output)
+            Err(CliError::Output)
         }
     }
 }
 
-/// Opens an output, or a file beside it.
-pub fn create(rt: &HostRuntime, out: &String) -> Result<(File, Place), Fault> {
-    if let Ok(made) = File::create_new(rt, out.as_str()) {
-        return Ok((made, Place::Made));
+/// Opens an output, or a file beside it if the output exists.
+pub fn open_output(rt: &HostRuntime, out: &String) -> Result<(File, Place), CliError> {
+    if let Ok(created) = File::create_new(rt, out.as_str()) {
+        return Ok((created, Place::Created));
     }
     if is_file(rt, out) {
-        return create_beside(rt, out);
+        return open_beside(rt, out);
     }
     match fs::create(rt, out.as_str()) {
-        Ok(opened) => Ok((opened, Place::There)),
-        Err(_) => Err(Fault::Output),
+        Ok(opened) => Ok((opened, Place::Device)),
+        Err(_) => Err(CliError::Output),
     }
 }
 
-/// Writes a file over an output, which stays the same file.
-fn write_over(rt: &HostRuntime, from: &String, out: &String) -> Result<(), Fault> {
+/// Copies a file over an output, which keeps its permissions and links.
+fn write_over(rt: &HostRuntime, from: &String, out: &String) -> Result<(), CliError> {
     let Ok(mut written) = fs::open(rt, from.as_str()) else {
-        return Err(Fault::Output);
+        return Err(CliError::Output);
     };
     let Ok(mut target) = fs::create(rt, out.as_str()) else {
-        return Err(Fault::Output);
+        return Err(CliError::Output);
     };
     match io::copy(&mut written, &mut target) {
         Ok(_) => Ok(()),
-        Err(_) => Err(Fault::Output),
+        Err(_) => Err(CliError::Output),
     }
 }
 
-/// Has what was written stand under the name of an output, if all of it is there; else nothing of it. Where it cannot be written over what is there it stays
-/// beside it, and this is said.
+/// Completes an output, or removes it if it is incomplete. If an existing output cannot be replaced, the complete output stays beside it, and
+/// this is reported.
 pub fn settle(
     rt: &HostRuntime,
     out: &String,
     place: Place,
-    is_whole: bool,
+    is_complete: bool,
 ) -> Result<(), ExitCode> {
     match place {
-        Place::There => Ok(()),
-        Place::Made => {
-            if !is_whole {
+        Place::Device => Ok(()),
+        Place::Created => {
+            if !is_complete {
                 let _ = fs::remove_file(rt, out.as_str());
             }
             Ok(())
         }
         Place::Beside(name) => {
-            if is_whole && write_over(rt, &name, out).is_err() {
+            if is_complete && write_over(rt, &name, out).is_err() {
                 let _ = eprintln!(rt;
-                    "nest: {out}: output cannot be written; all of it is in {name}"
+                    "nest: {out}: output cannot be replaced; it is complete in {name}"
                 );
                 return Err(ExitCode::FAILURE);
             }

@@ -1,13 +1,12 @@
-//! Rows of arrays: those that are chosen, as windows over the arrays, and the first that differs from others. Nothing is copied.
-//!
-//! A statement whose value is never read (`x.known()`) shows the prover a fact that the next step needs, and does nothing when it runs.
+//! Selection of rows as windows over arrays, and the first row in which two windows differ. No value is copied.
 
-mod choosing;
-mod differing;
-pub mod laws;
-mod locating;
-mod truths;
+mod booleans;
+mod difference;
+mod offsets;
+mod order;
+mod windows;
 
-pub use choosing::choose;
-pub use differing::window_difference;
-pub use truths::{boolean_column, is_named};
+pub use booleans::{boolean_column, is_named};
+pub use difference::window_difference;
+pub use order::{in_row_order, is_complete, skip_rows};
+pub use windows::select_rows;

@@ -1,4 +1,4 @@
-//! Columns and rows as lines of text.
+//! Schemas and rows as lines of text.
 ghost use Rattle.std.specs.Prelude.{◌≡◌, ◌+◌, ◌≤◌, IfOk, false, map, string_bytes};
 ghost use Rattle.std.specs.Fmt.{WritesOnOk};
 ghost use Rattle.std.specs.List.{flat_map};
@@ -9,21 +9,21 @@ ghost use Rattle.nest_model.specs.Meaning.{len};
 ghost use Rattle.nest_array.specs.Seen.{layout_of};
 ghost use Rattle.nest_array.specs.WindowParts.{window_parts};
 ghost use Rattle.cli_rows.specs.Rows.{rows_in};
-ghost use Rattle.json_write.specs.Json.{heads_of};
-ghost use Rattle.cli_rows.specs.Text.{text_of_columns, text_of_rows};
+ghost use Rattle.json_write.specs.JsonText.{prefixes_of};
+ghost use Rattle.cli_rows.specs.Text.{text_of_schema, text_of_rows};
 
+use json_write::struct_rows::{member_prefixes, write_struct_slot};
+use json_write::traits::WriteSlot;
 use nest_array::{AnyArray, StructArray, Window};
 use nest_memory::datatypes::Field;
-use json_write::records::{member_heads, write_record};
-use json_write::written::WriteSlot;
 use std::alloc::{AllocError, Global};
 use std::fmt;
 use std::fmt::{Display, Formatter};
 
-/// Of so many records in a window, what stands before their members is made once.
+/// A window of at least this many records makes the member names once.
 const MANY: usize = 8;
 
-/// The rows of windows, one after another, by `Display`.
+/// The rows of windows, a line each, by `Display`.
 #[derive(Drop)]
 struct RowLines<'a> {
     alloc: Global,
@@ -71,7 +71,7 @@ fn write_window<W: fmt::Write>(
     }
 }
 
-/// The n records from place o, each on a line of its own.
+/// Writes `n` records from offset `o`, a line each.
 fn write_records<W: fmt::Write>(
     alloc: Global,
     f: &mut Formatter<W>,
@@ -82,11 +82,11 @@ fn write_records<W: fmt::Write>(
     requires { o + n ≤ len records.now }
     ensures { WritesOnOk W.write_str_gives f.old result (text_of_rows (rows_in (window_parts records.now o n))) f.new }
 {
-    let heads = member_heads(alloc, records.fields())?;
+    let heads = member_prefixes(alloc, records.fields())?;
     write_headed(f, records, &heads, o, n)
 }
 
-/// The same, by what stands before their members.
+/// Writes the same records by the text before each member.
 fn write_headed<W: fmt::Write>(
     f: &mut Formatter<W>,
     records: &StructArray,
@@ -95,18 +95,18 @@ fn write_headed<W: fmt::Write>(
     n: usize,
 ) -> fmt::Result
     requires within { o + n ≤ len records.now }
-    requires heads { map string_bytes heads.now ≡ heads_of (fields_of (layout_type records.now)) false }
+    requires heads { map string_bytes heads.now ≡ prefixes_of (fields_of (layout_type records.now)) false }
     ensures { WritesOnOk W.write_str_gives f.old result (text_of_rows (rows_in (window_parts records.now o n))) f.new }
 {
     let _end = records.len();
     for k in 0..n {
-        write_record(f, records, heads, o + k)?;
+        write_struct_slot(f, records, heads, o + k)?;
         f.write_str("\n")?;
     }
     Ok(())
 }
 
-/// The n slots from place o, each on a line of its own.
+/// Writes `n` values from offset `o`, a line each.
 fn write_run<W: fmt::Write>(
     f: &mut Formatter<W>,
     array: &AnyArray,
@@ -124,7 +124,10 @@ fn write_run<W: fmt::Write>(
     Ok(())
 }
 
-/// The lines of rows.
+/// Returns the rows of windows as lines of JSON.
+///
+/// # Errors
+/// `AllocError` if an allocation fails.
 pub fn row_lines(alloc: Global, windows: &[Window<'_>]) -> Result<String, AllocError>
     ensures { IfOk result (λ text. string_bytes text ≡ text_of_rows (flat_map rows_in windows.now)) }
 {
@@ -132,7 +135,7 @@ pub fn row_lines(alloc: Global, windows: &[Window<'_>]) -> Result<String, AllocE
     format!(in alloc; "{lines}")
 }
 
-/// Columns, one after another, by `Display`.
+/// Columns, a line each, by `Display`.
 #[derive(Drop)]
 struct ColumnLines<'a> {
     fields: &'a [Field],
@@ -141,9 +144,9 @@ struct ColumnLines<'a> {
 impl Display for ColumnLines<'_> {
     ghost use Rattle.std.specs.Prelude.{Some, map};
     ghost use Rattle.nest_memory.specs.TypeOf.{field_of};
-    ghost use Rattle.cli_rows.specs.Text.{text_of_columns};
+    ghost use Rattle.cli_rows.specs.Text.{text_of_schema};
 
-    ghost output = { λ l. Some (text_of_columns (map field_of l.fields.now)) };
+    ghost output = { λ l. Some (text_of_schema (map field_of l.fields.now)) };
 
     fn fmt<W: fmt::Write>(&self, f: &mut Formatter<W>) -> fmt::Result {
         write_columns(f, self.fields)
@@ -151,7 +154,7 @@ impl Display for ColumnLines<'_> {
 }
 
 fn write_columns<W: fmt::Write>(f: &mut Formatter<W>, fields: &[Field]) -> fmt::Result
-    ensures { WritesOnOk W.write_str_gives f.old result (text_of_columns (map field_of fields.now)) f.new }
+    ensures { WritesOnOk W.write_str_gives f.old result (text_of_schema (map field_of fields.now)) f.new }
 {
     for field in fields {
         field.fmt(f)?;
@@ -160,9 +163,12 @@ fn write_columns<W: fmt::Write>(f: &mut Formatter<W>, fields: &[Field]) -> fmt::
     Ok(())
 }
 
-/// The lines of columns.
-pub fn column_lines(alloc: Global, fields: &[Field]) -> Result<String, AllocError>
-    ensures { IfOk result (λ text. string_bytes text ≡ text_of_columns (map field_of fields.now)) }
+/// Returns a line for each column: its name, its data type and whether it is never null.
+///
+/// # Errors
+/// `AllocError` if an allocation fails.
+pub fn schema_lines(alloc: Global, fields: &[Field]) -> Result<String, AllocError>
+    ensures { IfOk result (λ text. string_bytes text ≡ text_of_schema (map field_of fields.now)) }
 {
     let lines = ColumnLines { fields };
     format!(in alloc; "{lines}")

@@ -1,9 +1,5 @@
-//! Columns, and rows that are chosen, as lines of text.
-//!
-//! A statement whose value is never read (`let _end = ..`, `x.known()`) shows the prover a fact that the next step needs, and does
-//! nothing when it runs.
+//! Schemas and rows as lines of text.
 
-pub mod laws;
 mod lines;
 
-pub use lines::{column_lines, row_lines};
+pub use lines::{row_lines, schema_lines};

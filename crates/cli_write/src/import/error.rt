@@ -1,42 +1,79 @@
-//! Why lines are no file or stream.
+//! Errors of lines of JSON.
 ghost use Rattle.std.specs.Prelude.{◌≡◌};
-ghost use Rattle.cli_write.specs.declared.import.error.Unimported.TheVariants.{Memory};
+ghost use Rattle.cli_write.specs.declared.import.error.ImportError.TheVariants.{Memory};
 
-use ipc_flatbuf::NoForm;
-use json_read::{LineReason, Unread};
+use cli_rows::CliError;
+use ipc_flatbuf::IpcWriteError;
+use json_read::{JsonReadError, LineError, UnsupportedTypeError};
 use std::alloc::{AllocError, AllocFailed};
 
-/// Why lines of JSON are not written as Arrow.
+/// Error returned where lines of JSON are not written as Arrow.
 #[derive(Clone, Copy, Debug, PartialEq, Eq)]
-pub enum Unimported {
-    /// Records of these fields are not read, for the first reason, a type before its children, these from the left.
-    Type(Unread),
-    /// The first line that is no row, counted from 0, and why.
-    Line(usize, LineReason),
-    /// The lines of a batch are more than one array holds, or all lines more than are counted.
+pub enum ImportError {
+    /// Records of these fields are not read from JSON, for the first reason: a type before its children, in order.
+    Type(UnsupportedTypeError),
+    /// The first invalid line, from 0, and the reason.
+    Line(usize, LineError),
+    /// The rows of a record batch exceed the limits of an array, or the lines exceed 2^64.
     Overflow,
-    /// The rows are not written in the form that is asked for.
-    Form(NoForm),
-    /// The lines could not be read.
+    /// The rows cannot be written in the format of the output.
+    Write(IpcWriteError),
+    /// Reading the lines failed.
     Input,
-    /// The output could not be written; a beginning of it may have gone out.
+    /// Writing the output failed. A prefix of it may have been written.
     Output,
-    /// A request for memory was refused.
+    /// An allocation failed.
     Memory,
 }
 
-impl From<AllocError> for Unimported {
+impl From<AllocError> for ImportError {
     ghost from_gives = { λ _ e. e ≡ Memory };
 
-    fn from(_e: AllocError) -> Unimported {
-        Unimported::Memory
+    fn from(_e: AllocError) -> ImportError {
+        ImportError::Memory
     }
 }
 
-impl<T: Drop> From<AllocFailed<T>> for Unimported {
+impl<T: Drop> From<AllocFailed<T>> for ImportError {
     ghost from_gives = { λ _ e. e ≡ Memory };
 
-    fn from(_e: AllocFailed<T>) -> Unimported {
-        Unimported::Memory
+    fn from(_e: AllocFailed<T>) -> ImportError {
+        ImportError::Memory
+    }
+}
+
+/// Converts an error of a [`BatchWriter`](crate::BatchWriter).
+impl From<CliError> for ImportError {
+    ghost use Rattle.cli_write.specs.ImportStates.{import_error};
+
+    ghost from_gives = { λ error e. e ≡ import_error error };
+
+    fn from(error: CliError) -> ImportError {
+        match error {
+            CliError::Write(error) => ImportError::Write(error),
+            CliError::Memory => ImportError::Memory,
+            CliError::Input
+            | CliError::Read(_)
+            | CliError::MismatchedColumns
+            | CliError::IndexOutOfRange
+            | CliError::UnknownColumn
+            | CliError::NotBoolean
+            | CliError::Output => ImportError::Output,
+        }
+    }
+}
+
+impl From<JsonReadError> for ImportError {
+    ghost use Rattle.cli_write.specs.ImportStates.{text_error};
+
+    ghost from_gives = { λ error e. e ≡ text_error error };
+
+    fn from(error: JsonReadError) -> ImportError {
+        match error {
+            JsonReadError::Type(reason) => ImportError::Type(reason),
+            JsonReadError::Line { line, reason } => ImportError::Line(line, reason),
+            JsonReadError::Overflow => ImportError::Overflow,
+            JsonReadError::Memory => ImportError::Memory,
+        }
     }
 }

@@ -1,10 +1,9 @@
-//! Lines of JSON as Arrow files and streams, batch by batch: the memory is that of the lines of one batch, as text and as columns.
+//! Lines of JSON written as Arrow streams and files. The memory is that of the lines of one record batch, as text and as columns.
 
+mod batch;
+mod buffer;
 mod error;
-mod importing;
-pub mod laws;
-mod reading;
-mod unused;
+mod lines;
 
-pub use error::Unimported;
-pub use importing::import;
+pub use error::ImportError;
+pub use lines::import;

@@ -1,7 +1,7 @@
 use Rattle.std.proofs.Common.{rules, arith}
 use Rattle.std.proofs.Output.{has_written_append, has_written_of_eq}
 use Rattle.nest_array.specs.Seen.{layout_of}
-use Rattle.cli_rows.proofs.NextLine.{line-next}
+use Rattle.cli_rows.proofs.Lines.{line-next}
 use Rattle.cli_rows.proofs.text.lines.write_run.Goals as goal
 
 pub loop-k-preserved : goal.loop-k-preserved

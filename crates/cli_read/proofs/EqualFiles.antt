@@ -1,0 +1,58 @@
+-- Files of equal bytes, of which one is read.
+use Rattle.std.proofs.Common.{◌≡◌, ℕ, List, [], ◌∷◌, length, Err, inl, Option, Some, None, Result, refl, sym, ap, ◌∙◌, subst}
+use Rattle.std.specs.Option.{option_map}
+use Rattle.std.specs.Io.KnownBytes.{Keeps}
+use Rattle.ipc_schema.specs.Schemas.{SchemaModel}
+use Rattle.cli_read.specs.Decoded.{Decoded}
+use Rattle.cli_rows.specs.Rows.{Row}
+use Rattle.cli_rows.specs.declared.difference.Difference.{Difference}
+use Rattle.cli_rows.specs.declared.error.CliError.{CliError}
+use Rattle.cli_rows.specs.declared.error.CliError.TheVariants.{Input, Memory}
+use Rattle.cli_read.specs.EqualBytes.{HaveEqualBytes}
+use Rattle.cli_read.specs.Remaining.{FailsToOpen, IsOpened, Remaining, with_schema}
+use Rattle.cli_read.specs.Comparisons.{ComparesInputs}
+use Rattle.cli_read.specs.declared.comparison.inputs.CompareError.{CompareError}
+use Rattle.cli_read.specs.declared.comparison.inputs.CompareError.TheVariants.{First}
+use Rattle.cli_read.proofs.BufferSteps.{why-error}
+
+abbrev pub Answer : Type 0
+Answer = Result (Option Difference) CompareError
+
+pub of-kept : (f g : List ℕ → Decoded) (a b c d : Option (List ℕ)) (result : Answer) → Keeps a c → Keeps b d → ComparesInputs (option_map f c) (option_map g d) result → ComparesInputs (option_map f a) (option_map g b) result
+of-kept f g None b c d result h k x = tt
+of-kept f g (Some xs) None c d result h k x = tt
+of-kept f g (Some xs) (Some ys) None d result h k x = absurd h
+of-kept f g (Some xs) (Some ys) (Some zs) None result h k x = absurd k
+of-kept f g (Some xs) (Some ys) (Some zs) (Some ws) result h k x =
+    subst (λ (vs : List ℕ). ComparesInputs (Some (f xs)) (Some (g vs)) result) k (subst (λ (vs : List ℕ). ComparesInputs (Some (f vs)) (Some (g ws)) result) h x)
+
+pub of-alike : (f : List ℕ → Decoded) (a b c : Option (List ℕ)) (result : Answer) → HaveEqualBytes a b → Keeps a c → ComparesInputs (option_map f c) (option_map f c) result → ComparesInputs (option_map f a) (option_map f b) result
+of-alike f None b c result e h x = tt
+of-alike f (Some xs) None c result e h x = tt
+of-alike f (Some xs) (Some ys) None result e h x = absurd h
+of-alike f (Some xs) (Some ys) (Some zs) result e h x =
+    subst (λ (vs : List ℕ). ComparesInputs (Some (f xs)) (Some (f vs)) result) e (subst (λ (vs : List ℕ). ComparesInputs (Some (f vs)) (Some (f vs)) result) h x)
+
+pub first-unopened : (x y : Option Decoded) (error : CliError) → FailsToOpen error x → ComparesInputs x y (Err (First (record { batch = None; error = error })))
+first-unopened None y error h = tt
+first-unopened (Some x) None error h = tt
+first-unopened (Some x) (Some y) error h = why-error error (x.first 0) h
+
+pub as-opened : (x : Option Decoded) (s : SchemaModel) (l : Option Remaining) (result : Answer) → IsOpened x s l → ComparesInputs (option_map (with_schema s) l) (option_map (with_schema s) l) result → ComparesInputs x x result
+as-opened None s l result o a = tt
+as-opened (Some x) s None result o a = absurd o
+as-opened (Some x) s (Some l) result o a = subst (λ (z : Decoded). ComparesInputs (Some z) (Some z) result) (sym o) a
+
+pub none-left : (xs : List Row) → length xs ≡ 0 → xs ≡ []
+none-left [] e = refl
+none-left (x ∷ xs) e = cc
+
+pub device-failed : (x y : Option Decoded) (k : ℕ) → ComparesInputs x y (Err (First (record { batch = Some k; error = Input })))
+device-failed None y k = tt
+device-failed (Some x) None k = tt
+device-failed (Some x) (Some y) k = (tt, inl tt)
+
+pub out-of-memory : (x y : Option Decoded) → ComparesInputs x y (Err (First (record { batch = None; error = Memory })))
+out-of-memory None y = tt
+out-of-memory (Some x) None = tt
+out-of-memory (Some x) (Some y) = tt

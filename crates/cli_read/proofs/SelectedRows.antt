@@ -1,0 +1,206 @@
+-- Selected rows of record batches.
+use Rattle.std.proofs.Common.{◌≡◌, ℕ, zero, suc, ◌+◌, ◌-◌, List, [], ◌∷◌, ◌++◌, length, take, drop, map, Option, Some, None, option_map, refl, sym, ap, ◌∙◌, arith, append_assoc, append-nil, length-append, length-drop, eqb-true, true, false}
+use Rattle.std.specs.List.{AllByRecursion, filter, flat_map, slice_get}
+use Rattle.std.proofs.lemmas.Grind.{flat_map-append}
+use Rattle.std.proofs.lemmas.List.Elements.{filter-append}
+use Rattle.nest_memory.specs.Cut.{cut}
+use Rattle.nest_memory.specs.TypeTree.{FieldTree}
+use Rattle.nest_model.specs.Fits.{Fits}
+use Rattle.nest_model.specs.Meaning.{first_len, len}
+use Rattle.nest_array.specs.Seen.{layout_of}
+use Rattle.nest_array.specs.declared.any.AnyArray.{AnyArray}
+use Rattle.ipc_schema.specs.Schemas.{SchemaModel}
+use Rattle.ipc.specs.Streams.{RecordBatchTree}
+use Rattle.cli_args.specs.Requests.{SelectionTree, RequestTree, columns, rows, all, slice, indices, where_true}
+use Rattle.cli_rows.specs.Selection.{selected_rows}
+use Rattle.cli_rows.specs.RowLaws.{drop-both, rows-length}
+use Rattle.cli_rows.specs.Rows.{Row, rows_of}
+use Rattle.cli_rows.specs.Booleans.{is_true_in}
+use Rattle.cli_rows.specs.Text.{json_line, text_of_rows}
+use Rattle.cli_rows.specs.RequestText.{spec_request_text, unless_error}
+use Rattle.cli_rows.specs.ColumnNames.{spec_selection_error, request_error}
+use Rattle.cli_rows.specs.Tables.{MatchesSchema, TableTree, record_rows}
+use Rattle.cli_rows.specs.Records.{record_type, records, side_by_side}
+use Rattle.cli_rows.specs.declared.error.CliError.{CliError}
+use Rattle.cli_read.specs.RemainingRequests.{HasAllRows, IsRequestInRowOrder, batch_table, is_complete_request, remaining_request, table_row_count}
+use Rattle.cli_rows.specs.RowOrder.{IsInRowOrder}
+
+take-both : {X : Type 0} (n : ℕ) (xs ys : List X) → take n (xs ++ ys) ≡ take n xs ++ take (n - length xs) ys
+take-both zero xs ys = let e : 0 ≡ 0 - length xs = omega arith in ap (λ k. take k ys) e
+take-both (suc n) [] ys = let e : suc n ≡ suc n - 0 = omega arith in ap (λ k. take k ys) e
+take-both (suc n) (x ∷ xs) ys = let e : n - length xs ≡ suc n - length (x ∷ xs) = omega arith in ap (λ zs. x ∷ zs) (take-both n xs ys ∙ ap (λ k. take n xs ++ take k ys) e)
+
+cut-both : {X : Type 0} (xs ys : List X) (o n : ℕ) → cut (xs ++ ys) o n ≡ cut xs o n ++ cut ys (o - length xs) (n - (length xs - o))
+cut-both xs ys o n =
+    ap (take n) (drop-both o xs ys)
+    ∙ take-both n (drop o xs) (drop (o - length xs) ys)
+    ∙ ap (λ k. take n (drop o xs) ++ take (n - k) (drop (o - length xs) ys)) (length-drop o xs)
+
+abbrev picked : SelectionTree → List Row → List Row
+picked all rs = rs
+picked (slice o n) rs = cut rs o n
+picked (where_true name) rs = filter (is_true_in name) rs
+picked (indices wanted) rs = []
+
+choice-is : (c : SelectionTree) (rs : List Row) → IsInRowOrder c → selected_rows c rs ≡ Some (picked c rs)
+choice-is all rs h = refl
+choice-is (slice o n) rs h = refl
+choice-is (where_true name) rs h = refl
+choice-is (indices wanted) rs h = absurd h
+
+abbrev pub behind : SelectionTree → ℕ → SelectionTree
+behind (slice o n) k = slice (o - k) (n - (k - o))
+behind all k = all
+behind (where_true name) k = where_true name
+behind (indices wanted) k = indices wanted
+
+pub left-is : (c : SelectionTree) (k : ℕ) → remaining_request (rows c) k ≡ rows (behind c k)
+left-is all k = refl
+left-is (slice o n) k = refl
+left-is (where_true name) k = refl
+left-is (indices wanted) k = refl
+
+pub in-order-behind : (c : SelectionTree) (k : ℕ) → IsInRowOrder c → IsInRowOrder (behind c k)
+in-order-behind all k h = tt
+in-order-behind (slice o n) k h = tt
+in-order-behind (where_true name) k h = tt
+in-order-behind (indices wanted) k h = h
+
+picked-both : (c : SelectionTree) (xs ys : List Row) → IsInRowOrder c → picked c (xs ++ ys) ≡ picked c xs ++ picked (behind c (length xs)) ys
+picked-both all xs ys h = refl
+picked-both (slice o n) xs ys h = cut-both xs ys o n
+picked-both (where_true name) xs ys h = filter-append (is_true_in name) xs ys
+picked-both (indices wanted) xs ys h = absurd h
+
+from-twice : (o n a b : ℕ) → slice ((o - a) - b) ((n - (a - o)) - (b - (o - a))) ≡ slice (o - (a + b)) (n - (a + b - o))
+from-twice o n a b =
+    let e : (o - a) - b ≡ o - (a + b) = omega arith in
+    let f : (n - (a - o)) - (b - (o - a)) ≡ n - (a + b - o) = omega arith in
+    ap (λ x. slice x ((n - (a - o)) - (b - (o - a)))) e ∙ ap (slice (o - (a + b))) f
+
+behind-twice : (c : SelectionTree) (a b : ℕ) → behind (behind c a) b ≡ behind c (a + b)
+behind-twice all a b = refl
+behind-twice (slice o n) a b = from-twice o n a b
+behind-twice (where_true name) a b = refl
+behind-twice (indices wanted) a b = refl
+
+pub left-twice : (q : RequestTree) (a b : ℕ) → remaining_request (remaining_request q a) b ≡ remaining_request q (a + b)
+left-twice columns a b = refl
+left-twice (rows c) a b = ap (λ z. remaining_request z b) (left-is c a) ∙ left-is (behind c a) b ∙ ap rows (behind-twice c a b) ∙ sym (left-is c (a + b))
+
+from-none : (o n : ℕ) → slice (o - 0) (n - (0 - o)) ≡ slice o n
+from-none o n =
+    let e : o - 0 ≡ o = omega arith in
+    let f : n - (0 - o) ≡ n = omega arith in
+    ap (λ x. slice x (n - (0 - o))) e ∙ ap (slice o) f
+
+pub left-none : (q : RequestTree) → remaining_request q 0 ≡ q
+left-none columns = refl
+left-none (rows all) = refl
+left-none (rows (slice o n)) = ap rows (from-none o n)
+left-none (rows (where_true name)) = refl
+left-none (rows (indices wanted)) = refl
+
+abbrev rows_under : List FieldTree → List RecordBatchTree → List Row
+rows_under fs bs = flat_map rows_of (map (records (record_type fs)) (map (λ (b : RecordBatchTree). b.columns) bs))
+
+rows-append : (fs : List FieldTree) (as_ bs : List RecordBatchTree) → rows_under fs (as_ ++ bs) ≡ rows_under fs as_ ++ rows_under fs bs
+rows-append fs [] bs = refl
+rows-append fs (a ∷ as_) bs =
+    ap (λ rs. rows_of (records (record_type fs) a.columns) ++ rs) (rows-append fs as_ bs)
+    ∙ sym (append_assoc (rows_of (records (record_type fs) a.columns)) (rows_under fs as_) (rows_under fs bs))
+
+abbrev pub of_batches : SchemaModel → List RecordBatchTree → TableTree
+of_batches s bs = record { schema = s; batches = bs }
+
+pub count-append : (s : SchemaModel) (as_ bs : List RecordBatchTree) → table_row_count (of_batches s (as_ ++ bs)) ≡ table_row_count (of_batches s as_) + table_row_count (of_batches s bs)
+count-append s as_ bs = ap length (rows-append s.fields as_ bs) ∙ length-append (rows_under s.fields as_) (rows_under s.fields bs)
+
+rows-all : (fs : List FieldTree) (as_ bs : List RecordBatchTree) → AllByRecursion Fits (map (records (record_type fs)) (map (λ (b : RecordBatchTree). b.columns) (as_ ++ bs))) → AllByRecursion Fits (map (records (record_type fs)) (map (λ (b : RecordBatchTree). b.columns) bs))
+rows-all fs [] bs h = h
+rows-all fs (a ∷ as_) bs h = rows-all fs as_ bs h.1
+
+pub has-rows : (s : SchemaModel) (as_ bs : List RecordBatchTree) → MatchesSchema (of_batches s (as_ ++ bs)) → MatchesSchema (of_batches s bs)
+has-rows s as_ bs h = rows-all s.fields as_ bs h
+
+pub count-alone : (s : SchemaModel) (b : RecordBatchTree) → table_row_count (batch_table s (Some b)) ≡ first_len (side_by_side b.columns)
+count-alone s b = ap length (append-nil (rows_of (records (record_type s.fields) b.columns))) ∙ rows-length (records (record_type s.fields) b.columns)
+
+pub first-long : (xs : List AnyArray) (x : AnyArray) → Some x ≡ slice_get xs 0 → first_len (side_by_side (map layout_of xs)) ≡ len (layout_of x)
+first-long [] x h = absurd cc
+first-long (y ∷ ys) x h = let same : y ≡ x = grind (arith, h) in ap (λ (a : AnyArray). len (layout_of a)) same
+
+unless-some : {A : Type 0} (f : Option CliError) (found : Option A) (x : A) → unless_error f found ≡ Some x → (f ≡ None) × (found ≡ Some x)
+unless-some None found x h = (refl, h)
+unless-some (Some refusal) found x h = absurd cc
+
+error-behind : (c : SelectionTree) (k : ℕ) (fs : List FieldTree) → spec_selection_error (behind c k) fs ≡ spec_selection_error c fs
+error-behind all k fs = refl
+error-behind (slice o n) k fs = refl
+error-behind (where_true name) k fs = refl
+error-behind (indices wanted) k fs = refl
+
+pub query-left : (q : RequestTree) (k : ℕ) (fs : List FieldTree) → request_error (remaining_request q k) fs ≡ request_error q fs
+query-left columns k fs = refl
+query-left (rows c) k fs = ap (λ q. request_error q fs) (left-is c k) ∙ error-behind c k fs
+
+some-is : {A : Type 0} (x y : A) → Some x ≡ Some y → x ≡ y
+some-is x y e = grind (arith, e)
+
+text-is : (c : SelectionTree) (s : SchemaModel) (bs : List RecordBatchTree) (text : List ℕ) → IsInRowOrder c → spec_request_text (rows c) (of_batches s bs) ≡ Some text
+    → (spec_selection_error c s.fields ≡ None) × (text_of_rows (picked c (rows_under s.fields bs)) ≡ text)
+text-is c s bs text h e =
+    let u = unless-some (spec_selection_error c s.fields) (option_map text_of_rows (selected_rows c (rows_under s.fields bs))) text e in
+    (u.0, some-is _ _ (sym (ap (option_map text_of_rows) (choice-is c (rows_under s.fields bs) h)) ∙ u.1))
+
+is-text : (c : SelectionTree) (s : SchemaModel) (bs : List RecordBatchTree) (text : List ℕ) → IsInRowOrder c → spec_selection_error c s.fields ≡ None → text_of_rows (picked c (rows_under s.fields bs)) ≡ text
+    → spec_request_text (rows c) (of_batches s bs) ≡ Some text
+is-text c s bs text h none e = rw (none, choice-is c (rows_under s.fields bs) h, e) refl
+
+pub answer-both : (c : SelectionTree) (s : SchemaModel) (as_ bs : List RecordBatchTree) (text more : List ℕ) → IsInRowOrder c → spec_request_text (rows c) (of_batches s as_) ≡ Some text
+    → spec_request_text (remaining_request (rows c) (table_row_count (of_batches s as_))) (of_batches s bs) ≡ Some more → spec_request_text (rows c) (of_batches s (as_ ++ bs)) ≡ Some (text ++ more)
+answer-both c s as_ bs text more h e f =
+    let xs = rows_under s.fields as_ in
+    let ys = rows_under s.fields bs in
+    let front = text-is c s as_ text h e in
+    let rest = text-is (behind c (length xs)) s bs more (in-order-behind c (length xs) h) (ap (λ q. spec_request_text q (of_batches s bs)) (sym (left-is c (length xs))) ∙ f) in
+    is-text c s (as_ ++ bs) (text ++ more) h front.0
+    (ap (λ rs. text_of_rows (picked c rs)) (rows-append s.fields as_ bs)
+    ∙ ap text_of_rows (picked-both c xs ys h)
+    ∙ flat_map-append json_line (picked c xs) (picked (behind c (length xs)) ys)
+    ∙ ap (λ t. t ++ text_of_rows (picked (behind c (length xs)) ys)) front.1
+    ∙ ap (λ t. text ++ t) rest.1)
+
+pub no-place : (q : RequestTree) (s : SchemaModel) (bs : List RecordBatchTree) → IsRequestInRowOrder q → request_error q s.fields ≡ None → spec_request_text q (of_batches s bs) ≡ None → ⊥
+no-place columns s bs h none e = absurd cc
+no-place (rows c) s bs h none e = absurd (grind (arith, sym (is-text c s bs (text_of_rows (picked c (rows_under s.fields bs))) h none refl) ∙ e))
+
+pub enough : (q : RequestTree) (h : TableTree) → is_complete_request (remaining_request q (table_row_count h)) ≡ true → HasAllRows q h
+enough columns h e = tt
+enough (rows all) h e = absurd cc
+enough (rows (slice o n)) h e = let z = eqb-true (n - (table_row_count h - o)) 0 e in omega (arith, z)
+enough (rows (where_true name)) h e = absurd cc
+enough (rows (indices wanted)) h e = absurd cc
+
+pub not-enough : (q : RequestTree) (h : TableTree) → is_complete_request (remaining_request q (table_row_count h)) ≡ false → HasAllRows q h → ⊥
+not-enough columns h e is = absurd cc
+not-enough (rows all) h e is = is
+not-enough (rows (slice o n)) h e is = let z : n - (table_row_count h - o) ≡ 0 = omega (arith, is) in absurd (grind (arith, z, e))
+not-enough (rows (where_true name)) h e is = is
+not-enough (rows (indices wanted)) h e is = is
+
+pub enough-is-all : (q : RequestTree) (s : SchemaModel) (as_ bs : List RecordBatchTree) → HasAllRows q (of_batches s as_) → spec_request_text q (of_batches s as_) ≡ spec_request_text q (of_batches s (as_ ++ bs))
+enough-is-all columns s as_ bs h = refl
+enough-is-all (rows all) s as_ bs h = absurd h
+enough-is-all (rows (slice o n)) s as_ bs h =
+    let xs = rows_under s.fields as_ in
+    let ys = rows_under s.fields bs in
+    let none : n - (length xs - o) ≡ 0 = omega (arith, h) in
+    let same : cut xs o n ≡ cut (rows_under s.fields (as_ ++ bs)) o n =
+    sym (ap (λ rs. cut rs o n) (rows-append s.fields as_ bs)
+    ∙ cut-both xs ys o n
+    ∙ ap (λ k. cut xs o n ++ take k (drop (o - length xs) ys)) none
+    ∙ append-nil (cut xs o n)) in
+    ap (λ rs. Some (text_of_rows rs)) same
+enough-is-all (rows (where_true name)) s as_ bs h = absurd h
+enough-is-all (rows (indices wanted)) s as_ bs h = absurd h

@@ -1,0 +1,43 @@
+-- What is printed of an input, also where an error occurs.
+use Rattle.std.specs.Prelude.{◌≡◌, ◌⊎◌, ◌+◌, ℕ, ⊤, List, Option, Some, None, Result, Ok, Err}
+use Rattle.std.specs.Io.KnownBytes.{Appends, Keeps}
+use Rattle.ipc_flatbuf.specs.declared.error.IpcReadError as formats
+use Rattle.cli_args.specs.Requests.{RequestTree}
+use Rattle.cli_rows.specs.Tables.{TableTree}
+use Rattle.cli_rows.specs.Output.{HasTable, IsPrintError, WritesPrefix, printed_text}
+use Rattle.cli_rows.specs.declared.error.BatchError.{BatchError}
+use Rattle.cli_rows.specs.declared.error.CliError.{CliError}
+use Rattle.cli_rows.specs.declared.error.CliError.TheVariants.{Input, Output}
+use Rattle.cli_read.specs.RemainingRequests.{HasAllRows}
+use Rattle.cli_read.specs.Decoded.{Decoded}
+
+-- the text of the request was written
+abbrev pub WritesText : RequestTree → Result TableTree formats.IpcReadError → Option (List ℕ) → Option (List ℕ) → Type 0
+WritesText q read old new = (text : List ℕ) × (printed_text q read ≡ Some text) × Appends old new text
+
+-- a prefix of it was written
+abbrev pub WritesTextPrefix : RequestTree → Result TableTree formats.IpcReadError → Option (List ℕ) → Option (List ℕ) → Type 0
+WritesTextPrefix q read old new = (text : List ℕ) × (printed_text q read ≡ Some text) × WritesPrefix old new text
+
+-- The output failed, and a prefix of the text was written. Or reading failed, the request has this error, or an allocation failed, and only
+-- the earlier text was written.
+abbrev pub FailsWith : CliError → RequestTree → Result TableTree formats.IpcReadError → Type 0 → Option (List ℕ) → Option (List ℕ) → Type 0
+FailsWith Output q read Earlier old new = WritesTextPrefix q read old new
+FailsWith Input q read Earlier old new = Earlier
+FailsWith error q read Earlier old new = Earlier × IsPrintError error q read
+
+-- the decoded record batches have all rows that the request prints
+abbrev pub IsSufficient : RequestTree → Result TableTree formats.IpcReadError → Type 0
+IsSufficient q read = HasTable read (HasAllRows q)
+
+-- The error occurred before the first record batch, and nothing was written. Or it occurred in a record batch, the batches before it were
+-- not sufficient, and their text was written.
+abbrev pub FailsAt : RequestTree → Decoded → Option ℕ → CliError → Option (List ℕ) → Option (List ℕ) → Type 0
+FailsAt q s None error old new = FailsWith error q (s.first 0) (Keeps old new) old new
+FailsAt q s (Some k) error old new = FailsWith error q (s.first (k + 1)) (WritesText q (s.first k) old new) old new × (IsSufficient q (s.first k) → ⊥)
+
+-- The text of the first record batches was written: of all, or of sufficient ones. Or an error occurred.
+abbrev pub Prints : RequestTree → Option Decoded → Result ⊤ BatchError → Option (List ℕ) → Option (List ℕ) → Type 0
+Prints q None result old new = Unit {0}
+Prints q (Some s) (Ok done) old new = (k : ℕ) × WritesText q (s.first k) old new × ((s.first k ≡ s.whole) ⊎ IsSufficient q (s.first k))
+Prints q (Some s) (Err e) old new = FailsAt q s e.batch e.error old new

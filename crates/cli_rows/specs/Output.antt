@@ -1,0 +1,48 @@
+-- What is printed of an input, and what an output contains then.
+use Rattle.std.specs.Prelude.{◌≡◌, ◌++◌, ℕ, ⊤, List, Option, None, Result, Ok, Err}
+use Rattle.std.specs.Io.KnownBytes.{Appends, Keeps}
+use Rattle.ipc_flatbuf.specs.ReadResults.{FailsOrRunsOut}
+use Rattle.ipc_flatbuf.specs.declared.error.IpcReadError as formats
+use Rattle.cli_args.specs.Requests.{RequestTree}
+use Rattle.cli_rows.specs.RequestText.{spec_request_text}
+use Rattle.cli_rows.specs.RequestErrors.{IsRequestError}
+use Rattle.cli_rows.specs.declared.error.CliError.{CliError}
+use Rattle.cli_rows.specs.declared.error.CliError.TheVariants.{Input, Read, Write, MismatchedColumns, IndexOutOfRange, UnknownColumn, NotBoolean, Output, Memory}
+use Rattle.cli_rows.specs.Tables.{TableTree}
+
+-- the text that a request prints of a decoded table
+abbrev pub printed_text : RequestTree → Result TableTree formats.IpcReadError → Option (List ℕ)
+printed_text q (Ok t) = spec_request_text q t
+printed_text q (Err error) = None
+
+-- a table was decoded, and this holds of it
+abbrev pub HasTable : Result TableTree formats.IpcReadError → (TableTree → Type 0) → Type 0
+HasTable (Ok t) P = P t
+HasTable (Err error) P = ⊥
+
+-- why nothing is printed: the first error of the bytes; an error of the request; or an allocation failed
+abbrev pub IsPrintError : CliError → RequestTree → Result TableTree formats.IpcReadError → Type 0
+IsPrintError (Read error) q read = FailsOrRunsOut error read
+IsPrintError MismatchedColumns q read = HasTable read (IsRequestError MismatchedColumns q)
+IsPrintError IndexOutOfRange q read = HasTable read (IsRequestError IndexOutOfRange q)
+IsPrintError UnknownColumn q read = HasTable read (IsRequestError UnknownColumn q)
+IsPrintError NotBoolean q read = HasTable read (IsRequestError NotBoolean q)
+IsPrintError Memory q read = Unit {0}
+IsPrintError error q read = ⊥
+
+-- a prefix of the bytes was written
+abbrev pub WritesPrefix : Option (List ℕ) → Option (List ℕ) → List ℕ → Type 0
+WritesPrefix old new bytes = (front : List ℕ) × (rest : List ℕ) × (bytes ≡ front ++ rest) × Appends old new front
+
+-- reading failed, or an allocation
+abbrev pub IsInputOrMemoryError : CliError → Type 0
+IsInputOrMemoryError Input = Unit {0}
+IsInputOrMemoryError Memory = Unit {0}
+IsInputOrMemoryError error = ⊥
+
+-- all bytes were written; or the output failed after a prefix of them; or an allocation failed before any
+abbrev pub WritesAll : Result ⊤ CliError → Option (List ℕ) → Option (List ℕ) → List ℕ → Type 0
+WritesAll (Ok done) old new bytes = Appends old new bytes
+WritesAll (Err Output) old new bytes = WritesPrefix old new bytes
+WritesAll (Err Memory) old new bytes = Keeps old new
+WritesAll (Err error) old new bytes = ⊥

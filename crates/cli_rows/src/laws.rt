@@ -1,0 +1,128 @@
+//! Examples and laws of selected rows, text and tables. Each function's contract is an example or a law, and its body is empty.
+ghost use Rattle.std.specs.Prelude.{◌≡◌, ◌++◌, ℕ, List, [], ◌∷◌, true, false, Ok, Option, Some, None, codes};
+ghost use Rattle.cli_args.specs.Requests.{all, columns, indices, rows, slice, where_true};
+ghost use Rattle.cli_rows.specs.ColumnExamples.{ok_and_id};
+ghost use Rattle.cli_rows.specs.ColumnNames.{request_error};
+ghost use Rattle.cli_rows.specs.Compared.{IsTableDifference};
+ghost use Rattle.cli_rows.specs.Concatenated.{IsConcatenation};
+ghost use Rattle.cli_rows.specs.Difference.{AreEqualUpTo, IsDifference};
+ghost use Rattle.cli_rows.specs.ListExamples.{other_numbers, three_numbers, two_numbers};
+ghost use Rattle.cli_rows.specs.Rows.{Row};
+ghost use Rattle.cli_rows.specs.SelectExamples.{first, null_record, second, third, three};
+ghost use Rattle.cli_rows.specs.SelectedTables.{IsSelectedFrom};
+ghost use Rattle.cli_rows.specs.Selection.{selected_rows};
+ghost use Rattle.cli_rows.specs.TableExamples.{boolean_table, columnless_table, three_booleans};
+ghost use Rattle.cli_rows.specs.Tables.{TableTree};
+ghost use Rattle.cli_rows.specs.Text.{text_of_schema};
+ghost use Rattle.cli_rows.specs.TextExamples.{id_field, name_field};
+ghost use Rattle.cli_rows.specs.declared.difference.Difference.{Difference};
+ghost use Rattle.cli_rows.specs.declared.difference.Difference.TheVariants.{Row as RowDiffers, Schema};
+ghost use Rattle.cli_rows.specs.declared.error.CliError.TheVariants.{UnknownColumn, NotBoolean};
+
+/// Of a boolean column and an integer column: the first, the second, an unknown name, and no name.
+pub fn columns_are_found_by_name()
+    ensures found { request_error (rows (where_true (codes "ok"))) ok_and_id ≡ None }
+    ensures numbers { request_error (rows (where_true (codes "id"))) ok_and_id ≡ Some NotBoolean }
+    ensures absent { request_error (rows (where_true (codes "o"))) ok_and_id ≡ Some UnknownColumn }
+    ensures unnamed { request_error columns ok_and_id ≡ None }
+{}
+
+/// An integer column that is never null, and a string column.
+pub fn schema_is_text()
+    ensures { text_of_schema (id_field ∷ name_field ∷ []) ≡ codes "id: int64 not null" ++ (10 ∷ codes "name: string" ++ (10 ∷ [])) }
+{}
+
+/// Of three rows: all; a slice; a slice that ends past the last row; a slice after the last row; rows by index, one of them twice; an
+/// index out of range.
+pub fn rows_are_selected()
+    ensures all { selected_rows all three ≡ Some (first ∷ second ∷ third ∷ []) }
+    ensures slice { selected_rows (slice 1 1) three ≡ Some (second ∷ []) }
+    ensures end { selected_rows (slice 1 9) three ≡ Some (second ∷ third ∷ []) }
+    ensures after { selected_rows (slice 3 1) three ≡ Some [] }
+    ensures indices { selected_rows (indices (2 ∷ 0 ∷ 2 ∷ [])) three ≡ Some (third ∷ first ∷ third ∷ []) }
+    ensures none { selected_rows (indices (0 ∷ 3 ∷ [])) three ≡ None }
+{}
+
+/// The rows where the first column of a name is true: neither null nor false, in a valid record. None if the column is not boolean, or
+/// there is no column of the name.
+pub fn rows_where_true_are_selected()
+    ensures column { selected_rows (where_true (codes "ok")) (third ∷ first ∷ second ∷ null_record ∷ first ∷ []) ≡ Some (first ∷ first ∷ []) }
+    ensures numbers { selected_rows (where_true (codes "id")) three ≡ Some [] }
+    ensures absent { selected_rows (where_true (codes "o")) three ≡ Some [] }
+{}
+
+/// Three numbers compared with the same three; with another second number; with two of them.
+pub fn first_difference_is_found()
+    ensures none { IsDifference three_numbers three_numbers None }
+    ensures second { IsDifference three_numbers other_numbers (Some 1) }
+    ensures shorter { IsDifference three_numbers two_numbers (Some 2) }
+    ensures longer { IsDifference two_numbers three_numbers (Some 2) }
+    ensures later { IsDifference three_numbers other_numbers (Some 2) → ⊥ }
+    ensures earlier { IsDifference three_numbers two_numbers (Some 1) → ⊥ }
+{}
+
+/// Three numbers and two of them are equal up to two, not up to three.
+pub fn prefixes_are_compared()
+    ensures two { AreEqualUpTo 2 three_numbers two_numbers }
+    ensures three { AreEqualUpTo 3 three_numbers two_numbers → ⊥ }
+    ensures other { AreEqualUpTo 2 three_numbers other_numbers → ⊥ }
+{}
+
+/// The first difference of rows is unique.
+pub fn first_difference_is_unique()
+    ensures { (xs ys : List Row) (d e : Option ℕ) → IsDifference xs ys d → IsDifference xs ys e → d ≡ e }
+{}
+
+/// Three rows in other batches; another second row; one more row; another schema.
+pub fn tables_differ()
+    ensures same { IsTableDifference (boolean_table ((true ∷ false ∷ []) ∷ [] ∷ (true ∷ []) ∷ [])) (boolean_table ((true ∷ []) ∷ (false ∷ true ∷ []) ∷ [])) None }
+    ensures second { IsTableDifference (boolean_table ((true ∷ false ∷ []) ∷ [])) (boolean_table ((true ∷ []) ∷ (true ∷ []) ∷ [])) (Some (RowDiffers 1)) }
+    ensures longer { IsTableDifference (boolean_table ((true ∷ false ∷ []) ∷ [])) (boolean_table ((true ∷ []) ∷ [])) (Some (RowDiffers 1)) }
+    ensures schema { IsTableDifference (boolean_table []) (columnless_table []) (Some Schema) }
+{}
+
+/// Tables without columns have as many rows as their batches: three and three, three and two.
+pub fn columnless_tables_differ()
+    ensures same { IsTableDifference (columnless_table (2 ∷ 1 ∷ [])) (columnless_table (3 ∷ [])) None }
+    ensures longer { IsTableDifference (columnless_table (2 ∷ 1 ∷ [])) (columnless_table (1 ∷ 1 ∷ [])) (Some (RowDiffers 2)) }
+{}
+
+/// The first difference of tables is unique.
+pub fn first_table_difference_is_unique()
+    ensures { (s t : TableTree) (d e : Option Difference) → IsTableDifference s t d → IsTableDifference s t e → d ≡ e }
+{
+    first_difference_is_unique();
+}
+
+/// Two inputs of one batch each are concatenated to two batches, in order.
+pub fn inputs_are_concatenated()
+    ensures { IsConcatenation (boolean_table ((true ∷ []) ∷ (false ∷ []) ∷ [])) (Ok (boolean_table ((true ∷ []) ∷ [])) ∷ Ok (boolean_table ((false ∷ []) ∷ [])) ∷ []) }
+{}
+
+/// Of a batch of true and false and a batch of true: a slice, rows by index, and the rows that are true. The batches of the result are free.
+pub fn selected_rows_are_a_table()
+    ensures slice { IsSelectedFrom (slice 1 1) three_booleans (boolean_table ((false ∷ []) ∷ [])) }
+    ensures batches { IsSelectedFrom (slice 1 9) three_booleans (boolean_table ((false ∷ []) ∷ (true ∷ []) ∷ [])) }
+    ensures batch { IsSelectedFrom (slice 1 9) three_booleans (boolean_table ((false ∷ true ∷ []) ∷ [])) }
+    ensures none { IsSelectedFrom (slice 3 1) three_booleans (boolean_table []) }
+    ensures indices { IsSelectedFrom (indices (1 ∷ 0 ∷ 1 ∷ [])) three_booleans (boolean_table ((false ∷ true ∷ false ∷ []) ∷ [])) }
+    ensures column { IsSelectedFrom (where_true (codes "ok")) three_booleans (boolean_table ((true ∷ []) ∷ (true ∷ []) ∷ [])) }
+{}
+
+/// Neither another row, fewer or more rows, another order, nor another schema. No rows by an index out of range, or of an unknown column.
+pub fn other_rows_are_not_selected()
+    ensures before { IsSelectedFrom (slice 1 1) three_booleans (boolean_table ((true ∷ []) ∷ [])) → ⊥ }
+    ensures fewer { IsSelectedFrom (slice 1 2) three_booleans (boolean_table ((false ∷ []) ∷ [])) → ⊥ }
+    ensures more { IsSelectedFrom (slice 1 1) three_booleans (boolean_table ((false ∷ []) ∷ (true ∷ []) ∷ [])) → ⊥ }
+    ensures order { IsSelectedFrom (indices (1 ∷ 0 ∷ [])) three_booleans (boolean_table ((true ∷ false ∷ []) ∷ [])) → ⊥ }
+    ensures schema { IsSelectedFrom (slice 3 1) three_booleans (columnless_table []) → ⊥ }
+    ensures index { IsSelectedFrom (indices (3 ∷ [])) three_booleans (boolean_table []) → ⊥ }
+    ensures column { IsSelectedFrom (where_true (codes "o")) three_booleans (boolean_table []) → ⊥ }
+{}
+
+/// Selected rows of tables without columns are counted: a slice of two rows in two batches, and two rows by index; not one of two rows.
+pub fn columnless_rows_are_selected()
+    ensures slice { IsSelectedFrom (slice 1 9) (columnless_table (2 ∷ 1 ∷ [])) (columnless_table (2 ∷ [])) }
+    ensures indices { IsSelectedFrom (indices (2 ∷ 2 ∷ [])) (columnless_table (2 ∷ 1 ∷ [])) (columnless_table (1 ∷ 1 ∷ [])) }
+    ensures fewer { IsSelectedFrom (slice 1 9) (columnless_table (2 ∷ 1 ∷ [])) (columnless_table (1 ∷ [])) → ⊥ }
+{}

@@ -1,0 +1,71 @@
+//! Boolean columns.
+ghost use Rattle.std.specs.Prelude.{◌≡◌, ◌<◌, ◌&&◌, bytes_eq, option_map, string_bytes};
+ghost use Rattle.nest_memory.specs.TypeOf.{field_list_of, field_of};
+ghost use Rattle.nest_model.specs.Meaning.{len, slot};
+ghost use Rattle.nest_array.specs.Seen.{layout_of, layouts_of};
+ghost use Rattle.cli_rows.specs.Booleans.{IsBooleanColumn, column_named, field_name, is_valid, spec_is_true};
+
+use nest_array::{AnyArray, StructArray};
+use nest_flat::boolean::BooleanArray;
+use nest_memory::datatypes::Field;
+
+fn name_of(field: &Field) -> &String
+    ensures { string_bytes result.now ≡ field_name (field_of field.now) }
+{
+    &field.name
+}
+
+/// Returns whether a field has this name.
+pub fn is_named(field: &Field, name: &String) -> bool
+    ensures { result ≡ bytes_eq (field_name (field_of field.now)) (string_bytes name.now) }
+{
+    name_of(field).as_bytes() == name.as_bytes()
+}
+
+/// Returns the child of the first field of a name.
+fn child_named<'a>(
+    name: &String,
+    fields: &[Field],
+    children: &'a [AnyArray],
+) -> Option<&'a AnyArray>
+    ensures { option_map (λ a. layout_of a.now) result ≡ column_named (string_bytes name.now) (field_list_of fields.now) (layouts_of children.now) }
+{
+    for i in 0..fields.len() {
+        if i >= children.len() {
+            return None;
+        }
+        if is_named(&fields[i], name) {
+            return Some(&children[i]);
+        }
+    }
+    None
+}
+
+/// Returns an array of records and their first column of a name, if that column is boolean.
+pub fn boolean_column<'a>(
+    array: &'a AnyArray,
+    name: &String,
+) -> Option<(&'a StructArray, &'a BooleanArray)>
+    ensures { IsBooleanColumn (string_bytes name.now) (layout_of array.now) (option_map (λ p. (p.0.now, p.1.now)) result) }
+{
+    let Some(records) = array.as_struct() else {
+        return None;
+    };
+    records.known();
+    let Some(child) = child_named(name, records.fields(), records.values()) else {
+        return None;
+    };
+    let Some(column) = child.as_boolean() else {
+        return None;
+    };
+    Some((records, column))
+}
+
+/// Returns whether record `i` is valid and its column is true.
+pub fn is_true(records: &StructArray, column: &BooleanArray, i: usize) -> bool
+    requires record { i < len records.now }
+    requires slot { i < len column.now }
+    ensures { result ≡ (is_valid (slot records.now i) && spec_is_true (slot column.now i)) }
+{
+    !records.is_null(i) && column.get(i).unwrap_or(false)
+}

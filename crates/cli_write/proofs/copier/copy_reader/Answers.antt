@@ -1,0 +1,22 @@
+use Rattle.std.proofs.Common.{None, Err, ap, subst, sym, ◌∙◌, map}
+use Rattle.nest_memory.specs.TypeOf.{field_of}
+use Rattle.std.specs.Option.{option_map}
+use Rattle.ipc_schema.specs.Schemas.{SchemaModel}
+use Rattle.cli_args.specs.RequestTrees.{selection_tree}
+use Rattle.cli_rows.specs.Records.{record_type}
+use Rattle.cli_rows.specs.declared.error.CliError.{CliError}
+use Rattle.cli_read.specs.Readers.{reader_schema, remaining_batches}
+use Rattle.cli_read.specs.Remaining.{with_schema}
+use Rattle.cli_write.specs.Copies.{Copies}
+use Rattle.cli_write.proofs.CopySteps.{out-of-memory}
+use Rattle.cli_write.proofs.copier.copy_reader.Goals as goal
+
+pub returns-in-Err : goal.returns-in-Err
+returns-in-Err g c =
+    let d = selection_tree c.args.left in
+    let x = option_map (with_schema (reader_schema c.args.reader)) (remaining_batches g.R.Read.remaining g.R.Seek.stream_position g.R.Seek.stream_bytes c.args.reader) in
+    subst (λ (e : CliError). Copies g.W.Write.contents c.args.format d x c.args.out (Err (record { batch = None; error = e }))) (sym c.in-Err.ensures.error)
+    (out-of-memory g.W.Write.contents c.args.format d x c.args.out)
+
+pub copy_typed-copied-requires-clause-row : goal.copy_typed-copied-requires-clause-row
+copy_typed-copied-requires-clause-row g c = c.in-Ok.ensures.row ∙ ap (λ fs. record_type (map field_of fs)) c.deref.ensures.value ∙ ap (λ (z : SchemaModel). record_type z.fields) c.schema.ensures

@@ -1,0 +1,183 @@
+//! The command `concat`.
+use crate::input::{Source, open_input};
+use crate::is;
+use crate::messages::{report, report_batch, report_usage};
+use crate::output::{Output, ProgressLine, open_output, settle};
+use cli_args::format_of;
+use cli_read::Input;
+use cli_rows::{BatchError, CliError};
+use cli_write::{AppendError, BatchWriter, append, begin_concat};
+use ipc_schema::Projection;
+use std::io;
+use std::io::{IsTerminal, Write};
+use std::process::ExitCode;
+
+/// Error returned where files are not concatenated, and the file.
+#[derive(Drop)]
+enum ConcatError<'a> {
+    /// The file is not read, or not written.
+    Batch(&'a String, BatchError),
+    /// The schema of the file differs from that of the first.
+    Schema(&'a String),
+    /// The end of the output is not written.
+    End(CliError),
+}
+
+/// Begins the output with the first input.
+fn begin<'a, W: Write + Drop>(
+    rt: &HostRuntime,
+    columns: Projection<'_>,
+    (file, input): (&'a String, Input<Source>),
+    out: Output<'_, W>,
+    line: &mut ProgressLine<'_>,
+) -> Result<BatchWriter<W>, ConcatError<'a>> {
+    let format = format_of(out.name);
+    match begin_concat(rt.alloc(), columns, format, input, out.writer, line) {
+        Ok(writer) => Ok(writer),
+        Err(error) => Err(ConcatError::Batch(file, error)),
+    }
+}
+
+/// Appends a file.
+fn append_file<'a, W: Write + Drop>(
+    rt: &HostRuntime,
+    columns: Projection<'_>,
+    file: &'a String,
+    writer: &mut BatchWriter<W>,
+    line: &mut ProgressLine<'_>,
+) -> Result<(), ConcatError<'a>> {
+    let appended = match open_input(rt, file) {
+        Err(error) => Err(AppendError::Batch(BatchError { batch: None, error })),
+        Ok(input) => append(rt.alloc(), columns, input, writer, line),
+    };
+    match appended {
+        Ok(()) => Ok(()),
+        Err(AppendError::Schema) => Err(ConcatError::Schema(file)),
+        Err(AppendError::Batch(error)) => Err(ConcatError::Batch(file, error)),
+    }
+}
+
+/// Appends files.
+fn append_files<'a, W: Write + Drop>(
+    rt: &HostRuntime,
+    columns: Projection<'_>,
+    files: &'a [String],
+    writer: &mut BatchWriter<W>,
+    line: &mut ProgressLine<'_>,
+) -> Result<(), ConcatError<'a>> {
+    for file in files {
+        append_file(rt, columns, file, writer, line)?;
+    }
+    Ok(())
+}
+
+/// Writes the first input and further files to an output.
+fn concat_inputs<'a, W: Write + Drop>(
+    rt: &HostRuntime,
+    columns: Projection<'_>,
+    first: (&'a String, Input<Source>),
+    others: &'a [String],
+    out: Output<'_, W>,
+) -> Result<(), ConcatError<'a>> {
+    let mut line = ProgressLine::new(rt, out.is_terminal);
+    let begun = begin(rt, columns, first, out, &mut line);
+    let done = match begun {
+        Err(error) => Err(error),
+        Ok(mut writer) => match append_files(rt, columns, others, &mut writer, &mut line) {
+            Err(error) => {
+                drop(writer);
+                Err(error)
+            }
+            Ok(()) => match writer.finish(rt.alloc()) {
+                Ok(out) => {
+                    drop(out);
+                    Ok(())
+                }
+                Err(error) => Err(ConcatError::End(error)),
+            },
+        },
+    };
+    line.clear();
+    done
+}
+
+fn report_concat(
+    rt: &HostRuntime,
+    first: &String,
+    out: &String,
+    done: Result<(), ConcatError<'_>>,
+) -> ExitCode {
+    match done {
+        Ok(()) => ExitCode::SUCCESS,
+        Err(ConcatError::Schema(file)) => {
+            let _ = eprintln!(rt; "nest: {file}: the schema differs from that of {first}");
+            ExitCode::FAILURE
+        }
+        Err(ConcatError::End(error)) => report(rt, out, error),
+        Err(ConcatError::Batch(file, error)) => {
+            if error.error == CliError::Output {
+                return report(rt, out, CliError::Output);
+            }
+            report_batch(rt, file, error)
+        }
+    }
+}
+
+/// Writes the first input and further files to a file.
+fn concat_to_file(
+    rt: &HostRuntime,
+    columns: Projection<'_>,
+    first: (&String, Input<Source>),
+    others: &[String],
+    out: &String,
+) -> ExitCode {
+    let name = first.0;
+    match open_output(rt, out) {
+        Err(error) => {
+            drop(first);
+            report(rt, out, error)
+        }
+        Ok((writer, place)) => {
+            let output = Output {
+                name: out,
+                writer,
+                is_terminal: rt.stderr().is_terminal(),
+            };
+            let done = concat_inputs(rt, columns, first, others, output);
+            match settle(rt, out, place, done.is_ok()) {
+                Ok(()) => report_concat(rt, name, out, done),
+                Err(code) => {
+                    drop(done);
+                    code
+                }
+            }
+        }
+    }
+}
+
+/// Concatenates files.
+pub fn concat(
+    rt: &HostRuntime,
+    columns: Projection<'_>,
+    files: &[String],
+    out: &String,
+) -> ExitCode {
+    let [first, others @ ..] = files else {
+        return report_usage(rt);
+    };
+    match open_input(rt, first) {
+        Err(error) => report(rt, first, error),
+        Ok(input) => {
+            if !is(out, "-") {
+                return concat_to_file(rt, columns, (first, input), others, out);
+            }
+            let output = Output {
+                name: out,
+                writer: io::writer(rt),
+                is_terminal: false,
+            };
+            let done = concat_inputs(rt, columns, (first, input), others, output);
+            report_concat(rt, first, out, done)
+        }
+    }
+}

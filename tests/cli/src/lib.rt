@@ -1,0 +1,35 @@
+//! Tests of the libraries of the program `nest`, by their public functions. They are run, not proved.
+//!
+//! | Module | What it tests |
+//! |---|---|
+//! | `arguments` | Commands, indices, slices, options and names of outputs |
+//! | `tables` | Schemas and rows as text, errors, and projected columns |
+//! | `printing` | Printing one record batch at a time; errors, and batches that are not read |
+//! | `comparing` | The first difference of two inputs; which input has an error, and when |
+//! | `copying` | Copies of all rows, of slices, and of rows where a column is true, in either format |
+//! | `concatenating` | Inputs appended to an output; which input has an error |
+//! | `taking` | Rows by index, as lines and in either format |
+//!
+//! `oracle` makes the expected results of a whole table in memory. `devices` fail in any call.
+#![tactic(auto)]
+
+#[cfg(test)]
+mod arguments;
+#[cfg(test)]
+mod comparing;
+#[cfg(test)]
+mod concatenating;
+#[cfg(test)]
+mod copying;
+#[cfg(test)]
+mod devices;
+#[cfg(test)]
+mod oracle;
+#[cfg(test)]
+mod printing;
+#[cfg(test)]
+mod samples;
+#[cfg(test)]
+mod tables;
+#[cfg(test)]
+mod taking;
