@@ -1,1 +1,5 @@
-pub mod Words
+pub mod Conversions
+pub mod Dictionaries
+pub mod Items
+pub mod NullArrays
+pub mod Validities

@@ -1,13 +1,14 @@
-//! Every array fits at every level: what `known` says of an array's top holds of each child below it, however it was cut and
-//! whatever validity it was given. So the laws of `IsArray` speak of every array that a program can hold.
-ghost use Rattle.promises_arrays.specs.Words.{AreArrays, IsArray, layout_of, layouts_of};
+//! Every array satisfies its constructor's checks at every level, whatever slices and validities it was given. `known` says so of
+//! the top level; these functions say so of each child too. So the laws of `IsArray` hold for every array of a program.
+ghost use Rattle.nest_array.specs.Seen.{layout_of, layouts_of};
+ghost use Rattle.nest_model.specs.Array.{AreArrays, IsArray};
 
 use nest_array::{
     AnyArray, DictionaryArray, FixedSizeListArray, LargeListArray, ListArray, MapArray,
     StructArray, UnionArray,
 };
 
-/// An array fits at every level.
+/// An array satisfies its checks at every level.
 #[cycle(levels)]
 pub fn fits_at_every_level(array: &AnyArray)
     ensures { IsArray (layout_of array.now) }
@@ -31,7 +32,7 @@ pub fn fits_at_every_level(array: &AnyArray)
     }
 }
 
-/// So do all children of one array.
+/// All arrays of a slice satisfy their checks at every level.
 #[cycle(levels)]
 pub fn fit_at_every_level(arrays: &[AnyArray])
     ensures { AreArrays (layouts_of arrays.now) }

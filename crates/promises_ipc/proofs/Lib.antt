@@ -1,3 +1,3 @@
-pub mod Again
-mod Both
-pub mod Over
+pub mod AtEnd
+pub mod RoundTrips
+mod SameBatches
