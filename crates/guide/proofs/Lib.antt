@@ -1,3 +1,7 @@
+mod Batches
+mod Last
 mod People
+mod RoundTrips
 mod Rows
+mod Streaming
 mod Sums

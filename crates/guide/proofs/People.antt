@@ -1,4 +1,4 @@
--- What a person more adds to their builder, and how a cell is taken back.
+-- What one more person adds to a builder, and how a cell is removed again.
 use Rattle.std.specs.Prelude.{Option, None, Some, if◌then◌else◌, ◌&&◌}
 use Rattle.std.proofs.Common.{◌≡◌, ℕ, zero, suc, ◌+◌, ◌≤◌, ◌<◌, Bool, true, false, List, [], ◌∷◌, ◌++◌, length, get_or, take, refl, sym, ap, subst, ◌∙◌, arith}
 use Rattle.std.proofs.Math.Seq.{take-length, take-suc}
@@ -17,7 +17,7 @@ use Rattle.nest_any.specs.Lent.{builder_at, with_field}
 use Rattle.nest_any.specs.Refusals.{count_builders, struct_bits, struct_children}
 use Rattle.guide.specs.People.{ArePeople, Cells, ages_in, cell_slot, is_person, names_in, people, with_people, with_person}
 
--- a cell more in a column
+-- one more cell of a column
 pub cell_appended : (o : Option Plain) (t : TypeTree) (xs : List Slot) → appended (asked_item (plain_values o)) (flat t xs) ≡ flat t (xs ++ cell_slot o ∷ [])
 cell_appended None t xs = refl
 cell_appended (Some p) t xs = refl
@@ -33,19 +33,19 @@ first_child b h = ap (λ x. builder_at (struct_children x) 0) h.1
 pub second_child : (b c : BuilderTree) → ArePeople b → builder_at (struct_children (with_field b 0 c)) 1 ≡ Some (flat types.int32 (ages_in b))
 second_child b c h = ap (λ x. builder_at (struct_children (with_field x 0 c)) 1) h.1
 
--- both cells pushed, and the row told
+-- both cells pushed, and the row added
 pub pushed : (b : BuilderTree) (n a : Option Plain) → ArePeople b
     → told true (with_field (with_field b 0 (flat types.utf8 (names_in b ++ cell_slot n ∷ []))) 1 (flat types.int32 (ages_in b ++ cell_slot a ∷ []))) ≡ with_person (n, a) b
 pushed b n a h = ap (λ x. told true (with_field (with_field x 0 (flat types.utf8 (names_in b ++ cell_slot n ∷ []))) 1 (flat types.int32 (ages_in b ++ cell_slot a ∷ [])))) h.1
 
--- the first child as it was
+-- the first child is restored
 pub taken_back : (b c : BuilderTree) → ArePeople b → with_field (with_field b 0 c) 0 (flat types.utf8 (names_in b)) ≡ b
 taken_back b c h = ap (λ x. with_field (with_field x 0 c) 0 (flat types.utf8 (names_in b))) h.1 ∙ sym h.1
 
 pub both_taken_back : (b c d : BuilderTree) → ArePeople b → with_field (with_field (with_field (with_field b 0 c) 1 d) 0 (flat types.utf8 (names_in b))) 1 (flat types.int32 (ages_in b)) ≡ b
 both_taken_back b c d h = ap (λ x. with_field (with_field (with_field (with_field x 0 c) 1 d) 0 (flat types.utf8 (names_in b))) 1 (flat types.int32 (ages_in b))) h.1 ∙ sym h.1
 
--- people are people with one more
+-- one more person leaves a complete builder
 pub whole_more : (b : BuilderTree) (c : Cells) → ArePeople b → ArePeople (with_person c b)
 whole_more b c h =
     let w = subst IsWhole h.1 h.0 in
@@ -53,7 +53,7 @@ whole_more b c h =
     let ages : length (ages_in b ++ cell_slot c.1 ∷ []) ≡ length (struct_bits b ++ true ∷ []) = omega (arith, length_push (ages_in b) (cell_slot c.1), length_push (struct_bits b) true, w.0.2.1) in
     (((tt, names, (tt, ages, tt)), refl), refl)
 
--- the first rows of people are the same with one more
+-- one more person leaves the rows before it
 pub cut_person : (b : BuilderTree) (c : Cells) (n : ℕ) → ArePeople b → n ≤ builder_len b → cut_builder (with_person c b) n ≡ cut_builder b n
 cut_person b c n h k =
     let w = subst IsWhole h.1 h.0 in
@@ -66,12 +66,12 @@ longer b c n h k =
     let rows : n ≤ length (struct_bits b) = subst (λ x. n ≤ builder_len x) h.1 k in
     omega (arith, rows, length_push (struct_bits b) true)
 
--- with one more, or none
+-- one more person, or none
 one_or_none : (p : Bool) (b : BuilderTree) (c : Cells) (n : ℕ) → ArePeople b → n ≤ builder_len b → let d = if p then with_person c b else b in ArePeople d × (n ≤ builder_len d) × (cut_builder d n ≡ cut_builder b n)
 one_or_none true b c n h k = (whole_more b c h, longer b c n h k, cut_person b c n h k)
 one_or_none false b c n h k = (h, k, refl)
 
--- so with several more
+-- so for several rows of cells
 pub cut_people : (cs : List Cells) (b : BuilderTree) (n : ℕ) → ArePeople b → n ≤ builder_len b → cut_builder (with_people cs b) n ≡ cut_builder b n
 cut_people [] b n h k = refl
 cut_people (c ∷ cs) b n h k =
@@ -82,7 +82,7 @@ pub whole_all : (cs : List Cells) (b : BuilderTree) → ArePeople b → ArePeopl
 whole_all [] b h = h
 whole_all (c ∷ cs) b h = whole_all cs (if is_person c then with_person c b else b) (one_or_none (is_person c) b c 0 h (omega arith)).0
 
--- all rows of people are they
+-- truncation to the length changes nothing
 pub cut_none : (b : BuilderTree) → ArePeople b → cut_builder b (builder_len b) ≡ b
 cut_none b h =
     let w = subst IsWhole h.1 h.0 in
@@ -90,19 +90,19 @@ cut_none b h =
     let ages = ap (λ k. take k (ages_in b)) (sym w.0.2.1) ∙ take-length (ages_in b) in
     ap (λ x. cut_builder x (builder_len x)) h.1 ∙ (rw (take-length (struct_bits b), names, ages) refl) ∙ sym h.1
 
--- several and then others
+-- rows of cells, and then others
 pub with_more : (cs ds : List Cells) (b : BuilderTree) → with_people (cs ++ ds) b ≡ with_people ds (with_people cs b)
 with_more [] ds b = refl
 with_more (c ∷ cs) ds b = with_more cs ds (if is_person c then with_person c b else b)
 
--- no fewer rows than before
+-- the length does not shrink
 pub longer_all : (cs : List Cells) (b : BuilderTree) (n : ℕ) → ArePeople b → n ≤ builder_len b → n ≤ builder_len (with_people cs b)
 longer_all [] b n h k = k
 longer_all (c ∷ cs) b n h k =
     let one = one_or_none (is_person c) b c n h k in
     longer_all cs (if is_person c then with_person c b else b) n one.0 one.1
 
--- one row of cells more
+-- one more row of cells
 pub one_more : (rows : List Cells) (k : ℕ) (d : Cells) (old p q : BuilderTree) → k < length rows → p ≡ with_people (take k rows) old → q ≡ with_people (get_or rows k d ∷ []) p → q ≡ with_people (take (k + 1) rows) old
 one_more rows k d old p q h e f =
     let s : k + 1 ≡ suc k = omega arith in

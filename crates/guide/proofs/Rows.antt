@@ -1,4 +1,4 @@
--- The longest of the lists at the places of an array, one place after another.
+-- The length of the longest list of an array, one slot after another.
 use Rattle.std.specs.Prelude.{if◌then◌else◌, not, Option, Some, None, Result, Ok}
 use Rattle.std.proofs.Common.{◌≡◌, ℕ, zero, suc, ◌+◌, ◌-◌, ◌<◌, max, Bool, true, false, List, [], ◌∷◌, length, refl, sym, ap, subst, ◌∙◌, arith}
 use Rattle.nest_array.specs.Seen.{layout_of}
@@ -15,7 +15,7 @@ use Rattle.nest_model.specs.Slot as slots
 use Rattle.nest_model.specs.Slot.{Slot, Slots, seal}
 use Rattle.nest_scan.specs.Items.{IsList}
 use Rattle.nest_scan.specs.Places.{IsItemOrMemory, IsItemOrNull}
-use Rattle.guide.specs.Columns.{item_count, longest}
+use Rattle.guide.specs.Columns.{item_count, max_list_length}
 
 not_false : (b : Bool) → not b ≡ false → b ≡ true
 not_false true h = refl
@@ -35,12 +35,12 @@ valid (struct t cs va) i h = not_false (valid_at va i) h
 valid (union t ks cs os start) i h = not_false (valid_at (validity_of (union t ks cs os start)) i) h
 valid (dictionary t ks c) i h = not_false (valid_at (validity_of (dictionary t ks c)) i) h
 
--- as many items as were sealed
+-- sealing keeps the number of slots
 counted : (xs : List Slot) → item_count (seal xs) ≡ length xs
 counted [] = refl
 counted (x ∷ xs) = ap suc (counted xs)
 
--- the places from one on are that one and those after it
+-- the first slot, and the slots after it
 next : (a : Layout) (i n : ℕ) → 0 < n → run (slot a) i n ≡ slot a i ∷ run (slot a) (i + 1) (n - 1)
 next a i zero h = absurd (omega arith)
 next a i (suc n) h =
@@ -51,31 +51,31 @@ next a i (suc n) h =
 max_assoc : (x y z : ℕ) → max (max x y) z ≡ max x (max y z)
 max_assoc x y z = omega arith
 
--- a row that is there
+-- a valid list
 pub longest_row : (a c : Layout) (i n k t : ℕ) → 0 < n → is_null_at a i ≡ false → slot a i ≡ where_valid (validity_of a) i (slots.list (seal (slots_of c)))
-    → max k (longest (run (slot a) i n)) ≡ t → max (max k (len c)) (longest (run (slot a) (i + 1) (n - 1))) ≡ t
+    → max k (max_list_length (run (slot a) i n)) ≡ t → max (max k (len c)) (max_list_length (run (slot a) (i + 1) (n - 1))) ≡ t
 longest_row a c i n k t h v e s =
     let is : slot a i ≡ slots.list (seal (slots_of c)) = e ∙ ap (λ b. if b then slots.list (seal (slots_of c)) else slots.null) (valid a i v) in
     let count : item_count (seal (slots_of c)) ≡ len c = counted (slots_of c) ∙ slots-length c in
-    let rest = longest (run (slot a) (i + 1) (n - 1)) in
-    let split : longest (run (slot a) i n) ≡ max (len c) rest =
-    ap longest (next a i n h) ∙ ap (λ x. longest (x ∷ run (slot a) (i + 1) (n - 1))) is ∙ ap (λ m. max m rest) count in
+    let rest = max_list_length (run (slot a) (i + 1) (n - 1)) in
+    let split : max_list_length (run (slot a) i n) ≡ max (len c) rest =
+    ap max_list_length (next a i n h) ∙ ap (λ x. max_list_length (x ∷ run (slot a) (i + 1) (n - 1))) is ∙ ap (λ m. max m rest) count in
     max_assoc k (len c) rest ∙ ap (max k) (sym split) ∙ s
 
--- a null row
-pub longest_null : (a : Layout) (i n k t : ℕ) → 0 < n → is_null_at a i ≡ true → max k (longest (run (slot a) i n)) ≡ t → max k (longest (run (slot a) (i + 1) (n - 1))) ≡ t
+-- a null list
+pub longest_null : (a : Layout) (i n k t : ℕ) → 0 < n → is_null_at a i ≡ true → max k (max_list_length (run (slot a) i n)) ≡ t → max k (max_list_length (run (slot a) (i + 1) (n - 1))) ≡ t
 longest_null a i n k t h v s =
     let rest = run (slot a) (i + 1) (n - 1) in
-    ap (max k) (sym (ap longest (next a i n h) ∙ ap (λ x. longest (x ∷ rest)) (null_at-slot a i v))) ∙ s
+    ap (max k) (sym (ap max_list_length (next a i n h) ∙ ap (λ x. max_list_length (x ∷ rest)) (null_at-slot a i v))) ∙ s
 
--- an item that came is a row that is there, of so many items
+-- an item of the iterator is a valid list of its length
 pub longest_some : (a : Layout) (i n k t : ℕ) (row : Result (Option AnyArray) Error) (x : AnyArray) → row ≡ Ok (Some x) → IsItemOrMemory (IsItemOrNull IsList) a i row → 0 < n
-    → max k (longest (run (slot a) i n)) ≡ t → max (max k (len (layout_of x))) (longest (run (slot a) (i + 1) (n - 1))) ≡ t
+    → max k (max_list_length (run (slot a) i n)) ≡ t → max (max k (len (layout_of x))) (max_list_length (run (slot a) (i + 1) (n - 1))) ≡ t
 longest_some a i n k t row x e item h s =
     let there = subst (λ r. IsItemOrMemory (IsItemOrNull IsList) a i r) e item in
     longest_row a (layout_of x) i n k t h there.0 there.1.slot_is s
 
--- no item came: a null row
+-- `None` of the iterator is a null list
 pub longest_none : (a : Layout) (i n k t : ℕ) (row : Result (Option AnyArray) Error) → row ≡ Ok None → IsItemOrMemory (IsItemOrNull IsList) a i row → 0 < n
-    → max k (longest (run (slot a) i n)) ≡ t → max k (longest (run (slot a) (i + 1) (n - 1))) ≡ t
+    → max k (max_list_length (run (slot a) i n)) ≡ t → max k (max_list_length (run (slot a) (i + 1) (n - 1))) ≡ t
 longest_none a i n k t row e item h s = longest_null a i n k t h (subst (λ r. IsItemOrMemory (IsItemOrNull IsList) a i r) e item) s

@@ -1,4 +1,4 @@
--- Builders of people: records of a name and an age.
+-- Struct builders of people: a name and an age.
 use Rattle.std.specs.Prelude.{◌≡◌, Bool, true, false, ◌&&◌, if◌then◌else◌, Option, None, Some, List, [], ◌∷◌, ◌++◌, codes}
 use Rattle.nest_any.specs.Refusals.{struct_bits}
 use Rattle.nest_flat.specs.Plain.{plain_value}
@@ -18,11 +18,11 @@ use Rattle.nest_model.specs.Slot.{Slot}
 abbrev pub person_type : TypeTree
 person_type = types.struct (more_fields (field (codes "name") types.utf8 true []) (more_fields (field (codes "age") types.int32 true []) no_fields))
 
--- the children: names and ages
+-- the child builders: names and ages
 abbrev pub columns : List Slot → List Slot → BuilderTrees
 columns names ages = more_builders (builders.flat types.utf8 names) (more_builders (builders.flat types.int32 ages) no_builders)
 
--- rows that were told, over names and ages
+-- a struct builder of these rows, valid or null, over names and ages
 abbrev pub people : List Bool → List Slot → List Slot → BuilderTree
 people rows names ages = builders.struct person_type rows (columns names ages)
 
@@ -38,11 +38,11 @@ abbrev pub ages_in : BuilderTree → List Slot
 ages_in (builders.struct t rows (more_builders c (more_builders (builders.flat u ages) cs))) = ages
 ages_in b = []
 
--- such a builder, in which no cell waits
+-- a complete builder of people
 abbrev pub ArePeople : BuilderTree → Type 0
 ArePeople b = IsWhole b × (b ≡ people (struct_bits b) (names_in b) (ages_in b))
 
--- two cells of a row, each a value of some kind or missing
+-- the two cells of a row, each a value of any kind or missing
 abbrev pub Cells : Type 0
 Cells = Option Plain × Option Plain
 
@@ -51,20 +51,20 @@ abbrev pub cell_slot : Option Plain → Slot
 cell_slot None = slots.null
 cell_slot (Some p) = slot_of_plain (plain_value p)
 
--- a person more
+-- a builder with one more person
 abbrev pub with_person : Cells → BuilderTree → BuilderTree
 with_person c b = people (struct_bits b ++ true ∷ []) (names_in b ++ cell_slot c.0 ∷ []) (ages_in b ++ cell_slot c.1 ∷ [])
 
--- whether a cell is of a kind, or missing
+-- whether a cell is missing or of this type
 abbrev pub is_cell : PhysicalType → Option Plain → Bool
 is_cell kind None = true
 is_cell kind (Some p) = holds_kind kind (plain_value p)
 
--- whether cells are a text and a number of 32 bits
+-- whether the cells are a string and a 32-bit integer
 abbrev pub is_person : Cells → Bool
 is_person c = is_cell physical.Utf8 c.0 && is_cell (physical.Primitive primitives.Int32) c.1
 
--- those of several that are people, one after another
+-- a builder with each row of cells that is a person
 abbrev pub with_people : List Cells → BuilderTree → BuilderTree
 with_people [] b = b
 with_people (c ∷ cs) b = with_people cs (if is_person c then with_person c b else b)

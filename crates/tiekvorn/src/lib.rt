@@ -1,189 +1,54 @@
-//! Nested columnar arrays in the Arrow format, and streams and files of them: one door to all crates of them, `use tiekvorn::{AnyArray, ListArray, take, ..}`.
-//! What each call promises stands at its own crate, and so do the words of contracts: `ghost use Rattle.nest_array.specs.Words`.
+//! Nested columnar arrays in the Arrow format, with the names of arrow2.
+//!
+//! Arrays, their builders, data types, buffers and offsets are at the top; calls on whole arrays are in `compute`, files and streams in
+//! `arrow_ipc`, JSON in `json`. Each item's documentation and contract are in the crate that declares it. The words of a contract are
+//! imported from that crate, as in `ghost use Rattle.nest_model.specs.Meaning.{slots_of}`.
 #![tactic(auto)]
 
-pub use ipc::Batch;
-pub use ipc::File;
-pub use ipc::FileReader;
-pub use ipc::State;
-pub use ipc::Stream;
-pub use ipc::StreamReader;
-pub use ipc::next_batch;
-pub use ipc::read_file;
-pub use ipc::read_file_columns;
-pub use ipc::read_message;
-pub use ipc::read_stream;
-pub use ipc::read_stream_columns;
-pub use ipc::write_file;
-pub use ipc::write_stream;
-pub use ipc_io::DeviceFileReader;
-pub use ipc_io::DeviceReader;
-pub use ipc_io::FileWriter;
-pub use ipc_io::ReadError;
-pub use ipc_io::SeekRead;
-pub use ipc_io::StreamWriter;
-pub use ipc_io::WriteError;
-pub use ipc_flatbuf::message::Message;
-pub use ipc_flatbuf::message::next_message;
-pub use ipc_flatbuf::Fault;
-pub use ipc_flatbuf::NoForm;
-pub use ipc_schema::Columns;
-pub use ipc_schema::Dictionaries;
-pub use ipc_schema::KeyedSchema;
-pub use ipc_schema::PickedSchema;
-pub use ipc_schema::Schema;
-pub use ipc_schema::Values;
-pub use ipc_schema::read_picked_schema;
-pub use ipc_schema::read_schema;
-pub use nest_any::AnyMutableArray;
-pub use nest_any::AnyMutableDictionary;
-pub use nest_any::AnyMutableFlat;
-pub use nest_any::ListBuilder;
-pub use nest_any::MutableStructArray;
-pub use nest_array::AnyArray;
-pub use nest_array::AnyKeys;
-pub use nest_array::AnyScalar;
-pub use nest_array::Array;
-pub use nest_array::Boxed;
-pub use nest_array::DictionaryArray;
-pub use nest_array::DictionaryKey;
-pub use nest_array::FixedSizeBinaryArray;
-pub use nest_array::FixedSizeBinaryValues;
-pub use nest_array::FixedSizeListArray;
-pub use nest_array::GenericBinaryArray;
-pub use nest_array::LargeListArray;
-pub use nest_array::ListArray;
-pub use nest_array::ListOffset;
-pub use nest_array::MapArray;
-pub use nest_array::NullArray;
-pub use nest_array::ScalarValue;
-pub use nest_array::Steps;
-pub use nest_array::StructArray;
-pub use nest_array::UnionArray;
-pub use nest_array::Window;
-pub use nest_array::clone;
-pub use nest_array::equal::equal;
-pub use nest_array::equal::equal_counted;
-pub use nest_array::equal::equal_windows;
-pub use nest_array::new_empty_array;
-pub use nest_array::new_null_array;
-pub use nest_array::new_scalar;
-pub use nest_array::scalars_at;
+pub mod array;
+pub mod arrow_ipc;
+pub mod compute;
+pub mod error;
+pub mod json;
+pub mod prelude;
+pub mod types;
+
+pub use nest_any::{
+    AnyMutableArray, AnyMutableDictionary, AnyMutableFlat, ListBuilder, MutableStructArray,
+};
+pub use nest_array::{
+    AnyArray, AnyKeys, AnyScalar, Array, Boxed, DictionaryArray, DictionaryKey,
+    FixedSizeBinaryArray, FixedSizeBinaryValues, FixedSizeListArray, GenericBinaryArray,
+    LargeListArray, ListArray, ListOffset, MapArray, NullArray, ScalarValue, StructArray,
+    UnionArray, Window, new_empty_array, new_null_array, new_scalar, scalars_at,
+};
 pub use nest_build::array::MutableArray;
-pub use nest_build::dictionary::BuilderKey;
-pub use nest_build::dictionary::MutableDictionaryArray;
+pub use nest_build::dictionary::{BuilderKey, MutableDictionaryArray};
 pub use nest_build::fixed_size_binary::MutableFixedSizeBinaryArray;
-pub use nest_build::fixed_size_binary::MutableFixedSizeBinaryIter;
-pub use nest_build::fixed_size_binary::MutableFixedSizeBinaryValuesIter;
 pub use nest_build::fixed_size_list::MutableFixedSizeListArray;
-pub use nest_build::flat::FlatBuilder;
-pub use nest_build::flat::TakesValue;
-pub use nest_build::list::ListWidth;
-pub use nest_build::list::MutableListArray;
+pub use nest_build::flat::{FlatBuilder, TakesValue};
+pub use nest_build::list::{ListWidth, MutableListArray};
 pub use nest_build::null::MutableNullArray;
-pub use nest_build::push::TryExtend;
-pub use nest_build::push::TryExtendFromSelf;
-pub use nest_build::push::TryPush;
+pub use nest_build::push::{TryExtend, TryExtendFromSelf, TryPush};
 pub use nest_build::tried::push_all;
-pub use nest_concat::concatenate;
-pub use nest_concat::interleave;
 pub use nest_flat::any_native::AnyNative;
-pub use nest_flat::any_primitive::AnyPrimitive;
-pub use nest_flat::any_primitive::Native;
-pub use nest_flat::any_primitive::NativeArray;
 pub use nest_flat::any_primitive::mutable::AnyMutablePrimitive;
+pub use nest_flat::any_primitive::{AnyPrimitive, Native, NativeArray};
 pub use nest_flat::binary::BinaryArray;
-pub use nest_flat::binary::iterator::BinaryIter;
-pub use nest_flat::binary::iterator::BinaryValuesIter;
 pub use nest_flat::binary::mutable::MutableBinaryArray;
 pub use nest_flat::boolean::BooleanArray;
-pub use nest_flat::boolean::iterator::BooleanIter;
-pub use nest_flat::boolean::iterator::BooleanValuesIter;
 pub use nest_flat::boolean::mutable::MutableBooleanArray;
 pub use nest_flat::flat_array::FlatArray;
-pub use nest_flat::iterator::SlotItems;
-pub use nest_flat::iterator::SlotsIter;
-pub use nest_flat::plain::AsPlain;
-pub use nest_flat::plain::Plain;
+pub use nest_flat::plain::{AsPlain, Plain};
 pub use nest_flat::primitive::PrimitiveArray;
-pub use nest_flat::primitive::iterator::PrimitiveIter;
-pub use nest_flat::primitive::iterator::PrimitiveValuesIter;
 pub use nest_flat::primitive::mutable::MutablePrimitiveArray;
 pub use nest_flat::utf8::Utf8Array;
-pub use nest_flat::utf8::iterator::Utf8Iter;
-pub use nest_flat::utf8::iterator::Utf8ValuesIter;
 pub use nest_flat::utf8::mutable::MutableUtf8Array;
-pub use nest_memory::bitmap::Bitmap;
-pub use nest_memory::bitmap::BitmapIter;
-pub use nest_memory::bitmap::MutableBitmap;
+pub use nest_memory::bitmap::{Bitmap, MutableBitmap};
 pub use nest_memory::buffer::Buffer;
-pub use nest_memory::datatypes::DataType;
-pub use nest_memory::datatypes::Field;
-pub use nest_memory::datatypes::IntegerType;
-pub use nest_memory::datatypes::IntervalUnit;
-pub use nest_memory::datatypes::Metadata;
-pub use nest_memory::datatypes::PhysicalType;
-pub use nest_memory::datatypes::PrimitiveType;
-pub use nest_memory::datatypes::TimeUnit;
-pub use nest_memory::datatypes::UnionMode;
-pub use nest_memory::error::Argument;
-pub use nest_memory::error::Error;
-pub use nest_memory::error::Spec;
-pub use nest_memory::offset::Offset;
-pub use nest_memory::offsets::Offsets;
-pub use nest_memory::offsets::OffsetsBuffer;
-pub use nest_memory::types::NativeType;
-pub use nest_memory::types::days_ms;
-pub use nest_memory::types::i256;
-pub use nest_memory::types::months_days_ns;
-pub use type_text::ParseError;
-pub use type_text::parse_type;
-pub use nest_scan::BothEnds;
-pub use nest_scan::DictionaryIter;
-pub use nest_scan::DictionaryIterTyped;
-pub use nest_scan::DictionaryValuesIter;
-pub use nest_scan::DictionaryValuesIterTyped;
-pub use nest_scan::FixedSizeBinaryIter;
-pub use nest_scan::FixedSizeBinaryValuesIter;
-pub use nest_scan::FixedSizeListIter;
-pub use nest_scan::FixedSizeListValuesIter;
-pub use nest_scan::KeysIter;
-pub use nest_scan::KeysValuesIter;
-pub use nest_scan::ListIter;
-pub use nest_scan::ListValuesIter;
-pub use nest_scan::MapIter;
-pub use nest_scan::MapValuesIter;
-pub use nest_scan::NullPlaces;
-pub use nest_scan::OrNull;
-pub use nest_scan::Places;
-pub use nest_scan::PlacesIter;
-pub use nest_scan::Scan;
-pub use nest_scan::ScanKeys;
-pub use nest_scan::ScanValues;
-pub use nest_scan::StructIter;
-pub use nest_scan::StructValueIter;
-pub use nest_scan::TextOffset;
-pub use nest_scan::Tried;
-pub use nest_scan::TryPlaces;
-pub use nest_scan::UnionIter;
-pub use json_write::Json;
-pub use json_write::WriteJson;
-pub use json_write::writing::json_text;
-pub use json_write::writing::write_json;
-pub use nest_take::filter;
-pub use nest_take::take;
-
-/// The traits whose calls a user makes: `use tiekvorn::prelude::*`.
-pub mod prelude {
-    pub use nest_array::{
-        Array, Boxed, DictionaryKey, FixedSizeBinaryValues, GenericBinaryArray, ListOffset,
-    };
-    pub use nest_build::array::MutableArray;
-    pub use nest_build::dictionary::BuilderKey;
-    pub use nest_build::push::{TryExtend, TryExtendFromSelf, TryPush};
-    pub use nest_flat::any_primitive::{Native, NativeArray};
-    pub use nest_flat::plain::AsPlain;
-    pub use nest_memory::offset::Offset;
-    pub use nest_memory::types::NativeType;
-    pub use nest_scan::{Scan, ScanKeys, ScanValues};
-}
+pub use nest_memory::datatypes::{
+    DataType, Field, IntegerType, IntervalUnit, Metadata, PhysicalType, PrimitiveType, TimeUnit,
+    UnionMode,
+};
+pub use nest_memory::offsets::{Offsets, OffsetsBuffer};
+pub use nest_scan::{Scan, ScanKeys, ScanValues};

@@ -1,4 +1,0 @@
-mod Again
-mod Columns
-mod Last
-mod Steps

@@ -1,0 +1,17 @@
+//! The iterators of arrays, bitmaps and builders, and the function `clone` of arrow2's module of this name.
+pub use nest_array::{Steps, clone};
+pub use nest_build::fixed_size_binary::{
+    MutableFixedSizeBinaryIter, MutableFixedSizeBinaryValuesIter,
+};
+pub use nest_flat::binary::iterator::{BinaryIter, BinaryValuesIter};
+pub use nest_flat::boolean::iterator::{BooleanIter, BooleanValuesIter};
+pub use nest_flat::iterator::{SlotItems, SlotsIter};
+pub use nest_flat::primitive::iterator::{PrimitiveIter, PrimitiveValuesIter};
+pub use nest_flat::utf8::iterator::{Utf8Iter, Utf8ValuesIter};
+pub use nest_memory::bitmap::BitmapIter;
+pub use nest_scan::{
+    BothEnds, DictionaryIter, DictionaryIterTyped, DictionaryValuesIter, DictionaryValuesIterTyped,
+    FixedSizeBinaryIter, FixedSizeBinaryValuesIter, FixedSizeListIter, FixedSizeListValuesIter,
+    KeysIter, KeysValuesIter, ListIter, ListValuesIter, MapIter, MapValuesIter, NullPlaces, OrNull,
+    Places, PlacesIter, StructIter, StructValueIter, TextOffset, Tried, TryPlaces, UnionIter,
+};
