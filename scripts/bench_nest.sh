@@ -1,9 +1,10 @@
 #!/usr/bin/env bash
-# Times the built program on records of five columns: rows as text beside a plain program that writes the same text from vectors, lines
-# of JSON as a file, two files of the same bytes and a file and a stream of the same rows beside `cmp`, and the most memory that each has.
-# Usage, at the top of the repository and after the gate or `(cd crates/nest && rt run -- --help)`; rustc builds the plain program:
+# Measures the time and the peak memory of `nest` on records of five columns: `from-json`, `rows` beside a plain Rust program that writes
+# the same text, `concat`, `equal` beside `cmp`, and `take`.
+# Usage, at the top of the repository, after `scripts/prove` or `(cd crates/nest && rt run -- --help)` has built it; rustc builds the
+# plain program:
 #     bash scripts/bench_nest.sh [ROWS [COPIES]]
-# ROWS is 1000000 if left out; COPIES of their file, 8 if left out, make the two that are compared.
+# ROWS is 1000000 by default. The files that `equal` compares hold the rows COPIES times, 8 by default.
 set -eu
 rows=${1:-1000000}
 copies=${2:-8}
@@ -12,14 +13,14 @@ work=$(mktemp -d)
 trap 'rm -rf "$work"' EXIT
 type='struct<id: int64, name: string, ok: bool, tags: list<item: string>, at: int64>'
 
-# NAME BYTES WORD.. : what the words print goes to $work/out; says how long they took for so many bytes, and the most memory they had
+# NAME BYTES COMMAND..: runs the command, whose output goes to $work/out, and prints its time for so many bytes and its peak memory
 timed() {
     local name=$1 bytes=$2 seconds user system memory
     shift 2
     /usr/bin/time -o "$work/figures" -f '%e %U %S %M' "$@" >"$work/out"
     read -r seconds user system memory <"$work/figures"
     awk -v n="$name" -v b="$bytes" -v s="$seconds" -v u="$user" -v y="$system" -v m="$memory" 'BEGIN {
-        printf "%-24s %6.2f s (%.2f of them in the program, %.2f in the system) for %.1f MB, %.0f MB of memory\n", n, s, u, y, b / 1e6, m / 1024
+        printf "%-24s %6.2f s (%.2f user, %.2f system) for %.1f MB, peak memory %.0f MB\n", n, s, u, y, b / 1e6, m / 1024
     }'
 }
 

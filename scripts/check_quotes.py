@@ -1,9 +1,12 @@
 #!/usr/bin/env python3
-"""Checks that what docs/GUIDE.md and README.md quote stands in the repository word for word.
+"""Checks that the code and the output that docs/GUIDE.md and README.md quote are in the repository, word for word.
 
-A block is a quote where the line before it is a comment that names a file: `<!-- crates/x/src/y.rt: four_rows ends_with -->` the items
-of these names, `<!-- crates/x/stdout -->` lines that stand there one after another. A block of Rust without one is refused.
-Run at the top of the repository: `python3 scripts/check_quotes.py`; with `--write` the items are quoted anew."""
+The line before a quote is a comment that names its source:
+
+    <!-- crates/x/src/y.rt: a b -->    the items `a` and `b` of that file, with their comments
+    <!-- crates/x/src/y.rt -->         of a Rust block: the whole file; of any other: consecutive lines of it
+
+A Rust block without such a line is an error. Run it at the top of the repository; `--write` replaces quotes that differ."""
 import difflib
 import re
 import sys
@@ -20,10 +23,10 @@ def read(path):
 
 
 def item(lines, name):
-    """The lines of the item of this name, from its comments to its end."""
+    """Returns the lines of the item with this name, from its comments to its end."""
     found = [n for n, line in enumerate(lines) if re.match(HEAD.format(re.escape(name)), line)]
     if len(found) != 1:
-        raise LookupError(f"{len(found)} items of the name {name}")
+        raise LookupError(f"{len(found)} items named {name}")
     first = found[0]
     while first > 0 and re.match(r"///|#\[|-- ", lines[first - 1]):
         first -= 1
@@ -37,54 +40,57 @@ def item(lines, name):
     return "\n".join(lines[first : last + 1])
 
 
-def quoted(note, text):
-    """What a block with this note has to say."""
+def expected(note, language, text):
+    """Returns the text that a block with this note must have."""
     source = read(note["file"])
     if note["items"]:
         lines = source.split("\n")
         return "\n\n".join(item(lines, name) for name in note["items"].split()) + "\n"
+    if language == "rust":
+        return source
     if f"\n{text}" in f"\n{source}":
         return text
-    raise LookupError("these lines do not stand there one after another")
+    raise LookupError("has no such consecutive lines")
 
 
-def differing(page, block):
-    """What is wrong with a block, and what it has to say."""
-    note, text = NOTE.match(block["before"]), block["text"]
+def difference(page, block):
+    """Returns the lines of a diff or of an error message, and the text that the block must have."""
+    note, language, text = NOTE.match(block["before"]), block["language"], block["text"]
     if not note:
-        return (["no file is named before it"] if block["language"] == "rust" else [], text)
+        return (["no source is named before this block"] if language == "rust" else [], text)
     try:
-        wanted = quoted(note, text)
-    except (OSError, LookupError) as why:
-        return ([f"{note['file']}: {why}"], text)
+        wanted = expected(note, language, text)
+    except (OSError, LookupError) as error:
+        return ([f"{note['file']}: {error}"], text)
     names = (page, note["file"])
     return (list(difflib.unified_diff(text.split("\n"), wanted.split("\n"), *names, lineterm="")), wanted)
 
 
 def check(page, write):
-    source, faults = read(page), 0
+    """Returns the number of blocks of a page that differ, and prints them. With `write`, replaces them."""
+    source, count = read(page), 0
 
-    def anew(block):
-        nonlocal faults
-        wrong, wanted = differing(page, block)
-        mended = write and wanted != block["text"]
-        if wrong and not mended:
-            faults += 1
+    def replacement(block):
+        nonlocal count
+        wrong, wanted = difference(page, block)
+        replaced = write and wanted != block["text"]
+        if wrong and not replaced:
+            count += 1
             line = source.count("\n", 0, block.start()) + 2
             print(f"{page}:{line}", *wrong, sep="\n")
-        return f"{block['before']}\n```{block['language']}\n{wanted if mended else block['text']}```"
+        return f"{block['before']}\n```{block['language']}\n{wanted if replaced else block['text']}```"
 
-    text = BLOCK.sub(anew, source)
+    text = BLOCK.sub(replacement, source)
     if text != source:
         with open(page, "w", encoding="utf-8") as file:
             file.write(text)
-    return faults
+    return count
 
 
 def main():
-    faults = sum(check(page, "--write" in sys.argv[1:]) for page in PAGES)
-    print(f"{faults} quotes differ")
-    sys.exit(1 if faults else 0)
+    count = sum(check(page, "--write" in sys.argv[1:]) for page in PAGES)
+    print(f"{count} quotes differ")
+    sys.exit(1 if count else 0)
 
 
 main()

@@ -1,13 +1,12 @@
 #!/usr/bin/env python3
-"""Lists every public call of the libraries and of the program, its refusals, and the tests that make it: docs/CALLS.md.
+"""Lists every public function of the libraries and of the program, its errors, and the tests that call it.
 
-    python3 scripts/list_calls.py --check    fails where the page isn't what the sources say, or where no test makes a
-                                             call that can answer Memory, or where docs/DIFFERENCES.md names no
-                                             test (what is run without a word, too)
-    python3 scripts/list_calls.py --write    writes the page
+    python3 scripts/list_calls.py            prints the list, as Markdown
+    python3 scripts/list_calls.py --check    names each function that can return Memory and that no test calls, and each unknown
+                                             test that docs/DIFFERENCES.md names; fails if there is one
 
-It reads the .rt files alone, so it runs in seconds on a fresh checkout. How a call is found in a test is said at the
-head of the page. A test that isn't recognised leaves a call with none; so a call with none may still be made.
+It reads the .rt files alone, so it takes seconds on a fresh checkout. The head of the list says how a call is found.
+A call that is not recognised is not listed; so a function without a test may still be called by one.
 """
 import os
 import re
@@ -16,22 +15,21 @@ import sys
 sys.dont_write_bytecode = True
 from rattle_sources import LIBRARIES, Sources, closing, parse_type, pieces
 
-PAGE = os.path.join("docs", "CALLS.md")
 HEAD = """# Every public call
 
-Made by `scripts/list_calls.py` from the sources; not to be edited. A call of a trait has one row, whatever type a test makes it at.
-Refusals are the names that the call's documentation or its clauses speak of, where it says "as" another call that one's too;
-`first check` is the first of the checks of its parts that fails. A test makes a call where its text, or that of a function of its
+Printed by `scripts/list_calls.py` from the sources. A function of a trait has one row, for all types.
+The errors are those that its documentation or its clauses name; where it says "as" another function, those of that one, too.
+`first check` is the first check of its arguments that fails. A test calls a function if its text, or that of a function of its
 crate that it calls, has
 
 - `Type::call(`, `Trait::call(`, or an imported `call(`; or
-- `value.call(`, where the value's type is known: by its declaration, its pattern, or what the call that made it declares; or
-- `value.call(` of a value whose type is not known, where only one type or trait of the libraries has a call of that name, and it
-  is no name of the standard library's.
+- `value.call(`, where the value's type is known: by its declaration, its pattern, or the function that returned it; or
+- `value.call(` of a value of unknown type, where only one type or trait of the libraries has a function of that name, and the
+  standard library has none.
 
-A call that is compared with `Err` on the spot, or by the name that it is bound to, or handed to a function `refus..`, is no run
-that answers Ok: where there is no other, it is `refused only`. No more is known of the answer than that, nor whether a branch is
-reached. What a library's call makes itself is not counted. `guide::main` is the guide's whole run. At most two tests are named.
+A call whose result is compared with `Err`, or passed to a function `reject..`, `refus..` or `fail..`, returns no `Ok`: where a test
+makes no other, it is `error only`. The list does not say whether a branch is reached. Calls inside of the libraries are not
+counted. At most two tests are named.
 """
 
 CHAIN = re.compile(r"(?<![\w.:'\"])([A-Za-z_]\w*(?:::(?:<|\w+))*)")
@@ -39,7 +37,7 @@ LET = re.compile(r"\blet\s+((?:mut\s+)?[\w:]+(?:\([^=;]*?\))?|\([^=;]*?\))\s*(:[
 
 
 def unify(declared, given, found):
-    """What the type parameters of a declared type are in the type that is given."""
+    """Finds the type arguments that make a declared type the given one."""
     if not declared or not given:
         return
     if declared[0] in found:
@@ -50,21 +48,21 @@ def unify(declared, given, found):
 
 
 def put(kind, found):
-    """A type with its parameters replaced by what they are."""
+    """A type with its parameters replaced by the arguments found."""
     if kind is None or kind[0] in found:
         return kind and found[kind[0]]
     return (kind[0], [put(a, found) for a in kind[1]])
 
 
 class Body:
-    """Goes through one function and notes which functions it calls, and which of them only to see a refusal."""
+    """The functions that one function calls, and which of them only for an error."""
 
     def __init__(self, sources, function):
         self.sources, self.function, self.file = sources, function, function.file
         self.text = re.sub(r"//[^\n]*", "", function.body)
         self.env = {"self": function.owner}
-        self.made = {}  # a function, and whether a call of it is more than a look at its refusal
-        self.typed = set()  # the places of the dots before calls of values of known types
+        self.made = {}  # a function, and whether one of its calls can return Ok
+        self.typed = set()  # the positions of the dots before calls of values of known types
         for param in (p for p in function.params if len(p) == 2):
             self.bind(param[0], self.resolve(parse_type(param[1])))
         for found in CHAIN.finditer(self.text):
@@ -75,7 +73,7 @@ class Body:
                 self.note(lone, found.start(), closing(self.text, found.end() - 1))
 
     def resolve(self, kind):
-        """A type without aliases and with the traits that stand for its parameters."""
+        """A type without aliases, whose parameters are replaced by their bounds."""
         if kind is None:
             return None
         if kind[0] in self.function.generics:
@@ -88,7 +86,7 @@ class Body:
         return (kind[0], args)
 
     def bind(self, pattern, kind):
-        """Gives the names of a pattern their types."""
+        """Sets the types of the names of a pattern."""
         pattern = re.sub(r"^(?:ref|mut|&|\s)+", "", pattern.strip())
         found = re.match(r"(?:(\w+)::)?(\w+)?\((.*)\)$", pattern, re.S)
         if re.match(r"\w+$", pattern):
@@ -106,7 +104,7 @@ class Body:
         return self.sources.method(self.file, kind[0], name) if kind else None
 
     def path(self, path):
-        """The function that a path names, and the type before its name."""
+        """The function of a path, and the type before its name."""
         *before, name = re.sub(r"::<.*", "", path).split("::")
         owner = self.resolve((before[-1], [])) if before else None
         if before and (before[-1][0].isupper() or self.method(owner, name)):
@@ -116,7 +114,7 @@ class Body:
         return self.sources.find_free(self.file, whole.split("::")), None
 
     def chain(self, start):
-        """Follows calls and fields from a name on, and gives the type of the whole."""
+        """Follows calls and fields from a name on, and returns the type of the expression."""
         text = self.text
         word = re.compile(r"[A-Za-z_]\w*(?:::\w+)*").match(text, start)
         at, name = word.end(), word[0]
@@ -135,7 +133,7 @@ class Body:
             made = owner if owner and self.sources.variants.get(owner[0]) else None  # Enum::Variant(..)
             kind, at = self.call(called, owner, start, at) if called else (made, closing(text, at))
         kind, at = self.follow(kind, start, at)
-        self.tell(kind, start, at)
+        self.bind_value(kind, start, at)
         return kind
 
     def follow(self, kind, start, at):
@@ -163,7 +161,7 @@ class Body:
         return kind, at
 
     def call(self, called, owner, start, at):
-        """Notes a call whose arguments begin here; gives the type of its answer."""
+        """Notes a call whose arguments begin here; returns the type of its result."""
         end = closing(self.text, at)
         found = {name: None for name in called.generics}
         if owner and called.owner and called.owner[0] == owner[0]:
@@ -187,19 +185,19 @@ class Body:
             unify(declared, called and self.resolve(put(called.result, {"Self": owner} if owner else {})), found)
 
     def note(self, called, start, end):
-        """Notes the call; `== Err`, `, Err` after it, or of the name that it is bound to, tell that it is to be refused."""
+        """Notes the call. `== Err` or `, Err` after it, or after the name that it is bound to, means that it returns an error."""
         after = self.text[end : end + 120]
         refused = re.match(r"\s*(?:==|,)\s*(?:Some\()?Err\b(?![^\n]*=>)|\s*\.(?:err|is_err)\(", after)
-        refused = refused or re.search(r"\brefus\w*\(\s*$", self.text[max(0, start - 60) : start])
+        refused = refused or re.search(r"\b(?:refus|reject|fail)\w*\(\s*$", self.text[max(0, start - 60) : start])
         let = re.search(r"let\s+(?:mut\s+)?(\w+)(?:\s*:[^=;]+)?\s*=\s*[&*]*$", self.text[max(0, start - 120) : start])
         if let and re.match(r"\s*;", after):
             rest = self.text[end:].split(f"let {let[1]} ")[0]
-            look = re.search(rf"\b{let[1]}(?: == Err|, Err|\.err\(|\.is_err\()|\brefus\w*\({let[1]}\)", rest)
+            look = re.search(rf"\b{let[1]}(?: == Err|, Err|\.err\(|\.is_err\()|\b(?:refus|reject|fail)\w*\({let[1]}\)", rest)
             refused = look and not re.search(rf"\b{let[1]}(?:\?| == Ok)", rest)
         self.made[called] = self.made.get(called, False) or not refused
 
-    def tell(self, kind, start, at):
-        """Gives the names that the value is bound to its type: of a `let`, a `for`, the arms of a `match`, a pattern."""
+    def bind_value(self, kind, start, at):
+        """Sets the type of the names that the value is bound to, by a `let`, a `for`, the arms of a `match` or a pattern."""
         before = self.text[max(0, start - 160) : start]
         let = LET.search(before)
         if let:
@@ -218,7 +216,7 @@ class Body:
 
 
 def reached(sources, bodies, test):
-    """What a test calls, itself or by the functions of its own crate, and whether it may be answered with Ok."""
+    """The functions that a test calls, itself or by the functions of its own crate, and whether the call can return Ok."""
     seen, todo, out = {test: True}, [test], {}
     while todo:
         function = todo.pop()
@@ -238,11 +236,11 @@ def page(calls):
     for crate in LIBRARIES:
         rows = [c for c in calls if c.file.crate == crate]
         if rows:
-            lines += [f"## `{crate}`", "", "| Call | In | Refusals | Made by |", "|---|---|---|---|"]
+            lines += [f"## `{crate}`", "", "| Function | Module | Errors | Tests |", "|---|---|---|---|"]
             lines += [row(c) for c in rows] + [""]
     for title, some in (
-        ("Calls that can answer `Memory` and that no test makes", [c for c in calls if not c.tests and "Memory" in c.errors]),
-        ("Other calls that no test makes", [c for c in calls if not c.tests and "Memory" not in c.errors]),
+        ("Functions that can return `Memory` and that no test calls", [c for c in calls if not c.tests and "Memory" in c.errors]),
+        ("Other functions that no test calls", [c for c in calls if not c.tests and "Memory" not in c.errors]),
     ):
         named = [f"- `{c.shown()}` of `{'::'.join([c.file.crate, *c.file.module])}`" for c in some]
         lines += [f"## {title}", "", *(named or ["None."]), ""]
@@ -251,13 +249,13 @@ def page(calls):
 
 def row(call):
     tests = [f"`{t.path()}`" for t in call.tests[:2]] + ([f"{len(call.tests) - 2} more"] if len(call.tests) > 2 else [])
-    tests = ", ".join(tests) or ("refused only: `" + call.refused[0].path() + "`" if call.refused else "none")
+    tests = ", ".join(tests) or ("error only: `" + call.refused[0].path() + "`" if call.refused else "none")
     where = "::".join(call.file.module) or "lib"
     return f"| `{call.shown()}` | `{where}` | {', '.join(sorted(call.errors, key=lambda e: (e == 'Memory', e)))} | {tests} |"
 
 
 def unknown_tests(tests):
-    """What docs/DIFFERENCES.md names in the last cell of a row and is no test."""
+    """The names in the last cells of docs/DIFFERENCES.md that are no tests."""
     with open(os.path.join("docs", "DIFFERENCES.md"), encoding="utf-8") as differences:
         named = re.findall(r"\| `((?:\w+::)+\w+)` \|$", differences.read(), re.M)
     return sorted(set(named) - {it.path() for it in tests})
@@ -268,22 +266,18 @@ def main():
     for test in sources.tests():
         for called, ok in reached(sources, bodies, test).items():
             (called.tests if ok else called.refused).append(test)
-    text = page(sources.calls)
+    if "--check" not in sys.argv[1:]:
+        print(page(sources.calls), end="")
+        return
     missing = [c for c in sources.calls if not c.tests and "Memory" in c.errors]
-    if "--write" in sys.argv[1:]:
-        with open(PAGE, "w", encoding="utf-8") as out:
-            out.write(text)
     unknown = unknown_tests(sources.tests())
     for name in unknown:
-        print(f"docs/DIFFERENCES.md names {name}, which is no test")
+        print(f"docs/DIFFERENCES.md names the unknown test {name}")
     for call in missing:
-        print(f"no test makes {call.path()}")
-    stale = not os.path.exists(PAGE) or open(PAGE, encoding="utf-8").read() != text
-    if stale:
-        print(f"{PAGE} is not what the sources say: python3 scripts/list_calls.py --write")
+        print(f"no test calls {call.path()}")
     made = sum(1 for c in sources.calls if c.tests)
-    print(f"{len(sources.calls)} calls, {made} made by a test; {len(missing)} that can answer Memory are made by none")
-    sys.exit(1 if missing or stale or unknown else 0)
+    print(f"{len(sources.calls)} functions, {made} called by a test; {len(missing)} that can return Memory are called by none")
+    sys.exit(1 if missing or unknown else 0)
 
 
 main()

@@ -1,6 +1,5 @@
-//! What a plain program takes to write the rows that `scripts/bench_nest.sh` measures: columns as vectors, as Arrow lays them out, and their
-//! rows as lines of JSON.
-//! Usage: plain_rows ROWS > TEXT          the rows as text; what the writing took goes to standard error
+//! The plain program of `scripts/bench_nest.sh`: it has columns as vectors in Arrow's layout, and writes their rows as lines of JSON.
+//! Usage: plain_rows ROWS > TEXT          writes the rows, and the seconds that this took to standard error
 use std::io::{self, Write};
 use std::time::Instant;
 

@@ -1,11 +1,21 @@
-"""Reads the functions, types and traits of .rt files, as far as `list_calls.py` asks: where they stand and what they declare."""
+"""Reads the functions, types and traits of .rt files, as far as `list_calls.py` needs them."""
 import functools
 import os
 import re
 
-LIBRARIES = ["nest_memory", "nest_flat", "nest_array", "nest_scan", "nest_take", "nest_concat", "nest_build", "nest_any", "nest_show", "nest_parse", "ipc_model", "ipc_words", "ipc_message", "ipc_schema", "ipc_batch", "ipc_footer", "ipc_layout", "ipc", "listcut_rows", "nest_words", "nest_choose", "nest_lines", "nest_answer", "nest_look", "nest_json", "nest_import", "nest_batches", "nest_compare", "nest_copying", "nest_taking"]
 RUNNERS = ["guide"]  # and each crate of tests
-# What words of contracts say of refusals without their names.
+NOT_LISTED = re.compile(r"promises|guide|tiekvorn|tour")
+
+
+def libraries():
+    """The libraries of crates.txt in its order, without programs, theorems, the guide and the facade."""
+    with open("crates.txt", encoding="utf-8") as file:
+        listed = re.findall(r"^(\w+)[^:#\n]*:", file.read(), re.M)
+    return [it for it in listed if not NOT_LISTED.match(it) and os.path.isfile(os.path.join("crates", it, "src", "lib.rt"))]
+
+
+LIBRARIES = libraries()
+# Words of contracts that mean errors without their names.
 SPOKEN = {
     "AllocError": ["Memory"], "RefusesOrMemory": ["Memory"], "IsItemOrMemory": ["Memory"], "RefusedSome": ["Memory"],
     "WrongOffsets": ["Offsets"],
@@ -19,12 +29,12 @@ STD = set("all any as_bytes as_str chars chunks clear clone cloned cmp collect c
 
 
 def source(crate):
-    """Where the sources of a crate are: of a crate of tests in a folder of their own."""
+    """The folder of the sources of a crate, of tests/ or of crates/."""
     return os.path.join("tests" if os.path.isdir(os.path.join("tests", crate)) else "crates", crate, "src")
 
 
 class Function:
-    """A function of the sources: where it stands, what it says of itself, and its body."""
+    """A function of the sources, its documentation and its body."""
 
     def __init__(self, file, owner, generics, trait, name, docs, head, body, attributes, public):
         self.file, self.owner, self.generics, self.trait, self.name = file, owner, generics, trait, name
@@ -53,13 +63,13 @@ class File:
         inside = os.path.relpath(path, source(crate))[:-3]
         self.module = [p for p in inside.split(os.sep) if p not in ("mod", "lib", "main")]
         plain = re.sub(r"//[^\n]*|^ghost use[^\n]*", "", self.text, flags=re.M)
-        self.uses = {name: through_door(use) for found in re.finditer(r"(?:^|\n)\s*(?:pub )?use ([^;]+);", plain) for name, use in imports(found[1])}
+        self.uses = {name: through_facade(use) for found in re.finditer(r"(?:^|\n)\s*(?:pub )?use ([^;]+);", plain) for name, use in imports(found[1])}
         aliases = re.findall(r"^(?:pub )?type (\w+)(<[^=]*>)? = ([^;]+);", plain, re.M)
         self.aliases = {name: (names(generics or ""), parse_type(kind)) for name, generics, kind in aliases}
 
 
 def closing(text, at):
-    """The place behind the bracket that closes the one at this place."""
+    """The position after the bracket that closes the one at this position."""
     depth = 0
     for i in range(at, len(text)):
         c = text[i]
@@ -73,7 +83,7 @@ def closing(text, at):
 
 
 def pieces(text):
-    """What stands between the commas that no bracket encloses."""
+    """The parts between commas outside of brackets."""
     out, depth, last = [], 0, 0
     for i, c in enumerate(text):
         if c in "([{<":
@@ -91,13 +101,13 @@ def names(generics):
 
 
 def bounds(generics):
-    """The type parameters, each with the first trait that it is bound by."""
+    """The type parameters, each with its first bound."""
     split = (p.split(":", 1) for p in pieces(generics) if not p.startswith("'"))
     return {p[0].strip(): parse_type(p[1]) if len(p) > 1 and p[1].strip() else None for p in split}
 
 
 def parse_type(text):
-    """A type as a name and its arguments; references and boxes count for nothing."""
+    """A type as a name and its arguments, without references and boxes."""
     text = re.sub(r"^(?:&|'\w+\b|mut\b|dyn\b|impl\b|\s)+", "", text.strip()).strip(" {;,")
     if text.startswith("("):
         return ("()", [parse_type(p) for p in pieces(text[1 : closing(text, 0) - 1])])
@@ -123,16 +133,29 @@ def imports(text, before=""):
         yield name or path.split("::")[-1], path
 
 
-def through_door(path):
-    """Where what the door hands on stands."""
-    return door().get(path, path)
+def through_facade(path):
+    """The path in its own crate of an item that the facade exports."""
+    return exported().get(path, path)
 
 
 @functools.cache
-def door():
-    with open(os.path.join("crates", "tiekvorn", "src", "lib.rt"), encoding="utf-8") as file:
-        lines = re.findall(r"^pub use ([^;]+);", file.read(), re.M)
-    return {f"tiekvorn::{name}": path for line in lines for name, path in imports(line)}
+def exported():
+    """The path in its own crate of each item of the facade, by its path in the facade."""
+    top, found = os.path.join("crates", "tiekvorn", "src"), {}
+    for folder, _, inside in sorted(os.walk(top)):
+        for name in (it for it in inside if it.endswith(".rt")):
+            path = os.path.relpath(os.path.join(folder, name), top)[:-3]
+            module = ["tiekvorn", *(it for it in path.split(os.sep) if it not in ("lib", "mod"))]
+            with open(os.path.join(folder, name), encoding="utf-8") as file:
+                text = re.sub(r"//[^\n]*", "", file.read())
+            for it in re.finditer(r"pub mod (\w+) \{|pub use ([^;]+);|\}", text):
+                if it[1]:
+                    module.append(it[1])
+                elif it[2]:
+                    found |= {"::".join([*module, name]): path for name, path in imports(it[2])}
+                elif len(module) > 1:
+                    module.pop()
+    return {name: found.get(path, path) for name, path in found.items()}
 
 
 class Sources:
@@ -174,7 +197,7 @@ class Sources:
         self.lone = {n: fs[0] for n, fs in named.items() if len(fs) == 1 and fs[0].owner and n not in STD}
 
     def find_public(self, file):
-        """Which modules are public, and which names a public module hands on."""
+        """Finds the public modules, and the names that a public module exports."""
         known = self.public.setdefault(file.crate, set())
         for name in re.findall(r"^pub mod (\w+);", file.text, re.M):
             known.add((*file.module, name))
@@ -257,7 +280,7 @@ class Sources:
         self.functions[-1].errors = self.errors_of(self.functions[-1])
 
     def errors_of(self, function):
-        """The names of errors that its documentation or its clauses speak of; `as` another call, those of that call."""
+        """The names of errors in its documentation or its clauses, and those of another call where it says `as`."""
         if not self.error_names:
             text = open(os.path.join("crates", "nest_memory", "src", "error.rt"), encoding="utf-8").read()
             self.error_names = {"first check"} | set(re.findall(r"^    ([A-Z]\w+)(?:\(AllocError\))?,$", text, re.M))
@@ -272,7 +295,7 @@ class Sources:
         return (words | meant) & self.error_names - {"OutOfSpec", "InvalidArgumentError"}
 
     def method(self, file, owner, name):
-        """The call of that name of a type, else of a trait that it has, or stands on; of those that the file brings in first."""
+        """The call of that name of a type, else of a trait that it implements or that one of these needs; those that the file imports first."""
         seen, todo = set(), [owner]
         while todo:
             kind = todo.pop(0)
@@ -284,7 +307,7 @@ class Sources:
         return None
 
     def find_free(self, file, path):
-        """The function that a path without a type names, seen from this file."""
+        """The function of a path without a type, as seen from this file."""
         *module, name = path
         if not module:
             return next((f for f in self.free.get((file.crate, name), []) if f.file is file), None)
@@ -301,4 +324,4 @@ class Sources:
 
     def tests(self):
         inside = [f for f in self.functions if f.file.crate in self.runners]
-        return [f for f in inside if f.is_test or (f.file.crate == "guide" and f.path() == "guide::main")]
+        return [f for f in inside if f.is_test]

@@ -1,7 +1,7 @@
 #!/usr/bin/env bash
-# Times the built program on rows of 8 items, a tenth of them null: on a quarter of the rows, a half and all of them.
-# Usage, at the top of the repository and after the gate or `(cd crates/listcut && rt run -- 0 0)`:
-#     bash scripts/time_listcut.sh [ROWS]        ROWS is 1000000 if left out
+# Measures `listcut` on rows of 8 items, a tenth of them null: on a quarter of the rows, on half and on all of them.
+# Usage, at the top of the repository, after `scripts/prove` or `(cd crates/listcut && rt run -- 0 0)` has built it:
+#     bash scripts/time_listcut.sh [ROWS]        ROWS is 1000000 by default
 set -eu
 rows=${1:-1000000}
 program=crates/listcut/out/listcut
@@ -27,6 +27,6 @@ for count in $((rows / 4)) $((rows / 2)) "$rows"; do
     cmp "$work/input" "$work/output"
     read -r seconds memory < "$work/figures"
     awk -v n="$count" -v b="$bytes" -v s="$seconds" -v m="$memory" 'BEGIN {
-        printf "%d rows, %.1f MB: %.2f s, %.0f ns a byte, memory %.1f times the input\n", n, b / 1e6, s, s / b * 1e9, m * 1024 / b
+        printf "%d rows, %.1f MB: %.2f s, %.0f ns per byte, peak memory %.1f times the input\n", n, b / 1e6, s, s / b * 1e9, m * 1024 / b
     }'
 done

@@ -1,9 +1,9 @@
-//! Dictionaries of texts, whose values are found by a table of hashes.
+//! Dictionaries of strings, whose values are found by a table of hashes.
 ghost use Rattle.std.specs.Prelude.{IfOk};
 ghost use Rattle.nest_model.specs.BuilderWhole.{IsWhole};
 
 use anyhow::Result;
-use bench_tools::{begin, tell};
+use bench_tools::{begin, report};
 use nest_any::AnyMutableFlat;
 use nest_build::array::MutableArray;
 use nest_build::dictionary::MutableDictionaryArray;
@@ -13,17 +13,17 @@ use nest_memory::error::Error;
 use std::alloc::{AllocError, Global};
 use std::rt::Clock;
 
-/// Texts by keys of 32 bits.
+/// Strings by keys of 32 bits.
 type Keyed = MutableDictionaryArray<i32, AnyMutableFlat>;
 
 const FEW: usize = 100;
 
 const MANY: usize = 1_000_000;
 
-/// A prime number: steps of it come by all of the texts.
+/// A prime number: steps of it come by all of the strings.
 const STRIDE: usize = 618_041;
 
-/// So many different texts.
+/// So many different strings.
 fn different(alloc: Global, n: usize) -> Result<Vec<String>, AllocError> {
     let mut texts = Vec::with_capacity(alloc, n)?;
     for i in 0..n {
@@ -41,7 +41,7 @@ fn no_texts(alloc: Global) -> Result<Keyed, Error>
     MutableDictionaryArray::try_from_values(alloc, texts)
 }
 
-/// Pushes n texts, each so far from the one before.
+/// Pushes n strings, each so far from the one before.
 fn push_texts(keyed: &mut Keyed, texts: &[String], n: usize, stride: usize) -> Result<(), Error>
     requires { IsWhole (⟦<Keyed as MutableArray>⟧.model keyed.old) }
 {
@@ -54,7 +54,7 @@ fn push_texts(keyed: &mut Keyed, texts: &[String], n: usize, stride: usize) -> R
     Ok(())
 }
 
-/// How many values a new builder has after n pushes of these texts.
+/// How many values a new builder has after n pushes of these strings.
 fn values_of(alloc: Global, texts: &[String], n: usize, stride: usize) -> Result<usize, Error> {
     let mut keyed = no_texts(alloc)?;
     let pushed = push_texts(&mut keyed, texts, n, stride);
@@ -86,12 +86,18 @@ fn run_texts<R: Clock + Print + AllocGlobal>(
     let texts = different(rt.alloc(), count)?;
     let begun = begin(rt, measured)?;
     let values = all_new(rt.alloc(), &texts, n)?;
-    tell(rt, "  texts pushed, all new, the values", values, begun, n)?;
+    report(
+        rt,
+        "  strings pushed, all new, the values",
+        values,
+        begun,
+        n,
+    )?;
     let begun = begin(rt, measured)?;
     let values = values_of(rt.alloc(), &texts, n, STRIDE)?;
-    tell(
+    report(
         rt,
-        "  texts pushed, mostly known, the values",
+        "  strings pushed, mostly known, the values",
         values,
         begun,
         n,
@@ -99,10 +105,10 @@ fn run_texts<R: Clock + Print + AllocGlobal>(
     Ok(())
 }
 
-/// Dictionaries of few and of many texts.
+/// Dictionaries of few and of many strings.
 pub fn run<R: Clock + Print + AllocGlobal>(rt: &R, measured: bool) -> Result<()> {
-    println!(rt; "dictionaries of 1,000 texts")?;
+    println!(rt; "dictionaries of 1,000 strings")?;
     run_texts(rt, 1000, measured)?;
-    println!(rt; "dictionaries of 100,000 texts")?;
+    println!(rt; "dictionaries of 100,000 strings")?;
     run_texts(rt, 100_000, measured)
 }

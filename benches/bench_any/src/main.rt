@@ -1,5 +1,5 @@
-//! What pushing into builders of dictionaries, of records and of lists of records costs, in nanoseconds a value or a row:
-//! `bench_any run`. Without that word the same work is done on a few rows, and only what it gives is printed.
+//! Measures pushing into builders of dictionaries, records and lists of records: `bench_any run` prints nanoseconds per value or row.
+//! Without `run` it does the same work on few rows and prints the results alone.
 #![tactic(auto)]
 
 mod keyed;

@@ -1,4 +1,4 @@
-//! Records of a number and a text, and lists of two of them, told row by row.
+//! Records of a number and a text, and lists of two of them, pushed row by row.
 ghost use Rattle.nest_any.specs.Trees.{tree_of, trees_of};
 ghost use Rattle.nest_model.specs.BuilderTold.{AreEachWhole, HasWholeChildren};
 ghost use Rattle.nest_model.specs.BuilderWhole.{IsWhole};
@@ -6,7 +6,7 @@ ghost use Rattle.nest_model.specs.BuilderWhole.{IsWhole};
 use crate::makers;
 use crate::makers::UNFINISHED;
 use anyhow::Result;
-use bench_tools::{begin, tell};
+use bench_tools::{begin, report};
 use nest_any::{AnyMutableArray, AnyMutableFlat, MutableStructArray};
 use nest_array::AnyArray;
 use nest_build::array::MutableArray;
@@ -95,10 +95,10 @@ fn push_any(records: &mut AnyMutableArray) -> Result<(), Error> {
     if let Some(child) = records.child(1) {
         push_plain(child, Plain::Text(TEXT))?;
     }
-    tell_row(records)
+    report_row(records)
 }
 
-fn tell_row(builder: &mut AnyMutableArray) -> Result<(), Error> {
+fn report_row(builder: &mut AnyMutableArray) -> Result<(), Error> {
     if !builder.has_whole_children() {
         return Err(UNFINISHED);
     }
@@ -111,7 +111,7 @@ fn push_list(lists: &mut AnyMutableArray) -> Result<(), Error> {
         push_any(records)?;
         push_any(records)?;
     }
-    tell_row(lists)
+    report_row(lists)
 }
 
 fn typed(alloc: Global, n: usize) -> Result<AnyArray, Error> {
@@ -122,7 +122,7 @@ fn typed(alloc: Global, n: usize) -> Result<AnyArray, Error> {
     unless_refused(frozen, done)
 }
 
-/// The array, unless a row of it was refused.
+/// The array, unless a row of it was rejected.
 fn unless_refused(
     array: Result<AnyArray, Error>,
     done: Result<(), Error>,
@@ -183,7 +183,7 @@ fn run_rows<R: Clock + Print + AllocGlobal>(
     let n = if measured { ROWS } else { FEW };
     let begun = begin(rt, measured)?;
     let array = built(rt.alloc(), work, n)?;
-    let told = tell(rt, line, array.len(), begun, n);
+    let told = report(rt, line, array.len(), begun, n);
     drop(array);
     told?;
     Ok(())
@@ -191,7 +191,7 @@ fn run_rows<R: Clock + Print + AllocGlobal>(
 
 /// Builds each.
 pub fn run<R: Clock + Print + AllocGlobal>(rt: &R, measured: bool) -> Result<()> {
-    println!(rt; "records of a number and a text, pushed and frozen")?;
+    println!(rt; "records of a number and a string, pushed and frozen")?;
     run_rows(rt, "  by children of known kinds", Work::Typed, measured)?;
     run_rows(rt, "  by plain values", Work::Plain, measured)?;
     println!(rt; "lists of two such records, pushed and frozen")?;

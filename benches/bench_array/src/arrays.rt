@@ -1,4 +1,4 @@
-//! The arrays that are measured. Values with a data type are let go by `drop`, which keeps the proofs short.
+//! The arrays that are measured. Values with a data type are dropped by `drop`, which keeps the proofs short.
 use nest_array::{
     AnyArray, AnyKeys, DictionaryArray, FixedSizeListArray, ListArray, MapArray, StructArray,
     UnionArray,
@@ -67,7 +67,7 @@ pub fn numbers(alloc: Global, n: usize, nulls: bool) -> Result<AnyArray, Error> 
     Ok(AnyArray::Primitive(AnyPrimitive::Int64(array)))
 }
 
-/// Texts of eight bytes.
+/// Strings of eight bytes.
 fn texts(alloc: Global, n: usize) -> Result<AnyArray, Error> {
     let offsets = offsets(alloc, n, TEXT.len())?;
     let bytes = some_bytes(alloc, n)?;
@@ -114,7 +114,7 @@ pub fn lists(
     }
 }
 
-/// What n lists of one size have beside their items.
+/// What n fixed-size lists have beside their items.
 fn fixed_size_list_parts(
     alloc: Global,
     n: usize,
@@ -128,7 +128,7 @@ fn fixed_size_list_parts(
     Ok((data_type, validity))
 }
 
-/// n lists of one size of these items.
+/// n fixed-size lists of these items.
 pub fn fixed_size_lists(
     alloc: Global,
     n: usize,
@@ -227,7 +227,7 @@ fn keys(alloc: Global, n: usize, nulls: bool) -> Result<AnyKeys, Error> {
     Ok(AnyKeys::Int32(array))
 }
 
-/// n texts by keys of 32 bits over a thousand of them.
+/// n strings by keys of 32 bits over a thousand of them.
 pub fn texts_by_keys(alloc: Global, n: usize, nulls: bool) -> Result<AnyArray, Error> {
     let keys = keys(alloc, n, nulls)?;
     match texts(alloc, 1000) {

@@ -4,7 +4,7 @@ ghost use Rattle.nest_model.specs.BuilderWhole.{IsWhole};
 ghost use Rattle.bench_array.specs.Trees.{list_tree, sized_tree};
 
 use anyhow::Result;
-use bench_tools::{begin, tell};
+use bench_tools::{begin, report};
 use nest_array::AnyArray;
 use nest_build::array::MutableArray;
 use nest_build::fixed_size_binary::MutableFixedSizeBinaryArray;
@@ -70,7 +70,7 @@ fn push_lists(
     Ok(())
 }
 
-/// The same of lists of one size, by an iterator.
+/// The same of fixed-size lists, by an iterator.
 fn push_sized(
     builder: &mut MutableFixedSizeListArray<Numbers>,
     items: &[Option<i64>],
@@ -114,7 +114,7 @@ fn push_below(child: &mut Lists, items: &[Option<i64>]) -> Result<(), Error>
     child.try_push_slice(Some(items))
 }
 
-/// Tells a row of two lists, which were pushed into the child. That it is whole is proved, and need not be asked.
+/// Pushes a row of two lists, which were pushed into the child. That it is whole is proved, and need not be asked.
 fn push_nested(builder: &mut Nested, items: &[Option<i64>]) -> Result<(), Error>
     requires { IsWhole (⟦<Nested as MutableArray>⟧.model builder.old) }
     ensures { OnOk result (IsWhole (⟦<Nested as MutableArray>⟧.model builder.new)) }
@@ -211,7 +211,7 @@ fn run_rows<R: Clock + Print + AllocGlobal>(
     let n = if measured { ROWS } else { FEW };
     let begun = begin(rt, measured)?;
     let array = built(rt.alloc(), work, n, nulls)?;
-    let told = tell(rt, line, array.null_count(), begun, n);
+    let told = report(rt, line, array.null_count(), begun, n);
     drop(array);
     told?;
     Ok(())

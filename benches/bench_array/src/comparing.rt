@@ -3,7 +3,7 @@ ghost use Rattle.std.specs.Prelude.{◌<◌};
 
 use crate::arrays;
 use anyhow::Result;
-use bench_tools::{begin, tell};
+use bench_tools::{begin, report};
 use nest_array::any::AnyArray;
 use nest_array::equal::equal;
 use nest_memory::error::Error;
@@ -51,11 +51,11 @@ impl Kind {
             Kind::LongLists => "  lists of 1000 numbers",
             Kind::ListsOfLists => "  lists of 10 lists of 8 numbers",
             Kind::FixedSizeLists => "  lists of a fixed size of 8 numbers",
-            Kind::Records => "  records of a number and a text",
-            Kind::Maps => "  maps of 4 entries from a number to a text",
-            Kind::TextsByKeys => "  texts by keys of 32 bits over 1000 of them",
-            Kind::SparseUnions => "  sparse unions of numbers and texts",
-            Kind::DenseUnions => "  dense unions of numbers and texts",
+            Kind::Records => "  records of a number and a string",
+            Kind::Maps => "  maps of 4 entries from a number to a string",
+            Kind::TextsByKeys => "  strings by keys of 32 bits over 1000 of them",
+            Kind::SparseUnions => "  sparse unions of numbers and strings",
+            Kind::DenseUnions => "  dense unions of numbers and strings",
         }
     }
 
@@ -99,7 +99,7 @@ fn lists_of_lists(alloc: Global, n: usize, nulls: bool) -> Result<AnyArray, Erro
     arrays::lists(alloc, n / 80, 10, nulls, rows)
 }
 
-/// The same as `lists`, of one size.
+/// The same as `lists`, of fixed size.
 fn fixed_size_lists(alloc: Global, n: usize, size: usize, nulls: bool) -> Result<AnyArray, Error>
     requires { 0 < size }
 {
@@ -117,7 +117,7 @@ fn compare<R: Clock + Print>(
 ) -> io::Result<()> {
     let begun = begin(rt, measured)?;
     let same = equal(left, right);
-    tell(rt, kind.name(), same, begun, kind.count(n))
+    report(rt, kind.name(), same, begun, kind.count(n))
 }
 
 fn compare_with_like<R: Clock + Print + AllocGlobal>(

@@ -1,7 +1,7 @@
 //! Copies of arrays, and their nulls.
 use crate::arrays;
 use anyhow::Result;
-use bench_tools::{begin, tell};
+use bench_tools::{begin, report};
 use nest_array::any::AnyArray;
 use nest_memory::error::Error;
 use std::alloc::Global;
@@ -46,7 +46,7 @@ fn nulls_in_turn(left: &AnyArray, right: &AnyArray, n: usize) -> usize {
     total
 }
 
-fn tell_copies<R: Clock + Print + AllocGlobal>(
+fn report_copies<R: Clock + Print + AllocGlobal>(
     rt: &R,
     work: &str,
     array: &AnyArray,
@@ -55,11 +55,11 @@ fn tell_copies<R: Clock + Print + AllocGlobal>(
     let n = if measured { COPIES } else { FEW };
     let begun = begin(rt, measured)?;
     let total = lengths_of_copies(rt.alloc(), array, n)?;
-    tell(rt, work, total, begun, n)?;
+    report(rt, work, total, begun, n)?;
     Ok(())
 }
 
-fn tell_type_copies<R: Clock + Print + AllocGlobal>(
+fn report_type_copies<R: Clock + Print + AllocGlobal>(
     rt: &R,
     array: &AnyArray,
     measured: bool,
@@ -67,11 +67,17 @@ fn tell_type_copies<R: Clock + Print + AllocGlobal>(
     let n = if measured { COPIES } else { FEW };
     let begun = begin(rt, measured)?;
     let total = fields_of_copies(rt.alloc(), array, n)?;
-    tell(rt, "  fields of all copies of their data type", total, begun, n)?;
+    report(
+        rt,
+        "  fields of all copies of their data type",
+        total,
+        begun,
+        n,
+    )?;
     Ok(())
 }
 
-fn tell_nulls<R: Clock + Print>(
+fn report_nulls<R: Clock + Print>(
     rt: &R,
     left: &AnyArray,
     right: &AnyArray,
@@ -80,18 +86,18 @@ fn tell_nulls<R: Clock + Print>(
     let n = if measured { QUESTIONS } else { FEW };
     let begun = begin(rt, measured)?;
     let total = nulls_in_turn(left, right, n);
-    tell(rt, "  nulls added up", total, begun, n)
+    report(rt, "  nulls added up", total, begun, n)
 }
 
-fn tell_numbers_and_lists<R: Clock + Print + AllocGlobal>(
+fn report_numbers_and_lists<R: Clock + Print + AllocGlobal>(
     rt: &R,
     numbers: &AnyArray,
     lists: &AnyArray,
     measured: bool,
 ) -> Result<()> {
-    tell_copies(rt, "  rows of all copies of numbers", numbers, measured)?;
-    tell_copies(rt, "  rows of all copies of lists", lists, measured)?;
-    tell_nulls(rt, numbers, lists, measured)?;
+    report_copies(rt, "  rows of all copies of numbers", numbers, measured)?;
+    report_copies(rt, "  rows of all copies of lists", lists, measured)?;
+    report_nulls(rt, numbers, lists, measured)?;
     Ok(())
 }
 
@@ -107,7 +113,7 @@ fn run_lists<R: Clock + Print + AllocGlobal>(
     measured: bool,
 ) -> Result<()> {
     let lists = lists(rt.alloc())?;
-    let told = tell_numbers_and_lists(rt, numbers, &lists, measured);
+    let told = report_numbers_and_lists(rt, numbers, &lists, measured);
     drop(lists);
     told
 }
@@ -119,18 +125,18 @@ fn run_numbers<R: Clock + Print + AllocGlobal>(rt: &R, measured: bool) -> Result
     told
 }
 
-fn tell_records<R: Clock + Print + AllocGlobal>(
+fn report_records<R: Clock + Print + AllocGlobal>(
     rt: &R,
     records: &AnyArray,
     measured: bool,
 ) -> Result<()> {
-    tell_copies(rt, "  rows of all copies of records", records, measured)?;
-    tell_type_copies(rt, records, measured)
+    report_copies(rt, "  rows of all copies of records", records, measured)?;
+    report_type_copies(rt, records, measured)
 }
 
 fn run_records<R: Clock + Print + AllocGlobal>(rt: &R, measured: bool) -> Result<()> {
     let records = arrays::records(rt.alloc(), 100, true)?;
-    let told = tell_records(rt, &records, measured);
+    let told = report_records(rt, &records, measured);
     drop(records);
     told
 }

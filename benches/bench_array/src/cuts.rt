@@ -1,7 +1,7 @@
-//! Cuts of records.
+//! Slices of records.
 use crate::arrays;
 use anyhow::Result;
-use bench_tools::{begin, tell};
+use bench_tools::{begin, report};
 use nest_array::any::AnyArray;
 use nest_memory::error::Error;
 use std::alloc::Global;
@@ -12,7 +12,7 @@ const FEW: usize = 100;
 
 const ROWS: usize = 1_000_000;
 
-/// Cuts the first row off, so many times.
+/// Slices the first row off, so many times.
 fn cut_in_place(array: &mut AnyArray, n: usize) {
     for _ in 0..n {
         let len = array.len();
@@ -21,7 +21,7 @@ fn cut_in_place(array: &mut AnyArray, n: usize) {
     }
 }
 
-/// The lengths, added up, of so many cuts of an array.
+/// The lengths, added up, of so many slices of an array.
 fn cut_by_clone(alloc: Global, array: &AnyArray, n: usize) -> Result<usize, Error> {
     let len = array.len();
     let mut total = 0usize;
@@ -34,7 +34,7 @@ fn cut_by_clone(alloc: Global, array: &AnyArray, n: usize) -> Result<usize, Erro
     Ok(total)
 }
 
-fn tell_cuts_by_clone<R: Clock + Print + AllocGlobal>(
+fn report_cuts_by_clone<R: Clock + Print + AllocGlobal>(
     rt: &R,
     array: &AnyArray,
     measured: bool,
@@ -42,11 +42,11 @@ fn tell_cuts_by_clone<R: Clock + Print + AllocGlobal>(
     let n = array.len();
     let begun = begin(rt, measured)?;
     let total = cut_by_clone(rt.alloc(), array, n)?;
-    tell(rt, "  rows of all cuts of a clone", total, begun, n)?;
+    report(rt, "  rows of all slices of a clone", total, begun, n)?;
     Ok(())
 }
 
-fn tell_cuts_in_place<R: Clock + Print>(
+fn report_cuts_in_place<R: Clock + Print>(
     rt: &R,
     array: &mut AnyArray,
     measured: bool,
@@ -54,31 +54,31 @@ fn tell_cuts_in_place<R: Clock + Print>(
     let n = array.len();
     let begun = begin(rt, measured)?;
     cut_in_place(array, n);
-    tell(rt, "  rows left by cuts in place", array.len(), begun, n)
+    report(rt, "  rows left by slices in place", array.len(), begun, n)
 }
 
-fn tell_cuts<R: Clock + Print + AllocGlobal>(
+fn report_cuts<R: Clock + Print + AllocGlobal>(
     rt: &R,
     array: &mut AnyArray,
     measured: bool,
 ) -> Result<()> {
-    tell_cuts_by_clone(rt, array, measured)?;
-    tell_cuts_in_place(rt, array, measured)?;
+    report_cuts_by_clone(rt, array, measured)?;
+    report_cuts_in_place(rt, array, measured)?;
     Ok(())
 }
 
 fn run_records<R: Clock + Print + AllocGlobal>(rt: &R, nulls: bool, measured: bool) -> Result<()> {
     let n = if measured { ROWS } else { FEW };
     let mut array = arrays::records(rt.alloc(), n, nulls)?;
-    let told = tell_cuts(rt, &mut array, measured);
+    let told = report_cuts(rt, &mut array, measured);
     drop(array);
     told
 }
 
-/// Cuts records, without a null and with a tenth of them null.
+/// Slices records, without a null and with a tenth of them null.
 pub fn run<R: Clock + Print + AllocGlobal>(rt: &R, measured: bool) -> Result<()> {
-    println!(rt; "records of a number and a text, cut")?;
+    println!(rt; "records of a number and a string, sliced")?;
     run_records(rt, false, measured)?;
-    println!(rt; "records and nulls, cut")?;
+    println!(rt; "records and nulls, sliced")?;
     run_records(rt, true, measured)
 }

@@ -1,10 +1,10 @@
-//! Slots as scalars, rows as arrays and cuts, of each kind.
+//! Slots as scalars, rows as arrays and slices, of each kind.
 ghost use Rattle.std.specs.Prelude.{◌<◌};
 ghost use Rattle.nest_array.specs.Words.{layout_of, len};
 
 use crate::arrays;
 use anyhow::Result;
-use bench_tools::{begin, tell};
+use bench_tools::{begin, report};
 use nest_array::{AnyArray, AnyScalar, new_scalar};
 use nest_memory::error::Error;
 use std::alloc::Global;
@@ -44,11 +44,11 @@ impl Kind {
             Kind::Numbers => "numbers",
             Kind::Lists => "lists of 8 numbers",
             Kind::FixedSizeLists => "lists of a fixed size of 8 numbers",
-            Kind::Records => "records of a number and a text",
-            Kind::Maps => "maps of 4 entries from a number to a text",
-            Kind::TextsByKeys => "texts by keys of 32 bits over 1000 of them",
-            Kind::SparseUnions => "sparse unions of numbers and texts",
-            Kind::DenseUnions => "dense unions of numbers and texts",
+            Kind::Records => "records of a number and a string",
+            Kind::Maps => "maps of 4 entries from a number to a string",
+            Kind::TextsByKeys => "strings by keys of 32 bits over 1000 of them",
+            Kind::SparseUnions => "sparse unions of numbers and strings",
+            Kind::DenseUnions => "dense unions of numbers and strings",
         }
     }
 
@@ -86,7 +86,7 @@ fn valid_scalars(alloc: Global, array: &AnyArray) -> Result<usize, Error> {
     Ok(valid)
 }
 
-/// How many rows the calls `value` of the first n slots give: a list's items, a map's entries, and one of what is no array.
+/// How many rows the calls `value` of the first n slots return: a list's items, a map's entries, and one of what is no array.
 fn rows_of_values(alloc: Global, array: &AnyArray) -> Result<usize, Error> {
     let mut rows = 0usize;
     for i in 0..array.len() {
@@ -121,7 +121,7 @@ fn rows_of(value: Result<AnyArray, Error>) -> Result<usize, Error> {
     Ok(rows)
 }
 
-/// Cuts the first row off, so many times.
+/// Slices the first row off, so many times.
 fn cut_in_place(array: &mut AnyArray, n: usize) {
     for _ in 0..n {
         let len = array.len();
@@ -130,7 +130,7 @@ fn cut_in_place(array: &mut AnyArray, n: usize) {
     }
 }
 
-fn tell_reads<R: Clock + Print + AllocGlobal>(
+fn report_reads<R: Clock + Print + AllocGlobal>(
     rt: &R,
     array: &AnyArray,
     measured: bool,
@@ -138,27 +138,27 @@ fn tell_reads<R: Clock + Print + AllocGlobal>(
     let n = array.len();
     let begun = begin(rt, measured)?;
     let valid = valid_scalars(rt.alloc(), array)?;
-    tell(rt, "  valid slots as scalars", valid, begun, n)?;
+    report(rt, "  valid slots as scalars", valid, begun, n)?;
     let begun = begin(rt, measured)?;
     let rows = rows_of_values(rt.alloc(), array)?;
-    tell(rt, "  rows of their values", rows, begun, n)?;
+    report(rt, "  rows of their values", rows, begun, n)?;
     Ok(())
 }
 
-fn tell_cuts<R: Clock + Print>(rt: &R, array: &mut AnyArray, measured: bool) -> io::Result<()> {
+fn report_cuts<R: Clock + Print>(rt: &R, array: &mut AnyArray, measured: bool) -> io::Result<()> {
     let n = array.len();
     let begun = begin(rt, measured)?;
     cut_in_place(array, n);
-    tell(rt, "  rows left by cuts in place", array.len(), begun, n)
+    report(rt, "  rows left by slices in place", array.len(), begun, n)
 }
 
-fn tell_kind<R: Clock + Print + AllocGlobal>(
+fn report_kind<R: Clock + Print + AllocGlobal>(
     rt: &R,
     array: &mut AnyArray,
     measured: bool,
 ) -> Result<()> {
-    tell_reads(rt, array, measured)?;
-    tell_cuts(rt, array, measured)?;
+    report_reads(rt, array, measured)?;
+    report_cuts(rt, array, measured)?;
     Ok(())
 }
 
@@ -166,7 +166,7 @@ fn run_kind<R: Clock + Print + AllocGlobal>(rt: &R, kind: Kind, measured: bool) 
     let n = if measured { ROWS } else { FEW };
     println!(rt; "{}", kind.name())?;
     let mut array = kind.made(rt.alloc(), n)?;
-    let told = tell_kind(rt, &mut array, measured);
+    let told = report_kind(rt, &mut array, measured);
     drop(array);
     told
 }

@@ -1,6 +1,6 @@
 //! The least that a call can hand up as an array of any kind: what copies and rows cost at least, whatever they share.
 use anyhow::Result;
-use bench_tools::{begin, tell};
+use bench_tools::{begin, report};
 use nest_array::any::AnyArray;
 use nest_array::null::NullArray;
 use nest_memory::datatypes::DataType;
@@ -49,15 +49,21 @@ fn lengths_handed_on(n: usize) -> Result<usize, Error> {
     Ok(total)
 }
 
-/// Makes arrays of nulls, and lets go of them.
+/// Makes arrays of nulls, and drops of them.
 pub fn run<R: Clock + Print>(rt: &R, measured: bool) -> Result<()> {
     let n = if measured { MANY } else { FEW };
-    println!(rt; "arrays of nulls, made and let go")?;
+    println!(rt; "arrays of nulls, created and dropped")?;
     let begun = begin(rt, measured)?;
     let total = lengths_handed_up(n)?;
-    tell(rt, "  slots handed up by a call", total, begun, n)?;
+    report(rt, "  slots handed up by a call", total, begun, n)?;
     let begun = begin(rt, measured)?;
     let total = lengths_handed_on(n)?;
-    tell(rt, "  slots left by a call that cuts them", total, begun, n)?;
+    report(
+        rt,
+        "  slots left by a call that slices them",
+        total,
+        begun,
+        n,
+    )?;
     Ok(())
 }

@@ -1,5 +1,5 @@
-//! What cutting, reading, copying, building and comparing nested arrays costs, in nanoseconds a cut, a copy, a row or an item: `bench_array run`.
-//! Without that word the same work is done on a few rows, and only what it gives is printed.
+//! Measures slicing, reading, copying, building and comparing nested arrays: `bench_array run` prints nanoseconds per slice, copy, row or item.
+//! Without `run` it does the same work on few rows and prints the results alone.
 #![tactic(auto)]
 
 mod arrays;

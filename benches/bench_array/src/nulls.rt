@@ -1,6 +1,6 @@
 //! Arrays of nulls, beside their buffers alone.
 use anyhow::Result;
-use bench_tools::{begin, tell};
+use bench_tools::{begin, report};
 use nest_array::new_null_array;
 use nest_memory::bitmap::immutable::Bitmap;
 use nest_memory::buffer::Buffer;
@@ -65,7 +65,7 @@ fn fill_numbers(alloc: Global, n: u32) -> Result<usize, Error> {
     Ok(values.len().min(validity.len()))
 }
 
-/// The offsets of texts or lists, and their validity.
+/// The offsets of strings or lists, and their validity.
 fn fill_offsets(alloc: Global, n: u32) -> Result<usize, Error> {
     let offsets = Offsets::<i32>::new_zeroed(alloc, n as usize)?;
     let validity = Bitmap::new_zeroed(alloc, n as usize)?;
@@ -87,7 +87,7 @@ fn slots_filled(alloc: Global, kind: Kind, n: u32) -> Result<usize, Error> {
     }
 }
 
-fn tell_kind<R: Clock + Print + AllocGlobal>(
+fn report_kind<R: Clock + Print + AllocGlobal>(
     rt: &R,
     work: &str,
     kind: Kind,
@@ -96,23 +96,23 @@ fn tell_kind<R: Clock + Print + AllocGlobal>(
     let n = if measured { ROWS } else { FEW };
     let begun = begin(rt, measured)?;
     let slots = slots_made(rt.alloc(), kind, n)?;
-    tell(rt, work, slots, begun, n as usize)?;
+    report(rt, work, slots, begun, n as usize)?;
     let begun = begin(rt, measured)?;
     let slots = slots_filled(rt.alloc(), kind, n)?;
-    tell(rt, "    their buffers alone", slots, begun, n as usize)?;
+    report(rt, "    their buffers alone", slots, begun, n as usize)?;
     Ok(())
 }
 
 /// Makes nulls of some types, and what they take alone.
 pub fn run<R: Clock + Print + AllocGlobal>(rt: &R, measured: bool) -> Result<()> {
     println!(rt; "nulls of a type")?;
-    tell_kind(rt, "  numbers", Kind::Numbers, measured)?;
-    tell_kind(rt, "  texts", Kind::Texts, measured)?;
-    tell_kind(
+    report_kind(rt, "  numbers", Kind::Numbers, measured)?;
+    report_kind(rt, "  strings", Kind::Texts, measured)?;
+    report_kind(
         rt,
-        "  records of a number and a text",
+        "  records of a number and a string",
         Kind::Records,
         measured,
     )?;
-    tell_kind(rt, "  lists of numbers", Kind::Lists, measured)
+    report_kind(rt, "  lists of numbers", Kind::Lists, measured)
 }

@@ -1,7 +1,7 @@
 //! Rows of lists, read as arrays.
 use crate::arrays;
 use anyhow::Result;
-use bench_tools::{begin, tell};
+use bench_tools::{begin, report};
 use nest_array::any::AnyArray;
 use nest_array::list::ListArray;
 use nest_array::window::Window;
@@ -73,7 +73,7 @@ fn sum_of_windows(lists: &ListArray) -> i64 {
     total
 }
 
-fn tell_rows<R: Clock + Print + AllocGlobal>(
+fn report_rows<R: Clock + Print + AllocGlobal>(
     rt: &R,
     lists: &ListArray,
     measured: bool,
@@ -81,10 +81,10 @@ fn tell_rows<R: Clock + Print + AllocGlobal>(
     let n = lists.len();
     let begun = begin(rt, measured)?;
     let total = sum_of_rows(rt.alloc(), lists)?;
-    tell(rt, "  sum of the rows as arrays", total, begun, n)?;
+    report(rt, "  sum of the rows as arrays", total, begun, n)?;
     let begun = begin(rt, measured)?;
     let total = sum_of_windows(lists);
-    tell(rt, "  sum of the rows as windows", total, begun, n)?;
+    report(rt, "  sum of the rows as windows", total, begun, n)?;
     Ok(())
 }
 
@@ -95,7 +95,7 @@ pub fn run<R: Clock + Print + AllocGlobal>(rt: &R, measured: bool) -> Result<()>
     let items = arrays::numbers(rt.alloc(), n * SIZE, false)?;
     let array = arrays::lists(rt.alloc(), n, SIZE, false, items)?;
     let told = match &array {
-        AnyArray::List(lists) => tell_rows(rt, lists, measured),
+        AnyArray::List(lists) => report_rows(rt, lists, measured),
         _ => Ok(()),
     };
     drop(array);

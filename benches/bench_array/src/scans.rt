@@ -1,7 +1,7 @@
-//! Rows gone through one after another: lists, records, texts by keys, picks.
+//! Rows gone through one after another: lists, records, strings by keys, picks.
 use crate::arrays;
 use anyhow::Result;
-use bench_tools::{begin, tell};
+use bench_tools::{begin, report};
 use nest_array::{AnyArray, DictionaryArray, ListArray, StructArray, UnionArray};
 use nest_memory::error::Error;
 use nest_scan::{Scan, ScanKeys, ScanValues};
@@ -59,7 +59,7 @@ fn valid_values(alloc: Global, keyed: &DictionaryArray) -> Result<usize, Error> 
     Ok(valid)
 }
 
-/// How many bytes the texts of all valid keys have.
+/// How many bytes the strings of all valid keys have.
 fn bytes_of_texts(keyed: &DictionaryArray) -> Result<usize, Error> {
     let mut total = 0usize;
     if keyed.values().null_count() > 0 {
@@ -86,7 +86,7 @@ fn valid_picks(alloc: Global, picks: &UnionArray) -> Result<usize, Error> {
     Ok(valid)
 }
 
-fn tell_lists<R: Clock + Print + AllocGlobal>(
+fn report_lists<R: Clock + Print + AllocGlobal>(
     rt: &R,
     lists: &ListArray,
     measured: bool,
@@ -94,14 +94,14 @@ fn tell_lists<R: Clock + Print + AllocGlobal>(
     let n = lists.len();
     let begun = begin(rt, measured)?;
     let total = items_of_lists(rt.alloc(), lists)?;
-    tell(rt, "  items of all lists", total, begun, n)?;
+    report(rt, "  items of all lists", total, begun, n)?;
     let begun = begin(rt, measured)?;
     let valid = valid_lists(rt.alloc(), lists)?;
-    tell(rt, "  valid lists", valid, begun, n)?;
+    report(rt, "  valid lists", valid, begun, n)?;
     Ok(())
 }
 
-fn tell_keyed<R: Clock + Print + AllocGlobal>(
+fn report_keyed<R: Clock + Print + AllocGlobal>(
     rt: &R,
     keyed: &DictionaryArray,
     measured: bool,
@@ -109,15 +109,15 @@ fn tell_keyed<R: Clock + Print + AllocGlobal>(
     let n = keyed.len();
     let begun = begin(rt, measured)?;
     let valid = valid_values(rt.alloc(), keyed)?;
-    tell(rt, "  valid texts by keys as scalars", valid, begun, n)?;
+    report(rt, "  valid strings by keys as scalars", valid, begun, n)?;
     let begun = begin(rt, measured)?;
     let total = bytes_of_texts(keyed)?;
-    tell(rt, "  bytes of texts by keys", total, begun, n)?;
+    report(rt, "  bytes of strings by keys", total, begun, n)?;
     Ok(())
 }
 
 /// Goes through the slots of an array of one of the four kinds.
-fn tell_rows<R: Clock + Print + AllocGlobal>(
+fn report_rows<R: Clock + Print + AllocGlobal>(
     rt: &R,
     array: &AnyArray,
     measured: bool,
@@ -125,15 +125,15 @@ fn tell_rows<R: Clock + Print + AllocGlobal>(
     let n = array.len();
     let begun = begin(rt, measured)?;
     match array {
-        AnyArray::List(lists) => tell_lists(rt, lists, measured),
-        AnyArray::Dictionary(keyed) => tell_keyed(rt, keyed, measured),
+        AnyArray::List(lists) => report_lists(rt, lists, measured),
+        AnyArray::Dictionary(keyed) => report_keyed(rt, keyed, measured),
         AnyArray::Struct(records) => {
             let valid = valid_records(rt.alloc(), records)?;
-            Ok(tell(rt, "  valid records", valid, begun, n)?)
+            Ok(report(rt, "  valid records", valid, begun, n)?)
         }
         AnyArray::Union(picks) => {
             let valid = valid_picks(rt.alloc(), picks)?;
-            Ok(tell(rt, "  valid picks", valid, begun, n)?)
+            Ok(report(rt, "  valid union values", valid, begun, n)?)
         }
         _ => Ok(()),
     }
@@ -145,7 +145,7 @@ fn run_made<R: Clock + Print + AllocGlobal>(
     measured: bool,
 ) -> Result<()> {
     let array = made?;
-    let told = tell_rows(rt, &array, measured);
+    let told = report_rows(rt, &array, measured);
     drop(array);
     told
 }
@@ -156,7 +156,7 @@ fn lists(alloc: Global, n: usize) -> Result<AnyArray, Error> {
     arrays::lists(alloc, n, 8, true, items)
 }
 
-/// Goes through lists, records, texts by keys and picks.
+/// Goes through lists, records, strings by keys and picks.
 pub fn run<R: Clock + Print + AllocGlobal>(rt: &R, measured: bool) -> Result<()> {
     let n = if measured { ROWS } else { FEW };
     let alloc = rt.alloc();

@@ -1,4 +1,4 @@
-//! The arrays that are joined. Values with a data type are let go by `drop`, which keeps the proofs short.
+//! The arrays that are joined. Values with a data type are dropped by `drop`, which keeps the proofs short.
 use nest_array::{AnyArray, ListArray};
 use nest_flat::any_primitive::AnyPrimitive;
 use nest_flat::primitive::PrimitiveArray;
@@ -36,7 +36,7 @@ fn offsets(alloc: Global, n: usize) -> Result<OffsetsBuffer<i32>, Error> {
     offsets.freeze()
 }
 
-/// Texts of eight bytes.
+/// Strings of eight bytes.
 pub fn texts(alloc: Global, n: usize) -> Result<AnyArray, Error> {
     let mut bytes = Vec::new(alloc);
     for _ in 0..n {

@@ -1,13 +1,13 @@
-//! What arrays that are joined cost, in nanoseconds a row: `bench_concat run`. Beside each kind stands the plain loop over
-//! vectors, offsets and bytes. Each is done once before it is measured, so that none pays for memory that the system gives for
-//! the first time. Without that word the same work is done on a few rows, and only what it gives is printed.
+//! Measures concatenating arrays of each kind, beside a plain loop over vectors, offsets and bytes: `bench_concat run` prints nanoseconds per
+//! row. Each work is done once before it is measured, so that none pays for the first use of memory.
+//! Without `run` it does the same work on few rows and prints the results alone.
 #![tactic(auto)]
 
 mod arrays;
 mod raw;
 
 use anyhow::Result;
-use bench_tools::{begin, is_measured, tell};
+use bench_tools::{begin, is_measured, report};
 use nest_array::AnyArray;
 use nest_concat::concatenate;
 use nest_memory::error::Error;
@@ -63,7 +63,7 @@ fn copies(alloc: Global, kind: Kind, size: Size) -> Result<Vec<AnyArray>, Error>
     Ok(all)
 }
 
-fn tell_arrays<R: Clock + Print + AllocGlobal>(
+fn report_arrays<R: Clock + Print + AllocGlobal>(
     rt: &R,
     kind: Kind,
     size: Size,
@@ -74,7 +74,7 @@ fn tell_arrays<R: Clock + Print + AllocGlobal>(
     let begun = begin(rt, measured)?;
     let joined = concatenate(rt.alloc(), &all);
     let told = match &joined {
-        Ok(array) => tell(rt, "  arrays", array.len(), begun, array.len()),
+        Ok(array) => report(rt, "  arrays", array.len(), begun, array.len()),
         Err(error) => return Err((*error).into()),
     };
     drop(joined);
@@ -82,16 +82,20 @@ fn tell_arrays<R: Clock + Print + AllocGlobal>(
     Ok(())
 }
 
-fn tell_vectors<R: Clock + Print + AllocGlobal>(rt: &R, size: Size, measured: bool) -> Result<()> {
+fn report_vectors<R: Clock + Print + AllocGlobal>(
+    rt: &R,
+    size: Size,
+    measured: bool,
+) -> Result<()> {
     let all = raw::vectors(rt.alloc(), size.arrays, size.rows, 7i64)?;
     drop(raw::join_vectors(rt.alloc(), &all)?);
     let begun = begin(rt, measured)?;
     let joined = raw::join_vectors(rt.alloc(), &all)?;
-    tell(rt, "  by a plain loop", joined.len(), begun, joined.len())?;
+    report(rt, "  by a plain loop", joined.len(), begun, joined.len())?;
     Ok(())
 }
 
-fn tell_rows<T: Copy, R: Clock + Print + AllocGlobal>(
+fn report_rows<T: Copy, R: Clock + Print + AllocGlobal>(
     rt: &R,
     size: Size,
     item: T,
@@ -101,20 +105,20 @@ fn tell_rows<T: Copy, R: Clock + Print + AllocGlobal>(
     drop(raw::join_rows(rt.alloc(), &all)?);
     let begun = begin(rt, measured)?;
     let joined = raw::join_rows(rt.alloc(), &all)?;
-    tell(rt, "  by a plain loop", joined.len(), begun, joined.len())?;
+    report(rt, "  by a plain loop", joined.len(), begun, joined.len())?;
     Ok(())
 }
 
 fn run_kinds<R: Clock + Print + AllocGlobal>(rt: &R, size: Size, measured: bool) -> Result<()> {
     println!(rt; "numbers")?;
-    tell_vectors(rt, size, measured)?;
-    tell_arrays(rt, Kind::Numbers, size, measured)?;
-    println!(rt; "texts of 8 bytes")?;
-    tell_rows(rt, size, b'n', measured)?;
-    tell_arrays(rt, Kind::Texts, size, measured)?;
+    report_vectors(rt, size, measured)?;
+    report_arrays(rt, Kind::Numbers, size, measured)?;
+    println!(rt; "strings of 8 bytes")?;
+    report_rows(rt, size, b'n', measured)?;
+    report_arrays(rt, Kind::Texts, size, measured)?;
     println!(rt; "lists of 8 numbers")?;
-    tell_rows(rt, size, 7i64, measured)?;
-    tell_arrays(rt, Kind::Lists, size, measured)
+    report_rows(rt, size, 7i64, measured)?;
+    report_arrays(rt, Kind::Lists, size, measured)
 }
 
 fn main(rt: HostRuntime) -> Result<()> {

@@ -1,4 +1,4 @@
-//! Numbers, texts and lists in plain vectors, and the loops by which a program joins them: what arrays are measured beside.
+//! Numbers, strings and lists in plain vectors, and the loops by which a program joins them: what arrays are measured beside.
 use std::alloc::{AllocError, Global};
 
 /// How many items each row has.

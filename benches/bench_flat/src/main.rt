@@ -1,9 +1,9 @@
-//! What pushing, walking and comparing slots of flat arrays costs, in nanoseconds a slot: `bench_flat run`.
-//! Without that word the same work is done on a few slots, and only what it gives is printed.
+//! Measures pushing, iterating over and comparing flat arrays: `bench_flat run` prints nanoseconds per slot.
+//! Without `run` it does the same work on few slots and prints the results alone.
 #![tactic(auto)]
 
 use anyhow::Result;
-use bench_tools::{begin, is_measured, tell};
+use bench_tools::{begin, is_measured, report};
 use nest_flat::primitive::PrimitiveArray;
 use nest_flat::primitive::mutable::MutablePrimitiveArray;
 use nest_flat::utf8::Utf8Array;
@@ -50,7 +50,7 @@ fn numbers(alloc: Global, n: usize, nulls: bool) -> Result<PrimitiveArray<i64>, 
     frozen
 }
 
-/// Pushes texts of eight bytes.
+/// Pushes strings of eight bytes.
 fn push_texts(builder: &mut MutableUtf8Array<i32>, n: usize) -> Result<(), Error> {
     for i in 0..n {
         builder.try_push(Some(WORDS[i % 4]))?;
@@ -58,7 +58,7 @@ fn push_texts(builder: &mut MutableUtf8Array<i32>, n: usize) -> Result<(), Error
     Ok(())
 }
 
-/// Texts pushed one by one and frozen.
+/// Strings pushed one by one and frozen.
 fn texts(alloc: Global, n: usize) -> Result<Utf8Array<i32>, Error> {
     let mut builder = MutableUtf8Array::new(alloc)?;
     let frozen = match push_texts(&mut builder, n) {
@@ -89,7 +89,7 @@ fn sum_of_slots(array: &PrimitiveArray<i64>) -> i64 {
     sum
 }
 
-/// The values of the slots that are not null added up, by their places.
+/// The values of the slots that are not null added up, by their indices.
 fn sum_of_places(array: &PrimitiveArray<i64>) -> i64 {
     let mut sum = 0i64;
     for i in 0..array.len() {
@@ -105,13 +105,13 @@ fn walk<R: Clock + Print>(rt: &R, array: &PrimitiveArray<i64>, measured: bool) -
     let n = array.len();
     let begun = begin(rt, measured)?;
     let sum = sum_of_values(array);
-    tell(rt, "  sum of the raw values", sum, begun, n)?;
+    report(rt, "  sum of the raw values", sum, begun, n)?;
     let begun = begin(rt, measured)?;
     let sum = sum_of_slots(array);
-    tell(rt, "  sum of the slots", sum, begun, n)?;
+    report(rt, "  sum of the slots", sum, begun, n)?;
     let begun = begin(rt, measured)?;
     let sum = sum_of_places(array);
-    tell(rt, "  sum of the slots by their places", sum, begun, n)
+    report(rt, "  sum of the slots by their indices", sum, begun, n)
 }
 
 /// Compares arrays of numbers, once as arrays and once as runs of slots.
@@ -124,10 +124,10 @@ fn compare<R: Clock + Print>(
     let n = left.len().min(right.len());
     let begun = begin(rt, measured)?;
     let same = left == right;
-    tell(rt, "  arrays found equal", same, begun, n)?;
+    report(rt, "  arrays found equal", same, begun, n)?;
     let begun = begin(rt, measured)?;
     let same = left.same_run(0, right, 0, n);
-    tell(rt, "  runs found equal", same, begun, n)
+    report(rt, "  runs found equal", same, begun, n)
 }
 
 /// Walks an array of numbers, and compares it with one that is made like it.
@@ -155,7 +155,7 @@ fn run_numbers<R: Clock + Print + AllocGlobal>(
     let n = if measured { NUMBERS } else { FEW };
     let begun = begin(rt, measured)?;
     let array = numbers(rt.alloc(), n, nulls)?;
-    let told = tell(rt, work, array.null_count(), begun, n);
+    let told = report(rt, work, array.null_count(), begun, n);
     let done = match told {
         Ok(()) => walk_and_compare(rt, &array, nulls, measured),
         Err(error) => Err(error.into()),
@@ -184,7 +184,7 @@ fn bytes_of_slots(array: &Utf8Array<i32>) -> usize {
     bytes
 }
 
-/// The bytes of the values by their places.
+/// The bytes of the values by their indices.
 fn bytes_of_places(array: &Utf8Array<i32>) -> usize {
     let mut bytes = 0usize;
     for i in 0..array.len() {
@@ -193,14 +193,14 @@ fn bytes_of_places(array: &Utf8Array<i32>) -> usize {
     bytes
 }
 
-/// Texts of the same parts, which are tested.
+/// Strings of the same parts, which are tested.
 fn made_again(alloc: Global, array: &Utf8Array<i32>) -> Result<Utf8Array<i32>, Error> {
     let offsets = array.offsets().clone()?;
     let values = array.values().clone()?;
     Utf8Array::try_new(DataType::Utf8, offsets, values, None)
 }
 
-/// Walks an array of texts in three ways, and makes one of its parts.
+/// Walks an array of strings in three ways, and makes one of its parts.
 fn walk_texts<R: Clock + Print + AllocGlobal>(
     rt: &R,
     array: &Utf8Array<i32>,
@@ -209,28 +209,40 @@ fn walk_texts<R: Clock + Print + AllocGlobal>(
     let n = array.len();
     let begun = begin(rt, measured)?;
     let bytes = bytes_of_values(array);
-    tell(rt, "  bytes of the raw values", bytes, begun, n)?;
+    report(rt, "  bytes of the raw values", bytes, begun, n)?;
     let begun = begin(rt, measured)?;
     let bytes = bytes_of_slots(array);
-    tell(rt, "  bytes of the slots", bytes, begun, n)?;
+    report(rt, "  bytes of the slots", bytes, begun, n)?;
     let begun = begin(rt, measured)?;
     let bytes = bytes_of_places(array);
-    tell(rt, "  bytes of the values by their places", bytes, begun, n)?;
+    report(
+        rt,
+        "  bytes of the values by their indices",
+        bytes,
+        begun,
+        n,
+    )?;
     let begun = begin(rt, measured)?;
     let other = made_again(rt.alloc(), array)?;
     let count = other.len();
     drop(other);
-    tell(rt, "  texts of the same parts", count, begun, n)?;
+    report(rt, "  strings of the same parts", count, begun, n)?;
     Ok(())
 }
 
-/// Pushes texts, and walks them.
+/// Pushes strings, and walks them.
 fn run_texts<R: Clock + Print + AllocGlobal>(rt: &R, measured: bool) -> Result<()> {
     let n = if measured { TEXTS } else { FEW };
     let begun = begin(rt, measured)?;
     let array = texts(rt.alloc(), n)?;
     let bytes = array.values().len();
-    let told = tell(rt, "texts pushed and frozen, their bytes", bytes, begun, n);
+    let told = report(
+        rt,
+        "strings pushed and frozen, their bytes",
+        bytes,
+        begun,
+        n,
+    );
     let done = match told {
         Ok(()) => walk_texts(rt, &array, measured),
         Err(error) => Err(error.into()),

@@ -1,4 +1,4 @@
-//! The batches that are measured, of one column each. Values with a data type are let go by `drop`, which keeps the proofs
+//! The batches that are measured, of one column each. Values with a data type are dropped by `drop`, which keeps the proofs
 //! short.
 use ipc::Batch;
 use ipc_schema::Schema;
@@ -73,7 +73,7 @@ fn offsets(alloc: Global, n: usize) -> Result<OffsetsBuffer<i32>, Error> {
     offsets.freeze()
 }
 
-/// Texts of eight bytes.
+/// Strings of eight bytes.
 pub fn texts(alloc: Global, n: usize) -> Result<AnyArray, Error> {
     let mut bytes = Vec::new(alloc);
     for _ in 0..n {
@@ -144,7 +144,7 @@ fn keys(alloc: Global, n: usize) -> Result<AnyKeys, Error> {
     Ok(AnyKeys::Int32(keys))
 }
 
-/// Texts of eight bytes by keys of 32 bits, one for each key.
+/// Strings of eight bytes by keys of 32 bits, one for each key.
 pub fn keyed(alloc: Global, n: usize) -> Result<AnyArray, Error> {
     let keys = keys(alloc, n)?;
     match texts(alloc, n) {

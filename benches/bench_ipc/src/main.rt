@@ -1,13 +1,12 @@
-//! What streams of a column cost to write and to read, and files to write, in nanoseconds for each thousand bytes of them:
-//! `bench_ipc run`. Beside them stands a plain copy of the stream's bytes. Each is done once before it is measured, so that none
-//! pays for memory that the system gives for the first time. Without that word the same is done with a few rows, and only how
-//! many bytes or rows there are is printed.
+//! Measures writing and reading streams of a column, and writing files, beside a plain copy of the bytes: `bench_ipc run` prints
+//! nanoseconds per thousand bytes. Each work is done once before it is measured, so that none pays for the first use of memory.
+//! Without `run` it does the same work on few rows and prints the results alone.
 #![tactic(auto)]
 
 mod batches;
 
 use anyhow::Result;
-use bench_tools::{begin, is_measured, tell};
+use bench_tools::{begin, is_measured, report};
 use ipc::{Batch, read_stream, write_file, write_stream};
 use ipc_schema::Schema;
 use nest_array::AnyArray;
@@ -31,7 +30,7 @@ fn run_copy<R: Clock + Print + AllocGlobal>(rt: &R, bytes: &[u8], measured: bool
     let begun = begin(rt, measured)?;
     let copy = copied(rt.alloc(), bytes)?;
     let thousands = bytes.len() / THOUSAND;
-    tell(
+    report(
         rt,
         "  the bytes, by a plain copy",
         copy.len(),
@@ -51,11 +50,11 @@ fn run_written<R: Clock + Print + AllocGlobal>(
     let begun = begin(rt, measured)?;
     let bytes = write_stream(rt.alloc(), schema, batches)?;
     let thousands = bytes.len() / THOUSAND;
-    tell(rt, "  the stream, written", bytes.len(), begun, thousands)?;
+    report(rt, "  the stream, written", bytes.len(), begun, thousands)?;
     Ok(bytes)
 }
 
-/// As a file, whose dictionaries are read back as they are written.
+/// As a file, whose dictionaries are round-trip as they are written.
 fn run_filed<R: Clock + Print + AllocGlobal>(
     rt: &R,
     schema: &Schema,
@@ -66,7 +65,7 @@ fn run_filed<R: Clock + Print + AllocGlobal>(
     let begun = begin(rt, measured)?;
     let bytes = write_file(rt.alloc(), schema, batches)?;
     let thousands = bytes.len() / THOUSAND;
-    tell(rt, "  the file, written", bytes.len(), begun, thousands)?;
+    report(rt, "  the file, written", bytes.len(), begun, thousands)?;
     Ok(())
 }
 
@@ -75,7 +74,7 @@ fn run_read<R: Clock + Print + AllocGlobal>(rt: &R, bytes: &[u8], measured: bool
     let begun = begin(rt, measured)?;
     let stream = read_stream(rt.alloc(), bytes)?;
     let thousands = bytes.len() / THOUSAND;
-    tell(rt, "  the stream, read", stream.read, begun, thousands)?;
+    report(rt, "  the stream, read", stream.read, begun, thousands)?;
     Ok(())
 }
 
@@ -117,15 +116,15 @@ fn main(rt: HostRuntime) -> Result<()> {
         measured,
     )?;
     let column = batches::texts(alloc, rows(measured, 8_300_000));
-    run_stream(&rt, "texts of 8 bytes", column, measured)?;
+    run_stream(&rt, "strings of 8 bytes", column, measured)?;
     let column = batches::lists(alloc, rows(measured, 1_470_000));
     run_stream(&rt, "lists of 8 numbers", column, measured)?;
     let column = batches::records(alloc, rows(measured, 5_000_000));
-    run_stream(&rt, "records of a number and a text", column, measured)?;
+    run_stream(&rt, "records of a number and a string", column, measured)?;
     let column = batches::keyed(alloc, rows(measured, 6_200_000));
     run_stream(
         &rt,
-        "texts of 8 bytes by keys, each its own",
+        "strings of 8 bytes by keys, each its own",
         column,
         measured,
     )

@@ -1,9 +1,9 @@
-//! What growing, sharing and asking memory and copying data types costs, in nanoseconds an element: `bench_memory run`.
-//! Without that word the same work is done on a few elements, and only what it gives is printed.
+//! Measures growing, sharing and allocating memory, and copying data types: `bench_memory run` prints nanoseconds per element.
+//! Without `run` it does the same work on few elements and prints the results alone.
 #![tactic(auto)]
 
 use anyhow::Result;
-use bench_tools::{begin, is_measured, tell};
+use bench_tools::{begin, is_measured, report};
 use nest_memory::bitmap::immutable::Bitmap;
 use nest_memory::bitmap::mutable::MutableBitmap;
 use nest_memory::buffer::Buffer;
@@ -82,7 +82,7 @@ fn offsets(alloc: Global, n: usize) -> Result<OffsetsBuffer<i64>, Error> {
     grown.freeze()
 }
 
-/// The lengths, added up, of this many cuts of a buffer.
+/// The lengths, added up, of this many slices of a buffer.
 fn cuts(buffer: &Buffer<u64>, n: usize) -> Result<usize, Error> {
     let len = buffer.len();
     let mut total = 0usize;
@@ -160,7 +160,7 @@ fn run_questions<R: Clock + Print + AllocGlobal>(
     let owners = two_owners(rt.alloc(), bitmap)?;
     let begun = begin(rt, measured)?;
     let total = asked(&owners, n);
-    tell(
+    report(
         rt,
         "unset bits of a whole bitmap, added up",
         total,
@@ -170,13 +170,13 @@ fn run_questions<R: Clock + Print + AllocGlobal>(
     Ok(())
 }
 
-/// Cuts of a thousand bits that leave out few.
+/// Slices of a thousand bits that leave out few.
 fn run_cuts_of_bits<R: Clock + Print + AllocGlobal>(rt: &R, measured: bool) -> Result<()> {
     let n = if measured { CUTS } else { FEW };
     let bitmap = bits(rt.alloc(), FEW)?;
     let begun = begin(rt, measured)?;
     let total = unset_of_cuts(&bitmap, n)?;
-    tell(rt, "unset bits of cuts, added up", total, begun, n)?;
+    report(rt, "unset bits of slices, added up", total, begun, n)?;
     Ok(())
 }
 
@@ -184,11 +184,17 @@ fn run_bits<R: Clock + Print + AllocGlobal>(rt: &R, measured: bool) -> Result<()
     let n = if measured { BITS } else { FEW };
     let begun = begin(rt, measured)?;
     let bitmap = bits(rt.alloc(), n)?;
-    tell(rt, "bits pushed and frozen", bitmap.len(), begun, n)?;
+    report(rt, "bits pushed and frozen", bitmap.len(), begun, n)?;
     run_questions(rt, &bitmap, measured)?;
     let begun = begin(rt, measured)?;
     let unset = unset_from_middle(bitmap);
-    tell(rt, "unset bits counted from the middle", unset, begun, n / 2)?;
+    report(
+        rt,
+        "unset bits counted from the middle",
+        unset,
+        begun,
+        n / 2,
+    )?;
     run_cuts_of_bits(rt, measured)
 }
 
@@ -196,7 +202,7 @@ fn run_offsets<R: Clock + Print + AllocGlobal>(rt: &R, measured: bool) -> Result
     let n = if measured { OFFSETS } else { FEW };
     let begun = begin(rt, measured)?;
     let frozen = offsets(rt.alloc(), n)?;
-    tell(
+    report(
         rt,
         "offsets pushed and frozen, the last",
         frozen.last(),
@@ -211,11 +217,11 @@ fn run_cuts<R: Clock + Print + AllocGlobal>(rt: &R, measured: bool) -> Result<()
     let buffer = Buffer::from_vec(rt.alloc(), vec![in rt.alloc(); 7u64; n]?)?;
     let begun = begin(rt, measured)?;
     let total = cuts(&buffer, n)?;
-    tell(rt, "items of all cuts of a buffer", total, begun, n)?;
+    report(rt, "items of all slices of a buffer", total, begun, n)?;
     Ok(())
 }
 
-fn tell_copies<R: Clock + Print + AllocGlobal>(
+fn report_copies<R: Clock + Print + AllocGlobal>(
     rt: &R,
     work: &str,
     types: &[DataType],
@@ -224,15 +230,15 @@ fn tell_copies<R: Clock + Print + AllocGlobal>(
     let n = if measured { COPIES } else { FEW };
     let begun = begin(rt, measured)?;
     let with_items = copies(rt.alloc(), types, n)?;
-    tell(rt, work, with_items, begun, n)?;
+    report(rt, work, with_items, begun, n)?;
     Ok(())
 }
 
-fn tell_makings<R: Clock + Print>(rt: &R, types: &[DataType], measured: bool) -> Result<()> {
+fn report_makings<R: Clock + Print>(rt: &R, types: &[DataType], measured: bool) -> Result<()> {
     let n = if measured { COPIES } else { FEW };
     let begun = begin(rt, measured)?;
     let with_items = makings(types, n)?;
-    tell(
+    report(
         rt,
         "plain data types made by a call, with items",
         with_items,
@@ -244,15 +250,15 @@ fn tell_makings<R: Clock + Print>(rt: &R, types: &[DataType], measured: bool) ->
 
 fn run_copies<R: Clock + Print + AllocGlobal>(rt: &R, measured: bool) -> Result<()> {
     let plain = plain_types(rt.alloc())?;
-    tell_copies(
+    report_copies(
         rt,
         "copies of plain data types with items",
         &plain,
         measured,
     )?;
-    tell_makings(rt, &plain, measured)?;
+    report_makings(rt, &plain, measured)?;
     let lists = list_types(rt.alloc())?;
-    tell_copies(rt, "copies of list types with items", &lists, measured)
+    report_copies(rt, "copies of list types with items", &lists, measured)
 }
 
 fn run<R: Clock + Print + AllocGlobal>(rt: &R, measured: bool) -> Result<()> {

@@ -1,4 +1,4 @@
-//! The arrays that are measured. Values with a data type are let go by `drop`, which keeps the proofs short.
+//! The arrays that are measured. Values with a data type are dropped by `drop`, which keeps the proofs short.
 use nest_array::{AnyArray, ListArray, StructArray};
 use nest_flat::any_primitive::AnyPrimitive;
 use nest_flat::primitive::PrimitiveArray;

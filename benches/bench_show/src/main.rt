@@ -1,16 +1,16 @@
-//! What arrays cost as text of JSON, in nanoseconds a slot: `bench_show run`. First stands a plain loop over raw numbers. Each is
-//! written once before it is measured, so that none pays for memory that the system gives for the first time.
-//! Without that word the same is written of a few slots, and only how many bytes they take is printed.
+//! Measures writing arrays as JSON, beside a plain loop over raw numbers: `bench_show run` prints nanoseconds per slot. Each work is done
+//! once before it is measured, so that none pays for the first use of memory.
+//! Without `run` it does the same work on few slots and prints the results alone.
 #![tactic(auto)]
 
 mod arrays;
 mod rows;
 
 use anyhow::Result;
-use bench_tools::{begin, is_measured, tell};
+use bench_tools::{begin, is_measured, report};
+use json_write::output::to_json_string;
 use nest_array::AnyArray;
 use nest_memory::error::Error;
-use json_write::writing::json_text;
 use std::alloc::{AllocError, Global};
 use std::rt::Clock;
 
@@ -32,7 +32,7 @@ fn run_plain<R: Clock + Print + AllocGlobal>(rt: &R, n: usize, measured: bool) -
     drop(plain_text(rt.alloc(), &values)?);
     let begun = begin(rt, measured)?;
     let text = plain_text(rt.alloc(), &values)?;
-    tell(rt, "raw numbers, by a plain loop", text.len(), begun, n)?;
+    report(rt, "raw numbers, by a plain loop", text.len(), begun, n)?;
     Ok(())
 }
 
@@ -44,10 +44,10 @@ pub(crate) fn run_array<R: Clock + Print + AllocGlobal>(
     measured: bool,
 ) -> Result<()> {
     let array = array?;
-    drop(json_text(rt.alloc(), &array)?);
+    drop(to_json_string(rt.alloc(), &array)?);
     let begun = begin(rt, measured)?;
-    let text = json_text(rt.alloc(), &array)?;
-    tell(rt, kind, text.len(), begun, array.len())?;
+    let text = to_json_string(rt.alloc(), &array)?;
+    report(rt, kind, text.len(), begun, array.len())?;
     Ok(())
 }
 
@@ -55,9 +55,9 @@ fn run_all<R: Clock + Print + AllocGlobal>(rt: &R, n: usize, measured: bool) -> 
     run_plain(rt, n, measured)?;
     run_array(rt, "numbers", arrays::numbers(rt.alloc(), n), measured)?;
     let plain = arrays::texts(rt.alloc(), n, *b"nineteen");
-    run_array(rt, "texts of 8 bytes", plain, measured)?;
+    run_array(rt, "strings of 8 bytes", plain, measured)?;
     let escaped = arrays::texts(rt.alloc(), n, *b"nine\nten");
-    run_array(rt, "texts of 8 bytes, one escaped", escaped, measured)?;
+    run_array(rt, "strings of 8 bytes, one escaped", escaped, measured)?;
     run_array(
         rt,
         "lists of 8 numbers",
@@ -65,7 +65,7 @@ fn run_all<R: Clock + Print + AllocGlobal>(rt: &R, n: usize, measured: bool) -> 
         measured,
     )?;
     let records = arrays::records(rt.alloc(), n);
-    run_array(rt, "records of a number and a text", records, measured)?;
+    run_array(rt, "records of a number and a string", records, measured)?;
     rows::run(rt, n, measured)
 }
 

@@ -3,10 +3,11 @@ ghost use Rattle.std.specs.Prelude.{◌≡◌, Some};
 ghost use Rattle.nest_memory.specs.TypeTree as types;
 ghost use Rattle.nest_memory.specs.TypeTree.{item_type};
 ghost use Rattle.nest_model.specs.Layout.{layout_type};
+
 use anyhow::Result;
-use bench_tools::{begin, tell};
-use listcut_rows::reading::read_rows;
-use listcut_rows::writing::write_rows;
+use bench_tools::{begin, report};
+use listcut_rows::input::read_rows;
+use listcut_rows::output::write_rows;
 use nest_array::{AnyArray, ListArray};
 use std::alloc::{AllocError, Global};
 use std::rt::Clock;
@@ -34,7 +35,13 @@ fn run_writer<R: Clock + Print + AllocGlobal>(
     let begun = begin(rt, measured)?;
     let mut out = Vec::new(rt.alloc());
     write_rows(rt.alloc(), rows, &mut out)?;
-    tell(rt, "rows of 8 numbers, by listcut's writer", out.len(), begun, rows.len())?;
+    report(
+        rt,
+        "rows of 8 numbers, by listcut's writer",
+        out.len(),
+        begun,
+        rows.len(),
+    )?;
     Ok(())
 }
 

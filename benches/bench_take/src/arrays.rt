@@ -1,4 +1,4 @@
-//! The arrays that are measured. Values with a data type are let go by `drop`, which keeps the proofs short.
+//! The arrays that are measured. Values with a data type are dropped by `drop`, which keeps the proofs short.
 use nest_array::{AnyArray, AnyKeys, DictionaryArray, ListArray, StructArray};
 use nest_flat::any_primitive::AnyPrimitive;
 use nest_flat::boolean::BooleanArray;
@@ -39,7 +39,7 @@ fn offsets(alloc: Global, n: usize) -> Result<OffsetsBuffer<i32>, Error> {
     offsets.freeze()
 }
 
-/// Texts of eight bytes.
+/// Strings of eight bytes.
 pub fn texts(alloc: Global, n: usize) -> Result<AnyArray, Error> {
     let mut bytes = Vec::new(alloc);
     for _ in 0..n {
@@ -106,7 +106,7 @@ fn keys(alloc: Global, n: usize) -> Result<AnyKeys, Error> {
     Ok(AnyKeys::Int32(array))
 }
 
-/// Texts by keys of 32 bits over a thousand of them.
+/// Strings by keys of 32 bits over a thousand of them.
 pub fn texts_by_keys(alloc: Global, n: usize) -> Result<AnyArray, Error> {
     let keys = keys(alloc, n)?;
     match texts(alloc, 1000) {
@@ -121,7 +121,7 @@ pub fn texts_by_keys(alloc: Global, n: usize) -> Result<AnyArray, Error> {
     }
 }
 
-/// n truths, every second true.
+/// n booleans, every second true.
 pub fn raw_mask(alloc: Global, n: usize) -> Result<Vec<bool>, Error> {
     let mut truths = Vec::with_capacity(alloc, n)?;
     for i in 0..n {

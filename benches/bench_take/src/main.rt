@@ -1,6 +1,6 @@
-//! What rows at places and rows by a mask cost, in nanoseconds a row taken: `bench_take run`. First stand plain loops
-//! over raw numbers and over the offsets and bytes of texts. Each is done once before it is measured, so that none pays for memory that the system gives for the first time.
-//! Without that word the same work is done on a few rows, and only what it gives is printed.
+//! Measures `take` and `filter`, beside plain loops over raw numbers and over offsets and bytes of strings: `bench_take run` prints
+//! nanoseconds per row. Each work is done once before it is measured, so that none pays for the first use of memory.
+//! Without `run` it does the same work on few rows and prints the results alone.
 #![tactic(auto)]
 
 ghost use Rattle.std.specs.Prelude.{IsTrue, length};
@@ -11,7 +11,7 @@ mod arrays;
 mod raw_texts;
 
 use anyhow::Result;
-use bench_tools::{begin, is_measured, tell};
+use bench_tools::{begin, is_measured, report};
 use nest_array::AnyArray;
 use nest_flat::boolean::BooleanArray;
 use nest_memory::error::Error;
@@ -37,7 +37,7 @@ struct Asked {
     mask: BooleanArray,
 }
 
-/// All places below n, each so far from the one before.
+/// All indices below n, each so far from the one before.
 fn places(alloc: Global, n: usize, stride: usize) -> Result<Vec<usize>, AllocError> {
     let mut places = Vec::with_capacity(alloc, n)?;
     for i in 0..n {
@@ -66,20 +66,20 @@ fn are_below(places: &[usize], n: usize) -> bool
     places.iter().all(|place| *place < n)
 }
 
-fn tell_rows<R: Clock + Print>(
+fn report_rows<R: Clock + Print>(
     rt: &R,
     work: &str,
     taken: &Result<AnyArray, Error>,
     begun: Option<Instant>,
 ) -> Result<()> {
     match taken {
-        Ok(rows) => tell(rt, work, rows.len(), begun, rows.len())?,
+        Ok(rows) => report(rt, work, rows.len(), begun, rows.len())?,
         Err(error) => return Err((*error).into()),
     }
     Ok(())
 }
 
-fn tell_taken<R: Clock + Print + AllocGlobal>(
+fn report_taken<R: Clock + Print + AllocGlobal>(
     rt: &R,
     work: &str,
     array: &AnyArray,
@@ -92,12 +92,12 @@ fn tell_taken<R: Clock + Print + AllocGlobal>(
     drop(take(rt.alloc(), array, places));
     let begun = begin(rt, measured)?;
     let taken = take(rt.alloc(), array, places);
-    let told = tell_rows(rt, work, &taken, begun);
+    let told = report_rows(rt, work, &taken, begun);
     drop(taken);
     told
 }
 
-fn tell_filtered<R: Clock + Print + AllocGlobal>(
+fn report_filtered<R: Clock + Print + AllocGlobal>(
     rt: &R,
     work: &str,
     array: &AnyArray,
@@ -110,12 +110,12 @@ fn tell_filtered<R: Clock + Print + AllocGlobal>(
     drop(filter(rt.alloc(), array, mask));
     let begun = begin(rt, measured)?;
     let taken = filter(rt.alloc(), array, mask);
-    let told = tell_rows(rt, work, &taken, begun);
+    let told = report_rows(rt, work, &taken, begun);
     drop(taken);
     told
 }
 
-fn tell_array<R: Clock + Print + AllocGlobal>(
+fn report_array<R: Clock + Print + AllocGlobal>(
     rt: &R,
     kind: &str,
     array: &AnyArray,
@@ -123,21 +123,21 @@ fn tell_array<R: Clock + Print + AllocGlobal>(
     measured: bool,
 ) -> Result<()> {
     println!(rt; "{kind}")?;
-    tell_taken(
+    report_taken(
         rt,
-        "  rows at scattered places",
+        "  rows at scattered indices",
         array,
         &asked.scattered,
         measured,
     )?;
-    tell_taken(
+    report_taken(
         rt,
-        "  rows at rising places",
+        "  rows at rising indices",
         array,
         &asked.rising,
         measured,
     )?;
-    tell_filtered(rt, "  rows by a mask", array, &asked.mask, measured)
+    report_filtered(rt, "  rows by a mask", array, &asked.mask, measured)
 }
 
 /// Takes and filters the rows of an array, if it was made.
@@ -150,7 +150,7 @@ fn run_array<R: Clock + Print + AllocGlobal>(
 ) -> Result<()> {
     match array {
         Ok(array) => {
-            let told = tell_array(rt, kind, &array, asked, measured);
+            let told = report_array(rt, kind, &array, asked, measured);
             drop(array);
             told
         }
@@ -158,7 +158,7 @@ fn run_array<R: Clock + Print + AllocGlobal>(
     }
 }
 
-/// The values at some places, by a plain loop.
+/// The values at some indices, by a plain loop.
 fn plain_take(alloc: Global, values: &[i64], places: &[usize]) -> Result<Vec<i64>, AllocError>
     requires { AreBelow places.now (length values.now) }
 {
@@ -169,7 +169,7 @@ fn plain_take(alloc: Global, values: &[i64], places: &[usize]) -> Result<Vec<i64
     Ok(taken)
 }
 
-/// The values where a truth is true, by a plain loop.
+/// The values where a boolean is true, by a plain loop.
 fn plain_filter(alloc: Global, values: &[i64], chosen: &[bool]) -> Result<Vec<i64>, AllocError> {
     let mut taken = Vec::new(alloc);
     for (value, is_chosen) in values.iter().zip(chosen) {
@@ -180,7 +180,7 @@ fn plain_filter(alloc: Global, values: &[i64], chosen: &[bool]) -> Result<Vec<i6
     Ok(taken)
 }
 
-fn tell_plain_filter<R: Clock + Print + AllocGlobal>(
+fn report_plain_filter<R: Clock + Print + AllocGlobal>(
     rt: &R,
     values: &[i64],
     chosen: &[bool],
@@ -189,11 +189,11 @@ fn tell_plain_filter<R: Clock + Print + AllocGlobal>(
     drop(plain_filter(rt.alloc(), values, chosen)?);
     let begun = begin(rt, measured)?;
     let taken = plain_filter(rt.alloc(), values, chosen)?;
-    tell(rt, "  rows by a mask", taken.len(), begun, taken.len())?;
+    report(rt, "  rows by a mask", taken.len(), begun, taken.len())?;
     Ok(())
 }
 
-fn tell_plain<R: Clock + Print + AllocGlobal>(
+fn report_plain<R: Clock + Print + AllocGlobal>(
     rt: &R,
     work: &str,
     values: &[i64],
@@ -206,7 +206,7 @@ fn tell_plain<R: Clock + Print + AllocGlobal>(
     drop(plain_take(rt.alloc(), values, places)?);
     let begun = begin(rt, measured)?;
     let taken = plain_take(rt.alloc(), values, places)?;
-    tell(rt, work, taken.len(), begun, taken.len())?;
+    report(rt, work, taken.len(), begun, taken.len())?;
     Ok(())
 }
 
@@ -216,28 +216,28 @@ fn run_plain<R: Clock + Print + AllocGlobal>(
     asked: &Asked,
     measured: bool,
 ) -> Result<()> {
-    // The first large block that is let go goes back to the system, those after it are kept.
+    // The first large block that is dropped goes back to the system, those after it are kept.
     drop(arrays::raw_numbers(rt.alloc(), n)?);
     let values = arrays::raw_numbers(rt.alloc(), n)?;
     println!(rt; "raw numbers, by a plain loop")?;
-    tell_plain(
+    report_plain(
         rt,
-        "  rows at scattered places",
+        "  rows at scattered indices",
         &values,
         &asked.scattered,
         measured,
     )?;
-    tell_plain(
+    report_plain(
         rt,
-        "  rows at rising places",
+        "  rows at rising indices",
         &values,
         &asked.rising,
         measured,
     )?;
-    tell_plain_filter(rt, &values, &asked.chosen, measured)
+    report_plain_filter(rt, &values, &asked.chosen, measured)
 }
 
-fn tell_plain_texts<R: Clock + Print + AllocGlobal>(
+fn report_plain_texts<R: Clock + Print + AllocGlobal>(
     rt: &R,
     work: &str,
     texts: &RawTexts,
@@ -247,11 +247,11 @@ fn tell_plain_texts<R: Clock + Print + AllocGlobal>(
     drop(raw_texts::plain_take(rt.alloc(), texts, places)?);
     let begun = begin(rt, measured)?;
     let taken = raw_texts::plain_take(rt.alloc(), texts, places)?;
-    tell(rt, work, taken.len(), begun, taken.len())?;
+    report(rt, work, taken.len(), begun, taken.len())?;
     Ok(())
 }
 
-fn tell_plain_texts_filter<R: Clock + Print + AllocGlobal>(
+fn report_plain_texts_filter<R: Clock + Print + AllocGlobal>(
     rt: &R,
     texts: &RawTexts,
     chosen: &[bool],
@@ -260,7 +260,7 @@ fn tell_plain_texts_filter<R: Clock + Print + AllocGlobal>(
     drop(raw_texts::plain_filter(rt.alloc(), texts, chosen)?);
     let begun = begin(rt, measured)?;
     let taken = raw_texts::plain_filter(rt.alloc(), texts, chosen)?;
-    tell(rt, "  rows by a mask", taken.len(), begun, taken.len())?;
+    report(rt, "  rows by a mask", taken.len(), begun, taken.len())?;
     Ok(())
 }
 
@@ -271,22 +271,22 @@ fn run_plain_texts<R: Clock + Print + AllocGlobal>(
     measured: bool,
 ) -> Result<()> {
     let texts = raw_texts::raw_texts(rt.alloc(), n)?;
-    println!(rt; "raw texts of 8 bytes, by a plain loop")?;
-    tell_plain_texts(
+    println!(rt; "raw strings of 8 bytes, by a plain loop")?;
+    report_plain_texts(
         rt,
-        "  rows at scattered places",
+        "  rows at scattered indices",
         &texts,
         &asked.scattered,
         measured,
     )?;
-    tell_plain_texts(
+    report_plain_texts(
         rt,
-        "  rows at rising places",
+        "  rows at rising indices",
         &texts,
         &asked.rising,
         measured,
     )?;
-    tell_plain_texts_filter(rt, &texts, &asked.chosen, measured)
+    report_plain_texts_filter(rt, &texts, &asked.chosen, measured)
 }
 
 fn run_kinds<R: Clock + Print + AllocGlobal>(
@@ -301,7 +301,7 @@ fn run_kinds<R: Clock + Print + AllocGlobal>(
     run_array(rt, "numbers", arrays::numbers(alloc, n), asked, measured)?;
     run_array(
         rt,
-        "texts of 8 bytes",
+        "strings of 8 bytes",
         arrays::texts(alloc, n),
         asked,
         measured,
@@ -315,14 +315,14 @@ fn run_kinds<R: Clock + Print + AllocGlobal>(
     )?;
     run_array(
         rt,
-        "records of a number and a text",
+        "records of a number and a string",
         arrays::records(alloc, n),
         asked,
         measured,
     )?;
     run_array(
         rt,
-        "texts by keys of 32 bits",
+        "strings by keys of 32 bits",
         arrays::texts_by_keys(alloc, n),
         asked,
         measured,

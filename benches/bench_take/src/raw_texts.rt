@@ -1,16 +1,16 @@
-//! Texts as offsets and bytes, and plain loops over them: what arrays of texts are measured beside.
+//! Strings as offsets and bytes, and plain loops over them: what arrays of strings are measured beside.
 use std::alloc::{AllocError, Global};
 
 const TEXT: [u8; 8] = *b"nineteen";
 
-/// Where texts begin and end, and their bytes.
+/// Where strings begin and end, and their bytes.
 #[derive(Drop)]
 pub struct RawTexts {
     offsets: Vec<u32>,
     bytes: Vec<u8>,
 }
 
-/// n texts of eight bytes.
+/// n strings of eight bytes.
 pub fn raw_texts(alloc: Global, n: usize) -> Result<RawTexts, AllocError> {
     let mut texts = RawTexts::with_capacity(alloc, n)?;
     for _ in 0..n {
@@ -19,7 +19,7 @@ pub fn raw_texts(alloc: Global, n: usize) -> Result<RawTexts, AllocError> {
     Ok(texts)
 }
 
-/// The texts at some places, by a plain loop.
+/// The strings at some indices, by a plain loop.
 pub fn plain_take(
     alloc: Global,
     texts: &RawTexts,
@@ -32,7 +32,7 @@ pub fn plain_take(
     Ok(taken)
 }
 
-/// The texts where a truth is true, by a plain loop.
+/// The strings where a boolean is true, by a plain loop.
 pub fn plain_filter(
     alloc: Global,
     texts: &RawTexts,
@@ -58,7 +58,7 @@ impl RawTexts {
         })
     }
 
-    /// How many texts there are.
+    /// How many strings there are.
     pub fn len(&self) -> usize {
         self.offsets.len().saturating_sub(1)
     }

@@ -1,4 +1,4 @@
-//! What programs that measure have in common: when a piece of work began, what it gave, and the time of each of its steps.
+//! What the benchmarks share: reading the argument, the clock, and printing a result with its time.
 #![tactic(auto)]
 
 use std::fmt::Display;
@@ -6,7 +6,7 @@ use std::rt::{Clock, Env};
 use std::time::Instant;
 use std::{env, io};
 
-/// Whether the program was called with the word `run`, so that its work is measured.
+/// Whether the last argument is `run`, so that the work is measured.
 pub fn is_measured(rt: &(impl Env + Alloc)) -> io::Result<bool> {
     let mut measured = false;
     for word in env::args(rt)?.skip(1) {
@@ -15,7 +15,7 @@ pub fn is_measured(rt: &(impl Env + Alloc)) -> io::Result<bool> {
     Ok(measured)
 }
 
-/// When a piece of work began, where it is measured.
+/// Returns the time at which a work begins, if it is measured.
 pub fn begin(rt: &impl Clock, measured: bool) -> io::Result<Option<Instant>> {
     if measured {
         return Ok(Some(Instant::now(rt)?));
@@ -23,7 +23,7 @@ pub fn begin(rt: &impl Clock, measured: bool) -> io::Result<Option<Instant>> {
     Ok(None)
 }
 
-/// Thousandths of a nanosecond that each of n steps took.
+/// Returns the time of each of n steps in thousandths of a nanosecond.
 fn thousandths(rt: &impl Clock, begun: Instant, n: usize) -> io::Result<u128> {
     let nanos = begun.elapsed(rt)?.as_nanos();
     Ok(nanos.saturating_mul(1000) / (n as u128).max(1))
@@ -40,8 +40,8 @@ fn print_measured<R: Print>(
     println!(rt; "{work}: {given}, {whole}.{rest:03} ns each")
 }
 
-/// Prints what a piece of work gave, and where it was measured the time of each of its n steps.
-pub fn tell<R: Clock + Print>(
+/// Prints the result of a work and, if it was measured, the time of each of its n steps.
+pub fn report<R: Clock + Print>(
     rt: &R,
     work: &str,
     given: impl Display + Drop,

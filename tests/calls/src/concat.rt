@@ -1,24 +1,10 @@
 //! Tests of `concatenate` over arrays of every kind, and of `interleave`, as a crate above `nest_concat` sees them.
-//!
-//! | What the row shows | Test |
-//! |---|---|
-//! | An array of each kind, cut at each place: the cuts one after the other are the array | `flat_cuts`, `cuts_of_lists`, `cuts_of_records`, `cuts_of_unions`, `cuts_of_nested_unions` |
-//! | Lists whose items don't begin at 0, an empty array, a null row; a validity of one of two arrays | `lists_one_after_another`, `a_validity_of_one` |
-//! | Dense unions: offsets that fall, only what is picked of a field is joined; an empty sparse union | `parts_of_fields`, `an_empty_union` |
-//! | No array, and one of another data type, unions of both modes | `no_array`, `other_types` |
-//! | Unions of dictionaries, and dictionaries of unions | `unions_and_dictionaries` |
-//! | Lists of twice 2^31 - 1 nulls; more nulls than a length can be; 2^31 picks of a field, and one more | `too_many`, `too_many_picks` |
-//! | Slots of several arrays, in any order, some twice, none of one; of unions and of no array | `slots_by_array_and_place`, `picks_by_array_and_place`, `of_no_array` |
-//! | Dictionaries: keys behind other values, and over equal ones as they are; of cuts, of an empty one too, the values whole | `dictionaries::other_values`, `dictionaries::equal_values`, `dictionaries::cuts_have_all_values`, `dictionaries::cuts_of_dictionaries` |
-//! | Lists of dictionaries, dictionaries of lists and of dictionaries; values of an extension beside plain ones | `dictionaries::nested`, `dictionaries::values_of_an_extension` |
-//! | Each width of keys; the last key of 8 bits and the first that isn't; nulls behind too many values; values that are too many | `dictionaries::each_width`, `dictionaries::the_last_keys`, `dictionaries::too_many_values` |
-//! | Any one request for memory refused: the call answers `Memory` | `refused_memory`, `refused_memory_of_places`, `dictionaries::refused_memory` |
 
 mod dictionaries;
 
 use crate::take::arrays::{
-    Made, are_same, bytes, cut, keyed, lists, maps, nulls, numbers, picks, records, refusal, sized,
-    sized_bytes, texts, truths, two, wide_bytes, wide_lists, wide_texts,
+    Made, are_same, booleans, bytes, cut, keyed, lists, maps, nulls, numbers, picks, records,
+    refusal, sized, sized_bytes, texts, two, wide_bytes, wide_lists, wide_strings,
 };
 use nest_array::AnyArray;
 use nest_concat::{concatenate, interleave};
@@ -37,8 +23,8 @@ pub fn joined(alloc: Global, first: Made, second: Made) -> Made {
     }
 }
 
-/// Whether an array of so many slots is its cuts, at each place.
-pub fn is_its_cuts<F: Fn() -> Made>(alloc: Global, len: usize, array: F) -> bool {
+/// Whether an array of so many slots is its slices, at each index.
+pub fn is_its_slices<F: Fn() -> Made>(alloc: Global, len: usize, array: F) -> bool {
     for k in 0..len + 1 {
         let found = joined(alloc, cut(array(), 0, k), cut(array(), k, len - k));
         if !are_same(found, array()) {
@@ -50,26 +36,37 @@ pub fn is_its_cuts<F: Fn() -> Made>(alloc: Global, len: usize, array: F) -> bool
 
 const BITS: Option<&[bool]> = Some(&[true, false, true, true]);
 
+/// An array of each kind, cut at each index: the slices one after the other are the array.
 #[test]
-fn flat_cuts(rt: HostRuntime) {
+fn flat_slices(rt: HostRuntime) {
     let alloc = rt.alloc();
     let words = [Some("a"), None, Some(""), Some("bcd")];
     let strings: [Option<&[u8]>; 4] = [Some(b"a"), None, Some(b""), Some(b"bcd")];
-    assert!(rt; is_its_cuts(alloc, 4, || nulls(4)));
-    assert!(rt; is_its_cuts(alloc, 4, || truths(alloc, &[true, false, false, true], BITS)));
-    assert!(rt; is_its_cuts(alloc, 4, || truths(alloc, &[true, false, false, true], None)));
-    assert!(rt; is_its_cuts(alloc, 4, || numbers(alloc, &[1, 2, 3, 4], BITS)));
-    assert!(rt; is_its_cuts(alloc, 4, || texts(alloc, &words)));
-    assert!(rt; is_its_cuts(alloc, 4, || wide_texts(alloc, &words)));
-    assert!(rt; is_its_cuts(alloc, 4, || bytes(alloc, &strings)));
-    assert!(rt; is_its_cuts(alloc, 4, || wide_bytes(alloc, &strings)));
-    assert!(rt; is_its_cuts(alloc, 4, || sized_bytes(alloc, 2, b"abcdefgh", BITS)));
+    assert!(rt; is_its_slices(alloc, 4, || nulls(4)));
+    assert!(rt;
+        is_its_slices(
+            alloc,
+            4,
+            || booleans(alloc, &[true, false, false, true], BITS)
+        )
+    );
+    assert!(rt;
+        is_its_slices(
+            alloc,
+            4,
+            || booleans(alloc, &[true, false, false, true], None)
+        )
+    );
+    assert!(rt; is_its_slices(alloc, 4, || numbers(alloc, &[1, 2, 3, 4], BITS)));
+    assert!(rt; is_its_slices(alloc, 4, || texts(alloc, &words)));
+    assert!(rt; is_its_slices(alloc, 4, || wide_strings(alloc, &words)));
+    assert!(rt; is_its_slices(alloc, 4, || bytes(alloc, &strings)));
+    assert!(rt; is_its_slices(alloc, 4, || wide_bytes(alloc, &strings)));
+    assert!(rt; is_its_slices(alloc, 4, || sized_bytes(alloc, 2, b"abcdefgh", BITS)));
 }
 
 fn ten(alloc: Global) -> Made {
-    let bits = [
-        true, true, false, true, true, true, false, true, true, true,
-    ];
+    let bits = [true, true, false, true, true, true, false, true, true, true];
     numbers(alloc, &[1, 2, 3, 4, 5, 6, 7, 8, 9, 10], Some(&bits))
 }
 
@@ -78,12 +75,30 @@ fn pairs(alloc: Global) -> Made {
 }
 
 #[test]
-fn cuts_of_lists(rt: HostRuntime) {
+fn slices_of_lists(rt: HostRuntime) {
     let alloc = rt.alloc();
-    assert!(rt; is_its_cuts(alloc, 4, || lists(alloc, ten(alloc), &[1, 3, 5, 5, 9], BITS)));
-    assert!(rt; is_its_cuts(alloc, 4, || wide_lists(alloc, ten(alloc), &[0, 3, 4, 4, 10], BITS)));
-    assert!(rt; is_its_cuts(alloc, 4, || maps(alloc, pairs(alloc), &[0, 3, 4, 4, 10], BITS)));
-    assert!(rt; is_its_cuts(alloc, 5, || sized(alloc, ten(alloc), 2, None)));
+    assert!(rt;
+        is_its_slices(
+            alloc,
+            4,
+            || lists(alloc, ten(alloc), &[1, 3, 5, 5, 9], BITS)
+        )
+    );
+    assert!(rt;
+        is_its_slices(
+            alloc,
+            4,
+            || wide_lists(alloc, ten(alloc), &[0, 3, 4, 4, 10], BITS)
+        )
+    );
+    assert!(rt;
+        is_its_slices(
+            alloc,
+            4,
+            || maps(alloc, pairs(alloc), &[0, 3, 4, 4, 10], BITS)
+        )
+    );
+    assert!(rt; is_its_slices(alloc, 5, || sized(alloc, ten(alloc), 2, None)));
     let deep = || {
         lists(
             alloc,
@@ -92,11 +107,11 @@ fn cuts_of_lists(rt: HostRuntime) {
             BITS,
         )
     };
-    assert!(rt; is_its_cuts(alloc, 4, deep));
+    assert!(rt; is_its_slices(alloc, 4, deep));
 }
 
 #[test]
-fn cuts_of_records(rt: HostRuntime) {
+fn slices_of_records(rt: HostRuntime) {
     let alloc = rt.alloc();
     let words = [Some("a"), None, Some(""), Some("bcd")];
     let rows = || {
@@ -107,32 +122,78 @@ fn cuts_of_records(rt: HostRuntime) {
             BITS,
         )
     };
-    assert!(rt; is_its_cuts(alloc, 4, rows));
+    assert!(rt; is_its_slices(alloc, 4, rows));
 }
 
 #[test]
-fn cuts_of_unions(rt: HostRuntime) {
+fn slices_of_unions(rt: HostRuntime) {
     let alloc = rt.alloc();
     let words = [Some("a"), None, Some(""), Some("bcd")];
-    assert!(rt; is_its_cuts(alloc, 4, || picks(alloc, &[0, 1, 1, 0], None, ten(alloc), texts(alloc, &words))));
+    assert!(rt;
+        is_its_slices(
+            alloc,
+            4,
+            || picks(alloc, &[0, 1, 1, 0], None, ten(alloc), texts(alloc, &words))
+        )
+    );
     let offsets: Option<&[i32]> = Some(&[7, 0, 2, 1]);
-    assert!(rt; is_its_cuts(alloc, 4, || picks(alloc, &[0, 1, 1, 0], offsets, ten(alloc), texts(alloc, &words))));
-    let late = || cut(picks(alloc, &[1, 0, 1, 1, 0, 0, 1], None, ten(alloc), ten(alloc)), 2, 4);
-    assert!(rt; is_its_cuts(alloc, 4, late));
+    assert!(rt;
+        is_its_slices(
+            alloc,
+            4,
+            || picks(
+                alloc,
+                &[0, 1, 1, 0],
+                offsets,
+                ten(alloc),
+                texts(alloc, &words)
+            )
+        )
+    );
+    let late = || cut(
+        picks(alloc, &[1, 0, 1, 1, 0, 0, 1], None, ten(alloc), ten(alloc)),
+        2,
+        4,
+    );
+    assert!(rt; is_its_slices(alloc, 4, late));
 }
 
 #[test]
-fn cuts_of_nested_unions(rt: HostRuntime) {
+fn slices_of_nested_unions(rt: HostRuntime) {
     let alloc = rt.alloc();
-    let sparse = || picks(alloc, &[0, 1, 1, 0, 1, 0, 0, 1, 1, 0], None, ten(alloc), ten(alloc));
+    let sparse = || picks(
+        alloc,
+        &[0, 1, 1, 0, 1, 0, 0, 1, 1, 0],
+        None,
+        ten(alloc),
+        ten(alloc),
+    );
     let offsets: Option<&[i32]> = Some(&[0, 1, 2, 3, 4, 5, 6, 7, 8, 9]);
-    let dense = || picks(alloc, &[0, 1, 1, 0, 1, 0, 0, 1, 1, 0], offsets, sparse(), ten(alloc));
-    assert!(rt; is_its_cuts(alloc, 4, || lists(alloc, dense(), &[1, 3, 5, 5, 9], BITS)));
-    assert!(rt; is_its_cuts(alloc, 5, || sized(alloc, sparse(), 2, None)));
-    assert!(rt; is_its_cuts(alloc, 10, || records(alloc, sparse(), dense(), None)));
+    let dense = || picks(
+        alloc,
+        &[0, 1, 1, 0, 1, 0, 0, 1, 1, 0],
+        offsets,
+        sparse(),
+        ten(alloc),
+    );
+    assert!(rt; is_its_slices(alloc, 4, || lists(alloc, dense(), &[1, 3, 5, 5, 9], BITS)));
+    assert!(rt; is_its_slices(alloc, 5, || sized(alloc, sparse(), 2, None)));
+    assert!(rt; is_its_slices(alloc, 10, || records(alloc, sparse(), dense(), None)));
     let rows = || lists(alloc, ten(alloc), &[1, 3, 5, 5, 9], BITS);
-    assert!(rt; is_its_cuts(alloc, 4, || picks(alloc, &[1, 0, 1, 0], None, rows(), dense())));
-    assert!(rt; is_its_cuts(alloc, 3, || picks(alloc, &[1, 0, 1], Some(&[9, 3, 0]), rows(), dense())));
+    assert!(rt;
+        is_its_slices(
+            alloc,
+            4,
+            || picks(alloc, &[1, 0, 1, 0], None, rows(), dense())
+        )
+    );
+    assert!(rt;
+        is_its_slices(
+            alloc,
+            3,
+            || picks(alloc, &[1, 0, 1], Some(&[9, 3, 0]), rows(), dense())
+        )
+    );
 }
 
 /// Whether it is a dense union with these offsets.
@@ -146,11 +207,24 @@ fn has_offsets(array: &Made, expected: &[i32]) -> bool {
     }
 }
 
+/// Dense unions: offsets that fall, only what is picked of a field is joined; an empty sparse union.
 #[test]
 fn parts_of_fields(rt: HostRuntime) {
     let alloc = rt.alloc();
-    let first = picks(alloc, &[0, 1, 0], Some(&[5, 1, 3]), ten(alloc), numbers(alloc, &[11, 12, 13], None));
-    let second = picks(alloc, &[1, 1], Some(&[2, 0]), ten(alloc), numbers(alloc, &[21, 22, 23], None));
+    let first = picks(
+        alloc,
+        &[0, 1, 0],
+        Some(&[5, 1, 3]),
+        ten(alloc),
+        numbers(alloc, &[11, 12, 13], None),
+    );
+    let second = picks(
+        alloc,
+        &[1, 1],
+        Some(&[2, 0]),
+        ten(alloc),
+        numbers(alloc, &[21, 22, 23], None),
+    );
     let found = joined(alloc, first, second);
     let expected = || {
         picks(
@@ -175,6 +249,7 @@ fn an_empty_union(rt: HostRuntime) {
     assert!(rt; are_same(joined(alloc, none(), none()), none()));
 }
 
+/// Lists whose items don't begin at 0, an empty array, a null row; a validity of one of two arrays.
 #[test]
 fn lists_one_after_another(rt: HostRuntime) {
     let alloc = rt.alloc();
@@ -208,6 +283,7 @@ fn a_validity_of_one(rt: HostRuntime) {
 
 const TYPES: Option<Error> = Some(Error::InvalidArgumentError(Argument::ItemType));
 
+/// No array, and one of another data type, unions of both modes.
 #[test]
 fn no_array(rt: HostRuntime) {
     assert!(rt; refusal(concatenate(rt.alloc(), &[])) == TYPES);
@@ -216,27 +292,35 @@ fn no_array(rt: HostRuntime) {
 #[test]
 fn other_types(rt: HostRuntime) {
     let alloc = rt.alloc();
-    let found = joined(alloc, ten(alloc), truths(alloc, &[true], None));
+    let found = joined(alloc, ten(alloc), booleans(alloc, &[true], None));
     assert!(rt; refusal(found) == TYPES);
-    let found = joined(alloc, texts(alloc, &[]), wide_texts(alloc, &[]));
+    let found = joined(alloc, texts(alloc, &[]), wide_strings(alloc, &[]));
     assert!(rt; refusal(found) == TYPES);
     let sparse = picks(alloc, &[0], None, ten(alloc), ten(alloc));
     let dense = picks(alloc, &[0], Some(&[0]), ten(alloc), ten(alloc));
     assert!(rt; refusal(joined(alloc, sparse, dense)) == TYPES);
 }
 
+/// Unions of dictionaries, and dictionaries of unions.
 #[test]
 fn unions_and_dictionaries(rt: HostRuntime) {
     let alloc = rt.alloc();
-    let picked = || picks(alloc, &[0, 1], None, keyed(alloc, &[3, 0], None, ten(alloc)), ten(alloc));
-    assert!(rt; is_its_cuts(alloc, 2, picked));
+    let picked = || picks(
+        alloc,
+        &[0, 1],
+        None,
+        keyed(alloc, &[3, 0], None, ten(alloc)),
+        ten(alloc),
+    );
+    assert!(rt; is_its_slices(alloc, 2, picked));
     let both = || picks(alloc, &[0, 1], None, ten(alloc), ten(alloc));
     let found = |values: Made| keyed(alloc, &[1, 0], None, values);
-    assert!(rt; is_its_cuts(alloc, 2, || found(both())));
+    assert!(rt; is_its_slices(alloc, 2, || found(both())));
     let other = picks(alloc, &[1, 0], None, ten(alloc), ten(alloc));
     assert!(rt; refusal(joined(alloc, found(both()), found(other))).is_none());
 }
 
+/// Lists of twice 2^31 - 1 nulls; more nulls than a length can be; 2^31 picks of a field, and one more.
 #[test]
 fn too_many(rt: HostRuntime) {
     let alloc = rt.alloc();
@@ -244,25 +328,42 @@ fn too_many(rt: HostRuntime) {
     assert!(rt; refusal(joined(alloc, longest(), longest())) == Some(Error::Overflow));
     let found = joined(alloc, nulls(usize::MAX), nulls(1));
     assert!(rt; refusal(found) == Some(Error::Overflow));
-    assert!(rt; are_same(joined(alloc, nulls(usize::MAX - 1), nulls(1)), nulls(usize::MAX)));
+    assert!(rt;
+        are_same(
+            joined(alloc, nulls(usize::MAX - 1), nulls(1)),
+            nulls(usize::MAX)
+        )
+    );
 }
 
 #[test]
-fn too_many_picks(rt: HostRuntime) {
+fn too_many_unions(rt: HostRuntime) {
     let alloc = rt.alloc();
-    let widest = || picks(alloc, &[0, 0], Some(&[0, 2147483647]), nulls(2147483648), nulls(1));
+    let widest = || picks(
+        alloc,
+        &[0, 0],
+        Some(&[0, 2147483647]),
+        nulls(2147483648),
+        nulls(1),
+    );
     let one = |field: i8| picks(alloc, &[field], Some(&[0]), nulls(1), nulls(1));
-    let expected = picks(alloc, &[0, 0, 1], Some(&[0, 2147483647, 0]), nulls(2147483648), nulls(1));
+    let expected = picks(
+        alloc,
+        &[0, 0, 1],
+        Some(&[0, 2147483647, 0]),
+        nulls(2147483648),
+        nulls(1),
+    );
     assert!(rt; are_same(joined(alloc, widest(), one(1)), expected));
     assert!(rt; refusal(joined(alloc, widest(), one(0))) == Some(Error::Overflow));
     assert!(rt; refusal(joined(alloc, one(0), widest())) == Some(Error::Overflow));
 }
 
-/// Slots of both, each by its array, 0 or 1, and its place there.
-fn interleaved(alloc: Global, first: Made, second: Made, places: &[(usize, usize)]) -> Made {
+/// Slots of both, each by its array, 0 or 1, and its index there.
+fn interleaved(alloc: Global, first: Made, second: Made, indices: &[(usize, usize)]) -> Made {
     match two(alloc, first, second) {
         Ok(arrays) => {
-            let found = interleave(alloc, arrays.as_slice(), places);
+            let found = interleave(alloc, arrays.as_slice(), indices);
             drop(arrays);
             found
         }
@@ -270,31 +371,62 @@ fn interleaved(alloc: Global, first: Made, second: Made, places: &[(usize, usize
     }
 }
 
+/// Slots of several arrays, in any order, some twice, none of one; of unions and of no array.
 #[test]
-fn slots_by_array_and_place(rt: HostRuntime) {
+fn slots_by_array_and_index(rt: HostRuntime) {
     let alloc = rt.alloc();
     let bits: Option<&[bool]> = Some(&[false, true]);
     let numbered = || numbers(alloc, &[7, 8], bits);
-    let places = [(1, 2), (0, 1), (1, 0), (0, 0), (1, 2)];
-    let found = interleaved(alloc, numbered(), numbers(alloc, &[1, 2, 3], None), &places);
-    let expected = numbers(alloc, &[3, 8, 1, 0, 3], Some(&[true, true, true, false, true]));
+    let indices = [(1, 2), (0, 1), (1, 0), (0, 0), (1, 2)];
+    let found = interleaved(
+        alloc,
+        numbered(),
+        numbers(alloc, &[1, 2, 3], None),
+        &indices,
+    );
+    let expected = numbers(
+        alloc,
+        &[3, 8, 1, 0, 3],
+        Some(&[true, true, true, false, true]),
+    );
     assert!(rt; are_same(found, expected));
     let found = interleaved(alloc, numbered(), numbers(alloc, &[], None), &[(0, 1)]);
     assert!(rt; are_same(found, numbers(alloc, &[8], None)));
     let found = interleaved(alloc, numbered(), numbered(), &[]);
     assert!(rt; are_same(found, numbers(alloc, &[], None)));
     let rows = || lists(alloc, ten(alloc), &[1, 3, 5, 5, 9], BITS);
-    let found = interleaved(alloc, rows(), cut(rows(), 2, 2), &[(1, 0), (0, 0), (1, 1), (0, 1)]);
+    let found = interleaved(
+        alloc,
+        rows(),
+        cut(rows(), 2, 2),
+        &[(1, 0), (0, 0), (1, 1), (0, 1)],
+    );
     let bits: Option<&[bool]> = Some(&[true, true, true, false]);
-    let items = numbers(alloc, &[2, 3, 6, 7, 8, 9], Some(&[true, false, true, false, true, true]));
+    let items = numbers(
+        alloc,
+        &[2, 3, 6, 7, 8, 9],
+        Some(&[true, false, true, false, true, true]),
+    );
     assert!(rt; are_same(found, lists(alloc, items, &[0, 0, 2, 6, 6], bits)));
 }
 
 #[test]
-fn picks_by_array_and_place(rt: HostRuntime) {
+fn unions_by_array_and_index(rt: HostRuntime) {
     let alloc = rt.alloc();
-    let first = picks(alloc, &[0, 1, 0], Some(&[5, 1, 3]), ten(alloc), numbers(alloc, &[11, 12, 13], None));
-    let second = picks(alloc, &[1, 1], Some(&[2, 0]), ten(alloc), numbers(alloc, &[21, 22, 23], None));
+    let first = picks(
+        alloc,
+        &[0, 1, 0],
+        Some(&[5, 1, 3]),
+        ten(alloc),
+        numbers(alloc, &[11, 12, 13], None),
+    );
+    let second = picks(
+        alloc,
+        &[1, 1],
+        Some(&[2, 0]),
+        ten(alloc),
+        numbers(alloc, &[21, 22, 23], None),
+    );
     let found = interleaved(alloc, first, second, &[(1, 1), (0, 2), (1, 0), (0, 1)]);
     let expected = picks(
         alloc,
@@ -310,17 +442,28 @@ fn picks_by_array_and_place(rt: HostRuntime) {
 fn of_no_array(rt: HostRuntime) {
     let alloc = rt.alloc();
     assert!(rt; refusal(interleave(alloc, &[], &[])) == TYPES);
-    let found = interleaved(alloc, ten(alloc), truths(alloc, &[true], None), &[(1, 0)]);
+    let found = interleaved(alloc, ten(alloc), booleans(alloc, &[true], None), &[(1, 0)]);
     assert!(rt; refusal(found) == TYPES);
 }
 
-// Passes whichever request for memory is refused.
+// Passes whichever allocation fails.
 #[test]
-fn refused_memory_of_places(rt: HostRuntime) {
+fn indices_without_memory(rt: HostRuntime) {
     let alloc = rt.alloc();
-    let row = || picks(alloc, &[0, 1, 0], Some(&[5, 1, 3]), ten(alloc), numbers(alloc, &[11, 12, 13], None));
+    let row = || picks(
+        alloc,
+        &[0, 1, 0],
+        Some(&[5, 1, 3]),
+        ten(alloc),
+        numbers(alloc, &[11, 12, 13], None),
+    );
     match row() {
-        Ok(expected) => match interleaved(alloc, cut(row(), 1, 2), cut(row(), 0, 1), &[(1, 0), (0, 0), (0, 1)]) {
+        Ok(expected) => match interleaved(
+            alloc,
+            cut(row(), 1, 2),
+            cut(row(), 0, 1),
+            &[(1, 0), (0, 0), (0, 1)],
+        ) {
             Ok(found) => {
                 let same = found == expected;
                 drop(found);
@@ -336,11 +479,16 @@ fn refused_memory_of_places(rt: HostRuntime) {
     }
 }
 
-// Passes whichever request for memory is refused.
+// Passes whichever allocation fails.
 #[test]
-fn refused_memory(rt: HostRuntime) {
+fn without_memory(rt: HostRuntime) {
     let alloc = rt.alloc();
-    let row = || records(alloc, ten(alloc), lists(alloc, ten(alloc), &[0, 1, 1, 2, 2, 4, 5, 6, 7, 8, 10], None), None);
+    let row = || records(
+        alloc,
+        ten(alloc),
+        lists(alloc, ten(alloc), &[0, 1, 1, 2, 2, 4, 5, 6, 7, 8, 10], None),
+        None,
+    );
     match row() {
         Ok(expected) => match joined(alloc, cut(row(), 0, 3), cut(row(), 3, 7)) {
             Ok(found) => {

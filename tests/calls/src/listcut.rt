@@ -1,16 +1,16 @@
 //! Runs over readers and writers in memory.
 mod devices;
 
-use listcut_rows::fault::Fault;
-use listcut_rows::reading::read_rows;
-use listcut_rows::running::run;
-use listcut_rows::writing::write_rows;
+use listcut_rows::command::run;
+use listcut_rows::error::ListcutError;
+use listcut_rows::input::read_rows;
+use listcut_rows::output::write_rows;
 use std::alloc::{AllocError, Global};
 use std::test::*;
 
 const ROWS: &str = "[1,2]\nnull\n[]\n[3,null]\n";
 
-fn words_of(alloc: Global, words: &[&str]) -> Result<Vec<String>, AllocError> {
+fn arguments_of(alloc: Global, words: &[&str]) -> Result<Vec<String>, AllocError> {
     let mut all = Vec::new(alloc);
     for word in words {
         all.push(String::from_str(alloc, word)?)?;
@@ -19,8 +19,8 @@ fn words_of(alloc: Global, words: &[&str]) -> Result<Vec<String>, AllocError> {
 }
 
 /// What a run with these words writes for this input.
-fn cut(alloc: Global, words: &[&str], input: &str) -> Result<Vec<u8>, Fault> {
-    let words = words_of(alloc, words)?;
+fn cut(alloc: Global, words: &[&str], input: &str) -> Result<Vec<u8>, ListcutError> {
+    let words = arguments_of(alloc, words)?;
     let mut reader = input.as_bytes();
     let mut out = Vec::new(alloc);
     run(alloc, &words, &mut reader, &mut out)?;
@@ -28,7 +28,7 @@ fn cut(alloc: Global, words: &[&str], input: &str) -> Result<Vec<u8>, Fault> {
 }
 
 #[test]
-fn cuts_rows(rt: HostRuntime) -> Result<(), Fail> {
+fn slices_rows(rt: HostRuntime) -> Result<(), Fail> {
     for (offset, len, input, want) in [
         ("1", "2", ROWS, "null\n[]\n"),
         ("0", "4", ROWS, ROWS),
@@ -55,7 +55,7 @@ fn cuts_rows(rt: HostRuntime) -> Result<(), Fail> {
 }
 
 #[test]
-fn takes_rows(rt: HostRuntime) -> Result<(), Fail> {
+fn accepts_rows(rt: HostRuntime) -> Result<(), Fail> {
     for (words, input, want) in [
         (["take", "3", "0"].as_slice(), ROWS, "[3,null]\n[1,2]\n"),
         (["take"].as_slice(), ROWS, ""),
@@ -78,24 +78,24 @@ fn takes_rows(rt: HostRuntime) -> Result<(), Fail> {
 }
 
 #[test]
-fn refuses_places(rt: HostRuntime) {
+fn rejects_indices(rt: HostRuntime) {
     for (words, want) in [
-        (["take", "4"], Fault::Range),
-        (["take", "18446744073709551615"], Fault::Range),
-        (["take", "x"], Fault::Arguments),
-        (["take", "01"], Fault::Arguments),
-        (["take", "18446744073709551616"], Fault::Arguments),
-        (["taken", "1"], Fault::Arguments),
-        (["1", "take"], Fault::Arguments),
+        (["take", "4"], ListcutError::Range),
+        (["take", "18446744073709551615"], ListcutError::Range),
+        (["take", "x"], ListcutError::Arguments),
+        (["take", "01"], ListcutError::Arguments),
+        (["take", "18446744073709551616"], ListcutError::Arguments),
+        (["taken", "1"], ListcutError::Arguments),
+        (["1", "take"], ListcutError::Arguments),
     ] {
         assert!(rt; cut(rt.alloc(), &words, ROWS).err() == Some(want));
     }
-    let fault = cut(rt.alloc(), &["take", "9"], "[1,2]\n[3").err();
-    assert!(rt; fault == Some(Fault::Line(2)));
+    let error = cut(rt.alloc(), &["take", "9"], "[1,2]\n[3").err();
+    assert!(rt; error == Some(ListcutError::Line(2)));
 }
 
 #[test]
-fn refuses_arguments(rt: HostRuntime) {
+fn rejects_arguments(rt: HostRuntime) {
     for words in [
         ["", "1"],
         ["00", "1"],
@@ -104,29 +104,29 @@ fn refuses_arguments(rt: HostRuntime) {
         ["1 ", "1"],
         ["1", "18446744073709551616"],
     ] {
-        assert!(rt; cut(rt.alloc(), &words, ROWS).err() == Some(Fault::Arguments));
+        assert!(rt; cut(rt.alloc(), &words, ROWS).err() == Some(ListcutError::Arguments));
     }
-    assert!(rt; cut(rt.alloc(), &["1"], ROWS).err() == Some(Fault::Arguments));
-    assert!(rt; cut(rt.alloc(), &["1", "1", "1"], ROWS).err() == Some(Fault::Arguments));
+    assert!(rt; cut(rt.alloc(), &["1"], ROWS).err() == Some(ListcutError::Arguments));
+    assert!(rt; cut(rt.alloc(), &["1", "1", "1"], ROWS).err() == Some(ListcutError::Arguments));
 }
 
 #[test]
-fn refuses_lines_and_ranges(rt: HostRuntime) {
+fn rejects_lines_and_ranges(rt: HostRuntime) {
     for (len, input, want) in [
-        ("1", "[1, 2]", Fault::Line(1)),
-        ("1", "[9223372036854775808]", Fault::Line(1)),
-        ("1", "[-0]", Fault::Line(1)),
-        ("1", "[01]", Fault::Line(1)),
-        ("1", "[1,]", Fault::Line(1)),
-        ("9", "[1,2]\n[3", Fault::Line(2)),
-        ("1", "null\n\n", Fault::Line(2)),
-        ("5", ROWS, Fault::Range),
-        ("18446744073709551615", ROWS, Fault::Range),
+        ("1", "[1, 2]", ListcutError::Line(1)),
+        ("1", "[9223372036854775808]", ListcutError::Line(1)),
+        ("1", "[-0]", ListcutError::Line(1)),
+        ("1", "[01]", ListcutError::Line(1)),
+        ("1", "[1,]", ListcutError::Line(1)),
+        ("9", "[1,2]\n[3", ListcutError::Line(2)),
+        ("1", "null\n\n", ListcutError::Line(2)),
+        ("5", ROWS, ListcutError::Range),
+        ("18446744073709551615", ROWS, ListcutError::Range),
     ] {
-        let fault = cut(rt.alloc(), &["0", len], input).err();
-        assert!(rt; fault == Some(want), "{input}");
+        let error = cut(rt.alloc(), &["0", len], input).err();
+        assert!(rt; error == Some(want), "{input}");
     }
-    assert!(rt; cut(rt.alloc(), &["3", "2"], ROWS).err() == Some(Fault::Range));
+    assert!(rt; cut(rt.alloc(), &["3", "2"], ROWS).err() == Some(ListcutError::Range));
 }
 
 #[test]
@@ -142,17 +142,17 @@ fn rows_are_arrays(rt: HostRuntime) -> Result<(), Fail> {
 }
 
 #[test]
-fn faults_are_printed(rt: HostRuntime) -> Result<(), Fail> {
-    for (fault, want) in [
-        (Fault::Arguments, "listcut: arguments"),
-        (Fault::Input, "listcut: input"),
-        (Fault::Line(7), "listcut: line 7"),
-        (Fault::Range, "listcut: range"),
-        (Fault::Size, "listcut: size"),
-        (Fault::Output, "listcut: output"),
-        (Fault::Memory, "listcut: memory"),
+fn errors_are_printed(rt: HostRuntime) -> Result<(), Fail> {
+    for (error, want) in [
+        (ListcutError::Arguments, "listcut: arguments"),
+        (ListcutError::Input, "listcut: input"),
+        (ListcutError::Line(7), "listcut: line 7"),
+        (ListcutError::Range, "listcut: range"),
+        (ListcutError::Size, "listcut: size"),
+        (ListcutError::Output, "listcut: output"),
+        (ListcutError::Memory, "listcut: memory"),
     ] {
-        let text = format!(in rt.alloc(); "{fault}")?;
+        let text = format!(in rt.alloc(); "{error}")?;
         assert!(rt; text.as_str() == want);
     }
     Ok(())

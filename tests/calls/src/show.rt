@@ -1,4 +1,4 @@
-//! What worked arrays and data types print.
+//! What examples arrays and data types print.
 
 mod making;
 mod parsed;

@@ -1,9 +1,14 @@
-//! Columns that are written, byte by byte, and read back.
-use ipc_arrays::{Left, Placed, Stored, are_keyless, place_columns, put_columns, read_columns};
-use ipc_flatbuf::NoForm;
+//! Columns that are written, byte by byte, and round-trip.
+//!
+//! Columns that are written, byte by byte, of windows too, and round-trip; of dictionaries the keys.
+use ipc_arrays::{
+    BatchCursor, BodyLayout, FixedWidth, have_no_dictionaries, layout_columns, read_columns,
+    write_columns,
+};
+use ipc_flatbuf::IpcWriteError;
 use nest_array::any::AnyArray;
-use nest_array::dictionary::keys::AnyKeys;
 use nest_array::dictionary::DictionaryArray;
+use nest_array::dictionary::keys::AnyKeys;
 use nest_flat::any_primitive::AnyPrimitive;
 use nest_flat::primitive::PrimitiveArray;
 use nest_memory::bitmap::immutable::Bitmap;
@@ -29,19 +34,15 @@ fn array<T: NativeType>(
     PrimitiveArray::try_new(data_type, values, Some(validity))
 }
 
-fn bytes_of(alloc: Global, columns: &[AnyArray]) -> Result<(Placed, Vec<u8>), NoForm> {
-    let placed = place_columns(alloc, columns)?;
+fn bytes_of(alloc: Global, columns: &[AnyArray]) -> Result<(BodyLayout, Vec<u8>), IpcWriteError> {
+    let placed = layout_columns(alloc, columns)?;
     let mut out = Vec::new(alloc);
-    put_columns(&mut out, columns)?;
+    write_columns(&mut out, columns)?;
     Ok((placed, out))
 }
 
 // The columns that are read of what was written of these.
-fn again(
-    alloc: Global,
-    rows: usize,
-    columns: &[AnyArray],
-) -> Result<Option<Vec<AnyArray>>, Error> {
+fn again(alloc: Global, rows: usize, columns: &[AnyArray]) -> Result<Option<Vec<AnyArray>>, Error> {
     let Ok((placed, body)) = bytes_of(alloc, columns) else {
         return Ok(None);
     };
@@ -55,9 +56,9 @@ fn again(
             values.push(Some(array.values()))?;
         }
     }
-    let left = Left {
+    let left = BatchCursor {
         nodes: &placed.nodes,
-        regions: &placed.regions,
+        buffers: &placed.buffers,
         dictionaries: &values,
     };
     Ok(read_columns(alloc, &types, rows, &body, left).ok())
@@ -73,10 +74,10 @@ fn seven_and_null(rt: HostRuntime) {
     assert!(rt; placed.length == 16);
     assert!(rt; placed.nodes[0].length == 2);
     assert!(rt; placed.nodes[0].null_count == 1);
-    assert!(rt; placed.regions[0].offset == 0);
-    assert!(rt; placed.regions[0].length == 1);
-    assert!(rt; placed.regions[1].offset == 8);
-    assert!(rt; placed.regions[1].length == 8);
+    assert!(rt; placed.buffers[0].offset == 0);
+    assert!(rt; placed.buffers[0].length == 1);
+    assert!(rt; placed.buffers[1].offset == 8);
+    assert!(rt; placed.buffers[1].length == 8);
 }
 
 #[test]
@@ -108,13 +109,13 @@ fn two_columns(rt: HostRuntime) {
     assert!(rt; body.as_slice() == want.as_slice());
     assert!(rt; placed.length == 24);
     assert!(rt; placed.nodes[1].null_count == 2);
-    assert!(rt; placed.regions[0].length == 0);
-    assert!(rt; placed.regions[1].offset == 0);
-    assert!(rt; placed.regions[1].length == 6);
-    assert!(rt; placed.regions[2].offset == 8);
-    assert!(rt; placed.regions[2].length == 1);
-    assert!(rt; placed.regions[3].offset == 16);
-    assert!(rt; placed.regions[3].length == 3);
+    assert!(rt; placed.buffers[0].length == 0);
+    assert!(rt; placed.buffers[1].offset == 0);
+    assert!(rt; placed.buffers[1].length == 6);
+    assert!(rt; placed.buffers[2].offset == 8);
+    assert!(rt; placed.buffers[2].length == 1);
+    assert!(rt; placed.buffers[3].offset == 16);
+    assert!(rt; placed.buffers[3].length == 3);
 }
 
 #[test]
@@ -131,7 +132,7 @@ fn bits_of_a_window_begin_at_bit_0(rt: HostRuntime) {
         assert!(rt; body[0] == bits);
         assert!(rt; body[1] == 0);
         assert!(rt; body[8] == numbers[start]);
-        assert!(rt; placed.regions[0].length == (if count > 8 { 2 } else { 1 }));
+        assert!(rt; placed.buffers[0].length == (if count > 8 { 2 } else { 1 }));
         let read = again(alloc, count, &columns)
             .expect(&rt, "memory")
             .expect(&rt, "columns");
@@ -147,7 +148,7 @@ fn next(state: u64) -> u64 {
 }
 
 #[test]
-fn drawn_columns_are_read_back(rt: HostRuntime) {
+fn random_columns_are_read_back(rt: HostRuntime) {
     let alloc = rt.alloc();
     let mut state = 1;
     for case in 0..60usize {
@@ -177,7 +178,7 @@ fn no_rows_and_no_columns(rt: HostRuntime) {
     let columns = [AnyArray::Primitive(AnyPrimitive::UInt64(none))];
     let (placed, body) = bytes_of(alloc, &columns).expect(&rt, "bytes");
     assert!(rt; body.len() == 0);
-    assert!(rt; placed.regions.len() == 2);
+    assert!(rt; placed.buffers.len() == 2);
     let read = again(alloc, 0, &columns)
         .expect(&rt, "memory")
         .expect(&rt, "columns");
@@ -203,12 +204,12 @@ fn keys_are_written_and_no_values(rt: HostRuntime) {
     let columns = [AnyArray::Dictionary(keyed(alloc).expect(&rt, "an array"))];
     let (placed, body) = bytes_of(alloc, &columns).expect(&rt, "bytes");
     assert!(rt; body.as_slice() == [5u8, 0, 0, 0, 0, 0, 0, 0, 1, 0, 0, 0, 0, 0, 0, 0].as_slice());
-    assert!(rt; placed.nodes.len() == 1 && placed.regions.len() == 2);
+    assert!(rt; placed.nodes.len() == 1 && placed.buffers.len() == 2);
     let read = again(alloc, 3, &columns)
         .expect(&rt, "memory")
         .expect(&rt, "columns");
     assert!(rt; read[0] == columns[0]);
-    assert!(rt; !are_keyless(&columns) && are_keyless(&[]));
+    assert!(rt; !have_no_dictionaries(&columns) && have_no_dictionaries(&[]));
 }
 
 #[test]

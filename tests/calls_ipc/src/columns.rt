@@ -1,8 +1,10 @@
-//! Columns of whole numbers, from nodes, buffers and a body.
-use ipc_arrays::{Left, Wanted, read_column, read_columns};
-use ipc_flatbuf::{Fault, Node, Region};
-use nest_flat::any_native::AnyNative;
+//! Columns of integers, from nodes, buffers and a body.
+//!
+//! A column is read from a body, of each kind of integers; each of its errors once.
+use ipc_arrays::{BatchCursor, ExpectedLength, read_column, read_columns};
+use ipc_flatbuf::{BufferSpec, FieldNode, IpcReadError};
 use nest_array::any::AnyArray;
+use nest_flat::any_native::AnyNative;
 use nest_memory::datatypes::DataType;
 use std::alloc::Global;
 
@@ -23,29 +25,29 @@ fn read(
     numbers: (i64, i64),
     bits: (i64, i64),
     values: (i64, i64),
-) -> Result<AnyArray, Fault> {
-    let nodes = [Node {
+) -> Result<AnyArray, IpcReadError> {
+    let nodes = [FieldNode {
         length: numbers.0,
         null_count: numbers.1,
     }];
-    let regions = [
-        Region {
+    let buffers = [
+        BufferSpec {
             offset: bits.0,
             length: bits.1,
         },
-        Region {
+        BufferSpec {
             offset: values.0,
             length: values.1,
         },
     ];
-    let left = Left {
+    let left = BatchCursor {
         nodes: &nodes,
-        regions: &regions,
+        buffers: &buffers,
         dictionaries: &[],
     };
-    match read_column(alloc, &data_type, Wanted::Rows(2), &BODY, left) {
+    match read_column(alloc, &data_type, ExpectedLength::Rows(2), &BODY, left) {
         Ok((array, _left)) => Ok(array),
-        Err(fault) => Err(fault),
+        Err(error) => Err(error),
     }
 }
 
@@ -69,102 +71,112 @@ fn without_nulls(rt: HostRuntime) {
 #[test]
 fn each_fault(rt: HostRuntime) {
     for (numbers, bits, values, want) in [
-        ((-1, 0), (0, 1), (8, 8), Fault::NodeRange),
-        ((2, -1), (0, 1), (8, 8), Fault::NodeRange),
-        ((2, 3), (0, 1), (8, 8), Fault::NodeRange),
-        ((3, 1), (0, 1), (8, 8), Fault::RowCount),
-        ((2, 1), (0, 17), (8, 8), Fault::BufferRange),
-        ((2, 1), (0, 0), (8, 8), Fault::BufferShort),
-        ((2, 2), (0, 1), (8, 8), Fault::NullCount),
-        ((2, 0), (0, 1), (8, 8), Fault::NullCount),
-        ((2, 1), (0, 1), (8, 7), Fault::BufferShort),
+        ((-1, 0), (0, 1), (8, 8), IpcReadError::NodeRange),
+        ((2, -1), (0, 1), (8, 8), IpcReadError::NodeRange),
+        ((2, 3), (0, 1), (8, 8), IpcReadError::NodeRange),
+        ((3, 1), (0, 1), (8, 8), IpcReadError::RowCount),
+        ((2, 1), (0, 17), (8, 8), IpcReadError::BufferRange),
+        ((2, 1), (0, 0), (8, 8), IpcReadError::BufferTooShort),
+        ((2, 2), (0, 1), (8, 8), IpcReadError::NullCount),
+        ((2, 0), (0, 1), (8, 8), IpcReadError::NullCount),
+        ((2, 1), (0, 1), (8, 7), IpcReadError::BufferTooShort),
     ] {
         match read(rt.alloc(), DataType::Int32, numbers, bits, values) {
             Ok(_array) => assert!(rt; false),
-            Err(fault) => assert!(rt; fault == want),
+            Err(error) => assert!(rt; error == want),
         }
     }
 }
 
-// The fault where nothing is read of so much.
-fn fault_of(alloc: Global, left: Left<'_>) -> Option<Fault> {
-    match read_column(alloc, &DataType::Int32, Wanted::Rows(2), &BODY, left) {
+// The error where nothing is read of so much.
+fn fault_of(alloc: Global, left: BatchCursor<'_>) -> Option<IpcReadError> {
+    match read_column(
+        alloc,
+        &DataType::Int32,
+        ExpectedLength::Rows(2),
+        &BODY,
+        left,
+    ) {
         Ok((_array, _left)) => None,
-        Err(fault) => Some(fault),
+        Err(error) => Some(error),
     }
 }
 
 #[test]
 fn nothing_left(rt: HostRuntime) {
-    let nodes = [Node {
+    let nodes = [FieldNode {
         length: 2,
         null_count: 0,
     }];
-    let none = Left {
+    let none = BatchCursor {
         nodes: &[],
-        regions: &[],
+        buffers: &[],
         dictionaries: &[],
     };
-    assert!(rt; fault_of(rt.alloc(), none) == Some(Fault::NodeCount));
-    let one = Left {
+    assert!(rt; fault_of(rt.alloc(), none) == Some(IpcReadError::NodeCount));
+    let one = BatchCursor {
         nodes: &nodes,
-        regions: &[],
+        buffers: &[],
         dictionaries: &[],
     };
-    assert!(rt; fault_of(rt.alloc(), one) == Some(Fault::BufferCount));
+    assert!(rt; fault_of(rt.alloc(), one) == Some(IpcReadError::BufferCount));
 }
 
 /// The body as two columns of numbers of 32 and of 64 bits, by these nodes and buffers.
-fn both(alloc: Global, nodes: &[Node], regions: &[Region]) -> Result<Vec<AnyArray>, Fault> {
+fn both(
+    alloc: Global,
+    nodes: &[FieldNode],
+    buffers: &[BufferSpec],
+) -> Result<Vec<AnyArray>, IpcReadError> {
     let types = [DataType::Int32, DataType::UInt64];
-    let left = Left {
+    let left = BatchCursor {
         nodes,
-        regions,
+        buffers,
         dictionaries: &[],
     };
     read_columns(alloc, &types, 2, &BODY, left)
 }
 
-// The first fault, if there is one.
-fn both_fault(alloc: Global, nodes: &[Node], regions: &[Region]) -> Option<Fault> {
-    match both(alloc, nodes, regions) {
+// The first error, if there is one.
+fn both_fail(alloc: Global, nodes: &[FieldNode], buffers: &[BufferSpec]) -> Option<IpcReadError> {
+    match both(alloc, nodes, buffers) {
         Ok(_columns) => None,
-        Err(fault) => Some(fault),
+        Err(error) => Some(error),
     }
 }
 
-fn region(offset: i64, length: i64) -> Region {
-    Region { offset, length }
+fn region(offset: i64, length: i64) -> BufferSpec {
+    BufferSpec { offset, length }
 }
 
 #[test]
 fn two_columns_use_all_nodes_and_buffers(rt: HostRuntime) {
     let alloc = rt.alloc();
-    let nulls = Node {
+    let nulls = FieldNode {
         length: 2,
         null_count: 1,
     };
-    let full = Node {
+    let full = FieldNode {
         length: 2,
         null_count: 0,
     };
-    let regions = [
+    let buffers = [
         region(0, 1),
         region(8, 8),
         region(3, 0),
         region(0, 16),
         region(0, 0),
     ];
-    let columns = both(alloc, &[nulls, full], &regions[..4]).expect(&rt, "two columns");
+    let columns = both(alloc, &[nulls, full], &buffers[..4]).expect(&rt, "two columns");
     assert!(rt; columns.len() == 2);
     assert!(rt; value(&columns[0], 0) == Some(AnyNative::Int32(7)) && columns[0].is_null(1));
     assert!(rt; columns[1].null_count() == 0);
     assert!(rt; value(&columns[1], 0) == Some(AnyNative::UInt64(1)));
     assert!(rt; value(&columns[1], 1) == Some(AnyNative::UInt64(7)));
-    let short = both_fault(alloc, &[nulls], &regions[..4]);
-    assert!(rt; short == Some(Fault::NodeCount));
-    let node_left = both_fault(alloc, &[nulls, full, full], &regions);
-    assert!(rt; node_left == Some(Fault::NodeCount));
-    let buffer_left = both_fault(alloc, &[nulls, full], &regions);
-    assert!(rt; buffer_left == Some(Fault::BufferCount));
+    let short = both_fail(alloc, &[nulls], &buffers[..4]);
+    assert!(rt; short == Some(IpcReadError::NodeCount));
+    let node_left = both_fail(alloc, &[nulls, full, full], &buffers);
+    assert!(rt; node_left == Some(IpcReadError::NodeCount));
+    let buffer_left = both_fail(alloc, &[nulls, full], &buffers);
+    assert!(rt; buffer_left == Some(IpcReadError::BufferCount));
 }

@@ -1,20 +1,27 @@
-//! Streams and files that are read by columns: what is picked, each beginning, each byte changed, each fault of what is passed over.
-use crate::file_samples::READ_FILES;
-use crate::samples::{READ, Sample};
-use crate::samples_nested::READ_NESTED;
-use crate::samples_picked::{ODD_FILE, PICKED, Picked, STREAMS};
-use crate::samples_read::{bytes_of, bytes_of_digits};
-use crate::texts::{answer, put_parts};
-use ipc::{FileReader, StreamReader, read_file_columns, read_stream, read_stream_columns};
-use ipc_flatbuf::Fault;
-use ipc_schema::{Columns, Picker};
+//! Streams and files that are read by columns: what is projection, each prefix, each byte changed, each error of what is skipped.
+//!
+//! Streams by columns: by name, by position, all, none; columns of types that are not read are skipped, each prefix of their
+//! streams is decoded, and each byte changed.
+use crate::projections::{LAST_COLUMN_FILE, PROJECTIONS, ProjectedSample, STREAMS};
+use crate::samples::{READ, READ_FILES, READ_NESTED, Sample};
+use crate::samples_read::{bytes_of, copied};
+use crate::stream_text::{put_parts, text_of_stream};
+use ipc::{
+    SliceFileReader, SliceStreamReader, read_file_projected, read_stream, read_stream_projected,
+};
+use ipc_flatbuf::IpcReadError;
+use ipc_schema::{ColumnSet, Projection};
 use std::alloc::Global;
 
-/// What a stream is by columns, or its fault.
-fn picked_answer(alloc: Global, bytes: &[u8], columns: Columns<'_>) -> Result<String, Fault> {
+/// What a stream is by columns, or its error.
+fn projected_result(
+    alloc: Global,
+    bytes: &[u8],
+    columns: Projection<'_>,
+) -> Result<String, IpcReadError> {
     let mut text = String::new(alloc);
-    match read_stream_columns(alloc, bytes, columns) {
-        Err(fault) => write!(text, "fault {fault:?}\n")?,
+    match read_stream_projected(alloc, bytes, columns) {
+        Err(failure) => write!(text, "error {failure:?}\n")?,
         Ok(stream) => {
             put_parts(&mut text, &stream.schema, &stream.batches)?;
             if stream.read < bytes.len() {
@@ -28,26 +35,26 @@ fn picked_answer(alloc: Global, bytes: &[u8], columns: Columns<'_>) -> Result<St
 #[test]
 fn by_name_and_by_position(rt: HostRuntime) {
     let alloc = rt.alloc();
-    for picked in &PICKED {
-        let bytes = bytes_of_digits(alloc, picked.digits).expect(&rt, "no bytes");
-        let text = picked_answer(alloc, &bytes, Columns::Named(picked.names)).expect(
+    for projection in &PROJECTIONS {
+        let bytes = copied(alloc, projection.bytes).expect(&rt, "no bytes");
+        let text = projected_result(alloc, &bytes, Projection::Names(projection.names)).expect(
             &rt, "no text",
         );
-        assert!(rt; text.as_str() == picked.answer, "{text}");
-        let text = picked_answer(alloc, &bytes, Columns::At(picked.positions)).expect(
+        assert!(rt; text.as_str() == projection.text, "{text}");
+        let text = projected_result(alloc, &bytes, Projection::Indices(projection.indices)).expect(
             &rt, "no text",
         );
-        assert!(rt; text.as_str() == picked.answer, "{text}");
-        let text = answer(alloc, &bytes).expect(&rt, "no text");
-        assert!(rt; text.as_str() == "fault UnsupportedType\n", "{text}");
+        assert!(rt; text.as_str() == projection.text, "{text}");
+        let text = text_of_stream(alloc, &bytes).expect(&rt, "no text");
+        assert!(rt; text.as_str() == "error UnsupportedType\n", "{text}");
     }
 }
 
 /// Whether all columns of a stream are what the stream is.
-fn is_whole(alloc: Global, sample: &Sample) -> Result<bool, Fault> {
+fn is_whole(alloc: Global, sample: &Sample) -> Result<bool, IpcReadError> {
     let bytes = bytes_of(alloc, sample)?;
-    let text = picked_answer(alloc, &bytes, Columns::All)?;
-    Ok(text.as_str() == sample.answer)
+    let text = projected_result(alloc, &bytes, Projection::All)?;
+    Ok(text.as_str() == sample.text)
 }
 
 #[test]
@@ -61,10 +68,10 @@ fn all_columns(rt: HostRuntime) {
 }
 
 /// Whether no column of a stream is read, and its batches have as many rows.
-fn has_rows(alloc: Global, sample: &Sample) -> Result<bool, Fault> {
+fn has_rows(alloc: Global, sample: &Sample) -> Result<bool, IpcReadError> {
     let bytes = bytes_of(alloc, sample)?;
     let whole = read_stream(alloc, &bytes)?;
-    let none = read_stream_columns(alloc, &bytes, Columns::At(&[]))?;
+    let none = read_stream_projected(alloc, &bytes, Projection::Indices(&[]))?;
     if none.batches.len() != whole.batches.len() || none.schema.fields.len() != 0 {
         return Ok(false);
     }
@@ -86,10 +93,14 @@ fn no_column_has_its_rows(rt: HostRuntime) {
     }
 }
 
-/// The batches that a reader of some columns gives, up to its end; nothing comes behind.
-fn read_one_by_one(alloc: Global, picked: &Picked) -> Result<String, Fault> {
-    let bytes = bytes_of_digits(alloc, picked.digits)?;
-    let mut reader = StreamReader::with_columns(alloc, &bytes, Columns::Named(picked.names))?;
+/// The batches that a reader of some columns returns, up to its end; nothing comes after.
+fn read_one_by_one(alloc: Global, projection: &ProjectedSample) -> Result<String, IpcReadError> {
+    let bytes = copied(alloc, projection.bytes)?;
+    let mut reader = SliceStreamReader::with_projection(
+        alloc,
+        &bytes,
+        Projection::Names(projection.names),
+    )?;
     let mut text = String::new(alloc);
     let mut batches = Vec::new(alloc);
     for _ in 0..bytes.len() {
@@ -106,20 +117,24 @@ fn read_one_by_one(alloc: Global, picked: &Picked) -> Result<String, Fault> {
 
 #[test]
 fn one_by_one(rt: HostRuntime) {
-    for picked in &STREAMS {
-        let text = read_one_by_one(rt.alloc(), picked).expect(&rt, "not read");
-        assert!(rt; text.as_str() == picked.answer, "{text}");
+    for projection in &STREAMS {
+        let text = read_one_by_one(rt.alloc(), projection).expect(&rt, "not read");
+        assert!(rt; text.as_str() == projection.text, "{text}");
     }
 }
 
-/// What a file is by columns, or its fault; a reader's batches are the same.
-fn file_picked(alloc: Global, bytes: &[u8], columns: Columns<'_>) -> Result<String, Fault> {
+/// What a file is by columns, or its error; a reader's batches are the same.
+fn file_projected(
+    alloc: Global,
+    bytes: &[u8],
+    columns: Projection<'_>,
+) -> Result<String, IpcReadError> {
     let mut text = String::new(alloc);
-    match read_file_columns(alloc, bytes, columns) {
-        Err(fault) => write!(text, "fault {fault:?}\n")?,
+    match read_file_projected(alloc, bytes, columns) {
+        Err(failure) => write!(text, "error {failure:?}\n")?,
         Ok(file) => {
             put_parts(&mut text, &file.schema, &file.batches)?;
-            let reader = FileReader::with_columns(alloc, bytes, columns)?;
+            let reader = SliceFileReader::with_projection(alloc, bytes, columns)?;
             if reader.len() != file.batches.len()
                 || reader.schema().fields.len() != file.schema.fields.len()
             {
@@ -140,22 +155,27 @@ fn files(rt: HostRuntime) {
     let alloc = rt.alloc();
     for sample in &READ_FILES {
         let bytes = bytes_of(alloc, sample).expect(&rt, "no bytes");
-        let text = file_picked(alloc, &bytes, Columns::All).expect(&rt, "no text");
-        assert!(rt; text.as_str() == sample.answer, "{}: {text}", sample.name);
+        let text = file_projected(alloc, &bytes, Projection::All).expect(&rt, "no text");
+        assert!(rt; text.as_str() == sample.text, "{}: {text}", sample.name);
     }
-    let bytes = bytes_of_digits(alloc, ODD_FILE).expect(&rt, "no bytes");
-    let text = file_picked(alloc, &bytes, Columns::Named(&["a"])).expect(&rt, "no text");
-    assert!(rt; text.as_str() == STREAMS[2].answer, "{text}");
-    let text = file_picked(alloc, &bytes, Columns::All).expect(&rt, "no text");
-    assert!(rt; text.as_str() == "fault UnsupportedType\n", "{text}");
+    let bytes = copied(alloc, LAST_COLUMN_FILE).expect(&rt, "no bytes");
+    let text = file_projected(alloc, &bytes, Projection::Names(&["a"])).expect(&rt, "no text");
+    assert!(rt; text.as_str() == STREAMS[2].text, "{text}");
+    let text = file_projected(alloc, &bytes, Projection::All).expect(&rt, "no text");
+    assert!(rt; text.as_str() == "error UnsupportedType\n", "{text}");
 }
 
-/// How many beginnings of a stream are read by columns.
-fn count_beginnings(alloc: Global, picked: &Picked) -> Result<usize, Fault> {
-    let bytes = bytes_of_digits(alloc, picked.digits)?;
+/// How many prefixes of a stream are read by columns.
+fn count_beginnings(alloc: Global, projection: &ProjectedSample) -> Result<usize, IpcReadError> {
+    let bytes = copied(alloc, projection.bytes)?;
     let mut count = 0;
     for end in 0..bytes.len() {
-        if read_stream_columns(alloc, &bytes[..end], Columns::Named(picked.names)).is_ok() {
+        if read_stream_projected(
+            alloc,
+            &bytes[..end],
+            Projection::Names(projection.names),
+        ).is_ok()
+        {
             count += 1;
         }
     }
@@ -164,8 +184,8 @@ fn count_beginnings(alloc: Global, picked: &Picked) -> Result<usize, Fault> {
 
 #[test]
 fn each_beginning(rt: HostRuntime) {
-    for picked in &PICKED {
-        let count = count_beginnings(rt.alloc(), picked).expect(&rt, "no bytes");
+    for projection in &PROJECTIONS {
+        let count = count_beginnings(rt.alloc(), projection).expect(&rt, "no bytes");
         assert!(rt; count < 5, "{count}");
     }
 }
@@ -173,15 +193,15 @@ fn each_beginning(rt: HostRuntime) {
 #[test]
 fn each_byte_changed(rt: HostRuntime) {
     let alloc = rt.alloc();
-    for picked in &STREAMS {
-        let mut bytes = bytes_of_digits(alloc, picked.digits).expect(&rt, "no bytes");
+    for projection in &STREAMS {
+        let mut bytes = copied(alloc, projection.bytes).expect(&rt, "no bytes");
         for i in 0..bytes.len() {
             let byte = bytes[i];
             bytes[i] = 255;
-            let by_name = picked_answer(alloc, &bytes, Columns::Named(picked.names));
+            let by_name = projected_result(alloc, &bytes, Projection::Names(projection.names));
             assert!(rt; by_name.is_ok(), "{i}");
             bytes[i] = byte.wrapping_add(1);
-            let at = picked_answer(alloc, &bytes, Columns::At(picked.positions));
+            let at = projected_result(alloc, &bytes, Projection::Indices(projection.indices));
             assert!(rt; at.is_ok(), "{i}");
             bytes[i] = byte;
         }
@@ -189,9 +209,12 @@ fn each_byte_changed(rt: HostRuntime) {
 }
 
 #[test]
-fn a_picker_knows_positions(rt: HostRuntime) {
-    let picker = Picker::new(rt.alloc(), Columns::At(&[1, 3])).expect(&rt, "no picker");
+fn a_projection_knows_positions(rt: HostRuntime) {
+    let picker = ColumnSet::new(rt.alloc(), Projection::Indices(&[1, 3])).expect(&rt, "no picker");
     for i in 0..5 {
-        assert!(rt; picker.is_picked_at(&[], i, 0, 0) == Ok(i == 1 || i == 3), "{i}");
+        assert!(rt;
+            picker.contains_field(&[], i, 0, 0) == Ok(i == 1 || i == 3),
+            "{i}"
+        );
     }
 }

@@ -1,10 +1,10 @@
 //! Streams with deltas, put together a message at a time.
 use crate::files::{blocks_of, blocks_of_kind, file_with};
 use ipc::Batch;
+use ipc_arrays::{layout_columns, write_columns};
 use ipc_flatbuf::batch::{BatchMetadata, write_batch, write_dictionary};
-use ipc_arrays::{place_columns, put_columns};
-use ipc_flatbuf::message::Kind;
-use ipc_flatbuf::{Fault, NoForm};
+use ipc_flatbuf::message::MessageKind;
+use ipc_flatbuf::{IpcReadError, IpcWriteError};
 use nest_array::any::AnyArray;
 use std::alloc::Global;
 
@@ -13,27 +13,27 @@ fn placed(
     alloc: Global,
     rows: usize,
     columns: &[AnyArray],
-) -> Result<(BatchMetadata, usize), NoForm> {
-    let placed = place_columns(alloc, columns)?;
+) -> Result<(BatchMetadata, usize), IpcWriteError> {
+    let placed = layout_columns(alloc, columns)?;
     let metadata = BatchMetadata {
         rows,
         nodes: placed.nodes,
-        regions: placed.regions,
+        buffers: placed.buffers,
     };
     Ok((metadata, placed.length))
 }
 
-fn put_dictionary(
+fn append_dictionary(
     alloc: Global,
     out: &mut Vec<u8>,
     delta: bool,
     id: i64,
     values: &AnyArray,
-) -> Result<(), NoForm> {
+) -> Result<(), IpcWriteError> {
     let columns = std::slice::from_ref(values);
     let (metadata, length) = placed(alloc, values.len(), columns)?;
     write_dictionary(alloc, out, delta, id, &metadata, length)?;
-    put_columns(out, columns)
+    write_columns(out, columns)
 }
 
 /// Values that an id has from now on.
@@ -42,35 +42,35 @@ pub fn put_values(
     out: &mut Vec<u8>,
     id: i64,
     values: &AnyArray,
-) -> Result<(), NoForm> {
-    put_dictionary(alloc, out, false, id, values)
+) -> Result<(), IpcWriteError> {
+    append_dictionary(alloc, out, false, id, values)
 }
 
-/// Values behind those that an id has.
+/// Values after those that an id has.
 pub fn put_delta(
     alloc: Global,
     out: &mut Vec<u8>,
     id: i64,
     values: &AnyArray,
-) -> Result<(), NoForm> {
-    put_dictionary(alloc, out, true, id, values)
+) -> Result<(), IpcWriteError> {
+    append_dictionary(alloc, out, true, id, values)
 }
 
 /// A batch, over values that were put before.
-pub fn put_keys(alloc: Global, out: &mut Vec<u8>, batch: &Batch) -> Result<(), NoForm> {
+pub fn put_keys(alloc: Global, out: &mut Vec<u8>, batch: &Batch) -> Result<(), IpcWriteError> {
     let (metadata, length) = placed(alloc, batch.rows, &batch.columns)?;
     write_batch(alloc, out, &metadata, length)?;
-    put_columns(out, &batch.columns)
+    write_columns(out, &batch.columns)
 }
 
-pub fn put_end(out: &mut Vec<u8>) -> Result<(), NoForm> {
+pub fn put_end(out: &mut Vec<u8>) -> Result<(), IpcWriteError> {
     out.extend_from_slice(&[255, 255, 255, 255, 0, 0, 0, 0])?;
     Ok(())
 }
 
 /// The file of a stream: its dictionaries in their order, then its batches.
-pub fn file_of(alloc: Global, stream: &[u8]) -> Result<Vec<u8>, Fault> {
-    let dictionaries = blocks_of_kind(alloc, stream, Kind::DictionaryBatch)?;
+pub fn file_of(alloc: Global, stream: &[u8]) -> Result<Vec<u8>, IpcReadError> {
+    let dictionaries = blocks_of_kind(alloc, stream, MessageKind::DictionaryBatch)?;
     let batches = blocks_of(alloc, stream)?;
     file_with(alloc, stream, &dictionaries, &batches)
 }

@@ -1,15 +1,18 @@
-//! Columns by dictionaries that are written, each form of them once, and read back: the messages of both forms, and what another
-//! program has, written again; each beginning of what is written, and each of its bytes changed.
-use crate::keyed_columns::{
-    batch, by, keyed, keyed_words, list, map, record, schema_of, single, union, words,
+//! Columns by dictionaries that are written, each form of them once, and round-trip: the messages of both forms, and what another
+//! program has, written again; each prefix of what is written, and each of its bytes changed.
+//!
+//! Columns by dictionaries are written and round-trip in both forms: keys of each width, nulls, slices, values that no key
+//! names, inside of others and of values, ids in pre-order; streams and files of another implementation are written again; each
+//! beginning of what is written, and each byte changed.
+use crate::dictionary_columns::{
+    batch, by, dictionary_of_strings, keyed, list, map, record, schema_of, single, union, words,
 };
-use crate::keyed_model::{are_written, is_written, model_of, unread, unwritten, written};
-use crate::samples::Sample;
-use crate::samples_dictionaries::{READ_DICTIONARIES, READ_DICTIONARY_FILES};
+use crate::dictionary_model::{are_written, is_written, model_of, unread, unwritten, written};
+use crate::samples::{READ_DICTIONARIES, READ_DICTIONARY_FILES, Sample};
 use crate::samples_read::bytes_of;
-use crate::texts::{answer, file_answer, is_file_read, is_read};
+use crate::stream_text::{is_file_read, is_read, text_of_file, text_of_stream};
 use ipc::{Batch, read_file, read_stream, write_file, write_stream};
-use ipc_flatbuf::{Fault, NoForm};
+use ipc_flatbuf::{IpcReadError, IpcWriteError};
 use ipc_schema::Schema;
 use nest_array::any::AnyArray;
 use nest_memory::datatypes::IntegerType;
@@ -27,7 +30,7 @@ const KEYS: [IntegerType; 8] = [
     IntegerType::UInt64,
 ];
 
-// Whether a batch of columns is written as these messages, and read back.
+// Whether a batch of columns is written as these messages, and round-trip.
 fn is_batch(alloc: Global, columns: Vec<AnyArray>, messages: &str) -> Result<bool, Error> {
     let schema = schema_of(alloc, &columns)?;
     let batches = [batch(columns)];
@@ -50,7 +53,7 @@ fn of_width(alloc: Global, key: IntegerType) -> Result<bool, Error> {
 }
 
 #[test]
-fn words_by_keys_of_each_width(rt: HostRuntime) {
+fn dictionary_strings_of_each_key_width(rt: HostRuntime) {
     for key in KEYS {
         assert!(rt; of_width(rt.alloc(), key) == Ok(true), "{key:?}");
     }
@@ -70,10 +73,10 @@ const WORDS: [(&str, &str, &str); 9] = [
 ];
 
 #[test]
-fn words_by_keys(rt: HostRuntime) {
+fn dictionary_strings(rt: HostRuntime) {
     let alloc = rt.alloc();
     for (keys, letters, messages) in WORDS {
-        let column = keyed_words(alloc, keys, letters).expect(&rt, "no column");
+        let column = dictionary_of_strings(alloc, keys, letters).expect(&rt, "no column");
         assert!(rt;
             is_column(alloc, column, messages) == Ok(true),
             "{keys} of {letters}"
@@ -81,8 +84,8 @@ fn words_by_keys(rt: HostRuntime) {
     }
 }
 
-// Values that are a cut of more.
-fn values_of_a_cut(alloc: Global) -> Result<AnyArray, Error> {
+// Values that are a slice of more.
+fn values_of_a_slice(alloc: Global) -> Result<AnyArray, Error> {
     keyed(alloc, "10-", words(alloc, "xab-y")?.sliced(1, 3))
 }
 
@@ -90,24 +93,28 @@ fn two(alloc: Global, one: AnyArray, other: AnyArray) -> Result<Vec<AnyArray>, E
     Ok(vec![in alloc; one, other]?)
 }
 
-fn two_keyed(alloc: Global) -> Result<Vec<AnyArray>, Error> {
+fn two_dictionary(alloc: Global) -> Result<Vec<AnyArray>, Error> {
     two(
         alloc,
-        keyed_words(alloc, "01-", "ab")?,
-        keyed_words(alloc, "210", "cde")?,
+        dictionary_of_strings(alloc, "01-", "ab")?,
+        dictionary_of_strings(alloc, "210", "cde")?,
     )
 }
 
 fn in_lists(alloc: Global) -> Result<AnyArray, Error> {
-    list(alloc, &[0, 2, 2, 3], keyed_words(alloc, "01-", "ab")?)
+    list(
+        alloc,
+        &[0, 2, 2, 3],
+        dictionary_of_strings(alloc, "01-", "ab")?,
+    )
 }
 
-fn in_a_cut_of_lists(alloc: Global) -> Result<AnyArray, Error> {
+fn in_a_slice_of_lists(alloc: Global) -> Result<AnyArray, Error> {
     Ok(in_lists(alloc)?.sliced(1, 2))
 }
 
 fn in_records(alloc: Global) -> Result<AnyArray, Error> {
-    record(alloc, two_keyed(alloc)?)
+    record(alloc, two_dictionary(alloc)?)
 }
 
 fn in_maps(alloc: Global) -> Result<AnyArray, Error> {
@@ -115,7 +122,7 @@ fn in_maps(alloc: Global) -> Result<AnyArray, Error> {
 }
 
 fn in_unions(alloc: Global) -> Result<AnyArray, Error> {
-    union(alloc, &[1, 0, 1], two_keyed(alloc)?)
+    union(alloc, &[1, 0, 1], two_dictionary(alloc)?)
 }
 
 fn of_records(alloc: Global) -> Result<AnyArray, Error> {
@@ -143,9 +150,9 @@ fn of_unions_in_lists(alloc: Global) -> Result<AnyArray, Error> {
 fn inside_of_others_and_of_values(rt: HostRuntime) {
     let alloc = rt.alloc();
     let cases: [(fn(Global) -> Result<AnyArray, Error>, &str); 10] = [
-        (values_of_a_cut, "s d0 b3 "),
+        (values_of_a_slice, "s d0 b3 "),
         (in_lists, "s d0 b3 "),
-        (in_a_cut_of_lists, "s d0 b2 "),
+        (in_a_slice_of_lists, "s d0 b2 "),
         (in_records, "s d0 d1 b3 "),
         (in_maps, "s d0 d1 b2 "),
         (in_unions, "s d0 d1 b3 "),
@@ -171,7 +178,7 @@ fn of_one_array(alloc: Global) -> Result<Vec<AnyArray>, Error> {
 
 // Records by keys in the first column, and words without keys between it and the last.
 fn of_three(alloc: Global) -> Result<Vec<AnyArray>, Error> {
-    let last = keyed_words(alloc, "000", "z")?;
+    let last = dictionary_of_strings(alloc, "000", "z")?;
     Ok(vec![in alloc; of_records(alloc)?.sliced(0, 3), words(alloc, "abc")?, last]?)
 }
 
@@ -184,36 +191,36 @@ fn ids_of_several_columns_are_in_pre_order(rt: HostRuntime) {
     assert!(rt; is_batch(alloc, three, "s d1 d2 d0 d3 b3 ") == Ok(true));
 }
 
-// Whether what another program has is written again in both forms, as the model has it, and says the same.
+// Whether what another implementation has is written again in both forms, as the model has it, and says the same.
 fn is_again(
     alloc: Global,
-    answers: &str,
+    results: &str,
     schema: &Schema,
     batches: &[Batch],
 ) -> Result<bool, Error> {
     let model = model_of(alloc, batches)?;
     let found = written(alloc, schema, batches)?;
     let stream = write_stream(alloc, schema, batches).map_err(unwritten)?;
-    let text = answer(alloc, &stream).map_err(unread)?;
-    if text.as_str() != answers || !is_written(&found, model.stream.as_str(), model.file()) {
+    let text = text_of_stream(alloc, &stream).map_err(unread)?;
+    if text.as_str() != results || !is_written(&found, model.stream.as_str(), model.file()) {
         return Ok(false);
     }
     match write_file(alloc, schema, batches) {
-        Err(why) => Ok(model.replaces && why == NoForm::Dictionaries),
-        Ok(file) => Ok(file_answer(alloc, &file).map_err(unread)?.as_str() == answers),
+        Err(why) => Ok(model.replaces && why == IpcWriteError::DictionaryReplacement),
+        Ok(file) => Ok(text_of_file(alloc, &file).map_err(unread)?.as_str() == results),
     }
 }
 
 fn is_stream_again(alloc: Global, sample: &Sample) -> Result<bool, Error> {
     let bytes = bytes_of(alloc, sample).map_err(unread)?;
     let stream = read_stream(alloc, &bytes).map_err(unread)?;
-    is_again(alloc, sample.answer, &stream.schema, &stream.batches)
+    is_again(alloc, sample.text, &stream.schema, &stream.batches)
 }
 
 fn is_file_again(alloc: Global, sample: &Sample) -> Result<bool, Error> {
     let bytes = bytes_of(alloc, sample).map_err(unread)?;
     let file = read_file(alloc, &bytes).map_err(unread)?;
-    is_again(alloc, sample.answer, &file.schema, &file.batches)
+    is_again(alloc, sample.text, &file.schema, &file.batches)
 }
 
 #[test]
@@ -239,7 +246,10 @@ fn what_another_program_has_is_written_again(rt: HostRuntime) {
 fn two_batches(alloc: Global, letters: &str) -> Result<(Schema, Vec<Batch>), Error> {
     let mut batches = Vec::new(alloc);
     for letters in ["ab", letters] {
-        let inner = record(alloc, vec![in alloc; keyed_words(alloc, "1-", letters)?]?)?;
+        let inner = record(
+            alloc,
+            vec![in alloc; dictionary_of_strings(alloc, "1-", letters)?]?,
+        )?;
         batches.push(single(alloc, keyed(alloc, "01", inner)?)?)?;
     }
     let schema = schema_of(alloc, &batches[0].columns)?;
@@ -268,7 +278,7 @@ fn each_beginning_of_a_stream(rt: HostRuntime) {
             count += 1;
         }
     }
-    // Behind each of the seven messages.
+    // After each of the seven messages.
     assert!(rt; count == 7, "{count}");
 }
 
@@ -284,8 +294,8 @@ fn each_beginning_of_a_file(rt: HostRuntime) {
     }
 }
 
-// Whether what is read of bytes, if anything is, is written and read back, or has a reason not to be written.
-fn is_answered(alloc: Global, bytes: &[u8]) -> Result<bool, Fault> {
+// Whether what is read of bytes, if anything is, is written and round-trip, or has a reason not to be written.
+fn is_decoded(alloc: Global, bytes: &[u8]) -> Result<bool, IpcReadError> {
     let Some(read) = is_read(alloc, bytes) else {
         return Ok(false);
     };
@@ -294,25 +304,25 @@ fn is_answered(alloc: Global, bytes: &[u8]) -> Result<bool, Fault> {
     }
     let stream = read_stream(alloc, bytes)?;
     match write_stream(alloc, &stream.schema, &stream.batches) {
-        Err(why) => Ok(why != NoForm::Memory),
+        Err(why) => Ok(why != IpcWriteError::Memory),
         Ok(again) => {
-            let text = answer(alloc, &bytes[..stream.read])?;
-            Ok(text.as_str() == answer(alloc, &again)?.as_str())
+            let text = text_of_stream(alloc, &bytes[..stream.read])?;
+            Ok(text.as_str() == text_of_stream(alloc, &again)?.as_str())
         }
     }
 }
 
-// Where a changed byte is not answered: it is 255 or one more.
+// Where a changed byte is not decoded: it is 255 or one more.
 fn unanswered(alloc: Global, bytes: &mut [u8], from: usize, to: usize) -> Option<usize> {
-    for place in from..to {
-        let old = bytes[place];
+    for index in from..to {
+        let old = bytes[index];
         for new in [255, old.wrapping_add(1)] {
-            bytes[place] = new;
-            if is_answered(alloc, bytes) != Ok(true) {
-                return Some(place);
+            bytes[index] = new;
+            if is_decoded(alloc, bytes) != Ok(true) {
+                return Some(index);
             }
         }
-        bytes[place] = old;
+        bytes[index] = old;
     }
     None
 }
@@ -361,15 +371,15 @@ fn each_byte_of_the_last_sixth_changed(rt: HostRuntime) {
 
 // The same of a file that is read alike by both readers.
 fn unread_byte(alloc: Global, bytes: &mut [u8], from: usize, to: usize) -> Option<usize> {
-    for place in from..to {
-        let old = bytes[place];
+    for index in from..to {
+        let old = bytes[index];
         for new in [255, old.wrapping_add(1)] {
-            bytes[place] = new;
+            bytes[index] = new;
             if is_file_read(alloc, bytes).is_none() {
-                return Some(place);
+                return Some(index);
             }
         }
-        bytes[place] = old;
+        bytes[index] = old;
     }
     None
 }
@@ -378,22 +388,22 @@ fn unread_byte(alloc: Global, bytes: &mut [u8], from: usize, to: usize) -> Optio
 fn each_byte_of_a_file_changed(rt: HostRuntime) {
     let mut bytes = file_of_two(rt.alloc()).expect(&rt, "no file");
     let end = bytes.len() / 4;
-    let place = unread_byte(rt.alloc(), &mut bytes, 0, end);
-    assert!(rt; place.is_none(), "{place:?}");
+    let index = unread_byte(rt.alloc(), &mut bytes, 0, end);
+    assert!(rt; index.is_none(), "{index:?}");
 }
 
 #[test]
 fn each_byte_of_the_middle_of_a_file_changed(rt: HostRuntime) {
     let mut bytes = file_of_two(rt.alloc()).expect(&rt, "no file");
     let (from, to) = (bytes.len() / 4, bytes.len() / 2);
-    let place = unread_byte(rt.alloc(), &mut bytes, from, to);
-    assert!(rt; place.is_none(), "{place:?}");
+    let index = unread_byte(rt.alloc(), &mut bytes, from, to);
+    assert!(rt; index.is_none(), "{index:?}");
 }
 
 #[test]
 fn each_byte_of_the_end_of_a_file_changed(rt: HostRuntime) {
     let mut bytes = file_of_two(rt.alloc()).expect(&rt, "no file");
     let (from, to) = (bytes.len() / 2, bytes.len());
-    let place = unread_byte(rt.alloc(), &mut bytes, from, to);
-    assert!(rt; place.is_none(), "{place:?}");
+    let index = unread_byte(rt.alloc(), &mut bytes, from, to);
+    assert!(rt; index.is_none(), "{index:?}");
 }

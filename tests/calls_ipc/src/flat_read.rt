@@ -1,24 +1,26 @@
 //! Streams of flat arrays of every kind, message by message, by types that are named here; and written again.
-use crate::samples::Sample;
-use crate::samples_flat::{READ_FLAT, REFUSED_FLAT};
+//!
+//! Flat arrays of every kind, of another implementation: read, or rejected; each window written and round-trip; each prefix
+//! of their bodies, and each byte changed.
+use crate::samples::{READ_FLAT, REJECTED_FLAT, Sample};
 use crate::samples_read::bytes_of;
-use crate::texts::put_rows;
+use crate::stream_text::put_rows;
+use ipc_arrays::{BatchCursor, layout_columns, read_columns, write_columns};
 use ipc_flatbuf::batch::{BatchMetadata, read_batch};
-use ipc_arrays::{Left, place_columns, put_columns, read_columns};
 use ipc_flatbuf::message::next_message;
-use ipc_flatbuf::{Fault, NoForm};
+use ipc_flatbuf::{IpcReadError, IpcWriteError};
 use nest_array::any::AnyArray;
 use nest_memory::datatypes::{DataType, IntervalUnit, TimeUnit};
 use std::alloc::Global;
 
 // A timestamp's type with a zone.
-fn zoned(alloc: Global, unit: TimeUnit, zone: &str) -> Result<DataType, Fault> {
+fn zoned(alloc: Global, unit: TimeUnit, zone: &str) -> Result<DataType, IpcReadError> {
     let mut name = String::new(alloc);
     name.push_str(zone)?;
     Ok(DataType::Timestamp(unit, Some(name)))
 }
 
-fn times(alloc: Global) -> Result<Vec<DataType>, Fault> {
+fn times(alloc: Global) -> Result<Vec<DataType>, IpcReadError> {
     let mut types = Vec::new(alloc);
     types.push(DataType::Timestamp(TimeUnit::Second, None))?;
     types.push(zoned(alloc, TimeUnit::Millisecond, "")?)?;
@@ -31,20 +33,20 @@ fn times(alloc: Global) -> Result<Vec<DataType>, Fault> {
     Ok(types)
 }
 
-fn dates(alloc: Global) -> Result<Vec<DataType>, Fault> {
+fn dates(alloc: Global) -> Result<Vec<DataType>, IpcReadError> {
     let types = vec![in alloc;
         DataType::Date32,
         DataType::Date64,
         DataType::Time32(TimeUnit::Second),
         DataType::Time32(TimeUnit::Millisecond),
         DataType::Time64(TimeUnit::Microsecond),
-        DataType::Time64(TimeUnit::Nanosecond)
+        DataType::Time64(TimeUnit::Nanosecond),
     ]?;
     Ok(types)
 }
 
 // The types of a sample's columns.
-fn types_of(alloc: Global, name: &str) -> Result<Vec<DataType>, Fault> {
+fn types_of(alloc: Global, name: &str) -> Result<Vec<DataType>, IpcReadError> {
     let types = match name {
         "null" => vec![in alloc; DataType::Null]?,
         "boolean" => vec![in alloc; DataType::Boolean, DataType::Boolean]?,
@@ -54,32 +56,32 @@ fn types_of(alloc: Global, name: &str) -> Result<Vec<DataType>, Fault> {
         "decimals" => vec![in alloc;
             DataType::Decimal(38, 2),
             DataType::Decimal256(76, 5),
-            DataType::Decimal(5, 0)
+            DataType::Decimal(5, 0),
         ]?,
         "intervals" => vec![in alloc;
             DataType::Interval(IntervalUnit::YearMonth),
             DataType::Interval(IntervalUnit::DayTime),
-            DataType::Interval(IntervalUnit::MonthDayNano)
+            DataType::Interval(IntervalUnit::MonthDayNano),
         ]?,
         "dates_times" => dates(alloc)?,
         "timestamps_durations" => times(alloc)?,
         "fixed_size_binary" => vec![in alloc;
             DataType::FixedSizeBinary(3),
-            DataType::FixedSizeBinary(1)
+            DataType::FixedSizeBinary(1),
         ]?,
-        "bad_text_cut_inside" => vec![in alloc; DataType::Utf8]?,
+        "offset_inside_character" => vec![in alloc; DataType::Utf8]?,
         _ => vec![in alloc; DataType::Int32, DataType::Utf8]?,
     };
     Ok(types)
 }
 
-// The columns that the first batch of a stream spells, and its rows.
-fn columns_of(alloc: Global, sample: &Sample) -> Result<(usize, Vec<AnyArray>), Fault> {
+// The columns that the first batch of a stream encodes, and its rows.
+fn columns_of(alloc: Global, sample: &Sample) -> Result<(usize, Vec<AnyArray>), IpcReadError> {
     let bytes = bytes_of(alloc, sample)?;
     let types = types_of(alloc, sample.name)?;
     let (_schema, rest) = next_message(&bytes)?;
     match next_message(rest)? {
-        (None, _) => Err(Fault::Truncated),
+        (None, _) => Err(IpcReadError::Truncated),
         (Some(message), _) => {
             let root = message.root;
             let batch = read_batch(
@@ -100,19 +102,19 @@ fn read_by(
     types: &[DataType],
     batch: &BatchMetadata,
     body: &[u8],
-) -> Result<Vec<AnyArray>, Fault> {
-    let left = Left {
+) -> Result<Vec<AnyArray>, IpcReadError> {
+    let left = BatchCursor {
         nodes: &batch.nodes,
-        regions: &batch.regions,
+        buffers: &batch.buffers,
         dictionaries: &[],
     };
     read_columns(alloc, types, batch.rows, body, left)
 }
 
-fn answer(alloc: Global, sample: &Sample) -> Result<String, Fault> {
+fn text_of(alloc: Global, sample: &Sample) -> Result<String, IpcReadError> {
     let mut text = String::new(alloc);
     match columns_of(alloc, sample) {
-        Err(fault) => write!(text, "fault {fault:?}\n")?,
+        Err(failure) => write!(text, "error {failure:?}\n")?,
         Ok((rows, columns)) => put_rows(&mut text, rows, &columns)?,
     }
     Ok(text)
@@ -121,32 +123,32 @@ fn answer(alloc: Global, sample: &Sample) -> Result<String, Fault> {
 #[test]
 fn each_kind_is_read(rt: HostRuntime) {
     for sample in &READ_FLAT {
-        let text = answer(rt.alloc(), sample).expect(&rt, "no text");
-        assert!(rt; text.as_str() == sample.answer, "{}: {text}", sample.name);
+        let text = text_of(rt.alloc(), sample).expect(&rt, "no text");
+        assert!(rt; text.as_str() == sample.text, "{}: {text}", sample.name);
     }
 }
 
 #[test]
-fn each_fault_of_flat_arrays(rt: HostRuntime) {
-    for sample in &REFUSED_FLAT {
-        let text = answer(rt.alloc(), sample).expect(&rt, "no text");
-        assert!(rt; text.as_str() == sample.answer, "{}: {text}", sample.name);
+fn each_error_of_flat_arrays(rt: HostRuntime) {
+    for sample in &REJECTED_FLAT {
+        let text = text_of(rt.alloc(), sample).expect(&rt, "no text");
+        assert!(rt; text.as_str() == sample.text, "{}: {text}", sample.name);
     }
 }
 
-// What is written of columns, as it is read back.
+// What is written of columns, as it is round-trip.
 fn again(
     alloc: Global,
     types: &[DataType],
     rows: usize,
     columns: &[AnyArray],
-) -> Result<Result<Vec<AnyArray>, Fault>, NoForm> {
-    let placed = place_columns(alloc, columns)?;
+) -> Result<Result<Vec<AnyArray>, IpcReadError>, IpcWriteError> {
+    let placed = layout_columns(alloc, columns)?;
     let mut body = Vec::new(alloc);
-    put_columns(&mut body, columns)?;
-    let left = Left {
+    write_columns(&mut body, columns)?;
+    let left = BatchCursor {
         nodes: &placed.nodes,
-        regions: &placed.regions,
+        buffers: &placed.buffers,
         dictionaries: &[],
     };
     Ok(read_columns(alloc, types, rows, &body, left))
@@ -168,8 +170,8 @@ fn each_kind_is_written_again(rt: HostRuntime) {
     }
 }
 
-// Whether each window of columns is read back as it was.
-fn windows_are_same(alloc: Global, sample: &Sample) -> Result<bool, Fault> {
+// Whether each window of columns is round-trip as it was.
+fn windows_are_same(alloc: Global, sample: &Sample) -> Result<bool, IpcReadError> {
     let types = types_of(alloc, sample.name)?;
     let (rows, _) = columns_of(alloc, sample)?;
     for start in 0..rows {
@@ -202,14 +204,14 @@ fn each_window_is_read_back(rt: HostRuntime) {
     }
 }
 
-// Whether columns are read of each beginning of a batch's body, and of each body that differs from it in one byte: an answer comes,
-// and what is read is written and read back.
-fn are_answered(alloc: Global, sample: &Sample) -> Result<usize, Fault> {
+// Whether columns are read of each prefix of a batch's body, and of each body that differs from it in one byte: an result comes,
+// and what is read is written and round-trip.
+fn are_decoded(alloc: Global, sample: &Sample) -> Result<usize, IpcReadError> {
     let bytes = bytes_of(alloc, sample)?;
     let types = types_of(alloc, sample.name)?;
     let (_schema, rest) = next_message(&bytes)?;
     let (Some(message), _) = next_message(rest)? else {
-        return Err(Fault::Truncated);
+        return Err(IpcReadError::Truncated);
     };
     let root = message.root;
     let batch = read_batch(
@@ -225,34 +227,34 @@ fn are_answered(alloc: Global, sample: &Sample) -> Result<usize, Fault> {
     for size in 0..body.len() {
         count += is_read(alloc, &types, &batch, &body[..size])?;
     }
-    for place in 0..body.len() {
-        let old = body[place];
+    for index in 0..body.len() {
+        let old = body[index];
         for new in [0, 128, 255, old.wrapping_add(1)] {
-            body[place] = new;
+            body[index] = new;
             count += is_read(alloc, &types, &batch, &body)?;
         }
-        body[place] = old;
+        body[index] = old;
     }
     Ok(count)
 }
 
-// 1 where the columns are read, and then read back of what is written of them.
+// 1 where the columns are read, and then round-trip of what is written of them.
 fn is_read(
     alloc: Global,
     types: &[DataType],
     batch: &BatchMetadata,
     body: &[u8],
-) -> Result<usize, Fault> {
+) -> Result<usize, IpcReadError> {
     let Ok(columns) = read_by(alloc, types, batch, body) else {
         return Ok(0);
     };
     match again(alloc, types, batch.rows, &columns) {
-        Err(_) => Err(Fault::Memory),
+        Err(_) => Err(IpcReadError::Memory),
         Ok(read) => {
             let read = read?;
             for i in 0..columns.len() {
                 if read[i] != columns[i] {
-                    return Err(Fault::Memory);
+                    return Err(IpcReadError::Memory);
                 }
             }
             Ok(1)
@@ -263,7 +265,7 @@ fn is_read(
 #[test]
 fn each_beginning_and_each_byte(rt: HostRuntime) {
     for sample in &READ_FLAT {
-        let count = are_answered(rt.alloc(), sample).expect(&rt, "columns that are not read back");
+        let count = are_decoded(rt.alloc(), sample).expect(&rt, "columns that are not read back");
         assert!(rt; count > 0 || sample.name == "null", "{}", sample.name);
     }
 }

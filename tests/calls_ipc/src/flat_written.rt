@@ -1,6 +1,10 @@
-//! Flat arrays of each kind, written byte by byte and read from any place of a body; each of their faults once.
-use ipc_arrays::{Left, Placed, Wanted, place_columns, put_columns, read_column};
-use ipc_flatbuf::{Fault, NoForm, Node, Region};
+//! Flat arrays of each kind, written byte by byte and read from any index of a body; each of their errors once.
+//!
+//! Flat arrays of each kind byte by byte, and each of their errors.
+use ipc_arrays::{
+    BatchCursor, BodyLayout, ExpectedLength, layout_columns, read_column, write_columns,
+};
+use ipc_flatbuf::{BufferSpec, FieldNode, IpcReadError, IpcWriteError};
 use nest_array::any::AnyArray;
 use nest_array::fixed_size_binary::FixedSizeBinaryArray;
 use nest_array::null::NullArray;
@@ -19,11 +23,11 @@ use nest_memory::types::{NativeType, days_ms, i256, months_days_ns};
 use std::alloc::Global;
 
 // What is written of one column.
-fn written(alloc: Global, column: AnyArray) -> Result<(Placed, Vec<u8>), NoForm> {
+fn written(alloc: Global, column: AnyArray) -> Result<(BodyLayout, Vec<u8>), IpcWriteError> {
     let columns = [column];
-    let placed = place_columns(alloc, &columns)?;
+    let placed = layout_columns(alloc, &columns)?;
     let mut out = Vec::new(alloc);
-    put_columns(&mut out, &columns)?;
+    write_columns(&mut out, &columns)?;
     Ok((placed, out))
 }
 
@@ -43,7 +47,7 @@ fn offsets<O: Offset>(alloc: Global, values: &[O]) -> Result<OffsetsBuffer<O>, E
     OffsetsBuffer::try_new(alloc, items)
 }
 
-fn truths(alloc: Global) -> Result<BooleanArray, Error> {
+fn booleans(alloc: Global) -> Result<BooleanArray, Error> {
     let bits = [
         true, false, true, true, false, false, true, false, true, true, false, true,
     ];
@@ -56,18 +60,18 @@ fn truths(alloc: Global) -> Result<BooleanArray, Error> {
 }
 
 #[test]
-fn truths_are_written_from_bit_0(rt: HostRuntime) {
+fn booleans_are_written_from_bit_0(rt: HostRuntime) {
     let alloc = rt.alloc();
-    let whole = truths(alloc).expect(&rt, "an array");
+    let whole = booleans(alloc).expect(&rt, "an array");
     let (placed, body) = written(alloc, AnyArray::Boolean(whole)).expect(&rt, "a body");
     let want = [251u8, 15, 0, 0, 0, 0, 0, 0, 77, 11, 0, 0, 0, 0, 0, 0];
     assert!(rt; body.as_slice() == want.as_slice());
     assert!(rt; placed.nodes[0].null_count == 1);
-    let part = truths(alloc).expect(&rt, "an array").sliced(3, 5);
+    let part = booleans(alloc).expect(&rt, "an array").sliced(3, 5);
     let (placed, body) = written(alloc, AnyArray::Boolean(part)).expect(&rt, "a body");
     assert!(rt; body.as_slice() == [9u8, 0, 0, 0, 0, 0, 0, 0].as_slice());
-    assert!(rt; placed.regions[0].length == 0);
-    assert!(rt; placed.regions[1].length == 1);
+    assert!(rt; placed.buffers[0].length == 0);
+    assert!(rt; placed.buffers[1].length == 1);
 }
 
 #[test]
@@ -75,12 +79,12 @@ fn nulls_have_no_buffer(rt: HostRuntime) {
     let alloc = rt.alloc();
     let nulls = NullArray::try_new(DataType::Null, 5).expect(&rt, "an array");
     let (placed, body) = written(alloc, AnyArray::Null(nulls)).expect(&rt, "a body");
-    assert!(rt; body.len() == 0 && placed.regions.len() == 0);
+    assert!(rt; body.len() == 0 && placed.buffers.len() == 0);
     assert!(rt; placed.nodes[0].length == 5 && placed.nodes[0].null_count == 5);
     let most = NullArray::try_new(DataType::Null, (1 << 63) - 1).expect(&rt, "an array");
     assert!(rt; written(alloc, AnyArray::Null(most)).is_ok());
     let past = NullArray::try_new(DataType::Null, 1 << 63).expect(&rt, "an array");
-    assert!(rt; written(alloc, AnyArray::Null(past)).err() == Some(NoForm::Size));
+    assert!(rt; written(alloc, AnyArray::Null(past)).err() == Some(IpcWriteError::Size));
 }
 
 // The body of one value.
@@ -101,8 +105,9 @@ fn value_bytes<T: NativeType>(
 #[test]
 fn wide_values_are_little_endian(rt: HostRuntime) {
     let alloc = rt.alloc();
-    let wide = value_bytes(alloc, DataType::Decimal(9, 0), -2i128, AnyPrimitive::Int128)
-        .expect(&rt, "a body");
+    let wide = value_bytes(alloc, DataType::Decimal(9, 0), -2i128, AnyPrimitive::Int128).expect(
+        &rt, "a body",
+    );
     assert!(rt; wide.len() == 16 && wide[0] == 254 && wide[15] == 255);
     let value = i256::from_words(-3, 5);
     let halves = value_bytes(
@@ -138,29 +143,31 @@ fn wide_values_are_little_endian(rt: HostRuntime) {
         AnyPrimitive::MonthDayNano,
     )
     .expect(&rt, "a body");
-    let want = [1u8, 0, 0, 0, 2, 0, 0, 0, 255, 255, 255, 255, 255, 255, 255, 255];
+    let want = [
+        1u8, 0, 0, 0, 2, 0, 0, 0, 255, 255, 255, 255, 255, 255, 255, 255,
+    ];
     assert!(rt; months.as_slice() == want.as_slice());
 }
 
 #[test]
-fn strings_are_cut_to_what_the_offsets_cover(rt: HostRuntime) {
+fn strings_are_truncated_to_the_offsets(rt: HostRuntime) {
     let alloc = rt.alloc();
-    let places = offsets(alloc, &[1i32, 3, 3, 6]).expect(&rt, "offsets");
+    let indices = offsets(alloc, &[1i32, 3, 3, 6]).expect(&rt, "offsets");
     let bytes = buffer(alloc, b"_abcde_").expect(&rt, "bytes");
-    let texts = Utf8Array::try_new(DataType::Utf8, places, bytes, None).expect(&rt, "an array");
+    let texts = Utf8Array::try_new(DataType::Utf8, indices, bytes, None).expect(&rt, "an array");
     let (placed, body) = written(alloc, AnyArray::Utf8(texts)).expect(&rt, "a body");
     let want = [
         0u8, 0, 0, 0, 2, 0, 0, 0, 2, 0, 0, 0, 5, 0, 0, 0, b'a', b'b', b'c', b'd', b'e', 0, 0, 0,
     ];
     assert!(rt; body.as_slice() == want.as_slice());
-    assert!(rt; placed.regions.len() == 3 && placed.regions[2].length == 5);
-    let places = offsets(alloc, &[1i64, 3, 3, 6]).expect(&rt, "offsets");
+    assert!(rt; placed.buffers.len() == 3 && placed.buffers[2].length == 5);
+    let indices = offsets(alloc, &[1i64, 3, 3, 6]).expect(&rt, "offsets");
     let bytes = buffer(alloc, b"_abcde_").expect(&rt, "bytes");
-    let strings = BinaryArray::try_new(DataType::LargeBinary, places, bytes, None)
+    let strings = BinaryArray::try_new(DataType::LargeBinary, indices, bytes, None)
         .expect(&rt, "an array")
         .sliced(2, 1);
     let (placed, body) = written(alloc, AnyArray::LargeBinary(strings)).expect(&rt, "a body");
-    assert!(rt; placed.regions[1].length == 16 && placed.regions[2].length == 3);
+    assert!(rt; placed.buffers[1].length == 16 && placed.buffers[2].length == 3);
     assert!(rt; body[0] == 0 && body[8] == 3 && body[16] == b'c');
 }
 
@@ -175,37 +182,37 @@ fn sized_strings_are_copied(rt: HostRuntime) {
     let column = AnyArray::FixedSizeBinary(strings);
     let (placed, body) = written(alloc, column).expect(&rt, "a body");
     assert!(rt; body.as_slice() == [b'c', b'd', b'e', b'f', 0, 0, 0, 0].as_slice());
-    assert!(rt; placed.regions[0].length == 0 && placed.regions[1].length == 4);
+    assert!(rt; placed.buffers[0].length == 0 && placed.buffers[1].length == 4);
 }
 
-// The array of two slots, or its fault, of a body that these buffers lie in.
+// The array of two slots, or its error, of a body that these buffers lie in.
 fn read(
     alloc: Global,
     data_type: &DataType,
     rows: usize,
     nulls: i64,
     body: &[u8],
-    buffers: &[(i64, i64)],
-) -> Result<AnyArray, Fault> {
-    let nodes = [Node {
+    positions: &[(i64, i64)],
+) -> Result<AnyArray, IpcReadError> {
+    let nodes = [FieldNode {
         length: rows as i64,
         null_count: nulls,
     }];
-    let mut regions = Vec::new(alloc);
-    for (offset, length) in buffers {
-        regions.push(Region {
+    let mut buffers = Vec::new(alloc);
+    for (offset, length) in positions {
+        buffers.push(BufferSpec {
             offset: *offset,
             length: *length,
         })?;
     }
-    let left = Left {
+    let left = BatchCursor {
         nodes: &nodes,
-        regions: &regions,
+        buffers: &buffers,
         dictionaries: &[],
     };
-    match read_column(alloc, data_type, Wanted::Rows(rows), body, left) {
+    match read_column(alloc, data_type, ExpectedLength::Rows(rows), body, left) {
         Ok((array, _left)) => Ok(array),
-        Err(fault) => Err(fault),
+        Err(failure) => Err(failure),
     }
 }
 
@@ -215,7 +222,7 @@ const STRINGS: [u8; 20] = [
 ];
 
 #[test]
-fn strings_from_any_place(rt: HostRuntime) {
+fn strings_from_any_index(rt: HostRuntime) {
     let alloc = rt.alloc();
     let buffers = [(0, 0), (1, 12), (13, 3)];
     let texts = read(alloc, &DataType::Utf8, 2, 0, &STRINGS, &buffers).expect(&rt, "an array");
@@ -229,29 +236,41 @@ fn strings_from_any_place(rt: HostRuntime) {
 }
 
 #[test]
-fn each_fault_of_strings(rt: HostRuntime) {
+fn each_error_of_strings(rt: HostRuntime) {
     let alloc = rt.alloc();
     let utf8 = DataType::Utf8;
     let binary = DataType::Binary;
     let cases = [
-        (&utf8, [(0, 0), (1, 11), (13, 3)], Fault::BufferShort),
-        (&utf8, [(0, 0), (5, 12), (13, 3)], Fault::Offsets),
-        (&utf8, [(0, 0), (1, 12), (13, 2)], Fault::OffsetPastChild),
-        (&utf8, [(0, 0), (1, 12), (14, 4)], Fault::Text),
-        (&utf8, [(0, 0), (1, 12), (13, 9)], Fault::BufferRange),
-        (&binary, [(0, 1), (1, 12), (13, 3)], Fault::NullCount),
-        (&binary, [(0, 0), (0, 12), (13, 3)], Fault::OffsetPastChild),
+        (
+            &utf8,
+            [(0, 0), (1, 11), (13, 3)],
+            IpcReadError::BufferTooShort,
+        ),
+        (&utf8, [(0, 0), (5, 12), (13, 3)], IpcReadError::Offsets),
+        (
+            &utf8,
+            [(0, 0), (1, 12), (13, 2)],
+            IpcReadError::OffsetPastChild,
+        ),
+        (&utf8, [(0, 0), (1, 12), (14, 4)], IpcReadError::Utf8),
+        (&utf8, [(0, 0), (1, 12), (13, 9)], IpcReadError::BufferRange),
+        (&binary, [(0, 1), (1, 12), (13, 3)], IpcReadError::NullCount),
+        (
+            &binary,
+            [(0, 0), (0, 12), (13, 3)],
+            IpcReadError::OffsetPastChild,
+        ),
     ];
     for (data_type, buffers, want) in cases {
         match read(alloc, data_type, 2, 0, &STRINGS, &buffers) {
             Ok(_array) => assert!(rt; false),
-            Err(fault) => assert!(rt; fault == want, "{fault:?}"),
+            Err(failure) => assert!(rt; failure == want, "{failure:?}"),
         }
     }
     let bytes = read(alloc, &binary, 2, 0, &STRINGS, &[(0, 0), (1, 12), (14, 4)]);
     assert!(rt; bytes.is_ok());
     let few = read(alloc, &binary, 2, 0, &STRINGS, &[(0, 0), (1, 12)]);
-    assert!(rt; few.err() == Some(Fault::BufferCount));
+    assert!(rt; few.err() == Some(IpcReadError::BufferCount));
 }
 
 #[test]
@@ -261,29 +280,45 @@ fn strings_of_no_slot(rt: HostRuntime) {
     assert!(rt; read(alloc, &binary, 0, 0, &STRINGS, &[(0, 0), (0, 0), (0, 0)]).is_ok());
     assert!(rt; read(alloc, &binary, 0, 0, &STRINGS, &[(0, 0), (5, 4), (13, 2)]).is_ok());
     let past = read(alloc, &binary, 0, 0, &STRINGS, &[(0, 0), (5, 4), (13, 1)]);
-    assert!(rt; past.err() == Some(Fault::OffsetPastChild));
+    assert!(rt; past.err() == Some(IpcReadError::OffsetPastChild));
     let short = read(alloc, &binary, 0, 0, &STRINGS, &[(0, 0), (5, 3), (13, 2)]);
-    assert!(rt; short.err() == Some(Fault::BufferShort));
+    assert!(rt; short.err() == Some(IpcReadError::BufferTooShort));
 }
 
 #[test]
-fn each_fault_of_other_kinds(rt: HostRuntime) {
+fn each_error_of_other_kinds(rt: HostRuntime) {
     let alloc = rt.alloc();
     let body = [5u8, 1, 2, 3, 4, 5, 6];
     let bits = [(0, 1), (0, 1)];
     assert!(rt; read(alloc, &DataType::Boolean, 8, 6, &body, &bits).is_ok());
     let short = read(alloc, &DataType::Boolean, 8, 6, &body, &[(0, 1), (1, 0)]);
-    assert!(rt; short.err() == Some(Fault::BufferShort));
+    assert!(rt; short.err() == Some(IpcReadError::BufferTooShort));
     let counted = read(alloc, &DataType::Boolean, 8, 5, &body, &bits);
-    assert!(rt; counted.err() == Some(Fault::NullCount));
+    assert!(rt; counted.err() == Some(IpcReadError::NullCount));
     let two = DataType::FixedSizeBinary(2);
     assert!(rt; read(alloc, &two, 3, 0, &body, &[(0, 0), (1, 6)]).is_ok());
     let short = read(alloc, &two, 3, 0, &body, &[(0, 0), (1, 5)]);
-    assert!(rt; short.err() == Some(Fault::BufferShort));
-    let none = read(alloc, &DataType::FixedSizeBinary(0), 3, 0, &body, &[(0, 0), (1, 6)]);
-    assert!(rt; none.err() == Some(Fault::TypeRange));
-    let huge = read(alloc, &DataType::FixedSizeBinary(1 << 62), 1 << 62, 0, &body, &[(0, 0), (1, 6)]);
-    assert!(rt; huge.err() == Some(Fault::BufferShort));
+    assert!(rt; short.err() == Some(IpcReadError::BufferTooShort));
+    let none = read(
+        alloc,
+        &DataType::FixedSizeBinary(0),
+        3,
+        0,
+        &body,
+        &[(0, 0), (1, 6)],
+    );
+    assert!(rt; none.err() == Some(IpcReadError::TypeRange));
+    let huge = read(
+        alloc,
+        &DataType::FixedSizeBinary(1 << 62),
+        1 << 62,
+        0,
+        &body,
+        &[(0, 0), (1, 6)],
+    );
+    assert!(rt; huge.err() == Some(IpcReadError::BufferTooShort));
     assert!(rt; read(alloc, &DataType::Null, 3, 1, &body, &[]).is_ok());
-    assert!(rt; read(alloc, &DataType::Null, 3, 4, &body, &[]).err() == Some(Fault::NodeRange));
+    assert!(rt;
+        read(alloc, &DataType::Null, 3, 4, &body, &[]).err() == Some(IpcReadError::NodeRange)
+    );
 }

@@ -1,10 +1,12 @@
-//! Bytes that nobody wrote: each is answered, by `read_stream` and by a reader alike.
+//! Bytes that nobody wrote: each is decoded, by `read_stream` and by a reader alike.
+//!
+//! Each prefix of ten streams, and each byte of three changed, is decoded, by `read_stream` and by a reader alike.
+use crate::examples::count_batches;
 use crate::samples::{READ, Sample};
 use crate::samples_read::bytes_of;
+use crate::stream_text::is_read;
 use crate::streams::WORKED;
-use crate::texts::is_read;
-use crate::worked::count_batches;
-use ipc_flatbuf::Fault;
+use ipc_flatbuf::IpcReadError;
 use std::alloc::Global;
 
 #[test]
@@ -12,19 +14,19 @@ fn each_beginning(rt: HostRuntime) {
     for len in 0..WORKED.len() {
         let answer = count_batches(rt.alloc(), &WORKED[..len]);
         if len == 0 {
-            assert!(rt; answer == Err(Fault::NoSchema));
+            assert!(rt; answer == Err(IpcReadError::MissingSchema));
         } else if len == 128 {
             assert!(rt; answer == Ok(0));
         } else if len == 288 {
             assert!(rt; answer == Ok(1));
         } else {
-            assert!(rt; answer == Err(Fault::Truncated));
+            assert!(rt; answer == Err(IpcReadError::Truncated));
         }
     }
 }
 
-/// Whether each beginning of a stream is answered alike.
-fn are_beginnings_read(alloc: Global, sample: &Sample) -> Result<bool, Fault> {
+/// Whether each prefix of a stream is decoded alike.
+fn are_beginnings_read(alloc: Global, sample: &Sample) -> Result<bool, IpcReadError> {
     let bytes = bytes_of(alloc, sample)?;
     for len in 0..bytes.len() + 1 {
         if is_read(alloc, &bytes[..len]).is_none() {
@@ -43,18 +45,18 @@ fn each_beginning_of_ten_streams(rt: HostRuntime) {
     }
 }
 
-/// How many streams are read that differ from one in a byte: it is 0, 255 or one more. Each is answered alike.
+/// How many streams are read that differ from one in a byte: it is 0, 255 or one more. Each is decoded alike.
 fn count_read(alloc: Global, bytes: &mut [u8]) -> Option<usize> {
     let mut count = 0;
-    for place in 0..bytes.len() {
-        let old = bytes[place];
+    for index in 0..bytes.len() {
+        let old = bytes[index];
         for new in [0, 255, old.wrapping_add(1)] {
-            bytes[place] = new;
+            bytes[index] = new;
             if is_read(alloc, bytes)? {
                 count += 1;
             }
         }
-        bytes[place] = old;
+        bytes[index] = old;
     }
     Some(count)
 }
@@ -62,7 +64,7 @@ fn count_read(alloc: Global, bytes: &mut [u8]) -> Option<usize> {
 #[test]
 fn each_byte_changed(rt: HostRuntime) {
     let mut stream = WORKED;
-    let count = count_read(rt.alloc(), &mut stream).expect(&rt, "other answers");
+    let count = count_read(rt.alloc(), &mut stream).expect(&rt, "changed bytes");
     assert!(rt; count > 296);
 }
 
@@ -79,12 +81,12 @@ fn count_of(alloc: Global, name: &str) -> Option<usize> {
 
 #[test]
 fn each_byte_of_a_schema_changed(rt: HostRuntime) {
-    let count = count_of(rt.alloc(), "other_writer").expect(&rt, "other answers");
+    let count = count_of(rt.alloc(), "other_implementation").expect(&rt, "changed bytes");
     assert!(rt; count > 128);
 }
 
 #[test]
 fn each_byte_of_rows_without_columns_changed(rt: HostRuntime) {
-    let count = count_of(rt.alloc(), "no_columns").expect(&rt, "other answers");
+    let count = count_of(rt.alloc(), "no_columns").expect(&rt, "changed bytes");
     assert!(rt; count > 152);
 }

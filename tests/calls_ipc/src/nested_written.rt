@@ -1,14 +1,19 @@
-//! Arrays of every nesting that are drawn, cut, written, and read back.
-use drawn::laid::lay;
-use drawn::numbers::Draw;
-use drawn::slots::draw_slots;
-use drawn::start::START;
-use drawn::types::draw_type;
-use ipc_arrays::{Left, Placed, are_keyless, place_columns, put_columns, read_columns};
-use ipc_flatbuf::NoForm;
+//! Arrays of every nesting that are random, cut, written, and round-trip.
+//!
+//! Arrays of every nesting, random and cut, are written and round-trip, over the values of their dictionaries; columns are one
+//! after the other.
+use ipc_arrays::{
+    BatchCursor, BodyLayout, have_no_dictionaries, layout_columns, read_columns, write_columns,
+};
+use ipc_flatbuf::IpcWriteError;
 use nest_array::AnyArray;
 use nest_memory::datatypes::DataType;
 use nest_memory::error::Error;
+use random::layouts::lay;
+use random::numbers::Generator;
+use random::slots::random_slots;
+use random::start::START;
+use random::types::random_type;
 use std::alloc::Global;
 use std::test::Fail;
 
@@ -32,26 +37,30 @@ fn has_dictionary(data_type: &DataType) -> bool {
 }
 
 // An array of a type, cut.
-fn draw_array(alloc: Global, draw: &mut Draw, data_type: &DataType) -> Result<AnyArray, Error> {
-    let count = draw.below(14);
-    let slots = draw_slots(alloc, draw, data_type, count)?;
-    let array = lay(alloc, draw, data_type, slots.as_slice())?;
-    let (o, n) = draw.window(count);
+fn random_array(
+    alloc: Global,
+    rng: &mut Generator,
+    data_type: &DataType,
+) -> Result<AnyArray, Error> {
+    let count = rng.below(14);
+    let slots = random_slots(alloc, rng, data_type, count)?;
+    let array = lay(alloc, rng, data_type, slots.as_slice())?;
+    let (o, n) = rng.window(count);
     Ok(array.sliced(o, n))
 }
 
-// What is written of columns, behind bytes that stand there.
+// What is written of columns, after bytes that are there.
 fn written(
     alloc: Global,
     columns: &[AnyArray],
     before: usize,
-) -> Result<(Placed, Vec<u8>), NoForm> {
-    let placed = place_columns(alloc, columns)?;
+) -> Result<(BodyLayout, Vec<u8>), IpcWriteError> {
+    let placed = layout_columns(alloc, columns)?;
     let mut out = Vec::new(alloc);
     for _ in 0..before {
         out.push(255)?;
     }
-    put_columns(&mut out, columns)?;
+    write_columns(&mut out, columns)?;
     Ok((placed, out))
 }
 
@@ -81,7 +90,7 @@ fn name_values<'a>(
     Ok(())
 }
 
-// Whether a column is written, and over the values of its dictionaries read back as the same.
+// Whether a column is written, and over the values of its dictionaries round-trip as the same.
 fn is_again(alloc: Global, column: AnyArray, data_type: DataType) -> Result<bool, Error> {
     let rows = column.len();
     let columns = [column];
@@ -93,9 +102,9 @@ fn is_again(alloc: Global, column: AnyArray, data_type: DataType) -> Result<bool
     }
     let mut values = Vec::new(alloc);
     name_values(&columns[0], &mut values)?;
-    let left = Left {
+    let left = BatchCursor {
         nodes: &placed.nodes,
-        regions: &placed.regions,
+        buffers: &placed.buffers,
         dictionaries: &values,
     };
     match read_columns(alloc, &[data_type], rows, &body, left) {
@@ -105,16 +114,19 @@ fn is_again(alloc: Global, column: AnyArray, data_type: DataType) -> Result<bool
 }
 
 #[test]
-fn drawn_windows_are_read_back(rt: HostRuntime) -> Result<(), Fail> {
+fn random_windows_are_read_back(rt: HostRuntime) -> Result<(), Fail> {
     let alloc = rt.alloc();
     let mut count = 0;
     for case in 0..CASES {
-        let mut draw = Draw::new(START, 41, case);
-        let depth = draw.between(0, 4);
-        let data_type = draw_type(alloc, &mut draw, depth)?;
-        let column = draw_array(alloc, &mut draw, &data_type)?;
-        let is_keyless = are_keyless(&[column.clone(alloc)?]);
-        assert!(rt; is_keyless != has_dictionary(&data_type), "start {START}, case {case}");
+        let mut rng = Generator::new(START, 41, case);
+        let depth = rng.between(0, 4);
+        let data_type = random_type(alloc, &mut rng, depth)?;
+        let column = random_array(alloc, &mut rng, &data_type)?;
+        let is_keyless = have_no_dictionaries(&[column.clone(alloc)?]);
+        assert!(rt;
+            is_keyless != has_dictionary(&data_type),
+            "start {START}, case {case}"
+        );
         if !is_keyless {
             count += 1;
         }
@@ -128,16 +140,16 @@ fn drawn_windows_are_read_back(rt: HostRuntime) -> Result<(), Fail> {
     Ok(())
 }
 
-// Two columns one behind the other, behind other bytes.
+// Two columns one after the other, after other bytes.
 #[test]
-fn columns_stand_one_behind_the_other(rt: HostRuntime) -> Result<(), Fail> {
+fn columns_follow_one_another(rt: HostRuntime) -> Result<(), Fail> {
     let alloc = rt.alloc();
     for case in 0..CASES / 4 {
-        let mut draw = Draw::new(START, 42, case);
-        let depth = draw.between(1, 3);
-        let data_type = draw_type(alloc, &mut draw, depth)?;
-        let one = draw_array(alloc, &mut draw, &data_type)?;
-        let other = draw_array(alloc, &mut draw, &data_type)?;
+        let mut rng = Generator::new(START, 42, case);
+        let depth = rng.between(1, 3);
+        let data_type = random_type(alloc, &mut rng, depth)?;
+        let one = random_array(alloc, &mut rng, &data_type)?;
+        let other = random_array(alloc, &mut rng, &data_type)?;
         let (first, alone) = written(alloc, &[one.clone(alloc)?], 0).map_err(|_| Error::Overflow)?;
         let (second, behind) = written(alloc, &[other.clone(alloc)?], 0).map_err(
             |_| Error::Overflow,

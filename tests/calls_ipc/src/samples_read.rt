@@ -1,46 +1,35 @@
-//! Streams of another program, each with its answer.
-use crate::samples::{READ, REFUSED, Sample};
-use crate::texts::answer;
-use ipc_flatbuf::Fault;
+//! Streams of another implementation are decoded to their text, or rejected with their error.
+//!
+//! Streams of another implementation have their results, or their errors.
+use crate::samples::{READ, REJECTED, Sample};
+use crate::stream_text::text_of_stream;
+use ipc_flatbuf::IpcReadError;
 use std::alloc::Global;
 
-fn digit(letter: u8) -> u8 {
-    if letter < b'a' {
-        letter - b'0'
-    } else {
-        letter - b'a' + 10
-    }
+/// Returns a copy of the bytes of a sample.
+pub fn bytes_of(alloc: Global, sample: &Sample) -> Result<Vec<u8>, IpcReadError> {
+    copied(alloc, sample.bytes)
 }
 
-/// The bytes of a sample.
-pub fn bytes_of(alloc: Global, sample: &Sample) -> Result<Vec<u8>, Fault> {
-    bytes_of_digits(alloc, sample.digits)
-}
-
-/// The bytes of hexadecimal digits.
-pub fn bytes_of_digits(alloc: Global, digits: &str) -> Result<Vec<u8>, Fault> {
-    let digits = digits.as_bytes();
-    let mut bytes = Vec::with_capacity(alloc, digits.len() / 2)?;
-    for i in 0..digits.len() / 2 {
-        bytes.push(digit(digits[2 * i]) * 16 + digit(digits[2 * i + 1]))?;
-    }
-    Ok(bytes)
+/// Returns a copy of bytes.
+pub fn copied(alloc: Global, bytes: &[u8]) -> Result<Vec<u8>, IpcReadError> {
+    Ok(Vec::from_slice(alloc, bytes)?)
 }
 
 #[test]
-fn each_that_is_read(rt: HostRuntime) {
+fn valid_samples(rt: HostRuntime) {
     for sample in &READ {
         let bytes = bytes_of(rt.alloc(), sample).expect(&rt, "no bytes");
-        let text = answer(rt.alloc(), &bytes).expect(&rt, "no text");
-        assert!(rt; text.as_str() == sample.answer, "{}: {text}", sample.name);
+        let text = text_of_stream(rt.alloc(), &bytes).expect(&rt, "no text");
+        assert!(rt; text.as_str() == sample.text, "{}: {text}", sample.name);
     }
 }
 
 #[test]
-fn each_that_is_refused(rt: HostRuntime) {
-    for sample in &REFUSED {
+fn invalid_samples_are_rejected(rt: HostRuntime) {
+    for sample in &REJECTED {
         let bytes = bytes_of(rt.alloc(), sample).expect(&rt, "no bytes");
-        let text = answer(rt.alloc(), &bytes).expect(&rt, "no text");
-        assert!(rt; text.as_str() == sample.answer, "{}: {text}", sample.name);
+        let text = text_of_stream(rt.alloc(), &bytes).expect(&rt, "no text");
+        assert!(rt; text.as_str() == sample.text, "{}: {text}", sample.name);
     }
 }

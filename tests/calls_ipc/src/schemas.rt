@@ -1,14 +1,17 @@
-//! Schemas of each type: those of another program, and those that are written and read back.
+//! Schemas of each type: those of another implementation, and those that are written and round-trip.
+//!
+//! Schemas of another implementation have their text, or their errors; each type is round-trip; random schemas, over every type,
+//! are round-trip or have the first reason of a plain model; each prefix of a message and each byte of it changed is decoded.
+use crate::samples::{REJECTED_SCHEMAS, SCHEMAS};
 use crate::samples_read::bytes_of;
-use crate::schema_samples::{REFUSED_SCHEMAS, SCHEMAS};
-use crate::type_texts::schema_answer;
-use drawn::numbers::Draw;
-use drawn::start::START;
-use drawn::types::draw_type;
-use ipc_flatbuf::message::Version;
-use ipc_flatbuf::{Fault, NoForm};
-use ipc_schema::{Schema, in_version, read_schema, write_schema};
+use crate::schema_text::text_of_schema;
+use ipc_flatbuf::message::MetadataVersion;
+use ipc_flatbuf::{IpcReadError, IpcWriteError};
+use ipc_schema::{Schema, check_version, read_schema, write_schema};
 use nest_memory::datatypes::{DataType, Field, IntervalUnit, Metadata, TimeUnit, UnionMode};
+use random::numbers::Generator;
+use random::start::START;
+use random::types::random_type;
 use std::alloc::Global;
 use std::collections::BTreeMap;
 
@@ -16,25 +19,25 @@ use std::collections::BTreeMap;
 fn of_another_program(rt: HostRuntime) {
     for sample in &SCHEMAS {
         let bytes = bytes_of(rt.alloc(), sample).expect(&rt, "no bytes");
-        let text = schema_answer(rt.alloc(), &bytes).expect(&rt, "no text");
-        assert!(rt; text.as_str() == sample.answer, "{}: {text}", sample.name);
+        let text = text_of_schema(rt.alloc(), &bytes).expect(&rt, "no text");
+        assert!(rt; text.as_str() == sample.text, "{}: {text}", sample.name);
     }
 }
 
 #[test]
-fn refused_of_another_program(rt: HostRuntime) {
-    for sample in &REFUSED_SCHEMAS {
+fn invalid_samples(rt: HostRuntime) {
+    for sample in &REJECTED_SCHEMAS {
         let bytes = bytes_of(rt.alloc(), sample).expect(&rt, "no bytes");
-        let text = schema_answer(rt.alloc(), &bytes).expect(&rt, "no text");
-        assert!(rt; text.as_str() == sample.answer, "{}: {text}", sample.name);
+        let text = text_of_schema(rt.alloc(), &bytes).expect(&rt, "no text");
+        assert!(rt; text.as_str() == sample.text, "{}: {text}", sample.name);
     }
 }
 
-fn field_of(alloc: Global, data_type: DataType) -> Result<Field, NoForm> {
-    Field::new(alloc, "f", data_type, true).map_err(|_| NoForm::Memory)
+fn field_of(alloc: Global, data_type: DataType) -> Result<Field, IpcWriteError> {
+    Field::new(alloc, "f", data_type, true).map_err(|_| IpcWriteError::Memory)
 }
 
-fn schema_of(alloc: Global, data_type: DataType) -> Result<Schema, NoForm> {
+fn schema_of(alloc: Global, data_type: DataType) -> Result<Schema, IpcWriteError> {
     let mut fields = Vec::new(alloc);
     fields.push(field_of(alloc, data_type)?)?;
     Ok(Schema {
@@ -43,11 +46,11 @@ fn schema_of(alloc: Global, data_type: DataType) -> Result<Schema, NoForm> {
     })
 }
 
-fn boxed(alloc: Global, data_type: DataType) -> Result<Box<Field>, NoForm> {
+fn boxed(alloc: Global, data_type: DataType) -> Result<Box<Field>, IpcWriteError> {
     Ok(Box::new(alloc, field_of(alloc, data_type)?)?)
 }
 
-fn fields_of(alloc: Global, count: usize) -> Result<Vec<Field>, NoForm> {
+fn fields_of(alloc: Global, count: usize) -> Result<Vec<Field>, IpcWriteError> {
     let mut fields = Vec::new(alloc);
     for _ in 0..count {
         fields.push(field_of(alloc, DataType::Int8)?)?;
@@ -55,12 +58,12 @@ fn fields_of(alloc: Global, count: usize) -> Result<Vec<Field>, NoForm> {
     Ok(fields)
 }
 
-fn ids_of(alloc: Global, ids: &[i32]) -> Result<Option<Vec<i32>>, NoForm> {
+fn ids_of(alloc: Global, ids: &[i32]) -> Result<Option<Vec<i32>>, IpcWriteError> {
     Ok(Some(Vec::from_slice(alloc, ids)?))
 }
 
 /// Lists inside of one another.
-fn lists(alloc: Global, depth: usize) -> Result<DataType, NoForm> {
+fn lists(alloc: Global, depth: usize) -> Result<DataType, IpcWriteError> {
     let mut data_type = DataType::Null;
     for _ in 0..depth {
         data_type = DataType::List(boxed(alloc, data_type)?);
@@ -68,14 +71,14 @@ fn lists(alloc: Global, depth: usize) -> Result<DataType, NoForm> {
     Ok(data_type)
 }
 
-/// The first reason why a schema of the type is not written; None where it is read back as it was.
-fn reason(alloc: Global, data_type: DataType) -> Result<Option<NoForm>, Fault> {
-    let schema = schema_of(alloc, data_type).map_err(|_| Fault::Memory)?;
+/// The first reason why a schema of the type is not written; None where it is round-trip as it was.
+fn reason(alloc: Global, data_type: DataType) -> Result<Option<IpcWriteError>, IpcReadError> {
+    let schema = schema_of(alloc, data_type).map_err(|_| IpcReadError::Memory)?;
     reason_of(alloc, &schema)
 }
 
 /// The same of a schema.
-fn reason_of(alloc: Global, schema: &Schema) -> Result<Option<NoForm>, Fault> {
+fn reason_of(alloc: Global, schema: &Schema) -> Result<Option<IpcWriteError>, IpcReadError> {
     match write_schema(alloc, schema) {
         Err(why) => Ok(Some(why)),
         Ok(bytes) => {
@@ -83,7 +86,7 @@ fn reason_of(alloc: Global, schema: &Schema) -> Result<Option<NoForm>, Fault> {
             if read.schema.fields == schema.fields && rest.is_empty() {
                 Ok(None)
             } else {
-                Err(Fault::Block)
+                Err(IpcReadError::Block)
             }
         }
     }
@@ -99,10 +102,10 @@ const UNITS: [TimeUnit; 4] = [
 #[test]
 fn each_unit(rt: HostRuntime) {
     let alloc = rt.alloc();
-    for (place, unit) in UNITS.into_iter().enumerate() {
+    for (index, unit) in UNITS.into_iter().enumerate() {
         let zone = String::from_str(alloc, "Europe/Oslo").expect(&rt, "no memory");
-        let short = (place > 1).then_some(NoForm::Unit);
-        let long = (place < 2).then_some(NoForm::Unit);
+        let short = (index > 1).then_some(IpcWriteError::Unit);
+        let long = (index < 2).then_some(IpcWriteError::Unit);
         for (data_type, want) in [
             (DataType::Time32(unit), short),
             (DataType::Time64(unit), long),
@@ -153,21 +156,21 @@ fn each_type_without_a_unit(rt: HostRuntime) {
 fn types_without_a_form(rt: HostRuntime) {
     let alloc = rt.alloc();
     for (data_type, want) in [
-        (DataType::Float16, NoForm::Float),
-        (DataType::Float32, NoForm::Float),
-        (DataType::Float64, NoForm::Float),
-        (DataType::FixedSizeBinary(0), NoForm::Type),
-        (DataType::FixedSizeBinary(1 << 31), NoForm::Size),
-        (DataType::Decimal(1 << 31, 0), NoForm::Size),
-        (DataType::Decimal(0, 1 << 31), NoForm::Size),
-        (DataType::Decimal256(1 << 31, 0), NoForm::Size),
-        (DataType::Decimal256(0, usize::MAX), NoForm::Size),
+        (DataType::Float16, IpcWriteError::Float),
+        (DataType::Float32, IpcWriteError::Float),
+        (DataType::Float64, IpcWriteError::Float),
+        (DataType::FixedSizeBinary(0), IpcWriteError::Type),
+        (DataType::FixedSizeBinary(1 << 31), IpcWriteError::Size),
+        (DataType::Decimal(1 << 31, 0), IpcWriteError::Size),
+        (DataType::Decimal(0, 1 << 31), IpcWriteError::Size),
+        (DataType::Decimal256(1 << 31, 0), IpcWriteError::Size),
+        (DataType::Decimal256(0, usize::MAX), IpcWriteError::Size),
     ] {
         assert!(rt; reason(alloc, data_type) == Ok(Some(want)));
     }
 }
 
-fn nested(alloc: Global) -> Result<Vec<(DataType, Option<NoForm>)>, NoForm> {
+fn nested(alloc: Global) -> Result<Vec<(DataType, Option<IpcWriteError>)>, IpcWriteError> {
     let mut types = Vec::new(alloc);
     let pair = DataType::Struct(fields_of(alloc, 2)?);
     let large = DataType::LargeList(boxed(alloc, DataType::Utf8)?);
@@ -178,28 +181,28 @@ fn nested(alloc: Global) -> Result<Vec<(DataType, Option<NoForm>)>, NoForm> {
     ))?;
     types.push((
         DataType::FixedSizeList(boxed(alloc, DataType::Int8)?, 0),
-        Some(NoForm::Type),
+        Some(IpcWriteError::Type),
     ))?;
     let long = DataType::FixedSizeList(boxed(alloc, DataType::Float16)?, 1 << 31);
-    types.push((long, Some(NoForm::Size)))?;
+    types.push((long, Some(IpcWriteError::Size)))?;
     types.push((DataType::Struct(fields_of(alloc, 1)?), None))?;
-    types.push((DataType::Struct(Vec::new(alloc)), Some(NoForm::Type)))?;
+    types.push((DataType::Struct(Vec::new(alloc)), Some(IpcWriteError::Type)))?;
     types.push((DataType::Map(boxed(alloc, pair)?, true), None))?;
     let three = DataType::Struct(fields_of(alloc, 3)?);
     types.push((
         DataType::Map(boxed(alloc, three)?, false),
-        Some(NoForm::Type),
+        Some(IpcWriteError::Type),
     ))?;
     types.push((
         DataType::Map(boxed(alloc, DataType::Int8)?, false),
-        Some(NoForm::Type),
+        Some(IpcWriteError::Type),
     ))?;
     types.push((
         DataType::List(boxed(alloc, DataType::Float16)?),
-        Some(NoForm::Float),
+        Some(IpcWriteError::Float),
     ))?;
     types.push((lists(alloc, 63)?, None))?;
-    types.push((lists(alloc, 64)?, Some(NoForm::Depth)))?;
+    types.push((lists(alloc, 64)?, Some(IpcWriteError::Depth)))?;
     Ok(types)
 }
 
@@ -217,7 +220,7 @@ fn union_of(
     count: usize,
     ids: Option<&[i32]>,
     mode: UnionMode,
-) -> Result<DataType, NoForm> {
+) -> Result<DataType, IpcWriteError> {
     let fields = fields_of(alloc, count)?;
     let ids = match ids {
         None => None,
@@ -229,7 +232,7 @@ fn union_of(
 #[test]
 fn unions_with_ids_and_without(rt: HostRuntime) {
     let alloc = rt.alloc();
-    let refused = Some(NoForm::Type);
+    let refused = Some(IpcWriteError::Type);
     for (count, ids, want) in [
         (0, None, None),
         (2, None, None),
@@ -254,7 +257,7 @@ fn extension_of(
     name: &str,
     inner: DataType,
     text: Option<&str>,
-) -> Result<DataType, NoForm> {
+) -> Result<DataType, IpcWriteError> {
     let name = String::from_str(alloc, name)?;
     let text = match text {
         None => None,
@@ -263,7 +266,7 @@ fn extension_of(
     Ok(DataType::Extension(name, Box::new(alloc, inner)?, text))
 }
 
-fn extensions(alloc: Global) -> Result<Vec<(DataType, Option<NoForm>)>, NoForm> {
+fn extensions(alloc: Global) -> Result<Vec<(DataType, Option<IpcWriteError>)>, IpcWriteError> {
     let mut types = Vec::new(alloc);
     types.push((extension_of(alloc, "odd", DataType::Int8, None)?, None))?;
     types.push((extension_of(alloc, "", DataType::Utf8, Some(""))?, None))?;
@@ -272,22 +275,22 @@ fn extensions(alloc: Global) -> Result<Vec<(DataType, Option<NoForm>)>, NoForm> 
     let twice = extension_of(alloc, "in", DataType::Null, None)?;
     types.push((
         extension_of(alloc, "out", twice, None)?,
-        Some(NoForm::Extension),
+        Some(IpcWriteError::Extension),
     ))?;
     types.push((
         extension_of(alloc, "f", DataType::Float16, None)?,
-        Some(NoForm::Float),
+        Some(IpcWriteError::Float),
     ))?;
     let pair = extension_of(alloc, "p", DataType::Struct(fields_of(alloc, 2)?), None)?;
     types.push((
         DataType::Map(boxed(alloc, pair)?, false),
-        Some(NoForm::Type),
+        Some(IpcWriteError::Type),
     ))?;
     Ok(types)
 }
 
 #[test]
-fn extensions_are_spelled_by_metadata(rt: HostRuntime) {
+fn extensions_are_in_metadata(rt: HostRuntime) {
     let alloc = rt.alloc();
     let types = extensions(alloc).expect(&rt, "no types");
     for (data_type, want) in types {
@@ -300,9 +303,17 @@ fn extensions_and_metadata(rt: HostRuntime) {
     let alloc = rt.alloc();
     for (key, is_extension, want) in [
         ("ARROW:extension:metadata", false, None),
-        ("ARROW:extension:metadata", true, Some(NoForm::Extension)),
-        ("ARROW:extension:name", false, Some(NoForm::Extension)),
-        ("ARROW:extension:name", true, Some(NoForm::Extension)),
+        (
+            "ARROW:extension:metadata",
+            true,
+            Some(IpcWriteError::Extension),
+        ),
+        (
+            "ARROW:extension:name",
+            false,
+            Some(IpcWriteError::Extension),
+        ),
+        ("ARROW:extension:name", true, Some(IpcWriteError::Extension)),
         ("ARROW:extension", true, None),
     ] {
         let data_type = if is_extension {
@@ -324,15 +335,15 @@ fn unions_are_of_the_last_version(rt: HostRuntime) {
     let union = union_of(alloc, 1, None, UnionMode::Dense).expect(&rt, "no type");
     let own = extension_of(alloc, "odd", union, None).expect(&rt, "no type");
     let extended = schema_of(alloc, own).expect(&rt, "no schema");
-    assert!(rt; in_version(Version::V4, &extended.fields) == Err(Fault::Version));
+    assert!(rt; check_version(MetadataVersion::V4, &extended.fields) == Err(IpcReadError::Version));
     let union = union_of(alloc, 1, None, UnionMode::Dense).expect(&rt, "no type");
     let list = DataType::List(boxed(alloc, union).expect(&rt, "no field"));
     let schema = schema_of(alloc, list).expect(&rt, "no schema");
-    assert!(rt; in_version(Version::V4, &schema.fields) == Err(Fault::Version));
-    assert!(rt; in_version(Version::V5, &schema.fields) == Ok(()));
+    assert!(rt; check_version(MetadataVersion::V4, &schema.fields) == Err(IpcReadError::Version));
+    assert!(rt; check_version(MetadataVersion::V5, &schema.fields) == Ok(()));
     let deep = lists(alloc, 63).expect(&rt, "no type");
     let schema = schema_of(alloc, deep).expect(&rt, "no schema");
-    assert!(rt; in_version(Version::V4, &schema.fields) == Ok(()));
+    assert!(rt; check_version(MetadataVersion::V4, &schema.fields) == Ok(()));
 }
 
 /// Whether a type is a struct, no extension of one, of two fields.
@@ -352,24 +363,24 @@ fn are_ids(ids: &Option<Vec<i32>>, count: usize) -> bool {
 }
 
 /// The first reason why a type is not written, by a plain model: its own, then those of the fields inside of it.
-fn wanted(data_type: &DataType, depth: usize) -> Option<NoForm> {
+fn wanted(data_type: &DataType, depth: usize) -> Option<IpcWriteError> {
     match data_type {
-        DataType::Float16 | DataType::Float32 | DataType::Float64 => Some(NoForm::Float),
-        DataType::Time32(TimeUnit::Microsecond | TimeUnit::Nanosecond) => Some(NoForm::Unit),
-        DataType::Time64(TimeUnit::Second | TimeUnit::Millisecond) => Some(NoForm::Unit),
+        DataType::Float16 | DataType::Float32 | DataType::Float64 => Some(IpcWriteError::Float),
+        DataType::Time32(TimeUnit::Microsecond | TimeUnit::Nanosecond) => Some(IpcWriteError::Unit),
+        DataType::Time64(TimeUnit::Second | TimeUnit::Millisecond) => Some(IpcWriteError::Unit),
         DataType::List(field) | DataType::LargeList(field) => wanted_of_one(field, depth),
-        DataType::FixedSizeList(_, 0) => Some(NoForm::Type),
+        DataType::FixedSizeList(_, 0) => Some(IpcWriteError::Type),
         DataType::FixedSizeList(field, _) => wanted_of_one(field, depth),
         DataType::Map(field, _) => {
             if is_pair(&field.data_type) {
                 wanted_of_one(field, depth)
             } else {
-                Some(NoForm::Type)
+                Some(IpcWriteError::Type)
             }
         }
         DataType::Struct(fields) => {
             if fields.is_empty() {
-                Some(NoForm::Type)
+                Some(IpcWriteError::Type)
             } else {
                 wanted_of(fields, depth)
             }
@@ -378,16 +389,16 @@ fn wanted(data_type: &DataType, depth: usize) -> Option<NoForm> {
             if are_ids(ids, fields.len()) {
                 wanted_of(fields, depth)
             } else {
-                Some(NoForm::Type)
+                Some(IpcWriteError::Type)
             }
         }
         DataType::Dictionary(_, values, _) => wanted(values, depth),
-        DataType::Extension(_, _, _) => Some(NoForm::Type),
+        DataType::Extension(_, _, _) => Some(IpcWriteError::Type),
         _ => None,
     }
 }
 
-/// Whether a type is a dictionary whose values have no place for their own.
+/// Whether a type is a dictionary whose values have no index for their own.
 fn is_crowded(data_type: &DataType) -> bool {
     match data_type {
         DataType::Dictionary(_, values, _) => match &**values {
@@ -409,30 +420,30 @@ fn has_key(field: &Field, key: &str) -> bool {
     field.metadata.contains_key(key)
 }
 
-fn wanted_of_one(field: &Field, depth: usize) -> Option<NoForm> {
+fn wanted_of_one(field: &Field, depth: usize) -> Option<IpcWriteError> {
     if depth == 0 {
-        return Some(NoForm::Depth);
+        return Some(IpcWriteError::Depth);
     }
     let (data_type, is_extended) = match &field.data_type {
         DataType::Extension(_, inner, _) => (&**inner, true),
         data_type => (data_type, false),
     };
     if is_extension(data_type) {
-        return Some(NoForm::Extension);
+        return Some(IpcWriteError::Extension);
     }
     if is_crowded(data_type) {
-        return Some(NoForm::Dictionary);
+        return Some(IpcWriteError::Dictionary);
     }
     if has_key(field, "ARROW:extension:name")
         || is_extended && has_key(field, "ARROW:extension:metadata")
     {
-        return Some(NoForm::Extension);
+        return Some(IpcWriteError::Extension);
     }
     wanted(data_type, depth - 1)
 }
 
 /// The first reason why one of fields is not written, by the model.
-pub fn wanted_of(fields: &[Field], depth: usize) -> Option<NoForm> {
+pub fn wanted_of(fields: &[Field], depth: usize) -> Option<IpcWriteError> {
     for field in fields {
         let why = wanted_of_one(field, depth);
         if why.is_some() {
@@ -487,43 +498,47 @@ fn outer_of(data_type: &DataType) -> usize {
 }
 
 /// The first reason where none may have a dictionary.
-fn plain_wanted(fields: &[Field]) -> Option<NoForm> {
-    let some = (count_dictionaries(fields) != 0).then_some(NoForm::Type);
+fn plain_wanted(fields: &[Field]) -> Option<IpcWriteError> {
+    let some = (count_dictionaries(fields) != 0).then_some(IpcWriteError::Type);
     wanted_of(fields, 64).or(some)
 }
 
-fn draw_metadata(alloc: Global, draw: &mut Draw) -> Result<Metadata, NoForm> {
+fn random_metadata(alloc: Global, rng: &mut Generator) -> Result<Metadata, IpcWriteError> {
     let mut metadata = BTreeMap::new(alloc);
-    for _ in 0..draw.below(3) {
+    for _ in 0..rng.below(3) {
         let key = String::from_str(
             alloc,
-            ["", "k", "ARROW:extension:metadata", "\u{e9}"][draw.below(4)],
+            ["", "k", "ARROW:extension:metadata", "\u{e9}"][rng.below(4)],
         )?;
-        let value = String::from_str(alloc, ["", "v", "eight by"][draw.below(3)])?;
+        let value = String::from_str(alloc, ["", "v", "eight by"][rng.below(3)])?;
         metadata.insert(key, value)?;
     }
     Ok(metadata)
 }
 
 /// A schema of a few fields of any types.
-pub fn draw_schema(alloc: Global, draw: &mut Draw, depth: usize) -> Result<Schema, NoForm> {
+pub fn random_schema(
+    alloc: Global,
+    rng: &mut Generator,
+    depth: usize,
+) -> Result<Schema, IpcWriteError> {
     let mut fields = Vec::new(alloc);
-    for _ in 0..draw.below(4) {
-        let data_type = draw_type(alloc, draw, depth).map_err(|_| NoForm::Memory)?;
-        let name = String::from_str(alloc, ["a", "", "a longer name"][draw.below(3)])?;
+    for _ in 0..rng.below(4) {
+        let data_type = random_type(alloc, rng, depth).map_err(|_| IpcWriteError::Memory)?;
+        let name = String::from_str(alloc, ["a", "", "a longer name"][rng.below(3)])?;
         fields.push(Field {
             name,
             data_type,
-            is_nullable: draw.truth(),
-            metadata: draw_metadata(alloc, draw)?,
+            is_nullable: rng.boolean(),
+            metadata: random_metadata(alloc, rng)?,
         })?;
     }
-    let metadata = draw_metadata(alloc, draw)?;
+    let metadata = random_metadata(alloc, rng)?;
     Ok(Schema { fields, metadata })
 }
 
-/// Whether a schema is read back, or is refused by the reason that the model has.
-fn is_answered(alloc: Global, schema: &Schema) -> bool {
+/// Whether a schema is round-trip, or is rejected by the reason that the model has.
+fn is_decoded(alloc: Global, schema: &Schema) -> bool {
     match write_schema(alloc, schema) {
         Err(why) => plain_wanted(&schema.fields) == Some(why),
         Ok(bytes) => match read_schema(alloc, &bytes) {
@@ -538,14 +553,14 @@ fn is_answered(alloc: Global, schema: &Schema) -> bool {
     }
 }
 
-const DRAWN: u64 = 31;
+const RANDOM: u64 = 31;
 
 #[test]
-fn drawn_schemas(rt: HostRuntime) {
+fn random_schemas(rt: HostRuntime) {
     for case in 0..400 {
-        let mut draw = Draw::new(START, DRAWN, case);
-        let schema = draw_schema(rt.alloc(), &mut draw, case % 4).expect(&rt, "no schema");
-        assert!(rt; is_answered(rt.alloc(), &schema), "case {case}");
+        let mut rng = Generator::new(START, RANDOM, case);
+        let schema = random_schema(rt.alloc(), &mut rng, case % 4).expect(&rt, "no schema");
+        assert!(rt; is_decoded(rt.alloc(), &schema), "case {case}");
     }
 }
 
@@ -554,27 +569,31 @@ fn each_beginning_of_a_message(rt: HostRuntime) {
     for sample in &SCHEMAS {
         let bytes = bytes_of(rt.alloc(), sample).expect(&rt, "no bytes");
         for len in 1..bytes.len() {
-            let fault = read_schema(rt.alloc(), &bytes[..len]).err();
-            assert!(rt; fault == Some(Fault::Truncated), "{}: {len}", sample.name);
+            let error = read_schema(rt.alloc(), &bytes[..len]).err();
+            assert!(rt;
+                error == Some(IpcReadError::Truncated),
+                "{}: {len}",
+                sample.name
+            );
         }
     }
 }
 
-/// How many messages are read that differ from one in a byte: it is 255 or one more. What is read of each is written and read back.
+/// How many messages are read that differ from one in a byte: it is 255 or one more. What is read of each is written and round-trip.
 fn count_read(alloc: Global, bytes: &mut [u8]) -> Option<usize> {
     let mut count = 0;
-    for place in 0..bytes.len() {
-        let old = bytes[place];
+    for index in 0..bytes.len() {
+        let old = bytes[index];
         for new in [255, old.wrapping_add(1)] {
-            bytes[place] = new;
+            bytes[index] = new;
             if let Ok((keyed, _)) = read_schema(alloc, bytes) {
-                if !is_answered(alloc, &keyed.schema) {
+                if !is_decoded(alloc, &keyed.schema) {
                     return None;
                 }
                 count += 1;
             }
         }
-        bytes[place] = old;
+        bytes[index] = old;
     }
     Some(count)
 }

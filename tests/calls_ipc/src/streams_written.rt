@@ -1,10 +1,12 @@
-//! Streams that are written, and read back.
+//! Streams that are written, and round-trip.
+//!
+//! Streams that are written, and round-trip: windows, nothing, streams of others, rows without columns; each reason not to.
 use crate::samples::READ;
 use crate::samples_read::bytes_of;
+use crate::stream_text::text_of_stream;
 use crate::streams::WORKED;
-use crate::texts::answer;
-use ipc::{Batch, StreamReader, read_stream, write_stream};
-use ipc_flatbuf::{Fault, NoForm};
+use ipc::{Batch, SliceStreamReader, read_stream, write_stream};
+use ipc_flatbuf::{IpcReadError, IpcWriteError};
 use ipc_schema::Schema;
 use nest_array::any::AnyArray;
 use nest_flat::any_primitive::AnyPrimitive;
@@ -65,8 +67,13 @@ fn batches(alloc: Global, count: usize) -> Result<Vec<Batch>, Error> {
     Ok(batches)
 }
 
-// Whether the reader gives just these batches, all bytes but those behind the end mark read.
-fn are_read(alloc: Global, bytes: &[u8], want: &[Batch], behind: usize) -> Result<bool, Fault> {
+// Whether the reader returns just these batches, all bytes but those after the end mark read.
+fn are_read(
+    alloc: Global,
+    bytes: &[u8],
+    want: &[Batch],
+    behind: usize,
+) -> Result<bool, IpcReadError> {
     let stream = read_stream(alloc, bytes)?;
     if stream.batches.len() != want.len() || stream.read + behind != bytes.len() {
         return Ok(false);
@@ -98,7 +105,7 @@ fn batches_of_windows(rt: HostRuntime) {
 }
 
 #[test]
-fn what_stands_behind_the_end_is_not_read(rt: HostRuntime) {
+fn bytes_after_the_end_are_not_read(rt: HostRuntime) {
     let alloc = rt.alloc();
     let schema = schema(alloc, DataType::Int64).expect(&rt, "a schema");
     let batches = batches(alloc, 3).expect(&rt, "batches");
@@ -113,7 +120,7 @@ fn batch_by_batch(rt: HostRuntime) {
     let schema = schema(alloc, DataType::Int64).expect(&rt, "a schema");
     let batches = batches(alloc, 4).expect(&rt, "batches");
     let bytes = write_stream(alloc, &schema, &batches).expect(&rt, "a stream");
-    let mut reader = StreamReader::new(alloc, &bytes).expect(&rt, "a reader");
+    let mut reader = SliceStreamReader::new(alloc, &bytes).expect(&rt, "a reader");
     let mut count = 0;
     for _ in 0..6 {
         if let Some(batch) = reader.next_batch(alloc).expect(&rt, "a batch") {
@@ -125,11 +132,11 @@ fn batch_by_batch(rt: HostRuntime) {
 }
 
 // What a stream says, once it was read and written.
-fn written_again(alloc: Global, bytes: &[u8]) -> Result<String, Fault> {
+fn written_again(alloc: Global, bytes: &[u8]) -> Result<String, IpcReadError> {
     let stream = read_stream(alloc, bytes)?;
     match write_stream(alloc, &stream.schema, &stream.batches) {
-        Ok(written) => answer(alloc, &written),
-        Err(_) => Err(Fault::Memory),
+        Ok(written) => text_of_stream(alloc, &written),
+        Err(_) => Err(IpcReadError::Memory),
     }
 }
 
@@ -140,19 +147,24 @@ fn streams_of_others_are_written_again(rt: HostRuntime) {
     for sample in &READ {
         let bytes = bytes_of(alloc, sample).expect(&rt, "bytes");
         let again = written_again(alloc, &bytes).expect(&rt, "a stream");
-        // What stands behind the end is not written.
-        if !sample.answer.contains("unread") {
-            assert!(rt; again.as_str() == sample.answer, "{}: {again}", sample.name);
+        // What is after the end is not written.
+        if !sample.text.contains("unread") {
+            assert!(rt; again.as_str() == sample.text, "{}: {again}", sample.name);
             count = count + 1;
         }
     }
     assert!(rt; count > 5);
     let again = written_again(alloc, &WORKED).expect(&rt, "a stream");
-    assert!(rt; again.as_str() == answer(alloc, &WORKED).expect(&rt, "a text").as_str());
+    assert!(rt;
+        again.as_str()
+            == text_of_stream(alloc, &WORKED)
+                .expect(&rt, "a text")
+                .as_str()
+    );
 }
 
 // The reason why two columns of 64 bits are not written under a schema, if there is one.
-fn reason(alloc: Global, schema: &Schema, batch: Batch) -> Option<NoForm> {
+fn reason(alloc: Global, schema: &Schema, batch: Batch) -> Option<IpcWriteError> {
     match write_stream(alloc, schema, &[batch]) {
         Ok(_bytes) => None,
         Err(why) => Some(why),
@@ -167,28 +179,28 @@ fn columns_of_another_schema(rt: HostRuntime) {
     let good = batch(alloc, 1, 2, 9).expect(&rt, "a batch");
     assert!(rt; reason(alloc, &both, good).is_none());
     let other_type = batch(alloc, 1, 2, 9).expect(&rt, "a batch");
-    assert!(rt; reason(alloc, &mixed, other_type) == Some(NoForm::Columns));
+    assert!(rt; reason(alloc, &mixed, other_type) == Some(IpcWriteError::Columns));
     let mut few = batch(alloc, 1, 2, 9).expect(&rt, "a batch");
     assert!(rt; few.columns.pop().is_some());
-    assert!(rt; reason(alloc, &both, few) == Some(NoForm::Columns));
+    assert!(rt; reason(alloc, &both, few) == Some(IpcWriteError::Columns));
     let mut many = batch(alloc, 1, 2, 9).expect(&rt, "a batch");
     let third = column(alloc, 5, 0, 9).expect(&rt, "a column");
     assert!(rt; many.columns.push(third).is_ok());
-    assert!(rt; reason(alloc, &both, many) == Some(NoForm::Columns));
+    assert!(rt; reason(alloc, &both, many) == Some(IpcWriteError::Columns));
     let mut short = batch(alloc, 1, 2, 9).expect(&rt, "a batch");
     short.rows = 8;
-    assert!(rt; reason(alloc, &both, short) == Some(NoForm::Columns));
+    assert!(rt; reason(alloc, &both, short) == Some(IpcWriteError::Columns));
 }
 
 #[test]
-fn a_schema_without_a_form(rt: HostRuntime) {
+fn a_schema_that_cannot_be_written(rt: HostRuntime) {
     let alloc = rt.alloc();
     let floats = schema(alloc, DataType::Float32).expect(&rt, "a schema");
     let one = batch(alloc, 1, 2, 9).expect(&rt, "a batch");
-    assert!(rt; reason(alloc, &floats, one) == Some(NoForm::Float));
+    assert!(rt; reason(alloc, &floats, one) == Some(IpcWriteError::Float));
     let sizeless = schema(alloc, DataType::FixedSizeBinary(0)).expect(&rt, "a schema");
     let other = batch(alloc, 1, 2, 9).expect(&rt, "a batch");
-    assert!(rt; reason(alloc, &sizeless, other) == Some(NoForm::Type));
+    assert!(rt; reason(alloc, &sizeless, other) == Some(IpcWriteError::Type));
 }
 
 #[test]
@@ -206,7 +218,7 @@ fn rows_without_columns(rt: HostRuntime) {
     }
     let columns = Vec::new(alloc);
     let rows = 9223372036854775808;
-    assert!(rt; reason(alloc, &empty, Batch { rows, columns }) == Some(NoForm::Size));
+    assert!(rt; reason(alloc, &empty, Batch { rows, columns }) == Some(IpcWriteError::Size));
 }
 
 // Numbers of 32 bits under an extension, cut, and a null among them.
@@ -252,5 +264,5 @@ fn columns_of_extensions(rt: HostRuntime) {
     }
     let other = extended_batch(alloc, Some("of another")).expect(&rt, "a batch");
     let schema = extended_schema(alloc, None).expect(&rt, "a schema");
-    assert!(rt; reason(alloc, &schema, other) == Some(NoForm::Columns));
+    assert!(rt; reason(alloc, &schema, other) == Some(IpcWriteError::Columns));
 }

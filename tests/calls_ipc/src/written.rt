@@ -1,9 +1,12 @@
-//! What is written is read back.
+//! What is written is round-trip.
+//!
+//! A schema that is written is round-trip, with its metadata, and so are a batch and a dictionary.
 use ipc_flatbuf::batch::{BatchMetadata, read_batch, write_batch, write_dictionary};
-use ipc_flatbuf::message::{Kind, next_message};
-use ipc_flatbuf::{NoForm, Node, Region};
+use ipc_flatbuf::message::{MessageKind, next_message};
+use ipc_flatbuf::{
+    BufferSpec, FieldNode, IpcWriteError, i64_field, offset_field, read_table, u8_field,
+};
 use ipc_schema::{Schema, read_schema, write_schema};
-use ipc_flatbuf::{i64_field, offset_field, u8_field, visit_table};
 use nest_memory::datatypes::{DataType, Field, Metadata};
 use std::alloc::Global;
 use std::collections::BTreeMap;
@@ -13,11 +16,11 @@ fn of_one(
     name: &str,
     data_type: DataType,
     is_nullable: bool,
-) -> Result<Field, NoForm> {
-    Field::new(alloc, name, data_type, is_nullable).map_err(|_| NoForm::Memory)
+) -> Result<Field, IpcWriteError> {
+    Field::new(alloc, name, data_type, is_nullable).map_err(|_| IpcWriteError::Memory)
 }
 
-fn metadata_of(alloc: Global, pairs: &[(&str, &str)]) -> Result<Metadata, NoForm> {
+fn metadata_of(alloc: Global, pairs: &[(&str, &str)]) -> Result<Metadata, IpcWriteError> {
     let mut metadata = BTreeMap::new(alloc);
     for (key, value) in pairs {
         let key = String::from_str(alloc, key)?;
@@ -27,7 +30,7 @@ fn metadata_of(alloc: Global, pairs: &[(&str, &str)]) -> Result<Metadata, NoForm
     Ok(metadata)
 }
 
-fn schema_of(alloc: Global) -> Result<Schema, NoForm> {
+fn schema_of(alloc: Global) -> Result<Schema, IpcWriteError> {
     let mut fields = Vec::new(alloc);
     fields.push(of_one(alloc, "a", DataType::Int32, true)?)?;
     fields.push(of_one(alloc, "", DataType::UInt64, false)?)?;
@@ -60,12 +63,13 @@ fn a_schema(rt: HostRuntime) {
     assert!(rt; read.schema.metadata == schema.metadata);
 }
 
+/// Each schema that cannot be written is rejected by its reason.
 #[test]
-fn refused_schemas(rt: HostRuntime) {
+fn rejected_schemas(rt: HostRuntime) {
     let alloc = rt.alloc();
     for (data_type, want) in [
-        (DataType::Float32, NoForm::Float),
-        (DataType::Struct(Vec::new(alloc)), NoForm::Type),
+        (DataType::Float32, IpcWriteError::Float),
+        (DataType::Struct(Vec::new(alloc)), IpcWriteError::Type),
     ] {
         let mut schema = schema_of(alloc).expect(&rt, "no schema");
         let field = of_one(alloc, "f", data_type, true).expect(&rt, "no field");
@@ -77,28 +81,28 @@ fn refused_schemas(rt: HostRuntime) {
         &rt,
         "no metadata",
     );
-    assert!(rt; write_schema(alloc, &schema).err() == Some(NoForm::Extension));
+    assert!(rt; write_schema(alloc, &schema).err() == Some(IpcWriteError::Extension));
 }
 
-fn three_rows(alloc: Global) -> Result<BatchMetadata, NoForm> {
+fn three_rows(alloc: Global) -> Result<BatchMetadata, IpcWriteError> {
     let mut nodes = Vec::new(alloc);
-    nodes.push(Node {
+    nodes.push(FieldNode {
         length: 3,
         null_count: 1,
     })?;
-    let mut regions = Vec::new(alloc);
-    regions.push(Region {
+    let mut buffers = Vec::new(alloc);
+    buffers.push(BufferSpec {
         offset: 8,
         length: 8,
     })?;
-    regions.push(Region {
+    buffers.push(BufferSpec {
         offset: 0,
         length: 1,
     })?;
     Ok(BatchMetadata {
         rows: 3,
         nodes,
-        regions,
+        buffers,
     })
 }
 
@@ -124,7 +128,7 @@ fn a_batch(rt: HostRuntime) {
     .expect(&rt, "no batch");
     assert!(rt; read.rows == 3);
     assert!(rt; read.nodes == batch.nodes);
-    assert!(rt; read.regions == batch.regions);
+    assert!(rt; read.buffers == batch.buffers);
 }
 
 #[test]
@@ -140,18 +144,18 @@ fn a_dictionary(rt: HostRuntime) {
         let message = message.expect(&rt, "the end");
         assert!(rt; rest.is_empty());
         let root = message.root;
-        assert!(rt; root.kind == Kind::DictionaryBatch);
+        assert!(rt; root.kind == MessageKind::DictionaryBatch);
         let metadata = message.metadata;
-        let (table, left) = visit_table(metadata, root.header, root.left).expect(&rt, "no table");
+        let (table, left) = read_table(metadata, root.header, root.left).expect(&rt, "no table");
         assert!(rt; i64_field(metadata, table, 0, 0) == Ok(515));
         assert!(rt; u8_field(metadata, table, 2) == Ok(delta as u8));
         let to = offset_field(metadata, table, 1).expect(&rt, "no field");
-        let place = to.expect(&rt, "no place");
-        let read = read_batch(alloc, metadata, place, left, root.body_length).expect(
+        let index = to.expect(&rt, "no place");
+        let read = read_batch(alloc, metadata, index, left, root.body_length).expect(
             &rt, "no batch",
         );
         assert!(rt; read.rows == 3);
         assert!(rt; read.nodes == batch.nodes);
-        assert!(rt; read.regions == batch.regions);
+        assert!(rt; read.buffers == batch.buffers);
     }
 }

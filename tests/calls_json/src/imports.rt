@@ -1,23 +1,20 @@
-//! Lines of JSON as files and streams.
-use ipc_schema::{Columns, Schema};
-use ipc_flatbuf::NoForm;
-use cli_read::batches::Stop;
-use cli_read::compare::Input;
-use cli_write::copy::{Progress, Taken, copy};
-use cli_write::import::{Unimported, import};
-use json_read::{LineReason, Reason, Unread, rows_of_text};
-use cli_rows::whole::answering::answer;
-use cli_rows::whole::converting::write_held;
-use cli_rows::whole::error::Fault;
-use cli_rows::whole::holding::{Held, read_held};
-use cli_rows::whole::selecting::{copy_fields, push_rows};
+//! Lines of JSON written as Arrow files and streams.
+use cli_args::{Format, Request, Selection};
+use cli_read::{Input, open};
+use cli_rows::{
+    BatchError, CliError, Table, copy_fields, copy_schema, encode_table, push_batch, table_text,
+};
+use cli_write::import::{ImportError, import};
+use cli_write::{Progress, copy};
+use ipc_flatbuf::IpcWriteError;
+use ipc_schema::{Projection, Schema};
+use json_read::{LineError, UnsupportedTypeError, ValueError, read_json_lines};
 use nest_memory::datatypes::{DataType, Field, Metadata};
-use type_text::parse_type;
-use cli_args::{Choice, Form, Request};
 use std::alloc::Global;
 use std::io;
 use std::io::{Cursor, ErrorKind, Read, Write};
 use std::test::*;
+use type_text::parse_type;
 
 const ROWS: &str = "struct<id: int64, name: string, ok: bool, tags: list<item: string>>";
 
@@ -33,7 +30,7 @@ fn fields_of(alloc: Global, row_type: &str) -> Result<Vec<Field>, Fail> {
 
 const NEVER: usize = usize::MAX;
 
-/// Gives so many bytes of a text a turn at most, and fails in the call of a number.
+/// A reader of bytes: `width` at a time at most. The call with the number `fails_at` fails.
 #[derive(Drop)]
 struct Text {
     bytes: Vec<u8>,
@@ -49,7 +46,10 @@ impl Read for Text {
         if self.calls - 1 == self.fails_at {
             return Err(io::Error::from(ErrorKind::ConnectionReset));
         }
-        let n = buf.len().min(self.width).min(self.bytes.len().saturating_sub(self.at));
+        let n = buf
+            .len()
+            .min(self.width)
+            .min(self.bytes.len().saturating_sub(self.at));
         for i in 0..n {
             buf[i] = self.bytes[self.at + i];
         }
@@ -58,7 +58,7 @@ impl Read for Text {
     }
 }
 
-/// Takes bytes until it has so many.
+/// A writer of bytes, `room` in all.
 #[derive(Drop)]
 struct Out {
     bytes: Vec<u8>,
@@ -80,7 +80,7 @@ impl Write for Out {
     }
 }
 
-/// Counts the lines that went.
+/// Counts rows and record batches.
 #[derive(Drop)]
 struct Count {
     rows: usize,
@@ -88,7 +88,7 @@ struct Count {
 }
 
 impl Progress for Count {
-    fn went(&mut self, rows: usize) {
+    fn rows_read(&mut self, rows: usize) {
         self.rows += rows;
         self.batches += 1;
     }
@@ -104,14 +104,40 @@ fn text_of(alloc: Global, text: &[u8], width: usize, fails_at: usize) -> Result<
     })
 }
 
-/// What goes out of a text into an output with so much room.
+/// Reads a table.
+fn read_table(alloc: Global, bytes: &[u8]) -> Result<Table, CliError> {
+    let source = Cursor::new(bytes.to_vec(alloc)?);
+    let input = if bytes.starts_with(b"ARROW1") {
+        Input::File(source)
+    } else {
+        Input::Stream(source)
+    };
+    let mut reader = open(alloc, Projection::All, input)?;
+    let mut batches = Vec::new(alloc);
+    while let Some(batch) = reader.next_batch(alloc)? {
+        batches.push(batch)?;
+    }
+    let schema = copy_schema(alloc, reader.schema())?;
+    Ok(Table { schema, batches })
+}
+
+/// Returns all rows as lines.
+fn lines_of(alloc: Global, bytes: &[u8]) -> Result<String, CliError> {
+    table_text(
+        alloc,
+        &Request::Rows(Selection::All),
+        read_table(alloc, bytes)?,
+    )
+}
+
+/// Imports a text into an output with `room` bytes.
 fn imported(
     alloc: Global,
     row_type: &str,
-    form: Form,
+    format: Format,
     text: Text,
     room: usize,
-) -> Result<(Result<Vec<u8>, Unimported>, Count), Fail> {
+) -> Result<(Result<Vec<u8>, ImportError>, Count), Fail> {
     let mut count = Count {
         rows: 0,
         batches: 0,
@@ -120,115 +146,150 @@ fn imported(
         bytes: Vec::new(alloc),
         room,
     };
-    let done = match import(alloc, fields_of(alloc, row_type)?, form, text, out, &mut count) {
+    let done = match import(
+        alloc,
+        fields_of(alloc, row_type)?,
+        format,
+        text,
+        out,
+        &mut count,
+    ) {
         Ok(out) => Ok(out.bytes),
-        Err(why) => Err(why),
+        Err(error) => Err(error),
     };
     Ok((done, count))
 }
 
-/// The same of a text that comes at once.
+/// Imports a text.
 fn made(
     alloc: Global,
     row_type: &str,
-    form: Form,
+    format: Format,
     text: &[u8],
-) -> Result<Result<Vec<u8>, Unimported>, Fail> {
+) -> Result<Result<Vec<u8>, ImportError>, Fail> {
     let text = text_of(alloc, text, NEVER, NEVER)?;
-    let (done, _) = imported(alloc, row_type, form, text, NEVER)?;
+    let (done, _) = imported(alloc, row_type, format, text, NEVER)?;
     Ok(done)
 }
 
 #[test]
-fn lines_are_read_back(rt: HostRuntime) -> Result<(), Fail> {
+fn lines_round_trip(rt: HostRuntime) -> Result<(), Fail> {
     let alloc = rt.alloc();
-    let text = "{\"id\":1,\"name\":\"a\",\"ok\":true,\"tags\":[\"x\",null]}\n{\"id\":null,\"name\":null,\"ok\":null,\"tags\":null}\n{\"id\":-3,\"name\":\"\",\"ok\":false,\"tags\":[]}\n";
-    for form in [Form::File, Form::Stream] {
-        match made(alloc, ROWS, form, text.as_bytes())? {
-            Ok(bytes) => match answer(alloc, Columns::All, &Request::Rows(Choice::All), &bytes) {
+    let text =
+        "{\"id\":1,\"name\":\"a\",\"ok\":true,\"tags\":[\"x\",null]}\n{\"id\":null,\"name\":null,\"ok\":null,\"tags\":null}\n{\"id\":-3,\"name\":\"\",\"ok\":false,\"tags\":[]}\n";
+    for format in [Format::File, Format::Stream] {
+        match made(alloc, ROWS, format, text.as_bytes())? {
+            Ok(bytes) => match lines_of(alloc, &bytes) {
                 Ok(found) => assert!(&rt; found.as_str() == text, "{found}"),
-                Err(fault) => assert!(&rt; false, "{fault}"),
+                Err(error) => assert!(&rt; false, "{error}"),
             },
-            Err(why) => assert!(&rt; false, "{why:?}"),
+            Err(error) => assert!(&rt; false, "{error:?}"),
         }
     }
     Ok(())
 }
 
 #[test]
-fn batches_have_their_rows(rt: HostRuntime) -> Result<(), Fail> {
+fn batches_have_65536_rows(rt: HostRuntime) -> Result<(), Fail> {
     let alloc = rt.alloc();
     let mut text = Vec::new(alloc);
     for _i in 0..65537 {
         text.extend_from_slice(b"{\"a\":7}\n")?;
     }
-    match made(alloc, "struct<a: int8>", Form::Stream, &text)? {
-        Ok(bytes) => match read_held(alloc, Columns::All, &bytes) {
-            Ok(held) => {
-                assert!(&rt; held.batches.len() == 2);
-                assert!(&rt; held.batches[0].rows == 65536 && held.batches[1].rows == 1);
+    match made(alloc, "struct<a: int8>", Format::Stream, &text)? {
+        Ok(bytes) => match read_table(alloc, &bytes) {
+            Ok(table) => {
+                assert!(&rt; table.batches.len() == 2);
+                assert!(&rt; table.batches[0].rows == 65536 && table.batches[1].rows == 1);
             }
-            Err(fault) => assert!(&rt; false, "{fault}"),
+            Err(error) => assert!(&rt; false, "{error}"),
         },
-        Err(why) => assert!(&rt; false, "{why:?}"),
+        Err(error) => assert!(&rt; false, "{error:?}"),
     }
     text.extend_from_slice(b"{\"a\":128}\n")?;
     let input = text_of(alloc, &text, 1000, NEVER)?;
-    let (done, count) = imported(alloc, "struct<a: int8>", Form::File, input, NEVER)?;
-    let line = LineReason::Reason(Reason::OutOfRange);
-    assert!(&rt; done.err() == Some(Unimported::Line(65537, line)));
+    let (done, count) = imported(alloc, "struct<a: int8>", Format::File, input, NEVER)?;
+    let line = LineError::Value(ValueError::OutOfRange);
+    assert!(&rt; done.err() == Some(ImportError::Line(65537, line)));
     assert!(&rt; count.rows == 65536 && count.batches == 1);
     Ok(())
 }
 
 #[test]
-fn lines_are_not_written(rt: HostRuntime) -> Result<(), Fail> {
+fn invalid_lines_are_errors(rt: HostRuntime) -> Result<(), Fail> {
     let alloc = rt.alloc();
     for (row_type, text, want) in [
-        ("struct<a: double>", "{}", Unimported::Type(Unread::Float)),
-        ("struct<>", "{}", Unimported::Type(Unread::NoFields)),
-        (ROWS, "{}\nnull\n", Unimported::Line(1, LineReason::Reason(Reason::OtherKind))),
-        (ROWS, "{}\n{\"b\":1}\n", Unimported::Line(1, LineReason::Reason(Reason::UnknownField))),
-        (ROWS, "{\n", Unimported::Line(0, LineReason::NotJson)),
+        (
+            "struct<a: double>",
+            "{}",
+            ImportError::Type(UnsupportedTypeError::FloatingPoint),
+        ),
+        (
+            "struct<>",
+            "{}",
+            ImportError::Type(UnsupportedTypeError::EmptyStruct),
+        ),
+        (
+            ROWS,
+            "{}\nnull\n",
+            ImportError::Line(1, LineError::Value(ValueError::WrongType)),
+        ),
+        (
+            ROWS,
+            "{}\n{\"b\":1}\n",
+            ImportError::Line(1, LineError::Value(ValueError::UnknownField)),
+        ),
+        (ROWS, "{\n", ImportError::Line(0, LineError::InvalidJson)),
     ] {
-        let why = made(alloc, row_type, Form::File, text.as_bytes())?.err();
-        assert!(&rt; why == Some(want), "{row_type}: {why:?}");
+        let error = made(alloc, row_type, Format::File, text.as_bytes())?.err();
+        assert!(&rt; error == Some(want), "{row_type}: {error:?}");
     }
     Ok(())
 }
 
 #[test]
-fn rows_are_written_as_batches(rt: HostRuntime) -> Result<(), Fail> {
+fn rows_are_encoded(rt: HostRuntime) -> Result<(), Fail> {
     let alloc = rt.alloc();
     let text = "{\"a\":1}\n{\"a\":null}\n";
     let fields = fields_of(alloc, "struct<a: int8>")?;
     let data_type = DataType::Struct(copy_fields(alloc, &fields)?);
     let mut batches = Vec::new(alloc);
-    push_rows(alloc, &fields, &mut batches, rows_of_text(alloc, &data_type, text.as_bytes())?)?;
+    push_batch(
+        alloc,
+        &fields,
+        &mut batches,
+        read_json_lines(alloc, &data_type, text.as_bytes())?,
+    )?;
     let metadata = Metadata::new(alloc);
-    let held = Held {
+    let table = Table {
         schema: Schema { fields, metadata },
         batches,
     };
-    match write_held(alloc, Form::Stream, &held) {
+    match encode_table(alloc, Format::Stream, &table) {
         Ok(bytes) => {
-            let found = answer(alloc, Columns::All, &Request::Rows(Choice::All), &bytes)?;
+            let found = lines_of(alloc, &bytes)?;
             assert!(&rt; found.as_str() == text, "{found}");
         }
-        Err(why) => assert!(&rt; false, "{why}"),
+        Err(error) => assert!(&rt; false, "{error}"),
     }
     Ok(())
 }
 
 #[test]
-fn text_that_comes_in_parts_is_the_same(rt: HostRuntime) -> Result<(), Fail> {
+fn short_reads_change_nothing(rt: HostRuntime) -> Result<(), Fail> {
     let alloc = rt.alloc();
-    for text in ["", "{}", "{}\n", "{\"id\":1}\n{\"id\":2}", "{\"name\":\"a\"}\n{}\n{\"ok\":true}\n"] {
-        for form in [Form::File, Form::Stream] {
-            let want = made(alloc, ROWS, form, text.as_bytes())?;
+    for text in [
+        "",
+        "{}",
+        "{}\n",
+        "{\"id\":1}\n{\"id\":2}",
+        "{\"name\":\"a\"}\n{}\n{\"ok\":true}\n",
+    ] {
+        for format in [Format::File, Format::Stream] {
+            let want = made(alloc, ROWS, format, text.as_bytes())?;
             for width in 1..8 {
                 let input = text_of(alloc, text.as_bytes(), width, NEVER)?;
-                let (found, _) = imported(alloc, ROWS, form, input, NEVER)?;
+                let (found, _) = imported(alloc, ROWS, format, input, NEVER)?;
                 assert!(&rt; found == want, "{text} by {width}: {found:?}");
             }
         }
@@ -237,11 +298,11 @@ fn text_that_comes_in_parts_is_the_same(rt: HostRuntime) -> Result<(), Fail> {
 }
 
 #[test]
-fn nothing_goes_out_of_other_types(rt: HostRuntime) -> Result<(), Fail> {
+fn nothing_is_written_of_unsupported_types(rt: HostRuntime) -> Result<(), Fail> {
     let alloc = rt.alloc();
     let input = text_of(alloc, b"{}", 1, NEVER)?;
-    let (done, _) = imported(alloc, "struct<a: double>", Form::Stream, input, 0)?;
-    assert!(&rt; done.err() == Some(Unimported::Type(Unread::Float)));
+    let (done, _) = imported(alloc, "struct<a: double>", Format::Stream, input, 0)?;
+    assert!(&rt; done.err() == Some(ImportError::Type(UnsupportedTypeError::FloatingPoint)));
     Ok(())
 }
 
@@ -249,28 +310,34 @@ fn nothing_goes_out_of_other_types(rt: HostRuntime) -> Result<(), Fail> {
 fn devices_fail(rt: HostRuntime) -> Result<(), Fail> {
     let alloc = rt.alloc();
     let text = b"{\"id\":1}\n{\"id\":2}\n";
-    for form in [Form::File, Form::Stream] {
-        let Ok(whole) = made(alloc, ROWS, form, text)? else {
+    for format in [Format::File, Format::Stream] {
+        let Ok(whole) = made(alloc, ROWS, format, text)? else {
             assert!(&rt; false);
             return Ok(());
         };
         for call in 0..text.len() + 1 {
-            let (done, _) = imported(alloc, ROWS, form, text_of(alloc, text, 1, call)?, NEVER)?;
-            assert!(&rt; done.err() == Some(Unimported::Input), "call {call}");
+            let (done, _) = imported(alloc, ROWS, format, text_of(alloc, text, 1, call)?, NEVER)?;
+            assert!(&rt; done.err() == Some(ImportError::Input), "call {call}");
         }
         for room in 0..whole.len() {
-            let (done, _) = imported(alloc, ROWS, form, text_of(alloc, text, 7, NEVER)?, room)?;
-            assert!(&rt; done.err() == Some(Unimported::Output), "room {room}");
+            let (done, _) = imported(alloc, ROWS, format, text_of(alloc, text, 7, NEVER)?, room)?;
+            assert!(&rt; done.err() == Some(ImportError::Output), "room {room}");
         }
-        let (done, _) = imported(alloc, ROWS, form, text_of(alloc, text, 7, NEVER)?, whole.len())?;
+        let (done, _) = imported(
+            alloc,
+            ROWS,
+            format,
+            text_of(alloc, text, 7, NEVER)?,
+            whole.len(),
+        )?;
         assert!(&rt; done == Ok(whole));
     }
     Ok(())
 }
 
-// The values of one batch do not begin those of the next, which a stream can say and a file cannot.
+// The next record batch needs a replacement dictionary, which a file cannot have.
 #[test]
-fn batches_of_other_values_have_no_file(rt: HostRuntime) -> Result<(), Fail> {
+fn files_cannot_replace_dictionaries(rt: HostRuntime) -> Result<(), Fail> {
     let alloc = rt.alloc();
     let row_type = "struct<a: dictionary<values=string, indices=int8, ordered=0>>";
     let mut text = Vec::new(alloc);
@@ -278,9 +345,12 @@ fn batches_of_other_values_have_no_file(rt: HostRuntime) -> Result<(), Fail> {
         text.extend_from_slice(b"{\"a\":\"x\"}\n")?;
     }
     text.extend_from_slice(b"{\"a\":\"y\"}\n")?;
-    let why = made(alloc, row_type, Form::File, &text)?.err();
-    assert!(&rt; why == Some(Unimported::Form(NoForm::Dictionaries)), "{why:?}");
-    let Ok(stream) = made(alloc, row_type, Form::Stream, &text)? else {
+    let error = made(alloc, row_type, Format::File, &text)?.err();
+    assert!(&rt;
+        error == Some(ImportError::Write(IpcWriteError::DictionaryReplacement)),
+        "{error:?}"
+    );
+    let Ok(stream) = made(alloc, row_type, Format::Stream, &text)? else {
         assert!(&rt; false);
         return Ok(());
     };
@@ -289,12 +359,20 @@ fn batches_of_other_values_have_no_file(rt: HostRuntime) -> Result<(), Fail> {
         batches: 0,
     };
     let (input, out) = (Input::Stream(Cursor::new(stream)), Vec::new(alloc));
-    let done = copy(alloc, Columns::All, Form::File, Taken::All, input, out, &mut count);
-    let stop = Stop {
+    let done = copy(
+        alloc,
+        Projection::All,
+        Format::File,
+        Selection::All,
+        input,
+        out,
+        &mut count,
+    );
+    let error = BatchError {
         batch: Some(1),
-        fault: Fault::Form(NoForm::Dictionaries),
+        error: CliError::Write(IpcWriteError::DictionaryReplacement),
     };
-    assert!(&rt; done.err() == Some(stop));
+    assert!(&rt; done.err() == Some(error));
     assert!(&rt; count.rows == 65536 && count.batches == 1);
     Ok(())
 }

@@ -1,21 +1,21 @@
 //! Lines of JSON as arrays.
+use json_read::{JsonReadError, new_builder, read_first_json_lines, read_json_lines};
+use json_write::Json;
 use nest_array::AnyArray;
 use nest_build::array::MutableArray;
-use json_read::{TextFault, builder_of, read_rows, rows_of_text};
-use type_text::parse_type;
-use json_write::Json;
 use std::alloc::Global;
 use std::process::Abort;
 use std::test::*;
+use type_text::parse_type;
 
-/// The text of the rows, or of the fault.
+/// The text of the rows, or of the error.
 fn said(alloc: Global, row_type: &str, text: &[u8]) -> Result<String, Fail> {
     let data_type = parse_type(alloc, row_type)?;
-    let read = rows_of_text(alloc, &data_type, text);
+    let read = read_json_lines(alloc, &data_type, text);
     drop(data_type);
     match read {
         Ok(array) => Ok(shown(alloc, &array)?),
-        Err(fault) => Ok(format!(in alloc; "{fault}")?),
+        Err(error) => Ok(format!(in alloc; "{error}")?),
     }
 }
 
@@ -32,6 +32,7 @@ fn check(rt: &(impl Abort + AllocGlobal), rows: &[(&str, &str, &str)]) -> Result
     Ok(())
 }
 
+/// Values of every type that is read, numbers at both ends of each.
 #[test]
 fn values_are_read(rt: HostRuntime) -> Result<(), Fail> {
     check(
@@ -40,18 +41,42 @@ fn values_are_read(rt: HostRuntime) -> Result<(), Fail> {
             ("null", "null\nnull\n", "[null,null]"),
             ("bool", "true\nfalse\nnull\n", "[true,false,null]"),
             ("int32", "1\n -2 \nnull\n", "[1,-2,null]"),
-            ("uint64", "18446744073709551615\n0\n", "[18446744073709551615,0]"),
+            (
+                "uint64",
+                "18446744073709551615\n0\n",
+                "[18446744073709551615,0]",
+            ),
             ("date32[day]", "19000\n", "[19000]"),
             ("timestamp[us, tz=UTC]", "-1\n", "[-1]"),
-            ("decimal128(38, 2)", "-170141183460469231731687303715884105728\n", "[-170141183460469231731687303715884105728]"),
-            ("string", "\"a\"\n\"\\u00e9\\n\"\n\"\"\n", "[\"a\",\"\u{e9}\\n\",\"\"]"),
+            (
+                "decimal128(38, 2)",
+                "-170141183460469231731687303715884105728\n",
+                "[-170141183460469231731687303715884105728]",
+            ),
+            (
+                "string",
+                "\"a\"\n\"\\u00e9\\n\"\n\"\"\n",
+                "[\"a\",\"\u{e9}\\n\",\"\"]",
+            ),
             ("large_string", "\"b\"\n", "[\"b\"]"),
             ("binary", "\"00fF\"\n\"\"\nnull\n", "[\"00ff\",\"\",null]"),
             ("large_binary", "\"0a\"\n", "[\"0a\"]"),
-            ("fixed_size_binary[2]", "\"0102\"\nnull\n", "[\"0102\",null]"),
-            ("month_day_nano_interval", "[1,-2,3]\nnull\n", "[[1,-2,3],null]"),
+            (
+                "fixed_size_binary[2]",
+                "\"0102\"\nnull\n",
+                "[\"0102\",null]",
+            ),
+            (
+                "month_day_nano_interval",
+                "[1,-2,3]\nnull\n",
+                "[[1,-2,3],null]",
+            ),
             ("day_time_interval", "[4,5]\n", "[[4,5]]"),
-            ("dictionary<values=string, indices=int8, ordered=0>", "\"a\"\n\"b\"\n\"a\"\nnull\n", "[\"a\",\"b\",\"a\",null]"),
+            (
+                "dictionary<values=string, indices=int8, ordered=0>",
+                "\"a\"\n\"b\"\n\"a\"\nnull\n",
+                "[\"a\",\"b\",\"a\",null]",
+            ),
             ("int8", "", "[]"),
         ],
     )
@@ -62,19 +87,43 @@ fn numbers_end_where_their_types_do(rt: HostRuntime) -> Result<(), Fail> {
     for (row_type, least, below, greatest, above) in [
         ("int8", "-128", "-129", "127", "128"),
         ("int16", "-32768", "-32769", "32767", "32768"),
-        ("int32", "-2147483648", "-2147483649", "2147483647", "2147483648"),
-        ("int64", "-9223372036854775808", "-9223372036854775809", "9223372036854775807", "9223372036854775808"),
+        (
+            "int32",
+            "-2147483648",
+            "-2147483649",
+            "2147483647",
+            "2147483648",
+        ),
+        (
+            "int64",
+            "-9223372036854775808",
+            "-9223372036854775809",
+            "9223372036854775807",
+            "9223372036854775808",
+        ),
         ("uint8", "0", "-1", "255", "256"),
         ("uint16", "0", "-1", "65535", "65536"),
         ("uint32", "0", "-1", "4294967295", "4294967296"),
-        ("uint64", "0", "-1", "18446744073709551615", "18446744073709551616"),
+        (
+            "uint64",
+            "0",
+            "-1",
+            "18446744073709551615",
+            "18446744073709551616",
+        ),
     ] {
         let both = format!(in rt.alloc(); "{least}\n{greatest}\n")?;
         let found = said(rt.alloc(), row_type, both.as_bytes())?;
-        assert!(&rt; found == format!(in rt.alloc(); "[{least},{greatest}]")?, "{row_type}: {found}");
+        assert!(&rt;
+            found == format!(in rt.alloc(); "[{least},{greatest}]")?,
+            "{row_type}: {found}"
+        );
         for out in [below, above] {
             let found = said(rt.alloc(), row_type, out.as_bytes())?;
-            assert!(&rt; found.as_str() == "line 0, counted from 0: a number past its type", "{row_type} of {out}: {found}");
+            assert!(&rt;
+                found.as_str() == "line 0 (counted from 0): integer out of range",
+                "{row_type} of {out}: {found}"
+            );
         }
     }
     Ok(())
@@ -82,14 +131,27 @@ fn numbers_end_where_their_types_do(rt: HostRuntime) -> Result<(), Fail> {
 
 const RECORD: &str = "struct<id: int64, tags: list<item: string>, at: struct<x: int8, y: int8>>";
 
+/// Lists, records and dictionaries, nested; members in any order, and missing ones.
 #[test]
 fn nested_rows_are_read(rt: HostRuntime) -> Result<(), Fail> {
     check(
         &rt,
         &[
-            ("list<item: int8>", "[1,null,2]\n[]\nnull\n", "[[1,null,2],[],null]"),
-            ("large_list<item: list<item: bool>>", "[[true],null,[]]\n", "[[[true],null,[]]]"),
-            ("fixed_size_list<item: int8>[2]", "[1,2]\nnull\n[null,3]\n", "[[1,2],null,[null,3]]"),
+            (
+                "list<item: int8>",
+                "[1,null,2]\n[]\nnull\n",
+                "[[1,null,2],[],null]",
+            ),
+            (
+                "large_list<item: list<item: bool>>",
+                "[[true],null,[]]\n",
+                "[[[true],null,[]]]",
+            ),
+            (
+                "fixed_size_list<item: int8>[2]",
+                "[1,2]\nnull\n[null,3]\n",
+                "[[1,2],null,[null,3]]",
+            ),
             (
                 RECORD,
                 "{\"id\":1,\"tags\":[\"a\"],\"at\":{\"x\":2,\"y\":3}}\n{\"at\":{\"y\":4},\"id\":null}\n{}\n",
@@ -104,63 +166,180 @@ fn nested_rows_are_read(rt: HostRuntime) -> Result<(), Fail> {
     )
 }
 
+/// Each reason why a value is none, and the line of the first.
 #[test]
-fn lines_are_refused(rt: HostRuntime) -> Result<(), Fail> {
+fn lines_are_rejected(rt: HostRuntime) -> Result<(), Fail> {
     check(
         &rt,
         &[
-            ("int8", "1\n\"1\"\n", "line 1, counted from 0: a value of another kind than its type's"),
-            ("bool", "0", "line 0, counted from 0: a value of another kind than its type's"),
-            ("null", "null\n1\n", "line 1, counted from 0: a value of another kind than its type's"),
-            ("int8", "1.0", "line 0, counted from 0: a number that is not whole"),
-            ("int8", "1e2\nx\n", "line 0, counted from 0: a number that is not whole"),
-            ("decimal128(38, 0)", "170141183460469231731687303715884105728", "line 0, counted from 0: a number past its type"),
-            ("binary", "\"0\"", "line 0, counted from 0: a text of bytes without pairs of hexadecimal digits"),
-            ("binary", "\"0g\"", "line 0, counted from 0: a text of bytes without pairs of hexadecimal digits"),
-            ("fixed_size_binary[2]", "\"01\"", "line 0, counted from 0: another number of items or bytes than its type's"),
-            ("fixed_size_list<item: int8>[2]", "[1,2]\n[1]\n", "line 1, counted from 0: another number of items or bytes than its type's"),
-            ("fixed_size_list<item: int8>[2]", "[1,2,true]", "line 0, counted from 0: a value of another kind than its type's"),
-            ("day_time_interval", "[1,2,3]", "line 0, counted from 0: another number of items or bytes than its type's"),
-            ("day_time_interval", "1", "line 0, counted from 0: a value of another kind than its type's"),
-            (RECORD, "{\"id\":1}\n{\"no\":1}\n", "line 1, counted from 0: a member that is no field of the type"),
-            (RECORD, "{\"id\":1,\"id\":2}", "line 0, counted from 0: a member of a name that stands twice"),
-            (RECORD, "{\"id\":1,\"no\":2,\"id\":true}", "line 0, counted from 0: a member that is no field of the type"),
-            (RECORD, "{\"at\":{\"x\":1,\"x\":1}}", "line 0, counted from 0: a member of a name that stands twice"),
-            (RECORD, "{}\nnull\n", "line 1, counted from 0: a value of another kind than its type's"),
-            (RECORD, "[]", "line 0, counted from 0: a value of another kind than its type's"),
-            ("list<item: int8>", "{}", "line 0, counted from 0: a value of another kind than its type's"),
-            ("string", "[]", "line 0, counted from 0: a value of another kind than its type's"),
+            (
+                "int8",
+                "1\n\"1\"\n",
+                "line 1 (counted from 0): value of another type",
+            ),
+            (
+                "bool",
+                "0",
+                "line 0 (counted from 0): value of another type",
+            ),
+            (
+                "null",
+                "null\n1\n",
+                "line 1 (counted from 0): value of another type",
+            ),
+            (
+                "int8",
+                "1.0",
+                "line 0 (counted from 0): number is not an integer",
+            ),
+            (
+                "int8",
+                "1e2\nx\n",
+                "line 0 (counted from 0): number is not an integer",
+            ),
+            (
+                "decimal128(38, 0)",
+                "170141183460469231731687303715884105728",
+                "line 0 (counted from 0): integer out of range",
+            ),
+            (
+                "binary",
+                "\"0\"",
+                "line 0 (counted from 0): binary value is not a string of hexadecimal digit pairs",
+            ),
+            (
+                "binary",
+                "\"0g\"",
+                "line 0 (counted from 0): binary value is not a string of hexadecimal digit pairs",
+            ),
+            (
+                "fixed_size_binary[2]",
+                "\"01\"",
+                "line 0 (counted from 0): wrong number of items or bytes",
+            ),
+            (
+                "fixed_size_list<item: int8>[2]",
+                "[1,2]\n[1]\n",
+                "line 1 (counted from 0): wrong number of items or bytes",
+            ),
+            (
+                "fixed_size_list<item: int8>[2]",
+                "[1,2,true]",
+                "line 0 (counted from 0): value of another type",
+            ),
+            (
+                "day_time_interval",
+                "[1,2,3]",
+                "line 0 (counted from 0): wrong number of items or bytes",
+            ),
+            (
+                "day_time_interval",
+                "1",
+                "line 0 (counted from 0): value of another type",
+            ),
+            (
+                RECORD,
+                "{\"id\":1}\n{\"no\":1}\n",
+                "line 1 (counted from 0): unknown field",
+            ),
+            (
+                RECORD,
+                "{\"id\":1,\"id\":2}",
+                "line 0 (counted from 0): duplicate field",
+            ),
+            (
+                RECORD,
+                "{\"id\":1,\"no\":2,\"id\":true}",
+                "line 0 (counted from 0): unknown field",
+            ),
+            (
+                RECORD,
+                "{\"at\":{\"x\":1,\"x\":1}}",
+                "line 0 (counted from 0): duplicate field",
+            ),
+            (
+                RECORD,
+                "{}\nnull\n",
+                "line 1 (counted from 0): value of another type",
+            ),
+            (
+                RECORD,
+                "[]",
+                "line 0 (counted from 0): value of another type",
+            ),
+            (
+                "list<item: int8>",
+                "{}",
+                "line 0 (counted from 0): value of another type",
+            ),
+            (
+                "string",
+                "[]",
+                "line 0 (counted from 0): value of another type",
+            ),
         ],
     )
 }
 
+/// Each type that is not read.
 #[test]
-fn types_are_refused(rt: HostRuntime) -> Result<(), Fail> {
+fn types_are_rejected(rt: HostRuntime) -> Result<(), Fail> {
     check(
         &rt,
         &[
-            ("float", "", "a type of floating point is not read from JSON"),
-            ("list<item: double>", "", "a type of floating point is not read from JSON"),
-            ("map<string, int8>", "", "a map is not read from JSON"),
-            ("dense_union<a: int8=0>", "", "a union is not read from JSON"),
-            ("struct<a: int8, b: int8, a: bool>", "", "a struct with two fields of one name is not read from JSON"),
-            ("struct<>", "", "a struct without a field is not read from JSON"),
-            ("fixed_size_list<item: int8>[0]", "", "a fixed size of 0 is not read from JSON"),
+            ("float", "", "cannot be read from JSON: floating-point type"),
+            (
+                "list<item: double>",
+                "",
+                "cannot be read from JSON: floating-point type",
+            ),
+            (
+                "map<string, int8>",
+                "",
+                "cannot be read from JSON: map type",
+            ),
+            (
+                "dense_union<a: int8=0>",
+                "",
+                "cannot be read from JSON: union type",
+            ),
+            (
+                "struct<a: int8, b: int8, a: bool>",
+                "",
+                "cannot be read from JSON: struct type with duplicate field names",
+            ),
+            (
+                "struct<>",
+                "",
+                "cannot be read from JSON: struct type without fields",
+            ),
+            (
+                "fixed_size_list<item: int8>[0]",
+                "",
+                "cannot be read from JSON: fixed-size type of size 0",
+            ),
         ],
     )
 }
 
+/// Blank lines, a last line without its feed, bytes that are no UTF-8.
 #[test]
-fn text_is_cut_into_lines(rt: HostRuntime) -> Result<(), Fail> {
+fn text_is_split_into_lines(rt: HostRuntime) -> Result<(), Fail> {
     let alloc = rt.alloc();
     for (text, want) in [
         (b"1\n2".as_slice(), "[1,2]"),
         (b"1\r\n2\r\n".as_slice(), "[1,2]"),
-        (b"1\n\n2\n".as_slice(), "line 1, counted from 0: not one value of JSON"),
-        (b"\n".as_slice(), "line 0, counted from 0: not one value of JSON"),
-        (b"1 2\n".as_slice(), "line 0, counted from 0: not one value of JSON"),
-        (b"1\n\xff\n".as_slice(), "line 1, counted from 0: not one value of JSON"),
-        (b"\0".as_slice(), "line 0, counted from 0: not one value of JSON"),
+        (
+            b"1\n\n2\n".as_slice(),
+            "line 1 (counted from 0): invalid JSON",
+        ),
+        (b"\n".as_slice(), "line 0 (counted from 0): invalid JSON"),
+        (b"1 2\n".as_slice(), "line 0 (counted from 0): invalid JSON"),
+        (
+            b"1\n\xff\n".as_slice(),
+            "line 1 (counted from 0): invalid JSON",
+        ),
+        (b"\0".as_slice(), "line 0 (counted from 0): invalid JSON"),
     ] {
         let found = said(alloc, "int8", text)?;
         assert!(&rt; found.as_str() == want, "{found}");
@@ -168,56 +347,74 @@ fn text_is_cut_into_lines(rt: HostRuntime) -> Result<(), Fail> {
     Ok(())
 }
 
+/// The first lines alone, and where the others begin.
 #[test]
 fn first_lines_are_read(rt: HostRuntime) -> Result<(), Fail> {
     let alloc = rt.alloc();
     let data_type = parse_type(alloc, "int8")?;
     let text = b"1\n22\n3";
     let mut at = 0;
-    for (limit, used, lines, want) in [(2, 5, 2, "[1,22]"), (0, 0, 0, "[]"), (9, 1, 1, "[3]"), (9, 0, 0, "[]")] {
-        match read_rows(alloc, &data_type, &text[at..], limit) {
+    for (limit, used, lines, want) in [
+        (2, 5, 2, "[1,22]"),
+        (0, 0, 0, "[]"),
+        (9, 1, 1, "[3]"),
+        (9, 0, 0, "[]"),
+    ] {
+        match read_first_json_lines(alloc, &data_type, &text[at..], limit) {
             Ok(rows) => {
                 assert!(&rt; rows.used == used && rows.lines == lines);
                 assert!(&rt; shown(alloc, &rows.array)?.as_str() == want);
                 at += rows.used;
             }
-            Err(fault) => assert!(&rt; false, "{fault}"),
+            Err(error) => assert!(&rt; false, "{error}"),
         }
     }
-    let bad = read_rows(alloc, &data_type, b"1\n2\nx\n", 2);
+    let bad = read_first_json_lines(alloc, &data_type, b"1\n2\nx\n", 2);
     assert!(&rt; bad.is_ok());
     Ok(())
 }
 
+/// Builders of a type, without a row.
 #[test]
 fn builders_are_made(rt: HostRuntime) -> Result<(), Fail> {
     let alloc = rt.alloc();
-    for row_type in ["null", "bool", "int8", "string", "binary", "list<item: int8>", RECORD] {
+    for row_type in [
+        "null",
+        "bool",
+        "int8",
+        "string",
+        "binary",
+        "list<item: int8>",
+        RECORD,
+    ] {
         let data_type = parse_type(alloc, row_type)?;
-        match builder_of(alloc, &data_type) {
+        match new_builder(alloc, &data_type) {
             Ok(mut builder) => {
-                assert!(&rt; builder.is_empty() && builder.is_whole() && *builder.data_type() == data_type);
+                assert!(&rt;
+                    builder.is_empty() && builder.is_whole() && *builder.data_type() == data_type
+                );
                 builder.push_null()?;
                 assert!(&rt; builder.len() == 1);
             }
-            Err(fault) => assert!(&rt; false, "{fault}"),
+            Err(error) => assert!(&rt; false, "{error}"),
         }
     }
     Ok(())
 }
 
-/// Whether a text is rows or a fault of its one line: nothing else comes of it.
+/// Whether a text is rows or a error of its one line: nothing else comes of it.
 fn is_settled(alloc: Global, text: &[u8]) -> Result<bool, Fail> {
     let data_type = parse_type(alloc, RECORD)?;
-    match rows_of_text(alloc, &data_type, text) {
+    match read_json_lines(alloc, &data_type, text) {
         Ok(array) => Ok(array.len() <= 1 + text.len() / 3),
-        Err(TextFault::Line { line, reason: _ }) => Ok(line <= text.len()),
+        Err(JsonReadError::Line { line, reason: _ }) => Ok(line <= text.len()),
         Err(_) => Ok(false),
     }
 }
 
+/// Each prefix of a line, and each byte of it changed.
 #[test]
-fn hostile_lines_are_rows_or_faults(rt: HostRuntime) -> Result<(), Fail> {
+fn truncated_and_changed_lines(rt: HostRuntime) -> Result<(), Fail> {
     let alloc = rt.alloc();
     let line = b"{\"id\":-12,\"tags\":[\"a\\u0041\",null],\"at\":{\"x\":1,\"y\":[]}}\n";
     for end in 0..line.len() {

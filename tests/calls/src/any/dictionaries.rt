@@ -1,4 +1,4 @@
-//! Dictionaries of texts and of numbers, over builders of any kind without children.
+//! Dictionaries of strings and of numbers, over builders of any kind without children.
 use nest_any::AnyMutableFlat;
 use nest_array::{AnyArray, AnyKeys, DictionaryArray};
 use nest_build::array::MutableArray;
@@ -12,19 +12,19 @@ use nest_memory::error::{Argument, Error};
 use std::alloc::Global;
 
 /// Values of any kind without children by keys of which there are 256.
-type Keyed = MutableDictionaryArray<u8, AnyMutableFlat>;
+type Dictionaries = MutableDictionaryArray<u8, AnyMutableFlat>;
 
-fn no_texts(alloc: Global) -> Result<Keyed, Error> {
+fn no_texts(alloc: Global) -> Result<Dictionaries, Error> {
     let texts = AnyMutableFlat::Utf8(MutableUtf8Array::new(alloc)?);
     MutableDictionaryArray::try_from_values(alloc, texts)
 }
 
-fn no_numbers(alloc: Global) -> Result<Keyed, Error> {
+fn no_numbers(alloc: Global) -> Result<Dictionaries, Error> {
     let numbers = AnyMutablePrimitive::Int64(MutablePrimitiveArray::new(alloc));
     MutableDictionaryArray::try_from_values(alloc, AnyMutableFlat::Primitive(numbers))
 }
 
-fn push(keyed: &mut Keyed, value: Plain<'_>) -> Result<(), Error> {
+fn push(keyed: &mut Dictionaries, value: Plain<'_>) -> Result<(), Error> {
     if !keyed.is_whole() {
         return Err(Error::InvalidArgumentError(Argument::Unfinished));
     }
@@ -50,7 +50,7 @@ fn show(array: &DictionaryArray, text: &mut String) -> Result<(), Error> {
     Ok(())
 }
 
-/// The keys and the values of an array of texts, as text; it is let go.
+/// The keys and the values of an array of strings, as text; it is dropped.
 fn text_of(alloc: Global, array: Result<DictionaryArray, Error>) -> Result<String, Error> {
     match array {
         Err(error) => Err(error),
@@ -65,7 +65,7 @@ fn text_of(alloc: Global, array: Result<DictionaryArray, Error>) -> Result<Strin
 }
 
 /// "A", "B", null and "A".
-fn push_four(keyed: &mut Keyed) -> Result<(), Error> {
+fn push_four(keyed: &mut Dictionaries) -> Result<(), Error> {
     push(keyed, Plain::Text("A"))?;
     push(keyed, Plain::Text("B"))?;
     if keyed.is_whole() {
@@ -74,8 +74,9 @@ fn push_four(keyed: &mut Keyed) -> Result<(), Error> {
     push(keyed, Plain::Text("A"))
 }
 
+/// "A", "B", null, "A" are frozen to the keys 0, 1, null, 0 over two strings; the emptied builder takes "C" by key 0.
 #[test]
-fn each_text_is_kept_once(rt: HostRuntime) {
+fn each_string_is_kept_once(rt: HostRuntime) {
     let mut keyed = no_texts(rt.alloc()).expect(&rt, "no texts");
     let pushed = push_four(&mut keyed);
     let first = text_of(rt.alloc(), keyed.freeze());
@@ -87,6 +88,7 @@ fn each_text_is_kept_once(rt: HostRuntime) {
     assert!(rt; second.expect(&rt, "a text").as_str() == "0 C");
 }
 
+/// A number of 32 bits is not a value of a dictionary of numbers of 64 bits, and a text is rejected.
 #[test]
 fn a_number_is_found_by_its_own_kind(rt: HostRuntime) {
     let mut keyed = no_numbers(rt.alloc()).expect(&rt, "no numbers");
@@ -101,7 +103,7 @@ fn a_number_is_found_by_its_own_kind(rt: HostRuntime) {
 }
 
 /// How many of so many different numbers are taken.
-fn taken(keyed: &mut Keyed, wanted: i64) -> Result<usize, Error> {
+fn taken(keyed: &mut Dictionaries, wanted: i64) -> Result<usize, Error> {
     let mut taken = 0usize;
     for number in 0..wanted {
         match push(keyed, Plain::Native(AnyNative::Int64(number))) {
@@ -113,6 +115,7 @@ fn taken(keyed: &mut Keyed, wanted: i64) -> Result<usize, Error> {
     Ok(taken)
 }
 
+/// 256 numbers by keys of 8 bits without a sign, and no other; known ones are taken.
 #[test]
 fn there_are_as_many_values_as_keys(rt: HostRuntime) {
     let mut keyed = no_numbers(rt.alloc()).expect(&rt, "no numbers");

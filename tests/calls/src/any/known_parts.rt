@@ -1,4 +1,6 @@
 //! Records of children that are known to fit their data type, made without checks, and a value for a child that is lent.
+//!
+//! Records of a child that is known to fit, made without checks; a number for the child that they lend.
 
 use crate::any::records::{numbers, push, records_of};
 use nest_any::{AnyMutableArray, MutableStructArray};
@@ -37,7 +39,7 @@ fn number_records(alloc: Global) -> Result<MutableStructArray, Error> {
     }
 }
 
-/// Tells a row of what waits in whole children.
+/// Pushes a row of what waits in complete children.
 fn tell(records: &mut MutableStructArray) -> Result<(), Error> {
     if !records.has_whole_children() {
         return Err(Error::InvalidArgumentError(Argument::Unfinished));
@@ -46,12 +48,12 @@ fn tell(records: &mut MutableStructArray) -> Result<(), Error> {
 }
 
 #[test]
-fn a_number_is_pushed_into_the_child_that_records_lend(rt: HostRuntime) {
+fn a_number_is_pushed_into_a_child_of_records(rt: HostRuntime) {
     let mut records = number_records(rt.alloc()).expect(&rt, "number records");
     let pushed = push(records.value(0), Plain::Native(AnyNative::Int64(7)));
-    let told = tell(&mut records);
+    let ended = tell(&mut records);
     let rows = MutableArray::len(&records);
     assert!(rt; pushed == Ok(()));
-    assert!(rt; told == Ok(()));
+    assert!(rt; ended == Ok(()));
     assert!(rt; rows == 1);
 }

@@ -14,7 +14,7 @@ use nest_memory::error::{Argument, Error, Spec};
 use std::alloc::Global;
 
 /// Dictionaries of such values, by keys of 8 bits.
-fn keyed_type(alloc: Global, values: DataType) -> Result<DataType, Error> {
+fn dictionary_data_type(alloc: Global, values: DataType) -> Result<DataType, Error> {
     let values = Box::new(alloc, values)?;
     Ok(DataType::Dictionary(IntegerType::Int8, values, false))
 }
@@ -28,8 +28,8 @@ fn whole(builder: AnyMutableArray) -> Result<AnyMutableArray, Error> {
     Ok(builder)
 }
 
-pub(crate) fn keyed_texts(alloc: Global) -> Result<AnyMutableArray, Error> {
-    let data_type = keyed_type(alloc, DataType::Utf8)?;
+pub(crate) fn dictionary_of_strings(alloc: Global) -> Result<AnyMutableArray, Error> {
+    let data_type = dictionary_data_type(alloc, DataType::Utf8)?;
     match texts(alloc) {
         Ok(texts) => nested(alloc, data_type, texts),
         Err(error) => {
@@ -39,14 +39,14 @@ pub(crate) fn keyed_texts(alloc: Global) -> Result<AnyMutableArray, Error> {
     }
 }
 
-fn keyed_numbers(alloc: Global) -> Result<AnyMutableArray, Error> {
-    let data_type = keyed_type(alloc, DataType::Int64)?;
+fn dictionary_numbers(alloc: Global) -> Result<AnyMutableArray, Error> {
+    let data_type = dictionary_data_type(alloc, DataType::Int64)?;
     nested(alloc, data_type, numbers(alloc))
 }
 
-/// Records of a keyed text each.
-fn keyed_records(alloc: Global) -> Result<MutableStructArray, Error> {
-    let keyed = match keyed_texts(alloc) {
+/// Records of a dictionary-encoded text each.
+fn dictionary_records(alloc: Global) -> Result<MutableStructArray, Error> {
+    let keyed = match dictionary_of_strings(alloc) {
         Ok(keyed) => whole(keyed),
         Err(error) => Err(error),
     };
@@ -64,12 +64,12 @@ fn keyed_records(alloc: Global) -> Result<MutableStructArray, Error> {
 }
 
 fn record_type(alloc: Global) -> Result<DataType, Error> {
-    records_of(alloc, keyed_type(alloc, DataType::Utf8)?)
+    records_of(alloc, dictionary_data_type(alloc, DataType::Utf8)?)
 }
 
-fn keyed_lists(alloc: Global) -> Result<AnyMutableArray, Error> {
+fn dictionary_lists(alloc: Global) -> Result<AnyMutableArray, Error> {
     let data_type = lists_of(alloc, record_type(alloc)?)?;
-    match keyed_records(alloc) {
+    match dictionary_records(alloc) {
         Ok(records) => nested(alloc, data_type, AnyMutableArray::Struct(records)),
         Err(error) => {
             drop(data_type);
@@ -78,7 +78,7 @@ fn keyed_lists(alloc: Global) -> Result<AnyMutableArray, Error> {
     }
 }
 
-/// Whether dictionaries have these keys and texts.
+/// Whether dictionaries have these keys and strings.
 fn has_keys(keyed: &DictionaryArray, wanted: &[Option<i8>], wanted_texts: &[&str]) -> bool {
     let AnyKeys::Int8(keys) = keyed.keys() else {
         return false;
@@ -91,10 +91,10 @@ fn has_keys(keyed: &DictionaryArray, wanted: &[Option<i8>], wanted_texts: &[&str
             return false;
         }
     }
-    has_texts(keyed.values(), wanted_texts)
+    has_strings(keyed.values(), wanted_texts)
 }
 
-fn has_texts(values: &AnyArray, wanted: &[&str]) -> bool {
+fn has_strings(values: &AnyArray, wanted: &[&str]) -> bool {
     let AnyArray::Utf8(texts) = values else {
         return false;
     };
@@ -110,7 +110,7 @@ fn has_texts(values: &AnyArray, wanted: &[&str]) -> bool {
 }
 
 /// Whether a list of two records of "x" and a null list were frozen, over one text.
-fn is_one_text_twice(frozen: &Result<AnyArray, Error>) -> bool {
+fn is_one_string_twice(frozen: &Result<AnyArray, Error>) -> bool {
     let Ok(AnyArray::List(lists)) = frozen else {
         return false;
     };
@@ -126,69 +126,73 @@ fn is_one_text_twice(frozen: &Result<AnyArray, Error>) -> bool {
         && has_keys(keyed, &[Some(0), Some(0)], &["x"])
 }
 
+/// Lists of records of a dictionary-encoded text: two records of "x" and a null list are frozen to the offsets 0, 2, 2, the
+/// keys 0, 0 and one text.
 #[test]
 fn lists_of_records_of_dictionaries_are_frozen(rt: HostRuntime) {
-    let mut lists = keyed_lists(rt.alloc()).expect(&rt, "keyed lists");
+    let mut lists = dictionary_lists(rt.alloc()).expect(&rt, "keyed lists");
     let pushed = push_lists(&mut lists);
     let frozen = lists.as_box();
     let is_new = lists.is_empty() && lists.is_whole();
-    let shown = is_one_text_twice(&frozen);
+    let shown = is_one_string_twice(&frozen);
     assert!(rt; pushed == Ok(()));
     assert!(rt; is_new);
     assert!(rt; shown);
 }
 
+/// A builder of dictionaries lends no child, pushes no row, and takes no value of another kind.
 #[test]
-fn a_dictionary_has_no_child_and_tells_no_row(rt: HostRuntime) {
-    let mut keyed = keyed_texts(rt.alloc()).expect(&rt, "keyed texts");
+fn a_dictionary_has_no_child_rows(rt: HostRuntime) {
+    let mut keyed = dictionary_of_strings(rt.alloc()).expect(&rt, "keyed texts");
     let childless = keyed.child(0).is_none();
-    let told = tell(&mut keyed, true);
+    let ended = tell(&mut keyed, true);
     let pushed = push(&mut keyed, Plain::Native(AnyNative::Int64(7)));
     let rows = keyed.len();
     assert!(rt; childless);
-    assert!(rt; told == Err(OTHER_KIND));
+    assert!(rt; ended == Err(OTHER_KIND));
     assert!(rt; pushed == Err(OTHER_KIND));
     assert!(rt; rows == 0);
 }
 
+/// Dictionaries over a child of another type, over one with a row, and of values with children.
 #[test]
-fn dictionaries_over_another_child_are_refused(rt: HostRuntime) {
+fn dictionaries_over_another_child_are_rejected(rt: HostRuntime) {
     let alloc = rt.alloc();
     let child_type = Some(Error::OutOfSpec(Spec::ChildType));
     let not_empty = Some(Error::InvalidArgumentError(Argument::ChildNotEmpty));
     let wrong_type = Some(Error::OutOfSpec(Spec::WrongType));
     let lists = lists_of(alloc, DataType::Int64).expect(&rt, "a data type");
-    let keys = keyed_type(alloc, DataType::Utf8).expect(&rt, "a data type");
+    let keys = dictionary_data_type(alloc, DataType::Utf8).expect(&rt, "a data type");
     for values in [DataType::Null, keys] {
-        let data_type = keyed_type(alloc, values).expect(&rt, "a data type");
+        let data_type = dictionary_data_type(alloc, values).expect(&rt, "a data type");
         assert!(rt; refused(alloc, false, data_type) == wrong_type);
     }
     assert!(rt;
         refused(
             alloc,
             true,
-            keyed_type(alloc, lists).expect(&rt, "a data type")
+            dictionary_data_type(alloc, lists).expect(&rt, "a data type")
         ) == wrong_type
     );
     assert!(rt;
         refused(
             alloc,
             true,
-            keyed_type(alloc, DataType::Utf8).expect(&rt, "a data type")
+            dictionary_data_type(alloc, DataType::Utf8).expect(&rt, "a data type")
         ) == not_empty
     );
     assert!(rt;
         refused(
             alloc,
             false,
-            keyed_type(alloc, DataType::Utf8).expect(&rt, "a data type")
+            dictionary_data_type(alloc, DataType::Utf8).expect(&rt, "a data type")
         ) == child_type
     );
     assert!(rt;
         refused(
             alloc,
             false,
-            keyed_type(alloc, DataType::Int64).expect(&rt, "a data type")
+            dictionary_data_type(alloc, DataType::Int64).expect(&rt, "a data type")
         )
         .is_none()
     );
@@ -204,7 +208,7 @@ fn push_four(keyed: &mut AnyMutableArray) -> Result<(), Error> {
     push(keyed, Plain::Text("A"))
 }
 
-/// Whether these keys and texts were frozen.
+/// Whether these keys and strings were frozen.
 fn is_frozen(frozen: &Result<AnyArray, Error>, keys: &[Option<i8>], texts: &[&str]) -> bool {
     match frozen {
         Ok(AnyArray::Dictionary(keyed)) => has_keys(keyed, keys, texts),
@@ -212,9 +216,10 @@ fn is_frozen(frozen: &Result<AnyArray, Error>, keys: &[Option<i8>], texts: &[&st
     }
 }
 
+/// "A", "B", null, "A" are frozen to the keys 0, 1, null, 0 over two strings; the emptied builder takes "C" by key 0.
 #[test]
-fn each_text_has_one_key(rt: HostRuntime) {
-    let mut keyed = keyed_texts(rt.alloc()).expect(&rt, "keyed texts");
+fn each_string_has_one_key(rt: HostRuntime) {
+    let mut keyed = dictionary_of_strings(rt.alloc()).expect(&rt, "keyed texts");
     let pushed = push_four(&mut keyed);
     let frozen = keyed.as_box();
     let first = is_frozen(&frozen, &[Some(0), Some(1), None, Some(0)], &["A", "B"]);
@@ -235,9 +240,10 @@ fn key_and_count(keyed: &AnyMutableArray, number: i64) -> (Option<usize>, usize)
     }
 }
 
+/// A number that was pushed twice is one value with a key, another has none.
 #[test]
-fn a_number_is_looked_up(rt: HostRuntime) {
-    let mut keyed = keyed_numbers(rt.alloc()).expect(&rt, "keyed numbers");
+fn a_number_is_found(rt: HostRuntime) {
+    let mut keyed = dictionary_numbers(rt.alloc()).expect(&rt, "keyed numbers");
     let pushed = push(&mut keyed, Plain::Native(AnyNative::Int64(7)));
     let again = push(&mut keyed, Plain::Native(AnyNative::Int64(7)));
     let known = key_and_count(&keyed, 7);

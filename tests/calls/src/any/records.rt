@@ -88,7 +88,7 @@ pub(crate) fn kept(
 }
 
 /// Records of a text each.
-fn text_records(alloc: Global) -> Result<MutableStructArray, Error> {
+fn string_records(alloc: Global) -> Result<MutableStructArray, Error> {
     let data_type = records_of(alloc, DataType::Utf8)?;
     match texts(alloc) {
         Ok(texts) => over(alloc, data_type, vec![in alloc; texts], None),
@@ -107,7 +107,7 @@ pub(crate) fn push(builder: &mut AnyMutableArray, value: Plain<'_>) -> Result<()
     builder.try_push_plain(Some(value))
 }
 
-/// Tells a row of what waits in whole children.
+/// Pushes a row of what waits in complete children.
 pub(crate) fn tell(builder: &mut AnyMutableArray, valid: bool) -> Result<(), Error> {
     if !builder.has_whole_children() {
         return Err(UNFINISHED);
@@ -115,7 +115,7 @@ pub(crate) fn tell(builder: &mut AnyMutableArray, valid: bool) -> Result<(), Err
     builder.tell(valid)
 }
 
-/// Pushes a value into the first child of a builder and tells a row of it.
+/// Pushes a value into the first child of a builder and pushes a row of it.
 pub(crate) fn push_record(records: &mut AnyMutableArray, value: Plain<'_>) -> Result<(), Error> {
     match records.child(0) {
         Some(child) => push(child, value)?,
@@ -142,7 +142,7 @@ pub(crate) fn push_lists(lists: &mut AnyMutableArray) -> Result<(), Error> {
 
 fn two_records_and_a_null(alloc: Global) -> Result<AnyMutableArray, Error> {
     let data_type = lists_of(alloc, records_of(alloc, DataType::Utf8)?)?;
-    let mut lists = match text_records(alloc) {
+    let mut lists = match string_records(alloc) {
         Ok(records) => { nested(alloc, data_type, AnyMutableArray::Struct(records))? }
         Err(error) => {
             drop(data_type);
@@ -153,8 +153,8 @@ fn two_records_and_a_null(alloc: Global) -> Result<AnyMutableArray, Error> {
     kept(lists, done)
 }
 
-/// Whether the records' only child has these texts.
-fn has_texts(records: &StructArray, wanted: &[&str]) -> bool {
+/// Whether the records' only child has these strings.
+fn has_strings(records: &StructArray, wanted: &[&str]) -> bool {
     let [AnyArray::Utf8(texts)] = records.values() else {
         return false;
     };
@@ -183,7 +183,7 @@ fn are_two_records_and_a_null(frozen: &Result<AnyArray, Error>) -> bool {
                 has_offsets(lists, &[0, 2, 2])
                     && lists.len() == 2
                     && lists.is_null(1)
-                    && has_texts(records, &["x", "x"])
+                    && has_strings(records, &["x", "x"])
             }
             _ => false,
         },
@@ -191,8 +191,10 @@ fn are_two_records_and_a_null(frozen: &Result<AnyArray, Error>) -> bool {
     }
 }
 
+/// Lists of records of a text: two records and a null list are pushed, frozen to the offsets 0, 2, 2, and the emptied builder
+/// is whole.
 #[test]
-fn lists_of_records_are_told_and_frozen(rt: HostRuntime) {
+fn lists_of_records_are_pushed_and_frozen(rt: HostRuntime) {
     let alloc = rt.alloc();
     let mut lists = two_records_and_a_null(alloc).expect(&rt, "two records and a null");
     let rows = lists.len();
@@ -204,19 +206,20 @@ fn lists_of_records_are_told_and_frozen(rt: HostRuntime) {
     assert!(rt; shown);
 }
 
+/// A builder without children has no child, pushes no row, and takes no value of another kind.
 #[test]
-fn a_flat_builder_has_no_child_and_tells_no_row(rt: HostRuntime) {
+fn a_flat_builder_has_no_child_rows(rt: HostRuntime) {
     let mut flat = numbers(rt.alloc());
     let childless = flat.child(0).is_none();
-    let told = tell(&mut flat, true);
+    let ended = tell(&mut flat, true);
     let pushed = push(&mut flat, Plain::Text("x"));
     assert!(rt; childless);
-    assert!(rt; told == Err(OTHER_KIND));
+    assert!(rt; ended == Err(OTHER_KIND));
     assert!(rt; pushed == Err(OTHER_KIND));
 }
 
-/// Why a builder was refused; an accepted one is let go.
-fn refusal_of(made: Result<AnyMutableArray, Error>) -> Option<Error> {
+/// Why a builder was rejected; an accepted one is dropped.
+fn error_of(made: Result<AnyMutableArray, Error>) -> Option<Error> {
     match made {
         Ok(builder) => {
             drop(builder);
@@ -226,7 +229,7 @@ fn refusal_of(made: Result<AnyMutableArray, Error>) -> Option<Error> {
     }
 }
 
-/// Why no lists of texts are made over a builder of numbers.
+/// Why no lists of strings are made over a builder of numbers.
 pub(crate) fn refused(alloc: Global, filled: bool, data_type: DataType) -> Option<Error> {
     let mut items = numbers(alloc);
     let pushed = if filled {
@@ -235,7 +238,7 @@ pub(crate) fn refused(alloc: Global, filled: bool, data_type: DataType) -> Optio
         Ok(())
     };
     match kept(items, pushed) {
-        Ok(items) => refusal_of(nested(alloc, data_type, items)),
+        Ok(items) => error_of(nested(alloc, data_type, items)),
         Err(error) => {
             drop(data_type);
             Some(error)
@@ -243,8 +246,9 @@ pub(crate) fn refused(alloc: Global, filled: bool, data_type: DataType) -> Optio
     }
 }
 
+/// Lists over a child of another type, over one with a row, and of a type that is no list.
 #[test]
-fn lists_over_another_child_are_refused(rt: HostRuntime) {
+fn lists_over_another_child_are_rejected(rt: HostRuntime) {
     let alloc = rt.alloc();
     let child_type = Some(Error::OutOfSpec(Spec::ChildType));
     let not_empty = Some(Error::InvalidArgumentError(Argument::ChildNotEmpty));
@@ -285,7 +289,7 @@ fn push_two(lists: &mut AnyMutableArray) -> Result<(), Error> {
     }
 }
 
-/// Whether a builder with waiting items was refused.
+/// Whether a builder with waiting items was rejected.
 fn is_unfinished(frozen: Result<AnyArray, Error>) -> bool {
     match frozen {
         Ok(array) => {
@@ -306,19 +310,20 @@ fn is_null_of_two(frozen: &Result<AnyArray, Error>) -> bool {
     }
 }
 
+/// Items that wait are under an null row, by the offsets 0, 2; a builder with waiting items is not frozen.
 #[test]
-fn items_stand_under_an_untrue_row(rt: HostRuntime) {
+fn items_under_a_null_row(rt: HostRuntime) {
     let alloc = rt.alloc();
     let data_type = lists_of(alloc, DataType::Int64).expect(&rt, "a data type");
     let mut lists = nested(alloc, data_type, numbers(alloc)).expect(&rt, "lists");
     let pushed = push_two(&mut lists);
     let waits = is_unfinished(lists.as_box());
-    let told = tell(&mut lists, false);
+    let ended = tell(&mut lists, false);
     let frozen = lists.as_box();
     let shown = is_null_of_two(&frozen);
     assert!(rt; pushed == Ok(()));
     assert!(rt; waits);
-    assert!(rt; told == Ok(()));
+    assert!(rt; ended == Ok(()));
     assert!(rt; shown);
 }
 
@@ -341,17 +346,18 @@ fn half_a_row(alloc: Global) -> Result<AnyMutableArray, Error> {
     kept(records, done)
 }
 
+/// Of two children one was given a row: it waits, and no record is pushed or frozen.
 #[test]
 fn half_a_row_waits(rt: HostRuntime) {
     let mut records = half_a_row(rt.alloc()).expect(&rt, "half a row");
-    let told = tell(&mut records, true);
+    let ended = tell(&mut records, true);
     let waits = is_unfinished(records.as_box());
     let rows = records.len();
     let waiting = match records.child(1) {
         Some(child) => child.len(),
         None => 0,
     };
-    assert!(rt; told == Err(UNFINISHED));
+    assert!(rt; ended == Err(UNFINISHED));
     assert!(rt; waits);
     assert!(rt; rows == 0);
     assert!(rt; waiting == 1);
@@ -395,9 +401,9 @@ fn add_null(records: &mut AnyMutableArray) -> bool {
     records.is_whole() && records.push_null().is_ok()
 }
 
-// Holds where any one request for memory is refused.
+// Holds where any one allocation fails.
 #[test]
-fn a_refused_null_changes_no_level(rt: HostRuntime) {
+fn a_rejected_null_changes_no_level(rt: HostRuntime) {
     let Ok(mut records) = no_records(rt.alloc()) else {
         return;
     };
@@ -428,16 +434,16 @@ fn masked(alloc: Global) -> Result<MutableStructArray, Error> {
 }
 
 /// Whether records are frozen without a validity.
-fn is_bare(alloc: Global) -> Result<bool, Error> {
+fn has_no_validity(alloc: Global) -> Result<bool, Error> {
     let mut records = masked(alloc)?;
     let frozen = records.freeze();
     drop(records);
-    let bare = match &frozen {
+    let no_validity = match &frozen {
         Ok(records) => records.validity().is_none(),
         Err(_) => false,
     };
     drop(frozen);
-    Ok(bare)
+    Ok(no_validity)
 }
 
 /// Whether records are boxed with a validity.
@@ -453,9 +459,10 @@ fn is_masked(alloc: Global) -> Result<bool, Error> {
     Ok(masked)
 }
 
+/// Of a validity without nulls `freeze` leaves none, `as_box` keeps it.
 #[test]
 fn freeze_drops_a_validity_without_nulls(rt: HostRuntime) {
-    assert!(rt; is_bare(rt.alloc()).expect(&rt, "is bare"));
+    assert!(rt; has_no_validity(rt.alloc()).expect(&rt, "is no_validity"));
     assert!(rt; is_masked(rt.alloc()).expect(&rt, "is masked"));
 }
 
@@ -463,7 +470,7 @@ fn freeze_drops_a_validity_without_nulls(rt: HostRuntime) {
 type RecordLists = MutableListArray<i32, MutableStructArray>;
 
 fn no_lists(alloc: Global) -> Result<RecordLists, Error> {
-    let records = text_records(alloc)?;
+    let records = string_records(alloc)?;
     if !records.is_whole() || !records.is_empty() {
         drop(records);
         return Err(UNFINISHED);
@@ -479,8 +486,8 @@ fn push_text(lists: &mut RecordLists) -> Result<(), Error> {
     Ok(())
 }
 
-/// Tells the record, and the list of it.
-fn tell_both(lists: &mut RecordLists) -> Result<(), Error> {
+/// Pushes the record, and the list of it.
+fn push_to_both(lists: &mut RecordLists) -> Result<(), Error> {
     let records = lists.mut_values();
     if records.has_whole_children() {
         records.push(true)?;
@@ -496,7 +503,7 @@ fn is_one_record(frozen: &Result<AnyArray, Error>) -> bool {
     match frozen {
         Ok(AnyArray::List(lists)) => match lists.values() {
             AnyArray::Struct(records) => {
-                has_offsets(lists, &[0, 1]) && has_texts(records, &["x"])
+                has_offsets(lists, &[0, 1]) && has_strings(records, &["x"])
             }
             _ => false,
         },
@@ -504,7 +511,7 @@ fn is_one_record(frozen: &Result<AnyArray, Error>) -> bool {
     }
 }
 
-/// Whether what was not told keeps the lists from being frozen by each call, and goes on waiting.
+/// Whether what was not pushed keeps the lists from being frozen by each call, and continues waiting.
 fn waits(alloc: Global, lists: &mut RecordLists) -> bool {
     let boxed = is_unfinished(lists.as_box());
     let shared = match lists.as_arc(alloc) {
@@ -524,22 +531,23 @@ fn waits(alloc: Global, lists: &mut RecordLists) -> bool {
     boxed && shared && frozen && !lists.is_whole()
 }
 
+/// A record waits in a builder of lists over records until it is pushed.
 #[test]
-fn an_untold_record_waits_under_a_list(rt: HostRuntime) {
+fn an_unfinished_record_blocks_its_list(rt: HostRuntime) {
     let alloc = rt.alloc();
     let mut lists = no_lists(alloc).expect(&rt, "no row");
     let pushed = push_text(&mut lists);
     let waits = waits(alloc, &mut lists);
-    let told = tell_both(&mut lists);
+    let ended = push_to_both(&mut lists);
     let frozen = lists.as_box();
     let shown = is_one_record(&frozen);
     assert!(rt; pushed == Ok(()));
     assert!(rt; waits);
-    assert!(rt; told == Ok(()));
+    assert!(rt; ended == Ok(()));
     assert!(rt; shown);
 }
 
-/// Tells a row of what waits in a whole child.
+/// Pushes a row of what waits in a complete child.
 fn tell_list(lists: &mut ListBuilder) -> Result<(), Error> {
     if !lists.has_whole_children() {
         return Err(UNFINISHED);
@@ -547,6 +555,7 @@ fn tell_list(lists: &mut ListBuilder) -> Result<(), Error> {
     lists.tell(true)
 }
 
+/// A number that is pushed into the child that a builder of lists lends is in the next row.
 #[test]
 fn what_is_written_to_a_lent_child_stays(rt: HostRuntime) {
     let alloc = rt.alloc();
@@ -557,28 +566,29 @@ fn what_is_written_to_a_lent_child_stays(rt: HostRuntime) {
         None => Err(UNFINISHED),
     };
     let no_records = lists.as_struct_mut().is_none();
-    let told = match lists.as_list_mut() {
+    let ended = match lists.as_list_mut() {
         Some(lists) => tell_list(lists),
         None => Err(UNFINISHED),
     };
     let rows = lists.len();
     assert!(rt; pushed == Ok(()));
     assert!(rt; no_records);
-    assert!(rt; told == Ok(()));
+    assert!(rt; ended == Ok(()));
     assert!(rt; rows == 1);
 }
 
+/// Records are shared, and taken apart into their data type and children.
 #[test]
-fn records_are_shared_and_taken_apart(rt: HostRuntime) {
+fn records_are_shared_and_split(rt: HostRuntime) {
     let alloc = rt.alloc();
-    let shared = text_records(alloc)
+    let shared = string_records(alloc)
         .expect(&rt, "text records")
         .into_arc(alloc);
     let is_empty = match &shared {
         Ok(array) => array.len() == 0,
         Err(_) => false,
     };
-    let (data_type, values, validity) = text_records(alloc)
+    let (data_type, values, validity) = string_records(alloc)
         .expect(&rt, "text records")
         .into_inner();
     let count = values.len();

@@ -1,6 +1,7 @@
-//! Records that were told, slot by slot.
+//! Records that were pushed, slot by slot.
 
 use super::records::{UNFINISHED, numbers, over, records_of};
+use json_write::output::to_json_string;
 use nest_any::MutableStructArray;
 use nest_array::AnyArray;
 use nest_build::array::MutableArray;
@@ -9,7 +10,6 @@ use nest_flat::any_primitive::AnyPrimitive;
 use nest_flat::plain::Plain;
 use nest_memory::datatypes::DataType;
 use nest_memory::error::Error;
-use json_write::writing::json_text;
 
 fn add(records: &mut MutableStructArray, item: Option<i64>) -> Result<(), Error> {
     let item = item.map(|number| Plain::Native(AnyNative::Int64(number)));
@@ -27,8 +27,10 @@ fn are_of(records: &AnyArray, numbers: &[i64]) -> bool {
     }
 }
 
+/// Records 1, null and 2 slot by slot, and the raw numbers below them; a fourth that is not pushed keeps them from being
+/// frozen.
 #[test]
-fn told_records_are_the_slots(rt: HostRuntime) -> Result<(), Error> {
+fn pushed_records_are_the_slots(rt: HostRuntime) -> Result<(), Error> {
     let alloc = rt.alloc();
     let children = vec![in alloc; numbers(alloc)];
     let mut records = over(alloc, records_of(alloc, DataType::Int64)?, children, None)?;
@@ -42,7 +44,7 @@ fn told_records_are_the_slots(rt: HostRuntime) -> Result<(), Error> {
     records.value(0).truncate(3);
     let array = records.as_box()?;
     assert_eq!(rt;
-        json_text(alloc, &array)?.as_str(),
+        to_json_string(alloc, &array)?.as_str(),
         "[{\"a\":1},null,{\"a\":2}]"
     );
     assert!(rt; are_of(&array, &[1, 0, 2]));

@@ -1,4 +1,4 @@
-//! Arrays in arrays by their worked slots.
+//! Arrays in arrays by their examples slots.
 mod kinds;
 pub(crate) mod lists;
 pub(crate) mod memory;
@@ -19,7 +19,7 @@ use nest_memory::offset::Offset;
 use nest_memory::offsets::OffsetsBuffer;
 use std::alloc::Global;
 
-/// Both values, or the first refusal.
+/// Both values, or the first error.
 pub(crate) fn both<A: Drop, B: Drop>(
     a: Result<A, Error>,
     b: Result<B, Error>,
@@ -27,7 +27,7 @@ pub(crate) fn both<A: Drop, B: Drop>(
     Ok((a?, b?))
 }
 
-/// Whether both were made and are equal; both are let go.
+/// Whether both were made and are equal; both are dropped.
 pub(crate) fn are_same<A: PartialEq + Drop>(
     x: Result<A, Error>,
     y: Result<A, Error>,
@@ -36,7 +36,7 @@ pub(crate) fn are_same<A: PartialEq + Drop>(
     Ok(x == y)
 }
 
-/// Both items, or the first refusal.
+/// Both items, or the first error.
 pub(crate) fn two<T: Drop>(
     alloc: Global,
     first: Result<T, Error>,
@@ -78,7 +78,7 @@ pub(crate) fn int32s(
     }
 }
 
-pub(crate) fn truths(alloc: Global, items: &[bool]) -> Result<BooleanArray, Error> {
+pub(crate) fn booleans(alloc: Global, items: &[bool]) -> Result<BooleanArray, Error> {
     match Bitmap::from_bools(alloc, items) {
         Ok(values) => BooleanArray::try_new(DataType::Boolean, values, None),
         Err(error) => Err(error),
@@ -90,7 +90,7 @@ pub(crate) fn numbers(alloc: Global, items: &[i32]) -> Result<AnyArray, Error> {
     int32s(alloc, items, None).map(|array| AnyArray::Primitive(i32::wrap(array)))
 }
 
-/// Whether an array was made and has these numbers of 32 bits; it is let go.
+/// Whether an array was made and has these numbers of 32 bits; it is dropped.
 pub(crate) fn has_numbers(array: Result<AnyArray, Error>, items: &[i32]) -> bool {
     match array {
         Ok(array) => {

@@ -2,8 +2,8 @@
 use crate::array::arrays::lists::by_large_offsets;
 use crate::array::arrays::sizes::pairs;
 use crate::array::arrays::structs::four;
-use crate::array::arrays::{both, buffer, lists_of_lists, numbers, offsets_of, truths, validity};
-use crate::array::dictionaries::four_texts;
+use crate::array::arrays::{booleans, both, buffer, lists_of_lists, numbers, offsets_of, validity};
+use crate::array::dictionaries::four_strings;
 use crate::array::maps::two_maps;
 use nest_array::{AnyArray, Array, FixedSizeBinaryArray, NullArray};
 use nest_flat::any_primitive::AnyPrimitive;
@@ -36,7 +36,7 @@ fn counts<A: Array>(array: &A) -> Option<(usize, usize)> {
     Some((n, nulls))
 }
 
-/// The counts of an array that a call gave; the array is let go.
+/// The counts of an array that a call gave; the array is dropped.
 fn counts_of<A: Array + Drop>(array: Result<A, Error>) -> Option<(usize, usize)> {
     match array {
         Ok(array) => {
@@ -48,7 +48,7 @@ fn counts_of<A: Array + Drop>(array: Result<A, Error>) -> Option<(usize, usize)>
     }
 }
 
-/// Whether an array that a call gave has this data type; the array is let go.
+/// Whether an array that a call gave has this data type; the array is dropped.
 fn has_type(array: Result<AnyArray, Error>, data_type: &DataType) -> bool {
     match array {
         Ok(array) => {
@@ -60,7 +60,7 @@ fn has_type(array: Result<AnyArray, Error>, data_type: &DataType) -> bool {
     }
 }
 
-/// The calls that give an array answer one, of the same type, and not want of memory.
+/// The calls that return an array result one, of the same type, and not want of memory.
 fn expect_given<A: Array>(rt: &impl Abort, alloc: Global, array: &A, found: (usize, usize)) {
     assert!(rt; counts_of(array.to_boxed(alloc)) == Some(found));
     assert!(rt; has_type(array.to_boxed(alloc), array.data_type()));
@@ -72,7 +72,7 @@ fn expect_given<A: Array>(rt: &impl Abort, alloc: Global, array: &A, found: (usi
 }
 
 /// Under a validity whose first bit alone is unset, the first slot alone is null.
-fn expect_taken<A: Array>(rt: &impl Abort, alloc: Global, array: &A, n: usize) {
+fn expect_take<A: Array>(rt: &impl Abort, alloc: Global, array: &A, n: usize) {
     let all = [false, true, true, true];
     if n <= all.len() {
         let bits = validity(alloc, Some(&all[0..n])).expect(rt, "bits");
@@ -91,7 +91,7 @@ fn expect_array<A: Array + Drop>(
     let mut array = array.expect(rt, "an array");
     assert!(rt; counts(&array) == Some(found));
     expect_given(rt, alloc, &array, found);
-    expect_taken(rt, alloc, &array, found.0);
+    expect_take(rt, alloc, &array, found.0);
     let masked = array.validity().is_some();
     let n = array.len();
     if n >= 1 {
@@ -110,7 +110,7 @@ fn two_zeros<T: NativeType>(alloc: Global) -> Result<Buffer<T>, Error> {
     Buffer::from_vec(alloc, values)
 }
 
-/// The native values 0, of the type that stands for them.
+/// The native values 0, of the type that represents them.
 fn zeros<T: NativeType>(alloc: Global) -> Result<PrimitiveArray<T>, Error> {
     match two_zeros(alloc) {
         Ok(values) => PrimitiveArray::try_new(DataType::from(T::PRIMITIVE), values, None),
@@ -118,6 +118,7 @@ fn zeros<T: NativeType>(alloc: Global) -> Result<PrimitiveArray<T>, Error> {
     }
 }
 
+/// Each call of the trait `Array` on each kind, the twelve natives one by one.
 #[test]
 fn native_arrays(rt: HostRuntime) {
     let alloc = rt.alloc();
@@ -155,7 +156,7 @@ pub(crate) fn bytes<O: Offset>(
     }
 }
 
-/// The slots a and bc as texts.
+/// The slots a and bc as strings.
 pub(crate) fn texts<O: Offset>(
     alloc: Global,
     data_type: DataType,
@@ -173,7 +174,7 @@ pub(crate) fn texts<O: Offset>(
 #[test]
 fn flat_arrays(rt: HostRuntime) {
     let alloc = rt.alloc();
-    expect_array(&rt, alloc, truths(alloc, &[true, false]), (2, 0));
+    expect_array(&rt, alloc, booleans(alloc, &[true, false]), (2, 0));
     let binary = bytes(alloc, DataType::Binary, &[0i32, 1, 3]);
     expect_array(&rt, alloc, binary, (2, 0));
     let large_binary = bytes(alloc, DataType::LargeBinary, &[0i64, 1, 3]);
@@ -194,7 +195,7 @@ fn nested_arrays(rt: HostRuntime) {
     expect_array(&rt, alloc, by_large_offsets(alloc), (3, 0));
     expect_array(&rt, alloc, four(alloc, &[1, 2, 3, 4]), (4, 1));
     expect_array(&rt, alloc, two_maps(alloc), (2, 0));
-    expect_array(&rt, alloc, four_texts(alloc), (4, 1));
+    expect_array(&rt, alloc, four_strings(alloc), (4, 1));
     expect_array(&rt, alloc, numbers(alloc, &[1, 2]), (2, 0));
 }
 
@@ -210,7 +211,7 @@ fn null_arrays(rt: HostRuntime) {
 fn in_variant(array: &AnyArray) -> &str {
     match array {
         AnyArray::Null(_) => "nulls",
-        AnyArray::Boolean(_) => "truths",
+        AnyArray::Boolean(_) => "booleans",
         AnyArray::Primitive(AnyPrimitive::Int32(_)) => "numbers of 32 bits",
         AnyArray::Primitive(_) => "natives",
         AnyArray::Binary(_) | AnyArray::LargeBinary(_) => "bytes",
@@ -243,7 +244,7 @@ fn variant_of<A: Array + Drop>(
 fn copies_are_in_their_variant(rt: HostRuntime) {
     let alloc = rt.alloc();
     variant_of(&rt, alloc, NullArray::try_new(DataType::Null, 1), "nulls");
-    variant_of(&rt, alloc, truths(alloc, &[true]), "truths");
+    variant_of(&rt, alloc, booleans(alloc, &[true]), "booleans");
     variant_of(&rt, alloc, zeros::<i32>(alloc), "numbers of 32 bits");
     variant_of(&rt, alloc, zeros::<u8>(alloc), "natives");
     let utf8 = texts(alloc, DataType::Utf8, &[0i32, 1, 3]);
@@ -252,5 +253,5 @@ fn copies_are_in_their_variant(rt: HostRuntime) {
     variant_of(&rt, alloc, by_large_offsets(alloc), "large lists");
     variant_of(&rt, alloc, four(alloc, &[1, 2, 3, 4]), "records");
     variant_of(&rt, alloc, two_maps(alloc), "maps");
-    variant_of(&rt, alloc, four_texts(alloc), "values by keys");
+    variant_of(&rt, alloc, four_strings(alloc), "values by keys");
 }

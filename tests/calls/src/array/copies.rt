@@ -1,4 +1,4 @@
-//! Copies, shared arrays and new validities of each kind that nests, with memory: each answers an equal array, where a body
+//! Copies, shared arrays and new validities of each kind that nests, with memory: each results an equal array, where a body
 //! that always wants memory would be proved too.
 use crate::array::arrays::lists::by_large_offsets;
 use crate::array::arrays::sizes::pairs;
@@ -16,7 +16,7 @@ use std::alloc::Global;
 use std::process::Abort;
 use std::rc::Rc;
 
-/// Whether a copy was made and is equal; it is let go.
+/// Whether a copy was made and is equal; it is dropped.
 fn is_equal<A: PartialEq + Drop>(copy: Result<A, Error>, array: &A) -> bool {
     match copy {
         Ok(copy) => {
@@ -28,6 +28,7 @@ fn is_equal<A: PartialEq + Drop>(copy: Result<A, Error>, array: &A) -> bool {
     }
 }
 
+/// Clones, shared arrays and new validities are there where memory is.
 #[test]
 fn clones_are_equal(rt: HostRuntime) {
     let alloc = rt.alloc();
@@ -50,7 +51,7 @@ fn clones_of_records_and_nulls_are_equal(rt: HostRuntime) {
     assert!(rt; is_equal(array.clone(alloc), &array));
 }
 
-/// Whether a shared array was made, of so many slots; it is let go.
+/// Whether a shared array was made, of so many slots; it is dropped.
 fn is_shared(shared: Result<Rc<AnyArray>, Error>, n: usize) -> bool {
     match shared {
         Ok(shared) => {

@@ -1,4 +1,4 @@
-//! How many comparisons equality tells: one for each pair of slots that is compared, at any depth, and 16 for a block of
+//! How many comparisons equality pushes: one for each pair of slots that is compared, at any depth, and 16 for a block of
 //! native values.
 use crate::array::arrays::sizes::pairs;
 use crate::array::arrays::structs::four;
@@ -16,7 +16,7 @@ use nest_memory::datatypes::DataType;
 use nest_memory::error::Error;
 use std::alloc::Global;
 
-/// Whether both arrays were made and are equal, and how many comparisons were told; both are let go.
+/// Whether both arrays were made and are equal, and how many comparisons were pushed; both are dropped.
 pub(crate) fn counted(
     a: Result<AnyArray, Error>,
     b: Result<AnyArray, Error>,
@@ -50,11 +50,11 @@ fn longs(alloc: Global, n: usize, first: i64, last: i64) -> Result<AnyArray, Err
 }
 
 /// Whether so many equal numbers take as many comparisons.
-fn takes_each(alloc: Global, n: usize) -> bool {
+fn accepts_each(alloc: Global, n: usize) -> bool {
     counted(longs(alloc, n, 1, 1), longs(alloc, n, 1, 1)) == Ok((true, n as u64))
 }
 
-/// Whether so many numbers, of which the last alone differs, are told apart by at most as many comparisons.
+/// Whether so many numbers, of which the last alone differs, are distinguished by at most as many comparisons.
 fn last_is_seen(alloc: Global, n: usize) -> bool {
     match counted(longs(alloc, n, 1, 1), longs(alloc, n, 1, 2)) {
         Ok((same, count)) => !same && count <= n as u64,
@@ -62,15 +62,17 @@ fn last_is_seen(alloc: Global, n: usize) -> bool {
     }
 }
 
+/// Comparisons that are pushed: of natives by blocks of 16 and a rest (0, 1, 15, 16, 17, 33 values; the last or the first
+/// differs).
 #[test]
 fn native_values_by_blocks_and_a_rest(rt: HostRuntime) {
     let alloc = rt.alloc();
-    assert!(rt; takes_each(alloc, 0));
-    assert!(rt; takes_each(alloc, 1));
-    assert!(rt; takes_each(alloc, 15));
-    assert!(rt; takes_each(alloc, 16));
-    assert!(rt; takes_each(alloc, 17));
-    assert!(rt; takes_each(alloc, 33));
+    assert!(rt; accepts_each(alloc, 0));
+    assert!(rt; accepts_each(alloc, 1));
+    assert!(rt; accepts_each(alloc, 15));
+    assert!(rt; accepts_each(alloc, 16));
+    assert!(rt; accepts_each(alloc, 17));
+    assert!(rt; accepts_each(alloc, 33));
 }
 
 #[test]
@@ -94,6 +96,7 @@ fn four_lists(alloc: Global, items: &[i32], offsets: &[i32]) -> Result<AnyArray,
     any_list(list_array(alloc, numbers(alloc, items), offsets, None))
 }
 
+/// Of lists at other offsets 9, of lists of lists 19, of records with a null 10, of pairs 9, of nulls one each.
 #[test]
 fn lists_at_other_offsets(rt: HostRuntime) {
     let alloc = rt.alloc();
@@ -102,6 +105,7 @@ fn lists_at_other_offsets(rt: HostRuntime) {
     assert!(rt; counted(lists, others) == Ok((true, 9)));
 }
 
+/// Other lengths over the same items are distinguished, items under a null are not.
 #[test]
 fn lists_of_other_lengths_over_the_same_items(rt: HostRuntime) {
     let alloc = rt.alloc();
@@ -154,6 +158,8 @@ fn dates(alloc: Global, items: &[i32]) -> Result<AnyArray, Error> {
     }
 }
 
+/// No comparison for other types and lengths, one where the first slot alone is null, two where the second item of bytes
+/// differs.
 #[test]
 fn nothing_for_other_lengths_and_types(rt: HostRuntime) {
     let alloc = rt.alloc();
@@ -201,7 +207,7 @@ fn sevens(alloc: Global, first: bool) -> Result<AnyArray, Error> {
 }
 
 #[test]
-fn a_null_in_the_first_place(rt: HostRuntime) {
+fn a_null_at_index_0(rt: HostRuntime) {
     let alloc = rt.alloc();
     assert!(rt; counted(sevens(alloc, false), sevens(alloc, true)) == Ok((false, 1)));
 }
@@ -215,7 +221,7 @@ fn first_list_is_null(alloc: Global) -> Result<AnyArray, Error> {
 }
 
 #[test]
-fn a_null_list_in_the_first_place(rt: HostRuntime) {
+fn a_null_list_at_index_0(rt: HostRuntime) {
     let alloc = rt.alloc();
     let lists = any_list(lists_of_lists(alloc));
     assert!(rt; counted(lists, first_list_is_null(alloc)) == Ok((false, 1)));
@@ -236,6 +242,7 @@ fn each_null(rt: HostRuntime) {
     assert!(rt; counted(one, other) == Ok((true, 3)));
 }
 
+/// What is read of a count stops at 2^64 - 1.
 #[test]
 fn a_count_stops_at_the_largest_number(rt: HostRuntime) {
     let mut steps = Steps::new();

@@ -1,11 +1,11 @@
-//! Texts that are looked up by keys: what slots are, cuts, new validities.
+//! Strings that are looked up by keys: what slots are, slices, new validities.
 mod counts;
 mod equality;
 mod refusals;
 mod scalars;
 mod widths;
 
-use crate::array::arrays::memory::unless_refused;
+use crate::array::arrays::memory::unless_without_memory;
 use crate::array::arrays::{both, buffer, validity};
 use nest_array::any::clone;
 use nest_array::{AnyArray, AnyKeys, DictionaryArray, DictionaryKey};
@@ -16,7 +16,7 @@ use nest_memory::error::{Error, Spec};
 use std::alloc::Global;
 use std::process::Abort;
 
-/// Texts, `None` a null.
+/// Strings, `None` a null.
 pub(crate) fn texts(alloc: Global, items: &[Option<&str>]) -> Result<AnyArray, Error> {
     let mut builder = MutableUtf8Array::<i32>::new(alloc)?;
     for item in items {
@@ -56,8 +56,8 @@ fn by_keys(
     }
 }
 
-/// Texts by keys of 32 bits.
-fn texts_by(
+/// Strings by keys of 32 bits.
+fn strings_by(
     alloc: Global,
     raw: &[i32],
     bits: Option<&[bool]>,
@@ -67,9 +67,9 @@ fn texts_by(
 }
 
 /// A, B, null and C.
-pub(crate) fn four_texts(alloc: Global) -> Result<DictionaryArray, Error> {
+pub(crate) fn four_strings(alloc: Global) -> Result<DictionaryArray, Error> {
     let items = [Some("A"), Some("B"), Some("C")];
-    texts_by(
+    strings_by(
         alloc,
         &[0, 1, 0, 2],
         Some(&[true, true, false, true]),
@@ -88,13 +88,13 @@ fn text_at(array: &DictionaryArray, i: usize) -> &str {
     if !array.in_range(i) {
         return "out of range";
     }
-    let place = array.key_value(i);
+    let index = array.key_value(i);
     match array.values() {
-        AnyArray::Utf8(texts) if place < texts.len() => {
-            if texts.is_null(place) {
+        AnyArray::Utf8(texts) if index < texts.len() => {
+            if texts.is_null(index) {
                 return "null value";
             }
-            texts.value(place)
+            texts.value(index)
         }
         _ => "of another kind",
     }
@@ -109,8 +109,8 @@ fn spell(array: &DictionaryArray, text: &mut String) -> Result<(), Error> {
     Ok(())
 }
 
-/// The slots of an array are spelled so; it is let go.
-fn expect_texts(
+/// The slots of an array are decoded so; it is dropped.
+fn expect_strings(
     rt: &impl Abort,
     alloc: Global,
     array: Result<DictionaryArray, Error>,
@@ -127,15 +127,15 @@ fn expect_texts(
 #[test]
 fn keys_are_followed(rt: HostRuntime) {
     let alloc = rt.alloc();
-    expect_texts(&rt, alloc, four_texts(alloc), " A B null C");
+    expect_strings(&rt, alloc, four_strings(alloc), " A B null C");
     let items = [Some("x"), None];
-    let array = texts_by(alloc, &[1, 0, 1], None, &items);
-    expect_texts(&rt, alloc, array, " null value x null value");
+    let array = strings_by(alloc, &[1, 0, 1], None, &items);
+    expect_strings(&rt, alloc, array, " null value x null value");
 }
 
 #[test]
 fn parts_are_shown(rt: HostRuntime) {
-    let array = four_texts(rt.alloc()).expect(&rt, "four texts");
+    let array = four_strings(rt.alloc()).expect(&rt, "four texts");
     assert!(rt; array.len() == 4);
     assert!(rt; array.null_count() == 1);
     assert!(rt; array.keys().len() == 4);
@@ -152,7 +152,7 @@ fn parts_are_shown(rt: HostRuntime) {
 
 #[test]
 fn raw_keys_are_shown(rt: HostRuntime) {
-    let array = four_texts(rt.alloc()).expect(&rt, "four texts");
+    let array = four_strings(rt.alloc()).expect(&rt, "four texts");
     assert!(rt; array.len() == 4);
     assert!(rt; array.in_range(3));
     assert!(rt; array.key_value(3) == 2);
@@ -163,8 +163,8 @@ fn raw_keys_are_shown(rt: HostRuntime) {
 }
 
 #[test]
-fn cuts_keep_the_values(rt: HostRuntime) {
-    let array = four_texts(rt.alloc()).expect(&rt, "four texts");
+fn slices_keep_the_values(rt: HostRuntime) {
+    let array = four_strings(rt.alloc()).expect(&rt, "four texts");
     assert!(rt; array.len() == 4);
     let mut cut = array.sliced(1, 3);
     assert!(rt; cut.len() == 3);
@@ -172,14 +172,15 @@ fn cuts_keep_the_values(rt: HostRuntime) {
     assert!(rt; cut.len() == 2);
     assert!(rt; cut.null_count() == 1);
     assert!(rt; cut.values().len() == 3);
-    expect_texts(&rt, rt.alloc(), Ok(cut), " null C");
+    expect_strings(&rt, rt.alloc(), Ok(cut), " null C");
 }
 
+/// Keys that are all null with raw keys 9, 9 over one text: taken, not in range, and never valid, also after a slice.
 #[test]
 fn null_keys_may_be_any_raw_keys(rt: HostRuntime) {
     let alloc = rt.alloc();
     let nulls = Some([false, false].as_slice());
-    let mut array = texts_by(alloc, &[9, 9], nulls, &[Some("x")]).expect(&rt, "two nulls");
+    let mut array = strings_by(alloc, &[9, 9], nulls, &[Some("x")]).expect(&rt, "two nulls");
     assert!(rt; array.len() == 2);
     assert!(rt; !array.in_range(0));
     assert!(rt; !array.all_in_range());
@@ -190,11 +191,11 @@ fn null_keys_may_be_any_raw_keys(rt: HostRuntime) {
     assert!(rt; cut.len() == 1);
     assert!(rt; cut.is_null(0));
     assert!(rt; !cut.in_range(0));
-    let array = texts_by(alloc, &[-1, 9], nulls, &[]);
-    expect_texts(&rt, alloc, array, " null null");
+    let array = strings_by(alloc, &[-1, 9], nulls, &[]);
+    expect_strings(&rt, alloc, array, " null null");
 }
 
-/// The array, and why its new validity was refused.
+/// The array, and why its new validity was rejected.
 fn kept<A, B>(changed: Result<A, (A, B)>) -> (A, Option<B>) {
     match changed {
         Ok(array) => (array, None),
@@ -202,11 +203,12 @@ fn kept<A, B>(changed: Result<A, (A, B)>) -> (A, Option<B>) {
     }
 }
 
+/// Null keys with raw keys 0, 9 over one text: the first may become valid, the second not, and the array is handed back.
 #[test]
 fn validities_under_which_keys_name_values(rt: HostRuntime) {
     let alloc = rt.alloc();
     let nulls = Some([false, false].as_slice());
-    let array = texts_by(alloc, &[0, 9], nulls, &[Some("x")]).expect(&rt, "two nulls");
+    let array = strings_by(alloc, &[0, 9], nulls, &[Some("x")]).expect(&rt, "two nulls");
     let bits = validity(alloc, Some(&[false, true])).expect(&rt, "two bits");
     let (array, refused) = kept(array.with_validity(bits));
     assert!(rt; refused == Some(Error::OutOfSpec(Spec::KeyRange)));
@@ -218,13 +220,13 @@ fn validities_under_which_keys_name_values(rt: HostRuntime) {
     let bits = validity(alloc, Some(&[true, false])).expect(&rt, "two bits");
     let (array, refused) = kept(array.with_validity(bits));
     assert!(rt; refused == None);
-    expect_texts(&rt, alloc, Ok(array), " x null");
+    expect_strings(&rt, alloc, Ok(array), " x null");
 }
 
 #[test]
-fn new_validities_in_place(rt: HostRuntime) {
+fn validities_are_replaced(rt: HostRuntime) {
     let alloc = rt.alloc();
-    let array = four_texts(alloc).expect(&rt, "four texts");
+    let array = four_strings(alloc).expect(&rt, "four texts");
     let mut any = array.boxed();
     let bits = validity(alloc, Some(&[false, true])).expect(&rt, "two bits");
     let refused = Err(Error::OutOfSpec(Spec::ValidityLength));
@@ -237,7 +239,7 @@ fn new_validities_in_place(rt: HostRuntime) {
 #[test]
 fn copies_and_shared_arrays(rt: HostRuntime) {
     let alloc = rt.alloc();
-    let array = four_texts(alloc).expect(&rt, "four texts");
+    let array = four_strings(alloc).expect(&rt, "four texts");
     let copy = array.clone(alloc).expect(&rt, "a copy");
     assert!(rt; copy == array);
     let any = array.boxed();
@@ -247,23 +249,23 @@ fn copies_and_shared_arrays(rt: HostRuntime) {
     assert!(rt; shared.len() == 4);
 }
 
-// The test passes whichever request for memory is refused.
+// The test passes whichever allocation fails.
 #[test]
-fn refused_memory(rt: HostRuntime) {
-    let Some(array) = unless_refused(&rt, four_texts(rt.alloc())) else {
+fn without_memory(rt: HostRuntime) {
+    let Some(array) = unless_without_memory(&rt, four_strings(rt.alloc())) else {
         return;
     };
-    if let Some(copy) = unless_refused(&rt, array.clone(rt.alloc())) {
+    if let Some(copy) = unless_without_memory(&rt, array.clone(rt.alloc())) {
         assert!(rt; copy == array);
     }
     assert!(rt; array.len() == 4);
     assert!(rt; array.null_count() == 1);
     if array.in_range(0) {
-        if let Some(scalar) = unless_refused(&rt, array.value(rt.alloc(), 0)) {
+        if let Some(scalar) = unless_without_memory(&rt, array.value(rt.alloc(), 0)) {
             assert!(rt; scalar.is_valid());
         }
     }
-    if let Some(shared) = unless_refused(&rt, array.arced(rt.alloc())) {
+    if let Some(shared) = unless_without_memory(&rt, array.arced(rt.alloc())) {
         assert!(rt; shared.len() == 4);
     }
 }

@@ -1,5 +1,8 @@
 //! Arrays of any kind as the one kind that they are, by reference and by value, and flat arrays in their variants. The nulls
 //! of each kind's type are that kind and none of the others.
+//!
+//! An array of each kind is that kind by reference and no other, comes by value, and is handed back where another is asked for;
+//! flat arrays in their variants, and shared.
 use nest_array::{AnyArray, Array, Boxed, new_null_array};
 use nest_flat::binary::BinaryArray;
 use nest_flat::boolean::BooleanArray;
@@ -10,8 +13,8 @@ use nest_memory::error::Error;
 use std::alloc::{AllocError, Global};
 use std::process::Abort;
 
-/// Nothing but memory is refused.
-fn unless_refused<T>(rt: &impl Abort, outcome: Result<T, Error>) -> Option<T> {
+/// Nothing but an allocation fails.
+fn unless_without_memory<T>(rt: &impl Abort, outcome: Result<T, Error>) -> Option<T> {
     match outcome {
         Ok(value) => Some(value),
         Err(error) => {
@@ -63,14 +66,14 @@ fn handed_back(array: AnyArray) -> bool {
 }
 
 fn expect_kind(rt: &impl Abort, alloc: Global, data_type: Result<DataType, Error>, name: &str) {
-    let Some(data_type) = unless_refused(rt, data_type) else {
+    let Some(data_type) = unless_without_memory(rt, data_type) else {
         return;
     };
-    let Some(array) = unless_refused(rt, new_null_array(alloc, data_type, 2)) else {
+    let Some(array) = unless_without_memory(rt, new_null_array(alloc, data_type, 2)) else {
         return;
     };
-    if let Some(told) = unless_refused(rt, kinds(alloc, &array)) {
-        assert!(rt; told.as_str() == name);
+    if let Some(listed) = unless_without_memory(rt, kinds(alloc, &array)) {
+        assert!(rt; listed.as_str() == name);
     }
     assert!(rt; handed_back(array));
 }
@@ -133,10 +136,10 @@ fn nested_kinds(rt: HostRuntime) {
 #[test]
 fn a_kind_by_value(rt: HostRuntime) {
     let alloc = rt.alloc();
-    let Some(data_type) = unless_refused(&rt, item(alloc).map(DataType::List)) else {
+    let Some(data_type) = unless_without_memory(&rt, item(alloc).map(DataType::List)) else {
         return;
     };
-    let Some(array) = unless_refused(&rt, new_null_array(alloc, data_type, 2)) else {
+    let Some(array) = unless_without_memory(&rt, new_null_array(alloc, data_type, 2)) else {
         return;
     };
     match array.into_list() {
@@ -152,14 +155,14 @@ fn expect_boxed<A: Boxed + Array>(
     made: Result<A, Error>,
     kind: &str,
 ) {
-    let Some(array) = unless_refused(rt, made) else {
+    let Some(array) = unless_without_memory(rt, made) else {
         return;
     };
     let (count, nulls) = (Array::len(&array), Array::null_count(&array));
     let boxed = Boxed::boxed(array);
     assert!(rt; boxed.len() == count && boxed.null_count() == nulls);
-    if let Some(told) = unless_refused(rt, kinds(alloc, &boxed)) {
-        assert!(rt; told.as_str() == kind);
+    if let Some(listed) = unless_without_memory(rt, kinds(alloc, &boxed)) {
+        assert!(rt; listed.as_str() == kind);
     }
 }
 
@@ -209,10 +212,11 @@ fn flat_arrays_in_their_variants(rt: HostRuntime) {
 #[test]
 fn flat_arrays_shared(rt: HostRuntime) {
     let alloc = rt.alloc();
-    let Some(array) = unless_refused(&rt, PrimitiveArray::from_slice(alloc, &[1i64, 2])) else {
+    let Some(array) = unless_without_memory(&rt, PrimitiveArray::from_slice(alloc, &[1i64, 2]))
+    else {
         return;
     };
-    let Some(shared) = unless_refused(&rt, Boxed::arced(array, alloc)) else {
+    let Some(shared) = unless_without_memory(&rt, Boxed::arced(array, alloc)) else {
         return;
     };
     assert!(rt; shared.len() == 2 && shared.as_primitive::<i64>().is_some());

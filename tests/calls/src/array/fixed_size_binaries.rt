@@ -1,4 +1,4 @@
-//! Arrays of byte strings by their worked rows.
+//! Arrays of byte strings by their examples rows.
 
 use nest_array::{Array, FixedSizeBinaryArray};
 use nest_memory::bitmap::immutable::Bitmap;
@@ -23,7 +23,7 @@ fn bytes_of(alloc: Global, bytes: &[u8]) -> Result<Buffer<u8>, Error> {
     Buffer::from_vec(alloc, Vec::from_slice(alloc, bytes)?)
 }
 
-/// What the parts are refused for, of the type of byte strings of this size.
+/// What the parts are rejected for, of the type of byte strings of this size.
 fn refused(
     alloc: Global,
     size: usize,
@@ -36,7 +36,7 @@ fn refused(
     Ok(refusal(FixedSizeBinaryArray::try_new(data_type, values, validity)))
 }
 
-/// What a call refused.
+/// What a call rejected.
 fn refusal(array: Result<FixedSizeBinaryArray, Error>) -> Option<Error> {
     match array {
         Err(error) => Some(error),
@@ -48,16 +48,16 @@ fn refusal(array: Result<FixedSizeBinaryArray, Error>) -> Option<Error> {
 }
 
 #[test]
-fn the_first_failed_check_answers(rt: HostRuntime) {
+fn the_first_failed_check_is_returned(rt: HostRuntime) {
     let bits = [true, false].as_slice();
     let table = [
         (0usize, Spec::ZeroSize),
         (4, Spec::NotMultiple),
         (2, Spec::ValidityLength),
     ];
-    for (size, fault) in table {
+    for (size, failure) in table {
         let found = refused(rt.alloc(), size, b"abcdef", Some(bits)).expect(&rt, "refused");
-        assert!(rt; found == Some(Error::OutOfSpec(fault)));
+        assert!(rt; found == Some(Error::OutOfSpec(failure)));
     }
     assert!(rt;
         refused(rt.alloc(), 3, b"abcdef", Some(bits))
@@ -90,7 +90,7 @@ fn has(array: &FixedSizeBinaryArray, i: usize, bytes: &[u8]) -> bool {
     array.get(i) == Some(bytes)
 }
 
-/// Whether the slots from place 1 are a null and ef, the bytes under the null are cd, and a cut at the end has no slot.
+/// Whether the slots from index 1 are a null and ef, the bytes under the null are cd, and a slice at the end has no slot.
 fn holds_the_rest(array: FixedSizeBinaryArray) -> bool {
     if array.len() != 3 {
         drop(array);
@@ -116,7 +116,7 @@ fn rows_are_the_slots(rt: HostRuntime) {
     assert!(rt; refusal(short) == Some(Error::OutOfSpec(Spec::ValidityLength)));
 }
 
-/// A type of the user's over byte strings of two bytes.
+/// A type of the caller over byte strings of two bytes.
 fn extension(alloc: Global) -> Result<DataType, Error> {
     let name = String::from_str(alloc, "pair")?;
     let inner = FixedSizeBinaryArray::default_datatype(2);
@@ -133,7 +133,7 @@ fn retyped(array: FixedSizeBinaryArray, data_type: DataType) -> FixedSizeBinaryA
     array
 }
 
-/// A clone under a type of the user's.
+/// A clone under a type of the caller.
 fn extended(alloc: Global, array: &FixedSizeBinaryArray) -> Result<FixedSizeBinaryArray, Error> {
     let data_type = extension(alloc)?;
     match array.clone(alloc) {
@@ -145,7 +145,7 @@ fn extended(alloc: Global, array: &FixedSizeBinaryArray) -> Result<FixedSizeBina
     }
 }
 
-/// Whether the other array is equal, and then let go.
+/// Whether the other array is equal, and then dropped.
 fn is_same(array: &FixedSizeBinaryArray, other: Result<FixedSizeBinaryArray, Error>) -> bool {
     match other {
         Err(_) => false,
@@ -158,7 +158,7 @@ fn is_same(array: &FixedSizeBinaryArray, other: Result<FixedSizeBinaryArray, Err
 }
 
 #[test]
-fn nulls_and_types_tell_arrays_apart(rt: HostRuntime) {
+fn nulls_and_types_differ(rt: HostRuntime) {
     let bits = [true, false, true].as_slice();
     let array = pairs(rt.alloc(), ROWS.as_slice(), bits).expect(&rt, "pairs");
     assert!(rt; is_same(&array, array.clone(rt.alloc())));

@@ -34,7 +34,7 @@ fn binary_counts(alloc: Global) -> Result<(usize, usize), Error> {
     Ok(found)
 }
 
-fn text_counts(alloc: Global) -> Result<(usize, usize), Error> {
+fn string_counts(alloc: Global) -> Result<(usize, usize), Error> {
     let (offsets, bytes) = parts(alloc)?;
     let array = Utf8Array::try_new(DataType::Utf8, offsets, bytes, None)?;
     let found = counts(&array);
@@ -45,7 +45,7 @@ fn text_counts(alloc: Global) -> Result<(usize, usize), Error> {
 #[test]
 fn arrays_show_all_their_bytes(rt: HostRuntime) {
     assert!(rt; binary_counts(rt.alloc()).expect(&rt, "binary counts") == (4, 3));
-    assert!(rt; text_counts(rt.alloc()).expect(&rt, "text counts") == (4, 3));
+    assert!(rt; string_counts(rt.alloc()).expect(&rt, "text counts") == (4, 3));
     let array = FixedSizeBinaryArray::from_slice(rt.alloc(), [*b"ab", *b"cd"].as_slice()).expect(
         &rt, "items",
     );

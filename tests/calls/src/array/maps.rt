@@ -1,4 +1,4 @@
-//! Arrays of maps by worked entries: what is refused, cut, copied and compared.
+//! Arrays of maps by explicit entries: what is rejected, cut, copied and compared.
 mod cuts;
 mod equality;
 mod memory;
@@ -12,7 +12,7 @@ use nest_memory::datatypes::field::Field;
 use nest_memory::error::Error;
 use std::alloc::Global;
 
-/// Texts, as an array of any kind.
+/// Strings, as an array of any kind.
 pub(crate) fn texts(alloc: Global, offsets: &[i32], bytes: &[u8]) -> Result<AnyArray, Error> {
     match both(offsets_of(alloc, offsets), buffer(alloc, bytes)) {
         Ok((offsets, values)) => Utf8Array::try_new(DataType::Utf8, offsets, values, None).map(
@@ -22,17 +22,17 @@ pub(crate) fn texts(alloc: Global, offsets: &[i32], bytes: &[u8]) -> Result<AnyA
     }
 }
 
-fn text_field(alloc: Global, name: &str) -> Result<Field, Error> {
+fn string_field(alloc: Global, name: &str) -> Result<Field, Error> {
     Field::new(alloc, name, DataType::Utf8, true)
 }
 
-/// The type of records of two texts, a and b.
+/// The type of records of two strings, a and b.
 fn pair_type(alloc: Global) -> Result<DataType, Error> {
-    let fields = two(alloc, text_field(alloc, "a"), text_field(alloc, "b"));
+    let fields = two(alloc, string_field(alloc, "a"), string_field(alloc, "b"));
     fields.map(|fields| DataType::Struct(fields))
 }
 
-/// Records of two texts.
+/// Records of two strings.
 fn pairs(
     alloc: Global,
     first: Result<AnyArray, Error>,
@@ -95,7 +95,7 @@ pub(crate) fn two_maps(alloc: Global) -> Result<MapArray, Error> {
 }
 
 /// Whether the array has this text alone.
-fn is_text(array: &AnyArray, text: &str) -> bool {
+fn is_string(array: &AnyArray, text: &str) -> bool {
     match array {
         AnyArray::Utf8(texts) => texts.len() == 1 && *texts.value(0) == *text,
         _ => false,
@@ -105,14 +105,14 @@ fn is_text(array: &AnyArray, text: &str) -> bool {
 fn is_entry(array: &AnyArray, key: &str, value: &str) -> bool {
     match array {
         AnyArray::Struct(records) => match records.values() {
-            [keys, values] => is_text(keys, key) && is_text(values, value),
+            [keys, values] => is_string(keys, key) && is_string(values, value),
             _ => false,
         },
         _ => false,
     }
 }
 
-/// Whether entries were given and are the one from this key to this value; they are let go.
+/// Whether entries were given and are the one from this key to this value; they are dropped.
 fn has_entry(entries: Result<AnyArray, Error>, key: &str, value: &str) -> bool {
     match entries {
         Ok(entries) => {
@@ -124,6 +124,7 @@ fn has_entry(entries: Result<AnyArray, Error>, key: &str, value: &str) -> bool {
     }
 }
 
+/// Maps from "a" to "b" and from "aa" to "bb" over three records, entry by entry; cut to the second: from "aa" to "bb".
 #[test]
 fn two_maps_entry_by_entry(rt: HostRuntime) {
     let array = two_maps(rt.alloc()).expect(&rt, "two maps");
@@ -135,7 +136,7 @@ fn two_maps_entry_by_entry(rt: HostRuntime) {
 }
 
 #[test]
-fn maps_lend_their_entries(rt: HostRuntime) {
+fn maps_borrow_their_entries(rt: HostRuntime) {
     let array = two_maps(rt.alloc()).expect(&rt, "two maps");
     assert!(rt; array.len() == 2);
     assert!(rt; array.window(1).offset() == 1);

@@ -1,10 +1,10 @@
-//! Arrays of nulls by their worked rows.
+//! Arrays of nulls by their examples rows.
 
 use nest_array::{Array, NullArray};
 use nest_memory::datatypes::DataType;
 use nest_memory::error::{Error, Spec};
 
-/// What a call refused.
+/// What a call rejected.
 fn refusal(array: Result<NullArray, Error>) -> Option<Error> {
     match array {
         Err(error) => Some(error),
@@ -15,6 +15,7 @@ fn refusal(array: Result<NullArray, Error>) -> Option<Error> {
     }
 }
 
+/// Three nulls: each index is null, three are counted, and no validity is taken, `None` neither.
 #[test]
 fn each_slot_is_null(rt: HostRuntime) {
     let array = NullArray::new(DataType::Null, 3);
@@ -24,7 +25,7 @@ fn each_slot_is_null(rt: HostRuntime) {
 }
 
 #[test]
-fn a_cut_of_nothing_is_the_empty_array(rt: HostRuntime) {
+fn a_slice_of_nothing_is_the_empty_array(rt: HostRuntime) {
     let array = NullArray::new(DataType::Null, 3).sliced(3, 0);
     let empty = NullArray::new(DataType::Null, 0);
     assert!(rt; array.is_empty());
@@ -32,7 +33,7 @@ fn a_cut_of_nothing_is_the_empty_array(rt: HostRuntime) {
 }
 
 #[test]
-fn other_types_are_refused(rt: HostRuntime) {
+fn other_types_are_rejected(rt: HostRuntime) {
     let wrong = Some(Error::OutOfSpec(Spec::WrongType));
     assert!(rt; refusal(NullArray::try_new(DataType::Boolean, 3)) == wrong);
     assert!(rt; refusal(NullArray::try_new(DataType::Null, 3)).is_none());

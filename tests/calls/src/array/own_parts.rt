@@ -1,10 +1,12 @@
 //! Arrays made again of parts that are known to fit, and other calls that check nothing: each with memory.
+//!
+//! Lists, pairs and dictionaries made again of their own parts, which are not checked again; the scalars of a record's fields.
 
 use crate::array::arrays::lists::by_large_offsets;
 use crate::array::arrays::lists_of_lists;
 use crate::array::arrays::sizes::pairs;
 use crate::array::arrays::structs::four;
-use crate::array::dictionaries::four_texts;
+use crate::array::dictionaries::four_strings;
 use nest_array::array::Slotted;
 use nest_array::{
     AnyKeys, DictionaryArray, FixedSizeListArray, LargeListArray, ListArray, StructArray,
@@ -22,7 +24,7 @@ fn copied(bits: Option<&Bitmap>) -> Result<Option<Bitmap>, Error> {
     }
 }
 
-/// Whether a call gave an array that is equal; it is let go.
+/// Whether a call gave an array that is equal; it is dropped.
 fn is_same<A: PartialEq + Drop>(given: Result<A, Error>, array: &A) -> bool {
     match given {
         Ok(given) => {
@@ -99,7 +101,7 @@ fn keys_again(alloc: Global, keys: &AnyKeys) -> Result<AnyKeys, Error> {
     }
 }
 
-fn keyed_again(alloc: Global, array: &DictionaryArray) -> Result<DictionaryArray, Error> {
+fn dictionary_again(alloc: Global, array: &DictionaryArray) -> Result<DictionaryArray, Error> {
     if !array.all_in_range() {
         return Err(Error::Overflow);
     }
@@ -124,8 +126,8 @@ fn keyed_again(alloc: Global, array: &DictionaryArray) -> Result<DictionaryArray
 #[test]
 fn dictionaries_of_their_own_parts(rt: HostRuntime) {
     let alloc = rt.alloc();
-    let keyed = four_texts(alloc).expect(&rt, "four texts");
-    assert!(rt; is_same(keyed_again(alloc, &keyed), &keyed));
+    let keyed = four_strings(alloc).expect(&rt, "four texts");
+    assert!(rt; is_same(dictionary_again(alloc, &keyed), &keyed));
 }
 
 /// The array on shared memory, as each kind copies itself.
@@ -138,11 +140,11 @@ fn each_kind_copies_itself(rt: HostRuntime) {
     let alloc = rt.alloc();
     let array = pairs(alloc).expect(&rt, "three pairs");
     assert!(rt; is_same(again(alloc, &array), &array));
-    let keyed = four_texts(alloc).expect(&rt, "four texts");
+    let keyed = four_strings(alloc).expect(&rt, "four texts");
     assert!(rt; is_same(again(alloc, &keyed), &keyed));
 }
 
-/// The n slots of it from place o, on shared memory, as each kind makes them.
+/// The n slots of it from index o, on shared memory, as each kind makes them.
 fn part<A: Slotted>(alloc: Global, array: &A, o: usize, n: usize) -> Result<A, Error> {
     array.part(alloc, o, n)
 }
@@ -150,10 +152,12 @@ fn part<A: Slotted>(alloc: Global, array: &A, o: usize, n: usize) -> Result<A, E
 #[test]
 fn each_kind_makes_parts(rt: HostRuntime) {
     let alloc = rt.alloc();
-    let keyed = four_texts(alloc).expect(&rt, "four texts");
+    let keyed = four_strings(alloc).expect(&rt, "four texts");
     let whole = keyed.len();
     for o in 0..whole + 1 {
-        let cut = again(alloc, &keyed).expect(&rt, "four texts").sliced(o, whole - o);
+        let cut = again(alloc, &keyed)
+            .expect(&rt, "four texts")
+            .sliced(o, whole - o);
         assert!(rt; is_same(part(alloc, &keyed, o, whole - o), &cut));
     }
 }

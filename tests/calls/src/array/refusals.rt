@@ -1,4 +1,4 @@
-//! What constructors of nested arrays refuse, and what types tell of their lists.
+//! What constructors of nested arrays reject, and what types tell of their lists.
 use crate::array::arrays::{
     both, buffer, list_type, lists_under, numbers, offsets_of, two, validity,
 };
@@ -11,6 +11,7 @@ use std::alloc::Global;
 
 const WRONG_TYPE: Option<Error> = Some(Error::OutOfSpec(Spec::WrongType));
 
+/// Each kind under the type of another, and no fields, or not as many as children.
 #[test]
 fn lists_under_another_type(rt: HostRuntime) {
     let alloc = rt.alloc();
@@ -19,8 +20,8 @@ fn lists_under_another_type(rt: HostRuntime) {
     assert!(rt; refused == WRONG_TYPE);
 }
 
-/// Why large lists of numbers under the type of lists are refused.
-fn refused_large(alloc: Global) -> Option<Error> {
+/// Why large lists of numbers under the type of lists are rejected.
+fn rejected_large(alloc: Global) -> Option<Error> {
     let parts = both(
         list_type(alloc, Ok(DataType::Int32)),
         offsets_of(alloc, &[0i64, 3]),
@@ -33,8 +34,8 @@ fn refused_large(alloc: Global) -> Option<Error> {
     }
 }
 
-/// Why lists of one size under the type of lists are refused.
-fn refused_of_one_size(alloc: Global) -> Option<Error> {
+/// Why fixed-size lists under the type of lists are rejected.
+fn rejected_fixed_size(alloc: Global) -> Option<Error> {
     match both(
         list_type(alloc, Ok(DataType::Int32)),
         numbers(alloc, &[1, 2, 3]),
@@ -46,8 +47,8 @@ fn refused_of_one_size(alloc: Global) -> Option<Error> {
 
 #[test]
 fn other_lists_under_the_type_of_lists(rt: HostRuntime) {
-    assert!(rt; refused_large(rt.alloc()) == WRONG_TYPE);
-    assert!(rt; refused_of_one_size(rt.alloc()) == WRONG_TYPE);
+    assert!(rt; rejected_large(rt.alloc()) == WRONG_TYPE);
+    assert!(rt; rejected_fixed_size(rt.alloc()) == WRONG_TYPE);
 }
 
 #[test]
@@ -57,14 +58,14 @@ fn records_under_another_type(rt: HostRuntime) {
 }
 
 /// The type of records of a number and a text.
-fn number_and_text(alloc: Global) -> Result<DataType, Error> {
+fn number_and_string(alloc: Global) -> Result<DataType, Error> {
     let number = Field::new(alloc, "number", DataType::Int32, true);
     let text = Field::new(alloc, "text", DataType::Utf8, true);
     two(alloc, number, text).map(|fields| DataType::Struct(fields))
 }
 
-/// Texts without a byte, so many of them.
-fn empty_texts(alloc: Global, offsets: &[i32]) -> Result<AnyArray, Error> {
+/// Strings without a byte, so many of them.
+fn empty_strings(alloc: Global, offsets: &[i32]) -> Result<AnyArray, Error> {
     match both(offsets_of(alloc, offsets), buffer(alloc, &[])) {
         Ok((offsets, values)) => {
             Utf8Array::try_new(DataType::Utf8, offsets, values, None).map(|texts| AnyArray::Utf8(
@@ -75,14 +76,14 @@ fn empty_texts(alloc: Global, offsets: &[i32]) -> Result<AnyArray, Error> {
     }
 }
 
-/// Why records of a number and a text over these children, under a validity of so many bits, are refused.
-fn refused_records(
+/// Why records of a number and a text over these children, under a validity of so many bits, are rejected.
+fn rejected_records(
     alloc: Global,
     children: Result<Vec<AnyArray>, Error>,
     bits: Option<&[bool]>,
 ) -> Option<Error> {
     match both(
-        number_and_text(alloc),
+        number_and_string(alloc),
         both(children, validity(alloc, bits)),
     ) {
         Ok((data_type, (children, validity))) => {
@@ -92,11 +93,13 @@ fn refused_records(
     }
 }
 
+/// Records of a number and a text over children in another order: their types; of two lengths, under a validity of a third:
+/// their lengths.
 #[test]
 fn children_in_another_order_than_the_fields(rt: HostRuntime) {
     let alloc = rt.alloc();
-    let children = two(alloc, empty_texts(alloc, &[0, 0]), numbers(alloc, &[1]));
-    let refused = refused_records(alloc, children, None);
+    let children = two(alloc, empty_strings(alloc, &[0, 0]), numbers(alloc, &[1]));
+    let refused = rejected_records(alloc, children, None);
     assert!(rt; refused == Some(Error::OutOfSpec(Spec::ChildType)));
 }
 
@@ -106,12 +109,13 @@ fn children_of_two_lengths_before_the_validity(rt: HostRuntime) {
     let children = two(
         alloc,
         numbers(alloc, &[1, 2]),
-        empty_texts(alloc, &[0, 0, 0, 0]),
+        empty_strings(alloc, &[0, 0, 0, 0]),
     );
-    let refused = refused_records(alloc, children, Some(&[true; 9]));
+    let refused = rejected_records(alloc, children, Some(&[true; 9]));
     assert!(rt; refused == Some(Error::OutOfSpec(Spec::ChildLength)));
 }
 
+/// What list types tell of their fields.
 #[test]
 fn fields_of_list_types(rt: HostRuntime) {
     let lists = ListArray::default_datatype(rt.alloc(), DataType::Int32);

@@ -1,4 +1,4 @@
-//! Worked arrays, read item by item: each slot is spelled as text.
+//! Worked arrays, read item by item: each slot is decoded as text.
 use crate::array::arrays::structs::four;
 use crate::array::arrays::{any_list, are_same, list_array, lists_of_lists, numbers};
 use nest_array::{AnyArray, ListArray, StructArray};
@@ -6,7 +6,7 @@ use nest_flat::any_primitive::AnyPrimitive;
 use nest_memory::error::Error;
 use std::alloc::Global;
 
-/// Spells slot i of a flat array of numbers or truths.
+/// Spells slot i of a flat array of numbers or booleans.
 fn spell_item(array: &AnyArray, i: usize, text: &mut String) -> Result<(), Error> {
     if i >= array.len() {
         text.push_str("past the end")?;
@@ -111,6 +111,7 @@ fn four_lists(alloc: Global) -> Result<ListArray, Error> {
     )
 }
 
+/// Numbers from 1 to 5 by the offsets 0, 2, 2, 3, 5 are [1,2], [], [3], [4,5].
 #[test]
 fn lists_of_numbers_item_by_item(rt: HostRuntime) {
     let array = four_lists(rt.alloc()).expect(&rt, "four lists");
@@ -120,6 +121,7 @@ fn lists_of_numbers_item_by_item(rt: HostRuntime) {
     assert!(rt; text.as_str() == "[[1,2],[],[3],[4,5]]");
 }
 
+/// Numbers from 1 to 10 in lists of lists, slot by slot, and equal to a copy that was built over other parts.
 #[test]
 fn lists_of_lists_item_by_item(rt: HostRuntime) {
     let array = lists_of_lists(rt.alloc()).expect(&rt, "three lists of lists");
@@ -129,7 +131,7 @@ fn lists_of_lists_item_by_item(rt: HostRuntime) {
     assert!(rt; text.as_str() == "[[1,2],[3,4]][[5,6,7],[],[8]][[9,10]]");
 }
 
-/// The same lists of lists over other parts: the items begin at place 1, and a null list of lists stands before them.
+/// The same lists of lists over other parts: the items begin at index 1, and a null list of lists is before them.
 pub(crate) fn rebuilt_lists_of_lists(alloc: Global) -> Result<ListArray, Error> {
     let items = numbers(alloc, &[0, 1, 2, 3, 4, 5, 6, 7, 8, 9, 10, 11]);
     let inner = list_array(alloc, items, &[0, 1, 3, 5, 8, 8, 9, 11], None);
@@ -144,6 +146,7 @@ fn rebuilt_lists_of_lists_are_equal(rt: HostRuntime) {
     assert!(rt; are_same(array, rebuilt) == Ok(true));
 }
 
+/// Records {false,42}, {false,28}, null, {true,31}, equal whatever is under the null.
 #[test]
 fn records_field_by_field(rt: HostRuntime) {
     let array = four(rt.alloc(), &[42, 28, 19, 31]).expect(&rt, "four records");

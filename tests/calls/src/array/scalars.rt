@@ -1,4 +1,4 @@
-//! Scalars: what a slot of each kind holds, and which scalars are equal. A scalar is spelled as text, down to the parts of a
+//! Scalars: what a slot of each kind holds, and which scalars are equal. A scalar is decoded as text, down to the parts of a
 //! record and the numbers of a list.
 mod equality;
 mod memory;
@@ -6,7 +6,7 @@ mod memory;
 use crate::array::arrays::lists::by_large_offsets;
 use crate::array::arrays::sizes::pairs;
 use crate::array::arrays::structs::four;
-use crate::array::arrays::{int32s, list_array, lists_of_lists, numbers, truths};
+use crate::array::arrays::{booleans, int32s, list_array, lists_of_lists, numbers};
 use crate::array::calls::{bytes, texts};
 use nest_array::{
     AnyArray, AnyScalar, Array, FixedSizeBinaryArray, NullArray, ScalarValue, new_scalar,
@@ -28,7 +28,7 @@ fn scalar_at(alloc: Global, array: &AnyArray, i: usize) -> Result<AnyScalar, Err
     new_scalar(alloc, array, i)
 }
 
-/// The same of an array of any kind that a call gave; the array is let go.
+/// The same of an array of any kind that a call gave; the array is dropped.
 pub(crate) fn scalar_of<A: Array + Drop>(
     alloc: Global,
     array: Result<A, Error>,
@@ -61,7 +61,7 @@ fn spell_items(items: &AnyArray, text: &mut String) -> Result<(), Error> {
 fn spell_part(scalar: &AnyScalar, text: &mut String) -> Result<(), Error> {
     match scalar.value() {
         ScalarValue::Null => text.push_str("null")?,
-        ScalarValue::Boolean(truth) => write!(text, "{truth}")?,
+        ScalarValue::Boolean(boolean) => write!(text, "{boolean}")?,
         ScalarValue::Native(native) => write!(text, "{native:?}")?,
         ScalarValue::Text(letters) => write!(text, "'{letters}'")?,
         ScalarValue::Bytes(bytes) => write!(text, "{:?}", bytes.as_slice())?,
@@ -83,9 +83,9 @@ fn spell(scalar: &AnyScalar, text: &mut String) -> Result<(), Error> {
     Ok(())
 }
 
-/// The spelling of a scalar that a call gave; the scalar is let go. A refused one has none, nor has one that is valid where
-/// it is spelled null, or the other way round.
-pub(crate) fn spelled(alloc: Global, scalar: Result<AnyScalar, Error>) -> String {
+/// The spelling of a scalar that a call gave; the scalar is dropped. A rejected one has none, nor has one that is valid where
+/// it is decoded null, or the other way round.
+pub(crate) fn decoded(alloc: Global, scalar: Result<AnyScalar, Error>) -> String {
     let mut text = String::new(alloc);
     if let Ok(scalar) = scalar {
         let done = spell(&scalar, &mut text);
@@ -99,10 +99,10 @@ pub(crate) fn spelled(alloc: Global, scalar: Result<AnyScalar, Error>) -> String
 
 /// Slot i of an array that a call gave, as text.
 pub(crate) fn slot<A: Array + Drop>(alloc: Global, array: Result<A, Error>, i: usize) -> String {
-    spelled(alloc, scalar_of(alloc, array, i))
+    decoded(alloc, scalar_of(alloc, array, i))
 }
 
-/// One native value, of the type that stands for its kind.
+/// One native value, of the type that represents its kind.
 fn single<T: NativeType>(alloc: Global, value: T) -> Result<PrimitiveArray<T>, Error> {
     let mut values = Vec::new(alloc);
     values.push(value)?;
@@ -110,6 +110,7 @@ fn single<T: NativeType>(alloc: Global, value: T) -> Result<PrimitiveArray<T>, E
     PrimitiveArray::try_new(DataType::from(T::PRIMITIVE), values, None)
 }
 
+/// What a slot of each kind holds as a scalar, a null among them.
 #[test]
 fn whole_numbers(rt: HostRuntime) {
     let alloc = rt.alloc();
@@ -157,9 +158,9 @@ fn nulls(rt: HostRuntime) {
 }
 
 #[test]
-fn truths_texts_and_bytes(rt: HostRuntime) {
+fn booleans_strings_and_bytes(rt: HostRuntime) {
     let alloc = rt.alloc();
-    assert!(rt; slot(alloc, truths(alloc, &[false, true]), 1).as_str() == "true");
+    assert!(rt; slot(alloc, booleans(alloc, &[false, true]), 1).as_str() == "true");
     let array = texts(alloc, DataType::Utf8, &[0i32, 1, 3]);
     assert!(rt; slot(alloc, array, 1).as_str() == "'bc'");
     let array = texts(alloc, DataType::LargeUtf8, &[0i64, 1, 3]);

@@ -1,8 +1,8 @@
-//! Unions by their worked slots, and what their constructor refuses.
+//! Unions by their examples slots, and what their constructor rejects.
 mod counts;
 mod scalars;
 
-use crate::array::arrays::memory::unless_refused;
+use crate::array::arrays::memory::unless_without_memory;
 use crate::array::arrays::{
     any_list, are_same, both, buffer, list_array, numbers, offsets_of, two, validity,
 };
@@ -16,7 +16,7 @@ use nest_memory::datatypes::{DataType, UnionMode};
 use nest_memory::error::{Argument, Error, Spec};
 use std::alloc::Global;
 
-/// The items and one more, or the first refusal.
+/// The items and one more, or the first error.
 fn with<T: Drop>(items: Result<Vec<T>, Error>, item: Result<T, Error>) -> Result<Vec<T>, Error> {
     let mut items = items?;
     items.push(item?)?;
@@ -41,14 +41,14 @@ fn no_numbers(alloc: Global, n: usize) -> Result<Vec<AnyArray>, Error> {
     arrays
 }
 
-/// A field of numbers and one of texts.
-fn number_and_text(alloc: Global) -> Result<Vec<Field>, Error> {
+/// A field of numbers and one of strings.
+fn number_and_string(alloc: Global) -> Result<Vec<Field>, Error> {
     let number = Field::new(alloc, "n", DataType::Int32, true);
     let text = Field::new(alloc, "t", DataType::Utf8, true);
     two(alloc, number, text)
 }
 
-/// Texts of one letter each.
+/// Strings of one letter each.
 fn letters(alloc: Global, offsets: &[i32], bytes: &[u8]) -> Result<AnyArray, Error> {
     match both(offsets_of(alloc, offsets), buffer(alloc, bytes)) {
         Ok((offsets, values)) => {
@@ -92,8 +92,8 @@ fn union_under(
     fields: Result<Vec<AnyArray>, Error>,
     offsets: Option<&[i32]>,
 ) -> Result<UnionArray, Error> {
-    let places = both(buffer(alloc, types), shared(alloc, offsets));
-    match both(both(data_type, fields), places) {
+    let indices = both(buffer(alloc, types), shared(alloc, offsets));
+    match both(both(data_type, fields), indices) {
         Ok(((data_type, fields), (types, offsets))) => {
             UnionArray::try_new(data_type, types, fields, offsets)
         }
@@ -131,7 +131,7 @@ fn single(
     union_under(alloc, data_type, types, fields, offsets)
 }
 
-/// A sparse union of numbers and texts.
+/// A sparse union of numbers and strings.
 fn mixed(
     alloc: Global,
     ids: Option<&[i32]>,
@@ -139,7 +139,7 @@ fn mixed(
     items: &[i32],
     texts: Result<AnyArray, Error>,
 ) -> Result<UnionArray, Error> {
-    let data_type = union_type(alloc, number_and_text(alloc), ids, UnionMode::Sparse);
+    let data_type = union_type(alloc, number_and_string(alloc), ids, UnionMode::Sparse);
     let fields = two(alloc, numbers(alloc, items), texts);
     union_under(alloc, data_type, types, fields, None)
 }
@@ -150,7 +150,7 @@ pub(crate) fn in_turn(alloc: Global) -> Result<UnionArray, Error> {
     mixed(alloc, None, &[0, 1, 0, 1], &[10, 11, 12, 13], texts)
 }
 
-/// The n slots of an array from place o; a refusal where it hasn't them.
+/// The n slots of an array from place o; a error where it hasn't them.
 fn cut(array: Result<UnionArray, Error>, o: usize, n: usize) -> Result<UnionArray, Error> {
     match array {
         Ok(array) => {
@@ -190,7 +190,7 @@ fn number_at(array: &UnionArray, i: usize) -> Option<i32> {
 }
 
 /// Whether slot i picks this text.
-fn is_text_at(array: &UnionArray, i: usize, text: &str) -> bool {
+fn is_string_at(array: &UnionArray, i: usize, text: &str) -> bool {
     match pick(array, i) {
         Some((field, place)) => match array.fields().get(field) {
             Some(AnyArray::Utf8(texts)) if place < texts.len() => texts.value(place) == text,
@@ -200,7 +200,7 @@ fn is_text_at(array: &UnionArray, i: usize, text: &str) -> bool {
     }
 }
 
-/// What a constructor refused.
+/// What a constructor rejected.
 fn refusal(array: Result<UnionArray, Error>) -> Option<Error> {
     match array {
         Ok(array) => {
@@ -217,6 +217,8 @@ const NO_SLOT: Option<Error> = Some(Error::OutOfSpec(Spec::UnionSlot));
 
 const NO_ID: Option<Error> = Some(Error::OutOfSpec(Spec::IdRange));
 
+/// Unions: of two fields of numbers by the ids 5 and 7; numbers and strings in turn, cut and cut again; one number at an
+/// offset.
 #[test]
 fn fields_by_ids(rt: HostRuntime) {
     let alloc = rt.alloc();
@@ -230,7 +232,7 @@ fn fields_by_ids(rt: HostRuntime) {
 }
 
 #[test]
-fn ids_in_and_out_of_their_places(rt: HostRuntime) {
+fn type_ids_in_and_out_of_order(rt: HostRuntime) {
     let alloc = rt.alloc();
     let types = [0, 1, 1].as_slice();
     let items = [0, 1, 2].as_slice();
@@ -256,11 +258,11 @@ fn ids_out_of_range(rt: HostRuntime) {
 }
 
 #[test]
-fn a_cut_begins_at_its_place(rt: HostRuntime) {
+fn a_slice_begins_at_its_index(rt: HostRuntime) {
     let cut = middle(rt.alloc()).expect(&rt, "two picks");
     assert!(rt; cut.len() == 2);
     assert!(rt; pick(&cut, 0) == Some((1, 1)));
-    assert!(rt; is_text_at(&cut, 0, "b"));
+    assert!(rt; is_string_at(&cut, 0, "b"));
     assert!(rt; number_at(&cut, 1) == Some(12));
     let cut = cut.sliced(1, 1);
     assert!(rt; number_at(&cut, 0) == Some(12));
@@ -279,13 +281,15 @@ fn dense_slots_are_there(rt: HostRuntime) {
     assert!(rt; cut.offsets().is_some());
 }
 
+/// Of two fields with one id the later is meant; ids that count up from 0 and others; ids 0, 127 and beside them; types and
+/// fields at their limits.
 #[test]
 fn the_later_of_two_fields_with_one_id(rt: HostRuntime) {
     let alloc = rt.alloc();
     let texts = letters(alloc, &[0, 1], b"a");
     let array = mixed(alloc, Some(&[5, 5]), &[5], &[1], texts).expect(&rt, "a pick");
     assert!(rt; pick(&array, 0) == Some((1, 0)));
-    assert!(rt; is_text_at(&array, 0, "a"));
+    assert!(rt; is_string_at(&array, 0, "a"));
 }
 
 #[test]
@@ -320,15 +324,16 @@ fn as_many_fields_as_types(rt: HostRuntime) {
     assert!(rt; refusal(wide(alloc, 0)).is_none());
 }
 
+/// Each error of a union's constructor, and of a new validity.
 #[test]
-fn other_refusals(rt: HostRuntime) {
+fn other_errors(rt: HostRuntime) {
     let alloc = rt.alloc();
     let wrong = union_under(alloc, Ok(DataType::Int32), &[], Ok(Vec::new(alloc)), None);
     assert!(rt; refusal(wrong) == Some(Error::OutOfSpec(Spec::WrongType)));
     let two_fields = union_type(alloc, number_fields(alloc, 2), None, UnionMode::Sparse);
     let fewer = union_under(alloc, two_fields, &[], no_numbers(alloc, 1), None);
     assert!(rt; refusal(fewer) == Some(Error::OutOfSpec(Spec::FieldCount)));
-    let other = union_type(alloc, number_and_text(alloc), None, UnionMode::Sparse);
+    let other = union_type(alloc, number_and_string(alloc), None, UnionMode::Sparse);
     let other = union_under(alloc, other, &[], no_numbers(alloc, 2), None);
     assert!(rt; refusal(other) == Some(Error::OutOfSpec(Spec::ChildType)));
     let longer = single(alloc, None, &[0], &[7], Some(&[0, 0]));
@@ -349,8 +354,9 @@ fn offsets_by_the_mode(rt: HostRuntime) {
     assert!(rt; refusal(given) == mode);
 }
 
+/// Unions of two fields differ, also in lists, but not under nulls; what is not picked does not count; unions of unions.
 #[test]
-fn picks_of_two_fields_differ(rt: HostRuntime) {
+fn unions_of_two_fields_differ(rt: HostRuntime) {
     let alloc = rt.alloc();
     let first = sparse(alloc, None, &[0], &[7], &[7]);
     let second = sparse(alloc, None, &[1], &[7], &[7]);
@@ -385,7 +391,7 @@ fn first_twice(alloc: Global, first: &[i32], second: &[i32]) -> Result<UnionArra
 }
 
 #[test]
-fn what_is_not_picked_does_not_count(rt: HostRuntime) {
+fn skipped_columns_are_not_checked(rt: HostRuntime) {
     let alloc = rt.alloc();
     let array = first_twice(alloc, &[7, 8], &[7]);
     assert!(rt; are_same(array, first_twice(alloc, &[7, 9], &[5])) == Ok(true));
@@ -421,7 +427,7 @@ fn unions_of_unions(rt: HostRuntime) {
     assert!(rt; are_same(last, cut(nested(alloc, &[1, 1]), 1, 1)) == Ok(true));
 }
 
-/// Whether a call gave an array that is equal; it is let go.
+/// Whether a call gave an array that is equal; it is dropped.
 fn is_given<A: PartialEq + Drop>(given: Result<A, Error>, array: &A) -> bool {
     match given {
         Ok(given) => {
@@ -433,6 +439,7 @@ fn is_given<A: PartialEq + Drop>(given: Result<A, Error>, array: &A) -> bool {
     }
 }
 
+/// Copies and slices of unions with memory; what their types tell.
 #[test]
 fn copies_with_memory(rt: HostRuntime) {
     let alloc = rt.alloc();
@@ -450,20 +457,20 @@ fn copies_with_memory(rt: HostRuntime) {
     assert!(rt; shared.len() == 4);
 }
 
-// The test passes whichever request for memory is refused.
+// The test passes whichever allocation fails.
 #[test]
-fn refused_memory(rt: HostRuntime) {
-    let Some(array) = unless_refused(&rt, in_turn(rt.alloc())) else {
+fn without_memory(rt: HostRuntime) {
+    let Some(array) = unless_without_memory(&rt, in_turn(rt.alloc())) else {
         return;
     };
-    if let Some(copy) = unless_refused(&rt, array.clone(rt.alloc())) {
+    if let Some(copy) = unless_without_memory(&rt, array.clone(rt.alloc())) {
         assert!(rt; copy == array);
     }
     assert!(rt; array.len() == 4);
-    if let Some(scalar) = unless_refused(&rt, array.value(rt.alloc(), 1)) {
+    if let Some(scalar) = unless_without_memory(&rt, array.value(rt.alloc(), 1)) {
         assert!(rt; scalar.is_valid());
     }
-    if let Some(shared) = unless_refused(&rt, array.arced(rt.alloc())) {
+    if let Some(shared) = unless_without_memory(&rt, array.arced(rt.alloc())) {
         assert!(rt; shared.len() == 4);
     }
 }
@@ -481,7 +488,7 @@ fn a_union_takes_no_validity(rt: HostRuntime) {
 }
 
 #[test]
-fn what_a_type_tells(rt: HostRuntime) {
+fn what_a_type_has(rt: HostRuntime) {
     let alloc = rt.alloc();
     let array = in_turn(alloc).expect(&rt, "four picks");
     let data_type = array.data_type();

@@ -1,5 +1,8 @@
 //! What builders are made of, as who writes another one calls it: flat builders by their parts, pushing by another call,
 //! data types and keys.
+//!
+//! What another builder would be made of: flat builders by their parts, pushing by `extend_by_push` and `extend_nulls`, data
+//! types, keys.
 
 use nest_array::{AnyArray, AnyKeys};
 use nest_build::array::{MutableArray, shared};
@@ -15,7 +18,7 @@ use nest_memory::datatypes::{DataType, Field};
 use nest_memory::error::Error;
 use std::alloc::Global;
 
-/// A truth and a null, joined to another builder's slots and frozen.
+/// A boolean and a null, joined to another builder's slots and frozen.
 fn by_parts<B: FlatBuilder>(builder: &mut B, other: &B) -> Result<AnyArray, Error> {
     builder.room(3)?;
     builder.push_plain(Some(Plain::Boolean(true)))?;
@@ -24,7 +27,7 @@ fn by_parts<B: FlatBuilder>(builder: &mut B, other: &B) -> Result<AnyArray, Erro
     builder.frozen()
 }
 
-/// How many slots, and how many of them are null; the array is let go.
+/// How many slots, and how many of them are null; the array is dropped.
 fn counted(array: Result<AnyArray, Error>) -> Result<(usize, usize), Error> {
     match array {
         Err(error) => Err(error),
@@ -38,31 +41,31 @@ fn counted(array: Result<AnyArray, Error>) -> Result<(usize, usize), Error> {
 
 #[test]
 fn a_flat_builder_by_its_parts(rt: HostRuntime) {
-    let mut truths = MutableBooleanArray::new(rt.alloc());
+    let mut booleans = MutableBooleanArray::new(rt.alloc());
     let mut more = MutableBooleanArray::new(rt.alloc());
     more.try_push(None).expect(&rt, "a row more");
-    let frozen = counted(by_parts(&mut truths, &more));
+    let frozen = counted(by_parts(&mut booleans, &more));
     assert!(rt; frozen == Ok((3, 2)));
 }
 
-/// Pushes a truth and three nulls.
-fn push_four(truths: &mut MutableBooleanArray) -> Result<bool, Error> {
-    if !truths.is_whole() {
+/// Pushes a boolean and three nulls.
+fn push_four(booleans: &mut MutableBooleanArray) -> Result<bool, Error> {
+    if !booleans.is_whole() {
         return Ok(false);
     }
-    extend_by_push(truths, [Some(true)])?;
-    if !truths.is_whole() {
+    extend_by_push(booleans, [Some(true)])?;
+    if !booleans.is_whole() {
         return Ok(false);
     }
-    extend_nulls(truths, 3)?;
+    extend_nulls(booleans, 3)?;
     Ok(true)
 }
 
 #[test]
 fn items_and_nulls_are_pushed_by_other_calls(rt: HostRuntime) {
-    let mut truths = MutableBooleanArray::new(rt.alloc());
-    assert!(rt; push_four(&mut truths).expect(&rt, "four rows"));
-    let array = shared(truths.as_box(), rt.alloc()).expect(&rt, "a shared array");
+    let mut booleans = MutableBooleanArray::new(rt.alloc());
+    assert!(rt; push_four(&mut booleans).expect(&rt, "four rows"));
+    let array = shared(booleans.as_box(), rt.alloc()).expect(&rt, "a shared array");
     let counts = (array.len(), array.null_count());
     assert!(rt; counts == (4, 3));
 }

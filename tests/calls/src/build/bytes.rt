@@ -26,7 +26,7 @@ fn two(alloc: Global) -> Result<Bytes, Error> {
     }
 }
 
-/// The raw bytes and how many slots, of a large array of bytes; it is let go.
+/// The raw bytes and how many slots, of a large array of bytes; it is dropped.
 fn counts(array: Result<AnyArray, Error>) -> Option<(usize, usize)> {
     match array {
         Err(_) => None,

@@ -41,7 +41,7 @@ fn show(array: &DictionaryArray, text: &mut String) -> Result<(), Error> {
     Ok(())
 }
 
-/// The keys and the values of an array of pairs, as text; it is let go.
+/// The keys and the values of an array of pairs, as text; it is dropped.
 fn text_of(alloc: Global, array: Result<DictionaryArray, Error>) -> Result<String, Error> {
     match array {
         Err(error) => Err(error),
@@ -74,6 +74,7 @@ fn push_four(pairs: &mut Pairs) -> Result<(), Error> {
     push_pair(pairs, 3)
 }
 
+/// "A", "B", null, "C" are frozen to the keys 0, 1, null, 2 over these values; the emptied builder takes "C" by key 0.
 #[test]
 fn rows_are_the_keys_of_their_values(rt: HostRuntime) {
     let mut pairs = no_pairs(rt.alloc()).expect(&rt, "no pairs");
@@ -85,6 +86,7 @@ fn rows_are_the_keys_of_their_values(rt: HostRuntime) {
     assert!(rt; second.as_str() == "0 03");
 }
 
+/// A value's key is found by its own kind alone.
 #[test]
 fn a_key_is_of_its_own_kind(rt: HostRuntime) {
     let mut pairs = no_pairs(rt.alloc()).expect(&rt, "no pairs");
@@ -97,6 +99,7 @@ fn a_key_is_of_its_own_kind(rt: HostRuntime) {
     assert!(rt; unknown == None);
 }
 
+/// 128 values by keys of 8 bits with a sign, and no other; a known one is taken.
 #[test]
 fn a_full_key_type_takes_known_values(rt: HostRuntime) {
     let mut pairs = no_pairs(rt.alloc()).expect(&rt, "no pairs");
@@ -117,6 +120,7 @@ fn a_full_key_type_takes_known_values(rt: HostRuntime) {
     assert!(rt; rows == 129);
 }
 
+/// A value of another size leaves no key and no value.
 #[test]
 fn a_value_of_another_size_leaves_no_key(rt: HostRuntime) {
     let mut pairs = no_pairs(rt.alloc()).expect(&rt, "no pairs");
@@ -128,8 +132,9 @@ fn a_value_of_another_size_leaves_no_key(rt: HostRuntime) {
     assert!(rt; values == 0);
 }
 
+/// Rows of dictionaries reject a key past their type.
 #[test]
-fn rows_refuse_a_key_past_their_type(rt: HostRuntime) {
+fn rows_reject_a_key_past_their_type(rt: HostRuntime) {
     let mut rows: DictionaryRows<u8> = DictionaryRows::new(rt.alloc());
     rows.reserve(3).expect(&rt, "room");
     rows.push(Some(255)).expect(&rt, "a row more");
@@ -185,8 +190,10 @@ fn rows_of_ab(pairs: &Pairs) -> usize {
     found
 }
 
+/// A builder of dictionaries by items of its type: keys, values, what its rows hold; cut, frozen, shared, turned into its
+/// array.
 #[test]
-fn items_of_bytes_stand_once_among_the_values(rt: HostRuntime) {
+fn items_of_bytes_are_values_once(rt: HostRuntime) {
     let pairs = four_items(rt.alloc()).expect(&rt, "four items");
     let keys = pairs.keys().len();
     let values = pairs.values().len();
@@ -214,7 +221,7 @@ fn the_first_rows_are_kept(rt: HostRuntime) {
     assert!(rt; values == 1);
 }
 
-/// How many slots, and how many of them are null; the array is let go.
+/// How many slots, and how many of them are null; the array is dropped.
 fn counted(array: Result<AnyArray, Error>) -> Result<(usize, usize), Error> {
     match array {
         Err(error) => Err(error),

@@ -1,4 +1,6 @@
-//! The builder of byte strings of one size.
+//! The builder of fixed-size binary values.
+//!
+//! Byte fixed-size binary values: all items or none, popped, read from both ends, joined; parts and room are checked.
 
 use nest_array::{FixedSizeBinaryArray, FixedSizeBinaryValues};
 use nest_build::array::MutableArray;
@@ -44,7 +46,7 @@ fn is_bytes(item: &Option<Vec<u8>>, bytes: &[u8]) -> bool {
     }
 }
 
-/// How many slots were frozen, and how many of them are null; the array is let go.
+/// How many slots were frozen, and how many of them are null; the array is dropped.
 fn counts(array: Result<FixedSizeBinaryArray, Error>) -> Option<(usize, usize)> {
     match array {
         Err(_) => None,
@@ -132,7 +134,7 @@ fn builders_of_one_type_are_joined(rt: HostRuntime) {
     assert!(rt; counts(first.freeze()) == Some((3, 1)));
 }
 
-/// What a maker refused; a builder is let go.
+/// What a constructor rejected; a builder is dropped.
 fn refusal(made: Result<MutableFixedSizeBinaryArray, Error>) -> Option<Error> {
     match made {
         Err(error) => Some(error),
@@ -178,7 +180,7 @@ fn parts_are_checked_in_order(rt: HostRuntime) {
 }
 
 #[test]
-fn too_much_room_is_refused(rt: HostRuntime) {
+fn too_much_capacity_is_rejected(rt: HostRuntime) {
     let half = 9223372036854775808;
     let made = MutableFixedSizeBinaryArray::with_capacity(rt.alloc(), half, 2);
     assert!(rt; refusal(made) == Some(Error::Overflow));

@@ -1,4 +1,4 @@
-//! The builder of lists of one size.
+//! The builder of fixed-size lists.
 
 use nest_array::FixedSizeListArray;
 use nest_build::array::MutableArray;
@@ -11,7 +11,7 @@ use nest_memory::datatypes::DataType;
 use nest_memory::error::{Argument, Error, Spec};
 use std::alloc::Global;
 
-/// Lists of one size of whole numbers.
+/// Fixed-size lists of integers.
 type Lists = MutableFixedSizeListArray<MutablePrimitiveArray<i64>>;
 
 fn no_lists(alloc: Global, size: usize) -> Result<Lists, Error> {
@@ -29,7 +29,7 @@ const ITEM_SIZE: Result<(), Error> = Err(Error::InvalidArgumentError(Argument::I
 
 const UNFINISHED: Result<(), Error> = Err(Error::InvalidArgumentError(Argument::Unfinished));
 
-/// How long the frozen array and its items are; the array is let go.
+/// How long the frozen array and its items are; the array is dropped.
 fn frozen_lens(array: Result<FixedSizeListArray, Error>) -> Option<(usize, usize)> {
     match array {
         Ok(array) => {
@@ -42,7 +42,7 @@ fn frozen_lens(array: Result<FixedSizeListArray, Error>) -> Option<(usize, usize
 }
 
 #[test]
-fn rows_of_another_size_are_refused(rt: HostRuntime) {
+fn rows_of_another_size_are_rejected(rt: HostRuntime) {
     let mut rows = no_lists(rt.alloc(), 2).expect(&rt, "no row");
     let four = push(&mut rows, Some(&[Some(1), Some(2), Some(3), Some(4)]));
     let none = push(&mut rows, Some(&[]));
@@ -65,6 +65,7 @@ fn push_slice(rows: &mut Lists, row: Option<&[Option<i64>]>) -> Result<(), Error
     rows.try_push_slice(row)
 }
 
+/// A pair of the values of a slice and a null are taken, one value is rejected.
 #[test]
 fn rows_of_slices(rt: HostRuntime) {
     let mut rows = no_lists(rt.alloc(), 2).expect(&rt, "no row");
@@ -88,6 +89,7 @@ fn push_items_from(rows: &mut Lists, items: &[i64]) -> Result<(), Error> {
     Ok(())
 }
 
+/// Four waiting items, and one, make no pair and continue waiting.
 #[test]
 fn waiting_items_of_another_number_make_no_row(rt: HostRuntime) {
     let mut rows = no_lists(rt.alloc(), 2).expect(&rt, "no row");
@@ -105,8 +107,8 @@ fn waiting_items_of_another_number_make_no_row(rt: HostRuntime) {
     assert!(rt; (waiting, still) == (4, 4));
 }
 
-/// Tells a row of two items, pushes a null, and says whether a validity was there before and after.
-fn tell_and_push_null(rows: &mut Lists) -> Result<(bool, bool), Error> {
+/// Pushes a row of two items, pushes a null, and says whether a validity was there before and after.
+fn push_valid_and_null(rows: &mut Lists) -> Result<(bool, bool), Error> {
     push_items_from(rows, &[1, 2])?;
     rows.try_push_valid()?;
     let before = rows.validity().is_some();
@@ -126,9 +128,9 @@ fn keep_first(rows: &mut Lists) -> bool {
 }
 
 #[test]
-fn a_row_is_told_and_a_null_pushed(rt: HostRuntime) {
+fn a_valid_row_and_a_null_are_pushed(rt: HostRuntime) {
     let mut rows = no_lists(rt.alloc(), 2).expect(&rt, "no row");
-    let validities = tell_and_push_null(&mut rows);
+    let validities = push_valid_and_null(&mut rows);
     let items = rows.values().len();
     let cut = keep_first(&mut rows);
     let shared = match rows.as_arc(rt.alloc()) {
@@ -143,7 +145,7 @@ fn a_row_is_told_and_a_null_pushed(rt: HostRuntime) {
     assert!(rt; empty);
 }
 
-/// What a maker refused.
+/// What a constructor rejected.
 fn not_made(made: Result<Lists, Error>) -> Option<Error> {
     match made {
         Err(error) => Some(error),
@@ -203,6 +205,7 @@ fn push_each(
     }
 }
 
+/// Each item that is accepted is kept, the others are left.
 #[test]
 fn accepted_rows_are_kept_and_others_left(rt: HostRuntime) {
     let mut rows = no_lists(rt.alloc(), 1).expect(&rt, "no row");
@@ -220,7 +223,7 @@ fn no_rows(alloc: Global) -> Result<Rows, Error> {
     MutableListArray::new(alloc, MutableFixedSizeListArray::new(alloc, items, 2)?)
 }
 
-/// The pair 1, 2, and behind it these numbers.
+/// The pair 1, 2, and after it these numbers.
 fn pair_and(
     alloc: Global,
     numbers: &[Option<i64>],
@@ -253,8 +256,9 @@ fn levels(rows: &Rows) -> (usize, usize, usize) {
     (rows.len(), pairs.len(), pairs.values().len())
 }
 
+/// A list of pairs rejects a row with a pair of another size and takes it back; accepted ones are frozen.
 #[test]
-fn a_refused_pair_takes_its_row_back(rt: HostRuntime) {
+fn a_rejected_pair_removes_its_row(rt: HostRuntime) {
     let mut rows = no_rows(rt.alloc()).expect(&rt, "no rows");
     let refused = push_row(&mut rows, pair_and(rt.alloc(), &[Some(3)]));
     let before = levels(&rows);

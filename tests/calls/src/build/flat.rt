@@ -40,7 +40,7 @@ fn take_values<B: MutableArray>(builder: &mut B) -> Result<bool, Error> {
     Ok(no_validity && builder.validity().is_some() && text && small && builder.len() == 2)
 }
 
-/// Whether 7 stands at place 0 and a null at 1, and nothing else is found there.
+/// Whether 7 is at index 0 and a null at 1, and nothing else is found there.
 fn holds_seven<B: MutableArray>(builder: &B) -> bool {
     if builder.len() != 2 {
         return false;
@@ -52,7 +52,7 @@ fn holds_seven<B: MutableArray>(builder: &B) -> bool {
     valid && found && !builder.holds(0, &eight) && !builder.holds(0, &small)
 }
 
-/// Whether a frozen array has 7 and a null; it is let go.
+/// Whether a frozen array has 7 and a null; it is dropped.
 fn freezes_to_seven(array: Result<AnyArray, Error>) -> bool {
     match array {
         Ok(array) => {
@@ -69,6 +69,8 @@ fn is_cleared<B: MutableArray>(builder: &B) -> bool {
     builder.is_empty() && builder.validity().is_none()
 }
 
+/// A builder of numbers takes 7 and a null, rejects a text and a number of another kind, and is frozen and filled again; a
+/// boxed one of bytes likewise.
 #[test]
 fn a_builder_takes_its_kind(rt: HostRuntime) {
     let mut builder = MutablePrimitiveArray::<i64>::new(rt.alloc());
@@ -97,7 +99,7 @@ fn join_kinds(
     Ok(refused && builder.len() == 4)
 }
 
-/// Whether a frozen array has four numbers, a null second and fourth; it is let go.
+/// Whether a frozen array has four numbers, a null second and fourth; it is dropped.
 fn freezes_to_four(array: Result<AnyPrimitive, Error>) -> bool {
     match array {
         Ok(array) => {
@@ -109,6 +111,7 @@ fn freezes_to_four(array: Result<AnyPrimitive, Error>) -> bool {
     }
 }
 
+/// A builder of any native kind takes what its kind takes, and another one's rows of that kind alone.
 #[test]
 fn a_builder_of_any_native_kind(rt: HostRuntime) {
     let mut builder = AnyMutablePrimitive::Int64(MutablePrimitiveArray::new(rt.alloc()));
@@ -126,7 +129,7 @@ fn a_builder_of_any_native_kind(rt: HostRuntime) {
     assert!(rt; frozen && cleared);
 }
 
-/// Cuts to all rows and to none.
+/// Slices to all rows and to none.
 fn cut_all<B: MutableArray>(builder: &mut B) -> Result<bool, Error> {
     builder.reserve(10)?;
     builder.shrink_to_fit()?;
@@ -142,7 +145,7 @@ fn cut_all<B: MutableArray>(builder: &mut B) -> Result<bool, Error> {
 }
 
 #[test]
-fn a_builder_is_cut_and_shared(rt: HostRuntime) {
+fn a_builder_is_truncated_and_shared(rt: HostRuntime) {
     let mut builder = MutablePrimitiveArray::<i64>::new(rt.alloc());
     let taken = take_values(&mut builder);
     let cut = cut_all(&mut builder);
@@ -164,29 +167,30 @@ fn push_numbers(alloc: Global, numbers: &mut MutablePrimitiveArray<i64>) -> Resu
     Ok(MutableArray::len(numbers) == 3)
 }
 
-fn push_truths(alloc: Global, truths: &mut MutableBooleanArray) -> Result<bool, Error> {
-    TryPush::try_push(truths, None::<bool>)?;
-    TryExtend::try_extend(truths, vec![in alloc; Some(true), Some(false)]?)?;
-    push_plain(truths, Some(Plain::Boolean(true)))?;
+fn push_truths(alloc: Global, booleans: &mut MutableBooleanArray) -> Result<bool, Error> {
+    TryPush::try_push(booleans, None::<bool>)?;
+    TryExtend::try_extend(booleans, vec![in alloc; Some(true), Some(false)]?)?;
+    push_plain(booleans, Some(Plain::Boolean(true)))?;
     let other_kind = Err(Error::InvalidArgumentError(Argument::ItemType));
-    Ok(push_plain(truths, Some(SEVEN)) == other_kind)
+    Ok(push_plain(booleans, Some(SEVEN)) == other_kind)
 }
 
 /// Whether the last of four is true and the first isn't false.
-fn holds_truths<B: MutableArray>(truths: &B) -> bool {
-    truths.len() == 4
-        && truths.holds(3, &Plain::Boolean(true))
-        && !truths.holds(0, &Plain::Boolean(false))
+fn holds_booleans<B: MutableArray>(booleans: &B) -> bool {
+    booleans.len() == 4
+        && booleans.holds(3, &Plain::Boolean(true))
+        && !booleans.holds(0, &Plain::Boolean(false))
 }
 
+/// Items are pushed at their own type, one by one and by an iterator, also an empty one.
 #[test]
 fn items_of_its_type_are_pushed(rt: HostRuntime) {
     let mut numbers = MutablePrimitiveArray::<i64>::new(rt.alloc());
     let pushed = push_numbers(rt.alloc(), &mut numbers);
     assert!(rt; pushed == Ok(true));
-    let mut truths = MutableBooleanArray::new(rt.alloc());
-    let pushed = push_truths(rt.alloc(), &mut truths);
-    let held = holds_truths(&truths);
+    let mut booleans = MutableBooleanArray::new(rt.alloc());
+    let pushed = push_truths(rt.alloc(), &mut booleans);
+    let held = holds_booleans(&booleans);
     assert!(rt; pushed == Ok(true));
     assert!(rt; held);
 }

@@ -1,5 +1,8 @@
 //! Frozen arrays slot by slot, and the data types that they keep.
+//!
+//! Rows that were accepted, of lists of pairs, of fixed-size lists and by keys, slot by slot; extensions are kept.
 
+use json_write::output::to_json_string;
 use nest_array::equal::equal_windows;
 use nest_array::{FixedSizeListArray, Window};
 use nest_build::array::MutableArray;
@@ -14,12 +17,11 @@ use nest_flat::primitive::mutable::MutablePrimitiveArray;
 use nest_flat::utf8::mutable::MutableUtf8Array;
 use nest_memory::datatypes::DataType;
 use nest_memory::error::{Argument, Error};
-use json_write::writing::json_text;
 use std::alloc::Global;
 
 type Numbers = MutablePrimitiveArray<i64>;
 
-/// Lists of one size.
+/// Fixed-size lists.
 type SizedLists = MutableFixedSizeListArray<Numbers>;
 
 const ITEM_SIZE: Error = Error::InvalidArgumentError(Argument::ItemSize);
@@ -31,7 +33,7 @@ fn no_lists(alloc: Global, size: usize) -> Result<SizedLists, Error> {
 /// All slots of what a builder freezes to.
 fn slots<B: MutableArray>(alloc: Global, builder: &mut B) -> Result<String, Error> {
     let array = builder.as_box()?;
-    Ok(json_text(alloc, &array)?)
+    Ok(to_json_string(alloc, &array)?)
 }
 
 /// A row of one value, or of two.
@@ -40,7 +42,7 @@ fn row(alloc: Global, items: &[Option<i64>]) -> Result<Option<Vec<Option<i64>>>,
 }
 
 #[test]
-fn a_refused_pair_is_in_no_slot(rt: HostRuntime) -> Result<(), Error> {
+fn a_rejected_pair_is_in_no_slot(rt: HostRuntime) -> Result<(), Error> {
     let alloc = rt.alloc();
     let mut rows: MutableListArray<i32, SizedLists> = MutableListArray::new(
         alloc,
@@ -91,7 +93,7 @@ fn waiting_items_are_no_row(rt: HostRuntime) -> Result<(), Error> {
 }
 
 #[test]
-fn texts_at_other_keys_are_equal(rt: HostRuntime) -> Result<(), Error> {
+fn strings_at_other_keys_are_equal(rt: HostRuntime) -> Result<(), Error> {
     let alloc = rt.alloc();
     let mut keyed: MutableDictionaryArray<i32, MutableUtf8Array<i32>> =
         MutableDictionaryArray::try_from_values(alloc, MutableUtf8Array::new(alloc)?)?;
@@ -100,7 +102,7 @@ fn texts_at_other_keys_are_equal(rt: HostRuntime) -> Result<(), Error> {
     keyed.try_push(Some("C"))?;
     let second = keyed.as_box()?;
     assert_eq!(rt;
-        json_text(alloc, &first)?.as_str(),
+        to_json_string(alloc, &first)?.as_str(),
         "[\"A\",\"B\",null,\"C\"]"
     );
     assert!(rt; equal_windows(&Window::new(&first, 3, 1), &Window::of(&second)));

@@ -1,5 +1,8 @@
-//! Iterators whose size hint is loose but true: what they give is taken all the same.
+//! Iterators whose size hint is loose but true: what they return is taken all the same.
+//!
+//! Items that an iterator returns whose size hint is loose.
 
+use json_write::output::to_json_string;
 use nest_array::FixedSizeBinaryArray;
 use nest_build::array::MutableArray;
 use nest_build::dictionary::MutableDictionaryArray;
@@ -9,7 +12,6 @@ use nest_build::push::TryExtend;
 use nest_flat::primitive::mutable::MutablePrimitiveArray;
 use nest_flat::utf8::mutable::MutableUtf8Array;
 use nest_memory::error::Error;
-use json_write::writing::json_text;
 use std::alloc::Global;
 
 /// Gives copies of items, and says of their number that it is at least 0 and at most this one.
@@ -38,7 +40,7 @@ const HINTS: [Option<usize>; 3] = [None, Some(usize::MAX), Some(2)];
 /// All slots of what a builder freezes to.
 fn slots<B: MutableArray>(alloc: Global, builder: &mut B) -> Result<String, Error> {
     let array = builder.as_box()?;
-    Ok(json_text(alloc, &array)?)
+    Ok(to_json_string(alloc, &array)?)
 }
 
 #[test]
@@ -48,7 +50,7 @@ fn byte_strings_of_one_size(rt: HostRuntime) -> Result<(), Error> {
     let items = bytes.as_slice();
     for most in HINTS {
         let array = FixedSizeBinaryArray::try_from_iter(alloc, Hinted { items, most }, 2)?.boxed();
-        assert_eq!(rt; json_text(alloc, &array)?.as_str(), "[\"6162\",null]");
+        assert_eq!(rt; to_json_string(alloc, &array)?.as_str(), "[\"6162\",null]");
         let mut builder = MutableFixedSizeBinaryArray::try_from_iter(
             alloc,
             Hinted { items, most },
@@ -64,7 +66,7 @@ fn byte_strings_of_one_size(rt: HostRuntime) -> Result<(), Error> {
 }
 
 #[test]
-fn numbers_lists_and_keyed_texts(rt: HostRuntime) -> Result<(), Error> {
+fn numbers_lists_and_dictionaries(rt: HostRuntime) -> Result<(), Error> {
     let alloc = rt.alloc();
     let numbers = [Some(1i64), None];
     let rows = [Some(numbers), None];

@@ -1,4 +1,7 @@
 //! Tables of numbers by their hashes.
+//!
+//! In a table of hashes 0, 0, 0, 8, 8 number 2 is found by hash 0 and not by 8; cut to two hashes it is gone. A thousand
+//! numbers of one hash, and numbers around the end of the indices, are found.
 
 use nest_build::dictionary::KeyTable;
 use nest_memory::error::Error;
@@ -41,7 +44,7 @@ fn a_thousand_numbers_of_one_hash(rt: HostRuntime) -> Result<(), Fail> {
     Ok(())
 }
 
-// Hashes that crowd at the end of the places go on at their front, and those behind one that is taken off are found.
+// Hashes that crowd at the end of the indices continue at their front, and those after one that is taken off are found.
 #[test]
 fn numbers_around_the_end_are_found(rt: HostRuntime) -> Result<(), Fail> {
     let mut table = KeyTable::new(rt.alloc());
@@ -61,9 +64,9 @@ fn numbers_around_the_end_are_found(rt: HostRuntime) -> Result<(), Fail> {
     Ok(())
 }
 
-// Holds where any one request for memory is refused: a refused push changes nothing.
+// Holds where any one allocation fails: a rejected push changes nothing.
 #[test]
-fn a_refused_push_changes_nothing(rt: HostRuntime) {
+fn a_rejected_push_changes_nothing(rt: HostRuntime) {
     let mut table = KeyTable::new(rt.alloc());
     let mut accepted = 0usize;
     for _turn in 0..40u32 {

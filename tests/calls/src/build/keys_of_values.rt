@@ -1,4 +1,7 @@
 //! The key of a value that is there, and none of one that is not.
+//!
+//! A value that is there has its index as its key, and one that is not there has none: by keys with a sign and without, of
+//! bytes, of strings and of strings by keys of their own.
 use nest_build::array::MutableArray;
 use nest_build::dictionary::{BuilderKey, MutableDictionaryArray};
 use nest_build::fixed_size_binary::MutableFixedSizeBinaryArray;
@@ -8,12 +11,12 @@ use nest_flat::utf8::mutable::MutableUtf8Array;
 use nest_memory::error::Error;
 use std::alloc::Global;
 
-type Texts = MutableUtf8Array<i32>;
+type Strings = MutableUtf8Array<i32>;
 
-type KeyedTexts<K> = MutableDictionaryArray<K, Texts>;
+type DictionaryOfStrings<K> = MutableDictionaryArray<K, Strings>;
 
 /// "A", a null and "B".
-fn two_texts<K: BuilderKey>(alloc: Global) -> Result<KeyedTexts<K>, Error> {
+fn two_strings<K: BuilderKey>(alloc: Global) -> Result<DictionaryOfStrings<K>, Error> {
     let mut keyed = MutableDictionaryArray::new(alloc, MutableUtf8Array::new(alloc)?)?;
     keyed.try_push(Some("A"))?;
     keyed.push_null()?;
@@ -21,8 +24,12 @@ fn two_texts<K: BuilderKey>(alloc: Global) -> Result<KeyedTexts<K>, Error> {
     Ok(keyed)
 }
 
-/// Whether just the two texts have these keys.
-fn has_keys<K: BuilderKey + PartialEq>(keyed: &KeyedTexts<K>, first: K, second: K) -> bool {
+/// Whether just the two strings have these keys.
+fn has_keys<K: BuilderKey + PartialEq>(
+    keyed: &DictionaryOfStrings<K>,
+    first: K,
+    second: K,
+) -> bool {
     keyed.key_of(&"A") == Some(first)
         && keyed.key_of(&"B") == Some(second)
         && keyed.key_of(&"C").is_none()
@@ -33,23 +40,23 @@ fn has_keys<K: BuilderKey + PartialEq>(keyed: &KeyedTexts<K>, first: K, second: 
 }
 
 #[test]
-fn texts_by_keys_of_any_width(rt: HostRuntime) -> Result<(), Error> {
+fn dictionary_strings_of_any_key_width(rt: HostRuntime) -> Result<(), Error> {
     let alloc = rt.alloc();
-    assert!(rt; has_keys(&two_texts::<i8>(alloc)?, 0, 1));
-    assert!(rt; has_keys(&two_texts::<i16>(alloc)?, 0, 1));
-    assert!(rt; has_keys(&two_texts::<i32>(alloc)?, 0, 1));
-    assert!(rt; has_keys(&two_texts::<i64>(alloc)?, 0, 1));
-    assert!(rt; has_keys(&two_texts::<u8>(alloc)?, 0, 1));
-    assert!(rt; has_keys(&two_texts::<u16>(alloc)?, 0, 1));
-    assert!(rt; has_keys(&two_texts::<u32>(alloc)?, 0, 1));
-    assert!(rt; has_keys(&two_texts::<u64>(alloc)?, 0, 1));
+    assert!(rt; has_keys(&two_strings::<i8>(alloc)?, 0, 1));
+    assert!(rt; has_keys(&two_strings::<i16>(alloc)?, 0, 1));
+    assert!(rt; has_keys(&two_strings::<i32>(alloc)?, 0, 1));
+    assert!(rt; has_keys(&two_strings::<i64>(alloc)?, 0, 1));
+    assert!(rt; has_keys(&two_strings::<u8>(alloc)?, 0, 1));
+    assert!(rt; has_keys(&two_strings::<u16>(alloc)?, 0, 1));
+    assert!(rt; has_keys(&two_strings::<u32>(alloc)?, 0, 1));
+    assert!(rt; has_keys(&two_strings::<u64>(alloc)?, 0, 1));
     Ok(())
 }
 
 #[test]
-fn a_text_that_was_taken_back_has_no_key(rt: HostRuntime) -> Result<(), Error> {
+fn a_truncated_string_has_no_key(rt: HostRuntime) -> Result<(), Error> {
     let alloc = rt.alloc();
-    let mut keyed = two_texts::<i8>(alloc)?;
+    let mut keyed = two_strings::<i8>(alloc)?;
     keyed.truncate(2);
     assert!(rt; keyed.key_of(&"A") == Some(0i8));
     assert!(rt; keyed.key_of(&"B").is_none());
@@ -82,12 +89,14 @@ fn numbers_and_bytes_by_keys_with_a_sign_and_without(rt: HostRuntime) -> Result<
 }
 
 #[test]
-fn texts_by_keys_of_their_own(rt: HostRuntime) -> Result<(), Error> {
+fn dictionary_strings_of_own_keys(rt: HostRuntime) -> Result<(), Error> {
     let alloc = rt.alloc();
-    let values: KeyedTexts<u8> = MutableDictionaryArray::new(alloc, MutableUtf8Array::new(alloc)?)?;
-    let mut keyed: MutableDictionaryArray<i8, KeyedTexts<u8>> = MutableDictionaryArray::new(
-        alloc, values,
+    let values: DictionaryOfStrings<u8> = MutableDictionaryArray::new(
+        alloc,
+        MutableUtf8Array::new(alloc)?,
     )?;
+    let mut keyed: MutableDictionaryArray<i8, DictionaryOfStrings<u8>> =
+        MutableDictionaryArray::new(alloc, values)?;
     keyed.try_push(Some("A"))?;
     keyed.try_push(Some("B"))?;
     assert!(rt; keyed.key_of(&"B") == Some(1i8));

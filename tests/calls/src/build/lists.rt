@@ -17,7 +17,7 @@ use std::alloc::{AllocError, Global};
 use std::mem;
 use std::rc::Rc;
 
-/// Lists of whole numbers.
+/// Lists of integers.
 type Lists = MutableListArray<i32, MutablePrimitiveArray<i64>>;
 
 fn no_lists(alloc: Global) -> Result<Lists, Error> {
@@ -100,6 +100,7 @@ fn offsets_are(array: &Result<ListArray, Error>, offsets: &[i32]) -> bool {
     }
 }
 
+/// Pushed [1,null], null, [] is frozen to these slots, by the offsets 0, 2, 2, 2.
 #[test]
 fn pushed_rows_are_the_slots(rt: HostRuntime) {
     let text = text_of(rt.alloc(), pushed(rt.alloc())).expect(&rt, "its text");
@@ -108,7 +109,7 @@ fn pushed_rows_are_the_slots(rt: HostRuntime) {
     assert!(rt; offsets_are(&array, [0i32, 2, 2, 2].as_slice()));
 }
 
-/// What a call refused.
+/// What a call rejected.
 fn refusal(array: Result<ListArray, Error>) -> Option<Error> {
     match array {
         Err(error) => Some(error),
@@ -119,8 +120,8 @@ fn refusal(array: Result<ListArray, Error>) -> Option<Error> {
     }
 }
 
-/// The items of a builder wait until their row is told.
-fn wait_and_tell(rows: &mut Lists) -> Result<bool, Error> {
+/// The items of a builder wait until their row is pushed.
+fn wait_and_push(rows: &mut Lists) -> Result<bool, Error> {
     TryPush::try_push(rows.mut_values(), Some(7i64))?;
     let waits = !rows.is_whole();
     let unfinished = Some(Error::InvalidArgumentError(Argument::Unfinished));
@@ -129,18 +130,19 @@ fn wait_and_tell(rows: &mut Lists) -> Result<bool, Error> {
     Ok(waits && refused && rows.is_whole() && rows.len() == 1)
 }
 
+/// Items wait until their row is pushed, and a builder with waiting items is not frozen.
 #[test]
 fn items_wait_for_their_row(rt: HostRuntime) {
     let mut rows = no_lists(rt.alloc()).expect(&rt, "no row");
-    assert!(rt; wait_and_tell(&mut rows) == Ok(true));
+    assert!(rt; wait_and_push(&mut rows) == Ok(true));
     let array = rows.freeze();
     assert!(rt; rows.is_whole());
     assert!(rt; text_of(rt.alloc(), array).expect(&rt, "its text").as_str() == "[ 7 ] ");
 }
 
-// Holds where any one request for memory is refused: a refused row changes nothing, and a freeze empties the builder.
+// Holds where any one allocation fails: a rejected row changes nothing, and a freeze empties the builder.
 #[test]
-fn refused_rows_change_nothing(rt: HostRuntime) {
+fn rejected_rows_change_nothing(rt: HostRuntime) {
     let Ok(mut rows) = no_lists(rt.alloc()) else {
         return;
     };
@@ -165,7 +167,7 @@ fn refused_rows_change_nothing(rt: HostRuntime) {
     assert!(rt; rows.is_whole());
 }
 
-/// Tells a row of the items that wait.
+/// Pushes a row of the items that wait.
 fn tell(rows: &mut Lists) -> Result<(), Error> {
     rows.try_push_valid()
 }
@@ -183,18 +185,18 @@ fn three_waiting(alloc: Global) -> Result<Lists, Error> {
     }
 }
 
-fn tell_lengths(rows: &mut Lists, lengths: &[Option<usize>]) -> Result<(), Error> {
+fn push_lengths(rows: &mut Lists, lengths: &[Option<usize>]) -> Result<(), Error> {
     rows.try_extend_from_lengths(lengths)
 }
 
 #[test]
 fn rows_by_their_lengths(rt: HostRuntime) {
     let mut rows = three_waiting(rt.alloc()).expect(&rt, "three waiting");
-    let too_few = tell_lengths(&mut rows, [Some(2)].as_slice());
+    let too_few = push_lengths(&mut rows, [Some(2)].as_slice());
     assert!(rt; too_few == Err(Error::InvalidArgumentError(Argument::LengthsSum)));
     assert!(rt; rows.len() == 0);
     assert!(rt; rows.validity().is_none());
-    assert!(rt; tell_lengths(&mut rows, [Some(2), None, Some(1)].as_slice()) == Ok(()));
+    assert!(rt; push_lengths(&mut rows, [Some(2), None, Some(1)].as_slice()) == Ok(()));
     assert!(rt; rows.validity().is_some());
     let array = rows.freeze();
     assert!(rt;
@@ -202,7 +204,7 @@ fn rows_by_their_lengths(rt: HostRuntime) {
     );
 }
 
-/// What a maker refused.
+/// What a constructor rejected.
 fn not_made(made: Result<Lists, Error>) -> Option<Error> {
     match made {
         Err(error) => Some(error),
@@ -263,25 +265,25 @@ fn push_below(rows: &mut BoxedLists, value: Option<Plain<'_>>) -> Result<(), Err
     child.try_push_plain(value)
 }
 
-fn tell_boxed(rows: &mut BoxedLists) -> Result<(), Error> {
+fn push_boxed(rows: &mut BoxedLists) -> Result<(), Error> {
     if !rows.values().is_whole() {
         return Err(Error::InvalidArgumentError(Argument::Unfinished));
     }
     rows.try_push_valid()
 }
 
-/// Whether 7 and a null are taken, a text isn't, and a row of both is told.
+/// Whether 7 and a null are taken, a text isn't, and a row of both is pushed.
 fn take_both(rows: &mut BoxedLists) -> bool {
     let other_kind = Err(Error::InvalidArgumentError(Argument::ItemType));
     let taken = push_below(rows, Some(SEVEN)).is_ok();
     let text = push_below(rows, Some(Plain::Text("x"))) == other_kind;
     let null = push_below(rows, None).is_ok();
     let waits = !rows.is_whole();
-    taken && text && null && waits && tell_boxed(rows).is_ok() && rows.is_whole()
+    taken && text && null && waits && push_boxed(rows).is_ok() && rows.is_whole()
 }
 
 /// Whether the list takes no value, and its one row is valid and no value.
-fn takes_no_value(rows: &mut BoxedLists) -> bool {
+fn accepts_no_value(rows: &mut BoxedLists) -> bool {
     let other_kind = Err(Error::InvalidArgumentError(Argument::ItemType));
     if !rows.is_whole() || rows.try_push_plain(Some(SEVEN)) != other_kind {
         return false;
@@ -289,7 +291,7 @@ fn takes_no_value(rows: &mut BoxedLists) -> bool {
     rows.len() == 1 && rows.is_valid(0) && !rows.holds(0, &SEVEN)
 }
 
-/// How long an array is; it is let go.
+/// How long an array is; it is dropped.
 fn len_of(array: Result<AnyArray, Error>) -> Option<usize> {
     match array {
         Ok(array) => {
@@ -301,6 +303,8 @@ fn len_of(array: Result<AnyArray, Error>) -> Option<usize> {
     }
 }
 
+/// A list over a boxed builder of numbers takes 7 and a null, and no text; no plain value is a list; a list over such a list is
+/// filled again.
 #[test]
 fn a_boxed_child_takes_the_items(rt: HostRuntime) {
     let numbers: MutablePrimitiveArray<i64> = MutablePrimitiveArray::new(rt.alloc());
@@ -308,18 +312,19 @@ fn a_boxed_child_takes_the_items(rt: HostRuntime) {
     assert!(rt; child.is_whole());
     let mut rows: BoxedLists = MutableListArray::new(rt.alloc(), child).expect(&rt, "memory");
     let both = take_both(&mut rows);
-    let lists = takes_no_value(&mut rows);
+    let lists = accepts_no_value(&mut rows);
     let found = len_of(rows.into_box());
     assert!(rt; both);
     assert!(rt; lists);
     assert!(rt; found == Some(1));
 }
 
-/// Whether a null is taken below, and a row of it is told.
+/// Whether a null is taken below, and a row of it is pushed.
 fn take_null(rows: &mut BoxedLists) -> bool {
-    push_below(rows, None).is_ok() && tell_boxed(rows).is_ok() && rows.is_whole()
+    push_below(rows, None).is_ok() && push_boxed(rows).is_ok() && rows.is_whole()
 }
 
+/// A boxed builder of lists of numbers is the child of a builder of lists.
 #[test]
 fn a_boxed_builder_of_lists_takes_rows(rt: HostRuntime) {
     let numbers: MutablePrimitiveArray<i64> = MutablePrimitiveArray::new(rt.alloc());
@@ -339,7 +344,7 @@ fn a_boxed_builder_of_lists_takes_rows(rt: HostRuntime) {
 /// Lists of lists of whatever the boxed child takes.
 type Nested = MutableListArray<i32, BoxedLists>;
 
-fn tell_outer(rows: &mut Nested) -> Result<(), Error> {
+fn push_outer(rows: &mut Nested) -> Result<(), Error> {
     let child = rows.mut_values();
     if !child.is_whole() {
         return Err(Error::InvalidArgumentError(Argument::Unfinished));
@@ -367,23 +372,23 @@ fn a_list_over_a_list_of_a_boxed_builder_is_filled_again(rt: HostRuntime) {
     let inner: BoxedLists = MutableListArray::new(rt.alloc(), child).expect(&rt, "memory");
     assert!(rt; inner.is_whole());
     let mut rows: Nested = MutableListArray::new(rt.alloc(), inner).expect(&rt, "memory");
-    let told = tell_outer(&mut rows).is_ok() && tell_outer(&mut rows).is_ok();
+    let ended = push_outer(&mut rows).is_ok() && push_outer(&mut rows).is_ok();
     let first = shared_len(rows.as_arc(rt.alloc()));
     let empty = rows.is_empty();
-    let again = tell_outer(&mut rows);
+    let again = push_outer(&mut rows);
     let second = shared_len(rows.into_arc(rt.alloc()));
-    assert!(rt; told && again == Ok(()));
+    assert!(rt; ended && again == Ok(()));
     assert!(rt; first == Some(2) && empty);
     assert!(rt; second == Some(1));
 }
 
-/// Tells a row over another child, then over the one before.
-fn tell_over_both(rows: &mut BoxedLists, other: &mut Box<dyn MutableArray>) -> (bool, bool) {
+/// Pushes a row over another child, then over the one before.
+fn push_over_both(rows: &mut BoxedLists, other: &mut Box<dyn MutableArray>) -> (bool, bool) {
     mem::swap(rows.mut_values(), other);
     let unfinished = Err(Error::InvalidArgumentError(Argument::Unfinished));
-    let refused = !rows.is_whole() && tell_boxed(rows) == unfinished;
+    let refused = !rows.is_whole() && push_boxed(rows) == unfinished;
     mem::swap(rows.mut_values(), other);
-    (refused, rows.is_whole() && tell_boxed(rows).is_ok())
+    (refused, rows.is_whole() && push_boxed(rows).is_ok())
 }
 
 #[test]
@@ -394,11 +399,11 @@ fn a_child_of_another_type_makes_no_row(rt: HostRuntime) {
     let mut rows: BoxedLists = MutableListArray::new(rt.alloc(), child).expect(&rt, "memory");
     let nulls = MutableNullArray::new(rt.alloc(), DataType::Null, 0);
     let mut other: Box<dyn MutableArray> = Box::new(rt.alloc(), nulls).expect(&rt, "memory");
-    let seen = tell_over_both(&mut rows, &mut other);
+    let seen = push_over_both(&mut rows, &mut other);
     assert!(rt; seen == (true, true));
 }
 
-/// Cuts, room, and a null.
+/// Slices, room, and a null.
 fn keep_first(rows: &mut Lists) -> Result<(), Error> {
     rows.reserve(4)?;
     if rows.is_whole() {
@@ -411,7 +416,7 @@ fn keep_first(rows: &mut Lists) -> Result<(), Error> {
 }
 
 #[test]
-fn rows_are_cut_with_their_items(rt: HostRuntime) {
+fn rows_are_truncated_with_their_items(rt: HostRuntime) {
     let mut rows = no_lists(rt.alloc()).expect(&rt, "no row");
     let two = [
         Some([Some(1)].as_slice()),
@@ -436,6 +441,7 @@ fn by_offsets(alloc: Global, ends: &[usize], bits: usize) -> Result<Lists, Error
     MutableListArray::new_from_mutable(alloc, items, offsets, Some(validity))
 }
 
+/// Lists by offsets that end before their items, by a validity of another length, over a child with a row.
 #[test]
 fn lists_by_offsets(rt: HostRuntime) {
     let alloc = rt.alloc();
@@ -485,6 +491,7 @@ fn joined(alloc: Global) -> Result<ListArray, Error> {
     array
 }
 
+/// Another builder's rows are joined at each level; of another type none is.
 #[test]
 fn rows_of_another_builder_are_joined(rt: HostRuntime) {
     let text = text_of(rt.alloc(), joined(rt.alloc())).expect(&rt, "its text");

@@ -1,4 +1,7 @@
-//! Byte strings of one size from items: arrays and builders.
+//! Byte fixed-size binary values from items: arrays and builders.
+//!
+//! Arrays and builders of items of fixed size: a validity exactly where one is null, size 0 and items of another size rejected;
+//! bytes written over.
 
 use nest_array::FixedSizeBinaryArray;
 use nest_build::fixed_size_binary::MutableFixedSizeBinaryArray;
@@ -7,7 +10,7 @@ use std::alloc::Global;
 
 const OTHER_SIZE: Error = Error::InvalidArgumentError(Argument::ItemSize);
 
-/// How many slots, nulls and bytes an array has, and whether a validity is there; it is let go.
+/// How many slots, nulls and bytes an array has, and whether a validity is there; it is dropped.
 fn counts(
     array: Result<FixedSizeBinaryArray, Error>,
 ) -> Result<(usize, usize, usize, bool), Error> {
@@ -73,7 +76,7 @@ fn builder_of(
     MutableFixedSizeBinaryArray::try_from_iter(alloc, items.iter().copied(), size)
 }
 
-/// The array of a builder, which is let go.
+/// The array of a builder, which is dropped.
 fn frozen(
     builder: Result<MutableFixedSizeBinaryArray, Error>,
 ) -> Result<FixedSizeBinaryArray, Error> {

@@ -1,4 +1,6 @@
 //! Builders over builders over builders: the largest offset, and cuts at both ends.
+//!
+//! A row ends at 2^31 - 1 items and none past it; rows are cut to all and to none.
 use nest_build::array::MutableArray;
 use nest_build::fixed_size_list::MutableFixedSizeListArray;
 use nest_build::list::MutableListArray;
@@ -15,7 +17,7 @@ const UNFINISHED: Error = Error::InvalidArgumentError(Argument::Unfinished);
 /// Lists of nulls.
 type NullLists = MutableListArray<i32, MutableNullArray>;
 
-/// Tells a row of the nulls that wait.
+/// Pushes a row of the nulls that wait.
 fn tell(rows: &mut NullLists) -> Result<(), Error> {
     rows.try_push_valid()
 }
@@ -72,7 +74,7 @@ fn push_three(alloc: Global, rows: &mut Rows) -> Result<(), Error> {
     rows.try_extend(three)
 }
 
-/// Cuts where it may be cut there.
+/// Slices where it may be cut there.
 fn cut(rows: &mut Rows, n: usize) {
     if rows.is_whole() && n <= rows.len() {
         rows.truncate(n);
@@ -80,7 +82,7 @@ fn cut(rows: &mut Rows, n: usize) {
 }
 
 #[test]
-fn rows_are_cut_to_all_and_to_none(rt: HostRuntime) {
+fn rows_are_truncated_to_all_and_to_none(rt: HostRuntime) {
     let mut rows = no_rows(rt.alloc()).expect(&rt, "no rows");
     push_three(rt.alloc(), &mut rows).expect(&rt, "three rows");
     cut(&mut rows, 3);

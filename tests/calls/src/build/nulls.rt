@@ -1,4 +1,6 @@
 //! The builder of nulls.
+//!
+//! A full builder of nulls rejects one more; nulls are pushed, cut and frozen; no value is taken.
 
 use nest_array::AnyArray;
 use nest_build::array::MutableArray;
@@ -14,7 +16,7 @@ fn a_full_builder_takes_no_null(rt: HostRuntime) {
     assert!(rt; nulls.len() == usize::MAX);
 }
 
-/// How many nulls an array has; it is let go.
+/// How many nulls an array has; it is dropped.
 fn nulls_in(array: Result<AnyArray, Error>) -> Option<usize> {
     match array {
         Ok(AnyArray::Null(array)) => {

@@ -1,4 +1,4 @@
-//! Lists of whole numbers by worked rows: what is frozen is compared with arrays that were made of their parts.
+//! Lists of integers by examples rows: what is frozen is compared with arrays that were made of their parts.
 use nest_array::{AnyArray, ListArray};
 use nest_build::array::MutableArray;
 use nest_build::list::MutableListArray;
@@ -14,7 +14,7 @@ use nest_memory::offset::Offset;
 use nest_memory::offsets::OffsetsBuffer;
 use std::alloc::Global;
 
-/// Both values, or the first refusal.
+/// Both values, or the first error.
 fn both<A: Drop, B: Drop>(a: Result<A, Error>, b: Result<B, Error>) -> Result<(A, B), Error> {
     Ok((a?, b?))
 }
@@ -66,7 +66,7 @@ fn lists(
     }
 }
 
-/// Lists of whole numbers.
+/// Lists of integers.
 type Lists = MutableListArray<i32, MutablePrimitiveArray<i64>>;
 
 fn no_lists(alloc: Global) -> Result<Lists, Error> {
@@ -101,7 +101,7 @@ fn pushed(alloc: Global, items: &[Option<&[Option<i64>]>]) -> Result<ListArray, 
     }
 }
 
-/// Whether both were made and are equal; both are let go.
+/// Whether both were made and are equal; both are dropped.
 fn are_same(x: Result<ListArray, Error>, y: Result<ListArray, Error>) -> Result<bool, Error> {
     match both(x, y) {
         Ok((x, y)) => {
@@ -114,6 +114,7 @@ fn are_same(x: Result<ListArray, Error>, y: Result<ListArray, Error>) -> Result<
     }
 }
 
+/// The same rows equal an array with a 5 under its null.
 #[test]
 fn pushed_rows_equal_an_array_with_a_number_under_a_null(rt: HostRuntime) {
     let alloc = rt.alloc();
@@ -133,6 +134,7 @@ fn pushed_rows_differ_from_an_array_without_the_null(rt: HostRuntime) {
     assert!(rt; are_same(frozen, made) == Ok(false));
 }
 
+/// Numbers of 64 bits from 1 to 5 by the offsets 0, 2, 2, 3, 5, and by 0, 2 and 0, 6.
 #[test]
 fn four_lists_of_five_numbers(rt: HostRuntime) {
     let alloc = rt.alloc();
@@ -158,7 +160,7 @@ fn offsets_within_and_past_the_numbers(rt: HostRuntime) {
     assert!(rt; past == Some(Error::OutOfSpec(Spec::OffsetPastChild)));
 }
 
-/// Whether the array was made, and whether it and its items have a validity; it is let go.
+/// Whether the array was made, and whether it and its items have a validity; it is dropped.
 fn validities(array: Result<ListArray, Error>) -> Option<(bool, bool)> {
     match array {
         Ok(array) => {
@@ -174,6 +176,7 @@ fn validities(array: Result<ListArray, Error>) -> Option<(bool, bool)> {
     }
 }
 
+/// A builder has no validity before its first null, its child neither.
 #[test]
 fn no_validity_before_the_first_null(rt: HostRuntime) {
     let alloc = rt.alloc();

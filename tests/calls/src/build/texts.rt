@@ -1,4 +1,7 @@
-//! The builders of texts and of bytes, as builders of any kind.
+//! The builders of strings and of bytes, as builders of any kind.
+//!
+//! Strings and bytes are pushed at their type and as plain values, found, cut, joined, frozen and boxed; another kind is
+//! rejected.
 
 use nest_array::AnyArray;
 use nest_build::array::MutableArray;
@@ -10,13 +13,13 @@ use nest_flat::utf8::mutable::MutableUtf8Array;
 use nest_memory::error::{Argument, Error};
 use std::alloc::Global;
 
-type Texts = MutableUtf8Array<i32>;
+type Strings = MutableUtf8Array<i32>;
 
 const OTHER_KIND: Error = Error::InvalidArgumentError(Argument::ItemType);
 
 /// "ab", null, "".
-fn three_texts(alloc: Global) -> Result<Texts, Error> {
-    let mut texts = Texts::new(alloc)?;
+fn three_utf8(alloc: Global) -> Result<Strings, Error> {
+    let mut texts = Strings::new(alloc)?;
     let items = [Some("ab"), None, Some("")];
     match TryExtend::try_extend(&mut texts, items.as_slice().iter().copied()) {
         Ok(()) => Ok(texts),
@@ -43,8 +46,8 @@ fn is_null<B: MutableArray>(builder: &B, i: usize) -> bool {
     i < builder.len() && !builder.is_valid(i)
 }
 
-/// Whether the array has these texts; it is let go.
-fn texts_are(array: Result<AnyArray, Error>, expected: &[Option<&str>]) -> bool {
+/// Whether the array has these strings; it is dropped.
+fn strings_are(array: Result<AnyArray, Error>, expected: &[Option<&str>]) -> bool {
     match array {
         Err(_) => false,
         Ok(array) => {
@@ -71,12 +74,12 @@ fn are_texts(array: &AnyArray, expected: &[Option<&str>]) -> bool {
 }
 
 #[test]
-fn texts_of_its_type_are_pushed(rt: HostRuntime) {
-    let mut texts = three_texts(rt.alloc()).expect(&rt, "three texts");
+fn strings_of_its_type_are_pushed(rt: HostRuntime) {
+    let mut texts = three_utf8(rt.alloc()).expect(&rt, "three texts");
     assert!(rt; TryPush::try_push(&mut texts, Some("é")) == Ok(()));
     assert!(rt; MutableArray::len(&texts) == 4);
     assert!(rt;
-        texts_are(
+        strings_are(
             texts.as_box(),
             [Some("ab"), None, Some(""), Some("é")].as_slice()
         )
@@ -86,8 +89,8 @@ fn texts_of_its_type_are_pushed(rt: HostRuntime) {
 }
 
 #[test]
-fn plain_texts_are_pushed(rt: HostRuntime) {
-    let mut texts = three_texts(rt.alloc()).expect(&rt, "three texts");
+fn plain_strings_are_pushed(rt: HostRuntime) {
+    let mut texts = three_utf8(rt.alloc()).expect(&rt, "three texts");
     assert!(rt; push_plain(&mut texts, Plain::Text("c")) == Ok(()));
     assert!(rt; push_plain(&mut texts, Plain::Bytes(b"c")) == Err(OTHER_KIND));
     assert!(rt; push_plain(&mut texts, Plain::Native(AnyNative::Int64(7))) == Err(OTHER_KIND));
@@ -96,8 +99,8 @@ fn plain_texts_are_pushed(rt: HostRuntime) {
 }
 
 #[test]
-fn a_text_is_found_at_its_place(rt: HostRuntime) {
-    let texts = three_texts(rt.alloc()).expect(&rt, "three texts");
+fn a_string_is_found_at_its_index(rt: HostRuntime) {
+    let texts = three_utf8(rt.alloc()).expect(&rt, "three texts");
     assert!(rt; holds(&texts, 0, Plain::Text("ab")));
     assert!(rt; holds(&texts, 2, Plain::Text("")));
     assert!(rt; !holds(&texts, 1, Plain::Text("")));
@@ -106,24 +109,24 @@ fn a_text_is_found_at_its_place(rt: HostRuntime) {
 }
 
 #[test]
-fn no_byte_is_left_behind_the_last_text(rt: HostRuntime) {
-    let mut texts = three_texts(rt.alloc()).expect(&rt, "three texts");
+fn no_byte_is_left_after_the_last_string(rt: HostRuntime) {
+    let mut texts = three_utf8(rt.alloc()).expect(&rt, "three texts");
     TryPush::try_push(&mut texts, Some("cde")).expect(&rt, "a row more");
     if MutableArray::len(&texts) >= 2 {
         MutableArray::truncate(&mut texts, 2);
     }
     assert!(rt; texts.values().as_slice() == b"ab".as_slice());
     TryPush::try_push(&mut texts, Some("f")).expect(&rt, "a row more");
-    assert!(rt; texts_are(texts.as_box(), [Some("ab"), None, Some("f")].as_slice()));
+    assert!(rt; strings_are(texts.as_box(), [Some("ab"), None, Some("f")].as_slice()));
 }
 
 #[test]
-fn texts_are_joined(rt: HostRuntime) {
-    let mut texts = three_texts(rt.alloc()).expect(&rt, "three texts");
-    let more = three_texts(rt.alloc()).expect(&rt, "three texts");
+fn strings_are_joined(rt: HostRuntime) {
+    let mut texts = three_utf8(rt.alloc()).expect(&rt, "three texts");
+    let more = three_utf8(rt.alloc()).expect(&rt, "three texts");
     assert!(rt; TryExtendFromSelf::try_extend_from_self(&mut texts, &more) == Ok(()));
     assert!(rt; MutableArray::reserve(&mut texts, 9223372036854775807) != Err(Error::Overflow));
     assert!(rt; MutableArray::shrink_to_fit(&mut texts) == Ok(()));
     let twice = [Some("ab"), None, Some(""), Some("ab"), None, Some("")];
-    assert!(rt; texts_are(texts.as_box(), twice.as_slice()));
+    assert!(rt; strings_are(texts.as_box(), twice.as_slice()));
 }

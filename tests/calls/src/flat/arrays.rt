@@ -1,4 +1,4 @@
-//! Flat arrays by their worked slots.
+//! Flat arrays by their examples slots.
 mod blocks;
 mod cuts;
 mod iterators;
@@ -20,7 +20,7 @@ use nest_memory::offset::Offset;
 use nest_memory::offsets::OffsetsBuffer;
 use std::alloc::Global;
 
-/// Both values, or the first refusal.
+/// Both values, or the first error.
 fn both<A: Drop, B: Drop>(a: Result<A, Error>, b: Result<B, Error>) -> Result<(A, B), Error> {
     Ok((a?, b?))
 }
@@ -56,7 +56,7 @@ fn numbers(
     }
 }
 
-fn truths(alloc: Global, items: &[bool], bits: Option<&[bool]>) -> Result<BooleanArray, Error> {
+fn booleans(alloc: Global, items: &[bool], bits: Option<&[bool]>) -> Result<BooleanArray, Error> {
     match both(Bitmap::from_bools(alloc, items), validity(alloc, bits)) {
         Ok((values, validity)) => BooleanArray::try_new(DataType::Boolean, values, validity),
         Err(error) => Err(error),
@@ -79,7 +79,7 @@ fn binaries(
     }
 }
 
-/// Texts by offsets of 32 bits.
+/// Strings by offsets of 32 bits.
 fn texts(
     alloc: Global,
     bytes: &[u8],

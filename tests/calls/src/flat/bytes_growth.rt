@@ -1,4 +1,4 @@
-//! Builders of texts and of bytes.
+//! Builders of strings and of bytes.
 
 use nest_flat::binary::BinaryArray;
 use nest_flat::binary::mutable::MutableBinaryArray;
@@ -8,7 +8,7 @@ use nest_memory::error::Error;
 use std::alloc::{AllocError, Global};
 use std::test::Fail;
 
-/// The texts of a builder, each before a bar.
+/// The strings of a builder, each before a bar.
 fn shown(alloc: Global, texts: &MutableUtf8Array<i32>) -> Result<String, Error> {
     let mut text = String::new(alloc);
     for i in 0..texts.len() {
@@ -35,7 +35,7 @@ fn show(array: &Utf8Array<i32>, text: &mut String) -> Result<(), Error> {
     Ok(())
 }
 
-/// The texts of an array, each before a bar.
+/// The strings of an array, each before a bar.
 fn frozen(alloc: Global, array: Result<Utf8Array<i32>, Error>) -> Result<String, Error> {
     let array = array?;
     let mut text = String::new(alloc);
@@ -53,7 +53,7 @@ fn push_texts(alloc: Global, texts: &mut MutableUtf8Array<i32>) -> Result<(), Er
 }
 
 #[test]
-fn texts_are_frozen_and_read_back(rt: HostRuntime) -> Result<(), Fail> {
+fn strings_are_frozen_and_read_back(rt: HostRuntime) -> Result<(), Fail> {
     let mut texts = MutableUtf8Array::new(rt.alloc())?;
     let pushed = push_texts(rt.alloc(), &mut texts);
     let array = texts.freeze();
@@ -68,7 +68,7 @@ fn texts_are_frozen_and_read_back(rt: HostRuntime) -> Result<(), Fail> {
     Ok(())
 }
 
-fn double_and_cut(alloc: Global, texts: &mut MutableUtf8Array<i32>) -> Result<usize, Error> {
+fn double_and_truncate(alloc: Global, texts: &mut MutableUtf8Array<i32>) -> Result<usize, Error> {
     push_texts(alloc, texts)?;
     let mut more = MutableUtf8Array::new(alloc)?;
     let pushed = push_texts(alloc, &mut more);
@@ -85,9 +85,9 @@ fn double_and_cut(alloc: Global, texts: &mut MutableUtf8Array<i32>) -> Result<us
 }
 
 #[test]
-fn texts_are_joined_and_cut(rt: HostRuntime) -> Result<(), Fail> {
+fn strings_are_joined_and_truncated(rt: HostRuntime) -> Result<(), Fail> {
     let mut texts = MutableUtf8Array::new(rt.alloc())?;
-    let bytes = double_and_cut(rt.alloc(), &mut texts);
+    let bytes = double_and_truncate(rt.alloc(), &mut texts);
     let text = shown(rt.alloc(), &texts);
     assert!(rt; bytes == Ok(4));
     assert!(rt; text?.as_str() == "a|null|é||a|null|");
@@ -122,10 +122,10 @@ fn bytes_are_frozen(rt: HostRuntime) {
     assert!(rt; ends_are(again, &[0]));
 }
 
-// Holds where any one request for memory is refused: a refused call adds no slot and no byte, and a freeze empties the
+// Holds where any one allocation fails: a rejected call adds no slot and no byte, and a freeze empties the
 // builder.
 #[test]
-fn refused_texts_change_nothing(rt: HostRuntime) {
+fn rejected_strings_change_nothing(rt: HostRuntime) {
     let Ok(mut texts) = MutableUtf8Array::<i32>::new(rt.alloc()) else {
         return;
     };

@@ -1,4 +1,4 @@
-//! Builders of flat arrays by their worked rows.
+//! Builders of flat arrays by their examples rows.
 
 use nest_flat::boolean::BooleanArray;
 use nest_flat::boolean::mutable::MutableBooleanArray;
@@ -10,7 +10,7 @@ use std::alloc::{AllocError, Global};
 
 const NUMBERS: [Option<i64>; 3] = [Some(1), None, Some(3)];
 
-const TRUTHS: [Option<bool>; 3] = [Some(true), None, Some(false)];
+const BOOLEANS: [Option<bool>; 3] = [Some(true), None, Some(false)];
 
 fn show_numbers(array: &PrimitiveArray<i64>, text: &mut String) -> Result<(), Error> {
     for i in 0..array.len() {
@@ -22,7 +22,7 @@ fn show_numbers(array: &PrimitiveArray<i64>, text: &mut String) -> Result<(), Er
     Ok(())
 }
 
-fn show_truths(array: &BooleanArray, text: &mut String) -> Result<(), Error> {
+fn show_booleans(array: &BooleanArray, text: &mut String) -> Result<(), Error> {
     for i in 0..array.len() {
         match array.get(i) {
             None => text.push_str("null ")?,
@@ -46,16 +46,16 @@ fn frozen_numbers(
 }
 
 /// The same of booleans.
-fn frozen_truths(alloc: Global, builder: &mut MutableBooleanArray) -> Result<String, Error> {
+fn frozen_booleans(alloc: Global, builder: &mut MutableBooleanArray) -> Result<String, Error> {
     let array = builder.freeze()?;
     let mut text = String::new(alloc);
-    let done = show_truths(&array, &mut text);
+    let done = show_booleans(&array, &mut text);
     drop(array);
     done?;
     Ok(text)
 }
 
-fn is_text(text: Result<String, Error>, expected: &str) -> bool {
+fn is_string(text: Result<String, Error>, expected: &str) -> bool {
     match text {
         Err(_) => false,
         Ok(text) => text.as_str() == expected,
@@ -69,20 +69,21 @@ fn push_numbers(builder: &mut MutablePrimitiveArray<i64>) -> Result<(), Error> {
     Ok(())
 }
 
+/// What was pushed is frozen and round-trip.
 #[test]
 fn pushed_numbers_are_frozen(rt: HostRuntime) {
     let mut builder = MutablePrimitiveArray::new(rt.alloc());
     assert!(rt; push_numbers(&mut builder) == Ok(()));
     assert!(rt; builder.values().as_slice() == [1i64, 0, 3].as_slice());
     assert!(rt; builder.validity().is_some());
-    assert!(rt; is_text(frozen_numbers(rt.alloc(), &mut builder), "1 null 3 "));
+    assert!(rt; is_string(frozen_numbers(rt.alloc(), &mut builder), "1 null 3 "));
     assert!(rt; builder.is_empty());
     assert!(rt; builder.validity().is_none());
     assert!(rt; matches!(builder.data_type(), DataType::Int64));
 }
 
 #[test]
-fn numbers_are_extended_and_cut(rt: HostRuntime) {
+fn numbers_are_extended_and_truncated(rt: HostRuntime) {
     let mut builder = MutablePrimitiveArray::new(rt.alloc());
     let mut more = MutablePrimitiveArray::new(rt.alloc());
     assert!(rt; builder.try_extend([Some(5i64)]) == Ok(()));
@@ -93,23 +94,23 @@ fn numbers_are_extended_and_cut(rt: HostRuntime) {
     if builder.len() == 4 {
         builder.truncate(3);
     }
-    assert!(rt; is_text(frozen_numbers(rt.alloc(), &mut builder), "5 1 null "));
+    assert!(rt; is_string(frozen_numbers(rt.alloc(), &mut builder), "5 1 null "));
 }
 
 #[test]
-fn truths_are_extended_and_cut(rt: HostRuntime) {
+fn booleans_are_extended_and_truncated(rt: HostRuntime) {
     let mut builder = MutableBooleanArray::new(rt.alloc());
     let mut more = MutableBooleanArray::new(rt.alloc());
     assert!(rt; builder.try_push(Some(true)) == Ok(()));
     assert!(rt; builder.validity().is_none());
-    assert!(rt; more.try_extend(TRUTHS) == Ok(()));
+    assert!(rt; more.try_extend(BOOLEANS) == Ok(()));
     assert!(rt; builder.try_extend_from_self(&more) == Ok(()));
     assert!(rt; builder.values().unset_bits() == 2);
     if builder.len() == 4 {
         assert!(rt; !builder.is_valid(2));
         builder.truncate(3);
     }
-    assert!(rt; is_text(frozen_truths(rt.alloc(), &mut builder), "true true null "));
+    assert!(rt; is_string(frozen_booleans(rt.alloc(), &mut builder), "true true null "));
     assert!(rt; builder.is_empty());
 }
 
@@ -124,9 +125,9 @@ fn dates_take_no_plain_numbers(rt: HostRuntime) {
     assert!(rt; dates.len() == 1);
 }
 
-// Holds where any one request for memory is refused: a refused call changes nothing, and a freeze empties the builder.
+// Holds where any one allocation fails: a rejected call changes nothing, and a freeze empties the builder.
 #[test]
-fn refused_items_change_nothing(rt: HostRuntime) {
+fn rejected_items_change_nothing(rt: HostRuntime) {
     let mut builder = MutablePrimitiveArray::new(rt.alloc());
     let mut accepted = 0usize;
     for _turn in 0..6u32 {

@@ -1,5 +1,8 @@
 //! Arrays in one call, of values and of options: what each slot is, which type it has, and that a validity is made only
 //! where one is null.
+//!
+//! Arrays in one call of values and of options, of each kind and both widths: their type, their slots, and a validity only
+//! where one is null.
 use nest_flat::binary::BinaryArray;
 use nest_flat::boolean::BooleanArray;
 use nest_flat::primitive::PrimitiveArray;
@@ -10,8 +13,8 @@ use nest_memory::offset::Offset;
 use std::alloc::{AllocError, Global};
 use std::process::Abort;
 
-/// Nothing but memory is refused.
-fn unless_refused<T>(rt: &impl Abort, outcome: Result<T, Error>) -> Option<T> {
+/// Nothing but an allocation fails.
+fn unless_without_memory<T>(rt: &impl Abort, outcome: Result<T, Error>) -> Option<T> {
     match outcome {
         Ok(value) => Some(value),
         Err(error) => {
@@ -24,7 +27,7 @@ fn unless_refused<T>(rt: &impl Abort, outcome: Result<T, Error>) -> Option<T> {
 #[test]
 fn numbers_of_values(rt: HostRuntime) {
     let made = PrimitiveArray::from_slice(rt.alloc(), &[1i64, -2, 3]);
-    let Some(array) = unless_refused(&rt, made) else {
+    let Some(array) = unless_without_memory(&rt, made) else {
         return;
     };
     assert!(rt; *array.data_type() == DataType::Int64);
@@ -36,7 +39,7 @@ fn numbers_of_values(rt: HostRuntime) {
 #[test]
 fn numbers_of_options(rt: HostRuntime) {
     let made = PrimitiveArray::from_options(rt.alloc(), &[Some(1u8), None, Some(255)]);
-    let Some(array) = unless_refused(&rt, made) else {
+    let Some(array) = unless_without_memory(&rt, made) else {
         return;
     };
     assert!(rt; *array.data_type() == DataType::UInt8);
@@ -49,7 +52,7 @@ fn numbers_of_options(rt: HostRuntime) {
 #[test]
 fn numbers_of_options_without_a_null(rt: HostRuntime) {
     let made = PrimitiveArray::from_options(rt.alloc(), &[Some(4i32), Some(5)]);
-    let Some(array) = unless_refused(&rt, made) else {
+    let Some(array) = unless_without_memory(&rt, made) else {
         return;
     };
     assert!(rt; array.values().as_slice() == [4i32, 5].as_slice());
@@ -61,7 +64,7 @@ fn numbers_of_options_without_a_null(rt: HostRuntime) {
 fn no_numbers(rt: HostRuntime) {
     let none: [Option<i16>; 0] = [];
     let made = PrimitiveArray::from_options(rt.alloc(), &none);
-    let Some(array) = unless_refused(&rt, made) else {
+    let Some(array) = unless_without_memory(&rt, made) else {
         return;
     };
     assert!(rt; array.is_empty() && array.validity().is_none());
@@ -71,7 +74,7 @@ fn no_numbers(rt: HostRuntime) {
 #[test]
 fn truths_of_values(rt: HostRuntime) {
     let made = BooleanArray::from_slice(rt.alloc(), &[true, false, true]);
-    let Some(array) = unless_refused(&rt, made) else {
+    let Some(array) = unless_without_memory(&rt, made) else {
         return;
     };
     assert!(rt; *array.data_type() == DataType::Boolean);
@@ -84,7 +87,7 @@ fn truths_of_values(rt: HostRuntime) {
 #[test]
 fn truths_of_options(rt: HostRuntime) {
     let made = BooleanArray::from_options(rt.alloc(), &[Some(true), None, Some(false)]);
-    let Some(array) = unless_refused(&rt, made) else {
+    let Some(array) = unless_without_memory(&rt, made) else {
         return;
     };
     assert!(rt; array.len() == 3);
@@ -94,8 +97,11 @@ fn truths_of_options(rt: HostRuntime) {
     drop(array);
 }
 
-fn expect_texts<O: Offset>(rt: &impl Abort, alloc: Global, data_type: &DataType) {
-    if let Some(array) = unless_refused(rt, Utf8Array::<O>::from_slice(alloc, &["ab", "", "é"])) {
+fn expect_strings<O: Offset>(rt: &impl Abort, alloc: Global, data_type: &DataType) {
+    if let Some(array) = unless_without_memory(
+        rt,
+        Utf8Array::<O>::from_slice(alloc, &["ab", "", "é"]),
+    ) {
         assert!(rt; array.data_type() == data_type);
         assert!(rt; array.len() == 3);
         assert!(rt; array.value(0) == "ab" && array.value(1) == "" && array.value(2) == "é");
@@ -103,7 +109,7 @@ fn expect_texts<O: Offset>(rt: &impl Abort, alloc: Global, data_type: &DataType)
         drop(array);
     }
     let items = [Some("ab"), None, Some("")];
-    if let Some(array) = unless_refused(rt, Utf8Array::<O>::from_options(alloc, &items)) {
+    if let Some(array) = unless_without_memory(rt, Utf8Array::<O>::from_options(alloc, &items)) {
         assert!(rt; array.data_type() == data_type);
         assert!(rt; array.len() == 3);
         assert!(rt;
@@ -115,14 +121,14 @@ fn expect_texts<O: Offset>(rt: &impl Abort, alloc: Global, data_type: &DataType)
 }
 
 #[test]
-fn texts_of_either_width(rt: HostRuntime) {
-    expect_texts::<i32>(&rt, rt.alloc(), &DataType::Utf8);
-    expect_texts::<i64>(&rt, rt.alloc(), &DataType::LargeUtf8);
+fn strings_of_either_width(rt: HostRuntime) {
+    expect_strings::<i32>(&rt, rt.alloc(), &DataType::Utf8);
+    expect_strings::<i64>(&rt, rt.alloc(), &DataType::LargeUtf8);
 }
 
 fn expect_bytes<O: Offset>(rt: &impl Abort, alloc: Global, data_type: &DataType) {
     let strings = [b"ab".as_slice(), b"".as_slice(), b"\xff".as_slice()];
-    if let Some(array) = unless_refused(rt, BinaryArray::<O>::from_slice(alloc, &strings)) {
+    if let Some(array) = unless_without_memory(rt, BinaryArray::<O>::from_slice(alloc, &strings)) {
         assert!(rt; array.data_type() == data_type);
         assert!(rt; array.len() == 3);
         assert!(rt; array.value(0) == b"ab".as_slice() && array.value(1).is_empty());
@@ -131,7 +137,7 @@ fn expect_bytes<O: Offset>(rt: &impl Abort, alloc: Global, data_type: &DataType)
         drop(array);
     }
     let items = [Some(b"ab".as_slice()), None, Some(b"".as_slice())];
-    if let Some(array) = unless_refused(rt, BinaryArray::<O>::from_options(alloc, &items)) {
+    if let Some(array) = unless_without_memory(rt, BinaryArray::<O>::from_options(alloc, &items)) {
         assert!(rt; array.len() == 3);
         assert!(rt; array.get(0) == Some(b"ab".as_slice()) && array.get(1).is_none());
         assert!(rt; array.get(2) == Some(b"".as_slice()));

@@ -1,4 +1,6 @@
 //! Native values of any kind: each kind there and back, and as no other kind's value.
+//!
+//! A native value of each kind is of that kind alone, and round-trips.
 use nest_flat::any_native::AnyNative;
 use nest_flat::any_primitive::Native;
 use nest_memory::types::{days_ms, i256, months_days_ns};
@@ -59,8 +61,8 @@ fn a_value_is_of_its_own_kind_alone(rt: HostRuntime) {
     }
 }
 
-/// Whether a value of any kind gives it back.
-fn comes_back<T: Native>(value: T) -> bool {
+/// Whether a value of any kind returns it back.
+fn round_trips<T: Native>(value: T) -> bool {
     match T::from_any(value.to_any()) {
         Some(same) => same == value,
         None => false,
@@ -68,23 +70,23 @@ fn comes_back<T: Native>(value: T) -> bool {
 }
 
 #[test]
-fn integers_come_back(rt: HostRuntime) {
-    assert!(rt; comes_back(i8::MIN));
-    assert!(rt; comes_back(i16::MIN));
-    assert!(rt; comes_back(i32::MIN));
-    assert!(rt; comes_back(i64::MIN));
-    assert!(rt; comes_back(i128::MIN));
-    assert!(rt; comes_back(u8::MAX));
-    assert!(rt; comes_back(u16::MAX));
-    assert!(rt; comes_back(u32::MAX));
-    assert!(rt; comes_back(u64::MAX));
+fn integers_round_trip(rt: HostRuntime) {
+    assert!(rt; round_trips(i8::MIN));
+    assert!(rt; round_trips(i16::MIN));
+    assert!(rt; round_trips(i32::MIN));
+    assert!(rt; round_trips(i64::MIN));
+    assert!(rt; round_trips(i128::MIN));
+    assert!(rt; round_trips(u8::MAX));
+    assert!(rt; round_trips(u16::MAX));
+    assert!(rt; round_trips(u32::MAX));
+    assert!(rt; round_trips(u64::MAX));
 }
 
 #[test]
-fn values_of_several_numbers_come_back(rt: HostRuntime) {
-    assert!(rt; comes_back(i256::from_words(i128::MIN, u128::MAX)));
-    assert!(rt; comes_back(SPAN));
-    assert!(rt; comes_back(LONG_SPAN));
+fn values_of_several_numbers_round_trip(rt: HostRuntime) {
+    assert!(rt; round_trips(i256::from_words(i128::MIN, u128::MAX)));
+    assert!(rt; round_trips(SPAN));
+    assert!(rt; round_trips(LONG_SPAN));
 }
 
 /// Whether two values of one kind have the same numbers; `None` for values of two kinds.

@@ -5,33 +5,34 @@ use nest_flat::primitive::mutable::MutablePrimitiveArray;
 use nest_flat::utf8::mutable::MutableUtf8Array;
 use nest_memory::bitmap::immutable::Bitmap;
 
-/// How many nulls a validity tells, and whether there is one.
-fn told(validity: Option<&Bitmap>) -> Option<usize> {
+/// How many nulls a validity pushes, and whether there is one.
+fn nulls_of(validity: Option<&Bitmap>) -> Option<usize> {
     validity.map(|bits| bits.unset_bits())
 }
 
+/// A builder has no validity before its first null.
 #[test]
 fn natives_without_nulls(rt: HostRuntime) {
     let mut builder = MutablePrimitiveArray::<i64>::new(rt.alloc());
     assert!(rt; builder.try_push(Some(7)) == Ok(()));
     assert!(rt; builder.try_extend([Some(8i64), Some(9)]) == Ok(()));
     let frozen = builder.freeze().expect(&rt, "three numbers");
-    assert!(rt; told(frozen.validity()).is_none());
+    assert!(rt; nulls_of(frozen.validity()).is_none());
     assert!(rt; builder.try_push(Some(7)) == Ok(()));
     assert!(rt; builder.try_push(None) == Ok(()));
     let frozen = builder.freeze().expect(&rt, "a number and a null");
-    assert!(rt; told(frozen.validity()) == Some(1));
+    assert!(rt; nulls_of(frozen.validity()) == Some(1));
 }
 
 #[test]
-fn truths_without_nulls(rt: HostRuntime) {
+fn booleans_without_nulls(rt: HostRuntime) {
     let mut builder = MutableBooleanArray::new(rt.alloc());
     assert!(rt; builder.try_push(Some(false)) == Ok(()));
-    let frozen = builder.freeze().expect(&rt, "a truth");
-    assert!(rt; told(frozen.validity()).is_none());
+    let frozen = builder.freeze().expect(&rt, "a boolean");
+    assert!(rt; nulls_of(frozen.validity()).is_none());
     assert!(rt; builder.try_push(None) == Ok(()));
     let frozen = builder.freeze().expect(&rt, "a null");
-    assert!(rt; told(frozen.validity()) == Some(1));
+    assert!(rt; nulls_of(frozen.validity()) == Some(1));
 }
 
 #[test]
@@ -39,19 +40,19 @@ fn bytes_without_nulls(rt: HostRuntime) {
     let mut builder = MutableBinaryArray::<i32>::new(rt.alloc()).expect(&rt, "memory");
     assert!(rt; builder.try_push(Some(b"ab".as_slice())) == Ok(()));
     let frozen = builder.freeze().expect(&rt, "two bytes");
-    assert!(rt; told(frozen.validity()).is_none());
+    assert!(rt; nulls_of(frozen.validity()).is_none());
     assert!(rt; builder.try_push(None) == Ok(()));
     let frozen = builder.freeze().expect(&rt, "a null");
-    assert!(rt; told(frozen.validity()) == Some(1));
+    assert!(rt; nulls_of(frozen.validity()) == Some(1));
 }
 
 #[test]
-fn texts_without_nulls(rt: HostRuntime) {
+fn strings_without_nulls(rt: HostRuntime) {
     let mut builder = MutableUtf8Array::<i64>::new(rt.alloc()).expect(&rt, "memory");
     assert!(rt; builder.try_push(Some("")) == Ok(()));
     let frozen = builder.freeze().expect(&rt, "a text");
-    assert!(rt; told(frozen.validity()).is_none());
+    assert!(rt; nulls_of(frozen.validity()).is_none());
     assert!(rt; builder.try_push(None) == Ok(()));
     let frozen = builder.freeze().expect(&rt, "a null");
-    assert!(rt; told(frozen.validity()) == Some(1));
+    assert!(rt; nulls_of(frozen.validity()) == Some(1));
 }

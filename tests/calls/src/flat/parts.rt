@@ -1,5 +1,7 @@
 //! Validities and bits by themselves, as who writes another array or builder calls them; builders and arrays of any native
 //! kind; room in builders.
+//!
+//! Validities and bits by themselves, builders and arrays of any native kind, and room, with memory.
 
 use nest_flat::any_primitive::AnyPrimitive;
 use nest_flat::any_primitive::mutable::AnyMutablePrimitive;
@@ -34,7 +36,7 @@ fn a_validity_is_made_and_shared(rt: HostRuntime) {
     );
 }
 
-/// The bits of a valid place and a null one.
+/// The bits of a valid index and a null one.
 fn two_bits(alloc: Global) -> Result<Option<MutableBitmap>, Error> {
     let mut bits = None;
     growth::validity::push(alloc, &mut bits, 0, true)?;
@@ -53,7 +55,7 @@ fn bits_begin_with_the_first_null(rt: HostRuntime) {
     assert!(rt; validity::null_count(&frozen) == 1);
 }
 
-/// The bits of three valid places and a null one.
+/// The bits of three valid indices and a null one.
 fn four_bits(alloc: Global) -> Result<Option<MutableBitmap>, Error> {
     let mut more: Option<MutableBitmap> = None;
     growth::validity::push(alloc, &mut more, 0, false)?;
@@ -63,7 +65,7 @@ fn four_bits(alloc: Global) -> Result<Option<MutableBitmap>, Error> {
 }
 
 #[test]
-fn bits_are_joined_behind_valid_places(rt: HostRuntime) {
+fn bits_are_joined_after_valid_indices(rt: HostRuntime) {
     let mut bits = four_bits(rt.alloc()).expect(&rt, "four bits");
     let frozen = growth::validity::freeze(&mut bits).expect(&rt, "an array");
     assert!(rt; validity::fits(&frozen, 4));
@@ -96,7 +98,7 @@ fn frozen(alloc: Global) -> Result<AnyPrimitive, Error> {
     array
 }
 
-/// How many slots, and how many of them are null; the array is let go.
+/// How many slots, and how many of them are null; the array is dropped.
 fn counted(array: Result<AnyPrimitive, Error>) -> Result<(usize, usize), Error> {
     match array {
         Err(error) => Err(error),
@@ -134,16 +136,16 @@ fn bytes_have_room_and_are_joined(rt: HostRuntime) {
 }
 
 #[test]
-fn truths_have_room(rt: HostRuntime) {
-    let mut truths = MutableBooleanArray::new(rt.alloc());
-    truths.reserve(2).expect(&rt, "room");
-    truths.try_push(Some(true)).expect(&rt, "a row more");
-    let count = truths.len();
+fn booleans_have_room(rt: HostRuntime) {
+    let mut booleans = MutableBooleanArray::new(rt.alloc());
+    booleans.reserve(2).expect(&rt, "room");
+    booleans.try_push(Some(true)).expect(&rt, "a row more");
+    let count = booleans.len();
     assert!(rt; count == 1);
 }
 
 #[test]
-fn nulls_of_numbers_and_truths(rt: HostRuntime) {
+fn nulls_of_numbers_and_booleans(rt: HostRuntime) {
     let numbers: PrimitiveArray<i32> = PrimitiveArray::of_nulls(
         rt.alloc(),
         &DataType::Int32,
@@ -160,15 +162,15 @@ fn nulls_of_numbers_and_truths(rt: HostRuntime) {
         Fill::Nulls,
     );
     assert!(rt; counted(any) == Ok((2, 2)));
-    let truths = BooleanArray::of_nulls(rt.alloc(), &DataType::Boolean, 2, Fill::Nulls).expect(
+    let booleans = BooleanArray::of_nulls(rt.alloc(), &DataType::Boolean, 2, Fill::Nulls).expect(
         &rt, "nulls",
     );
-    let nulls = truths.null_count();
+    let nulls = booleans.null_count();
     assert!(rt; nulls == 2);
 }
 
 #[test]
-fn nulls_of_bytes_and_texts(rt: HostRuntime) {
+fn nulls_of_bytes_and_strings(rt: HostRuntime) {
     let bytes: BinaryArray<i32> = BinaryArray::of_nulls(
         rt.alloc(),
         &DataType::Binary,
@@ -195,7 +197,7 @@ fn copied(bits: Option<&Bitmap>) -> Result<Option<Bitmap>, Error> {
     }
 }
 
-/// The texts of the same parts, which are not tested again.
+/// The strings of the same parts, which are not tested again.
 fn of_its_parts(alloc: Global, texts: &Utf8Array<i32>) -> Result<Utf8Array<i32>, Error> {
     let validity = copied(texts.validity())?;
     let offsets = texts.offsets().clone()?;
@@ -205,7 +207,7 @@ fn of_its_parts(alloc: Global, texts: &Utf8Array<i32>) -> Result<Utf8Array<i32>,
 }
 
 #[test]
-fn texts_are_made_of_parts_that_fit(rt: HostRuntime) {
+fn strings_are_made_of_parts_that_fit(rt: HostRuntime) {
     let mut builder: MutableUtf8Array<i32> = MutableUtf8Array::new(rt.alloc()).expect(
         &rt, "memory",
     );

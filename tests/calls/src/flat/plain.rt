@@ -1,4 +1,6 @@
 //! Plain values: what each type is as one, which are equal, and that equal ones hash alike.
+//!
+//! What a value of each type is as a plain one, which are equal, and that equal ones hash alike.
 use nest_flat::any_native::AnyNative;
 use nest_flat::plain::{AsPlain, Plain};
 use nest_memory::types::{days_ms, i256, months_days_ns};
@@ -21,7 +23,7 @@ fn is_plain<T: AsPlain + Drop>(value: T, plain: Plain<'_>) -> bool {
 }
 
 #[test]
-fn truths_texts_and_bytes_are_plain(rt: HostRuntime) {
+fn booleans_strings_and_bytes_are_plain(rt: HostRuntime) {
     assert!(rt; is_plain(true, Plain::Boolean(true)));
     assert!(rt; is_plain("ab", Plain::Text("ab")));
     assert!(rt; is_plain(b"ab".as_slice(), Plain::Bytes(b"ab".as_slice())));
@@ -74,7 +76,7 @@ fn hash_of(plain: &Plain<'_>) -> u64 {
 }
 
 #[test]
-fn equal_values_hash_alike(rt: HostRuntime) -> Result<(), std::test::Fail> {
+fn equal_values_have_equal_hashes(rt: HostRuntime) -> Result<(), std::test::Fail> {
     let mut text = String::new(rt.alloc());
     text.push_str("a")?;
     text.push_str("b")?;

@@ -1,4 +1,4 @@
-//! Arrays by their parts, and what is asked of frozen ones.
+//! Arrays by their parts, and what is passed of frozen ones.
 use nest_array::{AnyArray, ListArray};
 use nest_flat::any_primitive::{AnyPrimitive, NativeArray};
 use nest_flat::primitive::PrimitiveArray;
@@ -9,7 +9,7 @@ use nest_memory::error::Error;
 use nest_memory::offsets::OffsetsBuffer;
 use std::alloc::Global;
 
-/// Both values, or the first refusal.
+/// Both values, or the first error.
 pub(crate) fn both<A: Drop, B: Drop>(
     a: Result<A, Error>,
     b: Result<B, Error>,

@@ -1,5 +1,5 @@
 //! A builder of dictionaries that takes 40 values, so that their table grows.
-use crate::hostile::runs::{Calls, UNFINISHED, has_values, refusals_of, tell_refused};
+use crate::hostile::runs::{Calls, UNFINISHED, errors_of, has_values, push_rejected};
 use nest_array::{AnyArray, AnyKeys, DictionaryArray, FixedSizeBinaryArray};
 use nest_build::array::MutableArray;
 use nest_build::dictionary::MutableDictionaryArray;
@@ -102,9 +102,10 @@ impl Calls for Pairs {
     }
 }
 
+/// The same of a builder of dictionaries that takes 40 values, so that their table grows.
 #[test]
 fn forty_values(rt: HostRuntime) -> Result<(), Fail> {
     let alloc = rt.alloc();
-    let refused = refusals_of(&rt, alloc, no_pairs(alloc));
-    tell_refused(&rt, refused > 0)
+    let refused = errors_of(&rt, alloc, no_pairs(alloc));
+    push_rejected(&rt, refused > 0)
 }

@@ -11,6 +11,7 @@ use nest_memory::error::Error;
 use nest_memory::offsets::Offsets;
 use std::alloc::Global;
 
+/// The last slot of 2^64 - 1 nulls; the second of two lists of 2^63 - 1 nulls.
 #[test]
 fn the_last_slot_of_the_longest_array(rt: HostRuntime) {
     let array = NullArray::new(DataType::Null, usize::MAX);
@@ -51,7 +52,7 @@ fn lists_of_half_the_largest_length(rt: HostRuntime) {
     assert!(rt; holds(second_begins_at_half(rt.alloc())));
 }
 
-/// What a maker refused.
+/// What a constructor rejected.
 fn refusal(made: Result<MutableFixedSizeBinaryArray, Error>) -> Option<Error> {
     match made {
         Ok(builder) => {
@@ -72,6 +73,7 @@ fn largest_strings(alloc: Global) -> Result<usize, Error> {
     Ok(slots)
 }
 
+/// Room for 2^64 bytes is rejected; byte strings of 2^64 - 1 bytes of which there is none.
 #[test]
 fn more_bytes_than_a_length(rt: HostRuntime) {
     let alloc = rt.alloc();
@@ -100,8 +102,8 @@ fn push_null(lists: &mut NullLists) -> Result<(), Error> {
     lists.push_null()
 }
 
-/// What telling a row of one null more is refused with, by each call that tells rows.
-fn tell_one_more(lists: &mut NullLists) -> (Result<(), Error>, Result<(), Error>) {
+/// What pushing a row of one null more is rejected with, by each call that pushes rows.
+fn push_one_more(lists: &mut NullLists) -> (Result<(), Error>, Result<(), Error>) {
     let one = lists.try_push_valid();
     (one, lists.try_extend_from_lengths(&[Some(1)]))
 }
@@ -130,17 +132,18 @@ fn null_past_the_largest_offset(alloc: Global) -> Result<bool, Error> {
     let mut lists = longest_list(alloc)?;
     let null = push_null(&mut lists);
     let item = lists.mut_values().push_null();
-    let told = tell_one_more(&mut lists);
+    let ended = push_one_more(&mut lists);
     let unfinished = counts(lists.as_box());
     take_back(lists.mut_values(), LARGEST_OFFSET);
     let frozen = counts(lists.as_box());
     drop(lists);
     null?;
     let counts = frozen?;
-    let refused = told == (Err(Error::Overflow), Err(Error::Overflow));
+    let refused = ended == (Err(Error::Overflow), Err(Error::Overflow));
     Ok(item == Ok(()) && refused && unfinished == Err(UNFINISHED) && counts == (2, 1))
 }
 
+/// After 2^31 - 1 items a null row is accepted, and no row of an item; taken back, the rows are frozen.
 #[test]
 fn a_null_is_accepted_where_no_item_is(rt: HostRuntime) {
     assert!(rt; holds(null_past_the_largest_offset(rt.alloc())));

@@ -1,6 +1,6 @@
 //! Lists of lists of the numbers from 1 to 10: their items where one finds no memory, and calls that ask for none.
 use crate::hostile::arrays::{both, has_int32s, int32s, list_array, validity};
-use crate::hostile::runs::{MEMORY, tell_refused};
+use crate::hostile::runs::{MEMORY, push_rejected};
 use nest_array::equal::equal;
 use nest_array::{AnyArray, ListArray};
 use nest_memory::bitmap::immutable::Bitmap;
@@ -26,7 +26,7 @@ fn are_lists(array: &AnyArray, offsets: &[i32]) -> bool {
     lists.offsets().as_slice() == offsets && has_int32s(lists.values(), &all)
 }
 
-/// That these lists came, or want of memory alone: then 1 is answered.
+/// That these lists came, or want of memory alone: then 1 is decoded.
 fn expect_lists(rt: &impl Abort, item: Option<Result<AnyArray, Error>>, offsets: &[i32]) -> usize {
     match item {
         Some(Ok(array)) => {
@@ -60,8 +60,9 @@ fn expect_each(rt: &impl Abort, alloc: Global, lists: &ListArray) -> usize {
     first.max(second).max(third)
 }
 
+/// An item for which an iterator over lists finds no memory is one `Err`, and is passed.
 #[test]
-fn an_item_without_memory_is_passed(rt: HostRuntime) -> Result<(), Fail> {
+fn an_item_without_memory_is_skipped(rt: HostRuntime) -> Result<(), Fail> {
     let alloc = rt.alloc();
     let refused = match lists_of_lists(alloc) {
         Ok(lists) => {
@@ -73,7 +74,7 @@ fn an_item_without_memory_is_passed(rt: HostRuntime) -> Result<(), Fail> {
             1
         }
     };
-    tell_refused(&rt, refused > 0)
+    push_rejected(&rt, refused > 0)
 }
 
 /// The array and whether its new validity was taken.
@@ -84,8 +85,8 @@ fn kept(changed: Result<ListArray, (ListArray, Error)>) -> (ListArray, bool) {
     }
 }
 
-/// Whether two arrays are equal, and again once one took a validity in place and the other by value.
-fn ask_for_nothing(
+/// Whether two arrays are equal, and again once one took a validity in index and the other by value.
+fn no_allocation(
     first: ListArray,
     second: ListArray,
     bits: Option<Bitmap>,
@@ -104,15 +105,16 @@ fn ask_for_nothing(
     same && taken && other && more_taken && same_again
 }
 
+/// Equality and new validities allocates nothing.
 #[test]
-fn calls_that_ask_for_no_memory(rt: HostRuntime) -> Result<(), Fail> {
+fn calls_that_allocate_nothing(rt: HostRuntime) -> Result<(), Fail> {
     let alloc = rt.alloc();
     let bits = [true, false, true];
     let arrays = both(lists_of_lists(alloc), lists_of_lists(alloc));
     let validities = both(validity(alloc, &bits), validity(alloc, &bits));
     let refused = match both(arrays, validities) {
         Ok(((first, second), (bits, more))) => {
-            assert!(rt; ask_for_nothing(first, second, bits, more));
+            assert!(rt; no_allocation(first, second, bits, more));
             false
         }
         Err(error) => {
@@ -120,5 +122,5 @@ fn calls_that_ask_for_no_memory(rt: HostRuntime) -> Result<(), Fail> {
             true
         }
     };
-    tell_refused(&rt, refused)
+    push_rejected(&rt, refused)
 }

@@ -2,7 +2,7 @@
 
 use crate::hostile::arrays::is_int64s;
 use crate::hostile::runs::{
-    Calls, MEMORY, UNFINISHED, has_bits, has_values, refusals_of, tell_refused,
+    Calls, MEMORY, UNFINISHED, errors_of, has_bits, has_values, push_rejected,
 };
 use nest_any::{AnyMutableArray, AnyMutableFlat, MutableStructArray};
 use nest_array::{AnyArray, ListArray, StructArray};
@@ -24,7 +24,7 @@ const Y: Plain<'static> = Plain::Text("y");
 
 const SEVEN: Plain<'static> = Plain::Native(AnyNative::Int64(7));
 
-/// How many lists, records, texts and numbers there are after so many calls.
+/// How many lists, records, strings and numbers there are after so many calls.
 const ROWS: [(usize, usize, usize, usize); 9] = [
     (0, 0, 0, 0),
     (0, 0, 1, 0),
@@ -109,7 +109,7 @@ fn push(lists: &mut AnyMutableArray, i: usize, value: Option<Plain<'_>>) -> Resu
     }
 }
 
-/// Tells a row of what waits.
+/// Pushes a row of what waits.
 fn tell(builder: &mut AnyMutableArray, valid: bool) -> Result<(), Error> {
     if !builder.has_whole_children() {
         return Err(UNFINISHED);
@@ -131,7 +131,7 @@ fn add_null(lists: &mut AnyMutableArray) -> Result<(), Error> {
     lists.push_null()
 }
 
-/// Whether so many records, texts and numbers are there, and each is what was pushed.
+/// Whether so many records, strings and numbers are there, and each is what was pushed.
 fn has_records(any: &AnyMutableArray, records: usize, texts: usize, numbers: usize) -> bool {
     let AnyMutableArray::Struct(builder) = any else {
         return false;
@@ -213,9 +213,11 @@ impl Calls for AnyMutableArray {
     }
 }
 
+/// A call that finds no memory changes no level of lists of records of any kind, and is accepted when it is made again; a
+/// freeze leaves the builder empty and complete.
 #[test]
 fn lists_of_records(rt: HostRuntime) -> Result<(), Fail> {
     let alloc = rt.alloc();
-    let refused = refusals_of(&rt, alloc, no_lists(alloc));
-    tell_refused(&rt, refused > 0)
+    let refused = errors_of(&rt, alloc, no_lists(alloc));
+    push_rejected(&rt, refused > 0)
 }

@@ -1,7 +1,7 @@
-//! Builders of lists: over lists of one size, joined with another's rows, and over a child in a box.
+//! Builders of lists: over fixed-size lists, joined with another's rows, and over a child in a box.
 use crate::hostile::arrays::is_int64s;
 use crate::hostile::runs::{
-    Calls, UNFINISHED, has_bits, has_ends, has_values, refusals_of, tell_refused,
+    Calls, UNFINISHED, errors_of, has_bits, has_ends, has_values, push_rejected,
 };
 use nest_array::AnyArray;
 use nest_build::array::MutableArray;
@@ -94,14 +94,15 @@ impl Calls for PairLists {
     }
 }
 
+/// The same of three rows at once of lists of pairs, of another builder's rows, and over a child in a box.
 #[test]
 fn three_rows_at_once(rt: HostRuntime) -> Result<(), Fail> {
     let alloc = rt.alloc();
-    let refused = refusals_of(&rt, alloc, no_pair_lists(alloc));
-    tell_refused(&rt, refused > 0)
+    let refused = errors_of(&rt, alloc, no_pair_lists(alloc));
+    push_rejected(&rt, refused > 0)
 }
 
-/// Lists of whole numbers.
+/// Lists of integers.
 type Lists = MutableListArray<i32, MutablePrimitiveArray<i64>>;
 
 fn no_lists(alloc: Global) -> Result<Lists, Error> {
@@ -190,8 +191,8 @@ impl Calls for Lists {
 #[test]
 fn rows_of_another_builder(rt: HostRuntime) -> Result<(), Fail> {
     let alloc = rt.alloc();
-    let refused = refusals_of(&rt, alloc, no_lists(alloc));
-    tell_refused(&rt, refused > 0)
+    let refused = errors_of(&rt, alloc, no_lists(alloc));
+    push_rejected(&rt, refused > 0)
 }
 
 /// Lists of whatever the boxed child takes.
@@ -266,10 +267,10 @@ fn a_row_over_a_boxed_child(rt: HostRuntime) -> Result<(), Fail> {
     let numbers: MutablePrimitiveArray<i64> = MutablePrimitiveArray::new(alloc);
     let child: Box<dyn MutableArray> = match Box::new(alloc, numbers) {
         Ok(child) => child,
-        Err(_) => return tell_refused(&rt, true),
+        Err(_) => return push_rejected(&rt, true),
     };
     assert!(rt; child.is_whole());
     let made: Result<BoxedLists, Error> = MutableListArray::new(alloc, child);
-    let refused = refusals_of(&rt, alloc, made);
-    tell_refused(&rt, refused > 0)
+    let refused = errors_of(&rt, alloc, made);
+    push_rejected(&rt, refused > 0)
 }

@@ -1,5 +1,5 @@
-//! How a run of calls is made where any one request for memory is refused: a call that finds none changes no level and is
-//! made again; a freeze that finds none leaves nothing, and the run begins anew.
+//! How a run of calls is made where any one allocation fails: a call that finds none changes no level and is
+//! made again; a freeze that finds none leaves nothing, and the run begins again.
 use nest_build::array::MutableArray;
 use nest_flat::plain::AsPlain;
 use nest_memory::error::{Argument, Error};
@@ -23,7 +23,7 @@ pub(crate) trait Calls {
     /// Whether each level is as the first k calls leave it.
     fn is_after(&mut self, k: usize) -> bool;
 
-    /// Freezes what the calls made, and says whether it is the array of the plain list; it is let go.
+    /// Freezes what the calls made, and says whether it is the array of the plain list; it is dropped.
     fn is_frozen(&mut self) -> Result<bool, Error>;
 }
 
@@ -58,7 +58,7 @@ fn refusals<C: Calls>(rt: &impl Abort, alloc: Global, calls: &mut C) -> usize {
 }
 
 /// How often a run found no memory, its builder among it.
-pub(crate) fn refusals_of<C: Calls + Drop>(
+pub(crate) fn errors_of<C: Calls + Drop>(
     rt: &impl Abort,
     alloc: Global,
     made: Result<C, Error>,
@@ -76,13 +76,13 @@ pub(crate) fn refusals_of<C: Calls + Drop>(
     }
 }
 
-/// Whether something holds, unless memory was refused for it.
+/// Whether something holds, unless an allocation failed for it.
 pub(crate) fn holds(outcome: Result<bool, Error>) -> bool {
     outcome == Ok(true) || outcome == Err(MEMORY)
 }
 
-/// Says that a request was refused, where one is.
-pub(crate) fn tell_refused(rt: &HostRuntime, refused: bool) -> Result<(), Fail> {
+/// Says that an allocation failed, where one is.
+pub(crate) fn push_rejected(rt: &HostRuntime, refused: bool) -> Result<(), Fail> {
     if refused {
         println!(rt; "refused")?;
     }

@@ -1,5 +1,8 @@
-//! Two thousand steps, drawn from a rule of whole numbers, on builders and beside them on a plain list of what they should
-//! have: rows, nulls, refusals and cuts. At each hundredth step both have the same slots.
+//! Two thousand steps, random from a rule of integers, on builders and beside them on a plain list of what they should
+//! have: rows, nulls, errors and slices. At each hundredth step both have the same slots.
+//!
+//! Two thousand rows, nulls, errors and slices on a builder of lists, of fixed-size lists, of records and of dictionaries,
+//! beside a plain list.
 use crate::hostile::dictionaries::{Pairs, no_pairs};
 use crate::hostile::records::no_records;
 use crate::hostile::runs::{MEMORY, UNFINISHED};
@@ -20,15 +23,15 @@ trait Stepped {
     /// Adds the row of the number.
     fn add(&mut self, number: u32) -> Result<(), Error>;
 
-    /// Adds what it refuses.
-    fn add_refused(&mut self, number: u32) -> Result<(), Error>;
+    /// Adds what it rejects.
+    fn add_rejected(&mut self, number: u32) -> Result<(), Error>;
 
     /// Whether row i, which is not null, is that of the number.
     fn is_row(&self, i: usize, number: u32) -> bool;
 }
 
 /// The number after this one.
-fn drawn(number: u64) -> u64 {
+fn random(number: u64) -> u64 {
     (number % 4294967296 * 1103515245 + 12345) % 2147483648
 }
 
@@ -80,7 +83,7 @@ fn step<B: MutableArray + Stepped>(
     match number / 1000 % 8 {
         0..=3 => follow(rows, Some(number % 1000), builder.add(number % 1000)),
         4 => follow(rows, None, add_null(builder)),
-        5 | 6 => builder.add_refused(number % 1000).is_err(),
+        5 | 6 => builder.add_rejected(number % 1000).is_err(),
         _ => {
             let n = number as usize % rows.len().saturating_add(1);
             cut(builder, n);
@@ -98,7 +101,7 @@ fn make_steps<B: MutableArray + Stepped>(
 ) {
     let mut number = 1u64;
     for count in 0..2000u32 {
-        number = drawn(number);
+        number = random(number);
         assert!(rt; step(builder, rows, (number / 65536 % 32768) as u32));
         if count % 100 == 99 {
             assert!(rt; has_rows(builder, rows));
@@ -152,7 +155,7 @@ fn counted(number: u32) -> [Option<i64>; 3] {
     [Some(first), Some(first + 1), Some(first + 2)]
 }
 
-/// Lists of up to three whole numbers.
+/// Lists of up to three integers.
 type Lists = MutableListArray<i32, MutablePrimitiveArray<i64>>;
 
 fn no_lists(alloc: Global) -> Result<Lists, Error> {
@@ -168,7 +171,7 @@ impl Stepped for Lists {
         self.try_push(Some(items[..(number % 4) as usize].iter().copied()))
     }
 
-    fn add_refused(&mut self, number: u32) -> Result<(), Error> {
+    fn add_rejected(&mut self, number: u32) -> Result<(), Error> {
         if number % 2 == 0 && self.is_whole() {
             return self.try_push_plain(Some(Plain::Native(AnyNative::Int64(1))));
         }
@@ -192,7 +195,7 @@ fn a_builder_of_lists(rt: HostRuntime) {
     make_all(&rt, no_lists(alloc), no_rows(alloc));
 }
 
-/// Pairs of whole numbers.
+/// Pairs of integers.
 type NumberPairs = MutableFixedSizeListArray<MutablePrimitiveArray<i64>>;
 
 fn no_number_pairs(alloc: Global) -> Result<NumberPairs, Error> {
@@ -208,7 +211,7 @@ impl Stepped for NumberPairs {
         self.try_push(Some(items[..2].iter().copied()))
     }
 
-    fn add_refused(&mut self, number: u32) -> Result<(), Error> {
+    fn add_rejected(&mut self, number: u32) -> Result<(), Error> {
         if !self.is_whole() {
             return Err(UNFINISHED);
         }
@@ -237,7 +240,7 @@ impl Stepped for Pairs {
         crate::hostile::dictionaries::push(self, &bytes_of(number))
     }
 
-    fn add_refused(&mut self, number: u32) -> Result<(), Error> {
+    fn add_rejected(&mut self, number: u32) -> Result<(), Error> {
         let [zero, last] = bytes_of(number);
         crate::hostile::dictionaries::push(self, &[zero, last, last])
     }
@@ -284,7 +287,7 @@ fn take_back(records: &mut MutableStructArray, n: usize) {
     }
 }
 
-/// Tells a row of what waits in whole children.
+/// Pushes a row of what waits in complete children.
 fn tell(records: &mut MutableStructArray) -> Result<(), Error> {
     if !records.has_whole_children() {
         return Err(UNFINISHED);
@@ -296,14 +299,14 @@ impl Stepped for MutableStructArray {
     fn add(&mut self, number: u32) -> Result<(), Error> {
         let rows = MutableArray::len(self);
         let pushed = push_each(self, number);
-        let told = if pushed.is_ok() { tell(self) } else { pushed };
-        if told.is_err() {
+        let ended = if pushed.is_ok() { tell(self) } else { pushed };
+        if ended.is_err() {
             take_back(self, rows);
         }
-        told
+        ended
     }
 
-    fn add_refused(&mut self, _number: u32) -> Result<(), Error> {
+    fn add_rejected(&mut self, _number: u32) -> Result<(), Error> {
         tell(self)
     }
 

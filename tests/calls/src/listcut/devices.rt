@@ -1,13 +1,13 @@
-//! Readers and writers that fail, that give or take one byte at a time, and input that ends within a row.
-use super::{ROWS, words_of};
-use listcut_rows::fault::Fault;
-use listcut_rows::running::run;
+//! Readers and writers that fail, that return or take one byte at a time, and input that ends within a row.
+use super::{ROWS, arguments_of};
+use listcut_rows::command::run;
+use listcut_rows::error::ListcutError;
 use std::alloc::{AllocError, Global};
 use std::io;
 use std::io::{Error, ErrorKind, Read, Write};
 use std::test::*;
 
-/// A reader that gives its bytes one at a time, and then ends or fails.
+/// A reader that returns its bytes one at a time, and then ends or fails.
 struct Slow<'a> {
     rest: &'a [u8],
     ends: bool,
@@ -76,15 +76,15 @@ const REQUESTS: [(&[&str], &str); 2] = [
     (&["take", "3", "0"], "[3,null]\n[1,2]\n"),
 ];
 
-/// Whether a reader that gives these bytes one at a time, and then ends or fails, is answered by this fault, and this text.
+/// Whether a reader that returns these bytes one at a time, and then ends or fails, is decoded by this error, and this text.
 fn reads_slowly(
     alloc: Global,
     words: &[&str],
     bytes: &[u8],
     ends: bool,
-    want: (Option<Fault>, &str),
+    want: (Option<ListcutError>, &str),
 ) -> Result<bool, AllocError> {
-    let words = words_of(alloc, words)?;
+    let words = arguments_of(alloc, words)?;
     let mut reader = Slow { rest: bytes, ends };
     let mut out = Vec::new(alloc);
     let result = run(alloc, &words, &mut reader, &mut out);
@@ -93,7 +93,7 @@ fn reads_slowly(
 }
 
 #[test]
-fn bytes_come_one_at_a_time(rt: HostRuntime) -> Result<(), Fail> {
+fn bytes_are_read_one_at_a_time(rt: HostRuntime) -> Result<(), Fail> {
     for (words, want) in REQUESTS {
         let fine = reads_slowly(rt.alloc(), words, ROWS.as_bytes(), true, (None, want))?;
         assert!(rt; fine, "{want}");
@@ -107,14 +107,20 @@ fn each_read_fails(rt: HostRuntime) -> Result<(), Fail> {
     for (words, want) in REQUESTS {
         for count in 0..ROWS.len() + 1 {
             let (bytes, _) = ROWS.as_bytes().split_at(count);
-            let fine = reads_slowly(rt.alloc(), words, bytes, false, (Some(Fault::Input), ""))?;
+            let fine = reads_slowly(
+                rt.alloc(),
+                words,
+                bytes,
+                false,
+                (Some(ListcutError::Input), ""),
+            )?;
             assert!(rt; fine, "{count} {want}");
         }
     }
     Ok(())
 }
 
-/// Whether a writer with so much room gets the beginning of the text, and the answer tells whether it got all.
+/// Whether a writer with so much room gets the beginning of the text, and the result pushes whether it got all.
 fn writes_narrowly(
     alloc: Global,
     words: &[&str],
@@ -122,20 +128,20 @@ fn writes_narrowly(
     room: usize,
     refusal: Refusal,
 ) -> Result<bool, AllocError> {
-    let words = words_of(alloc, words)?;
+    let words = arguments_of(alloc, words)?;
     let mut reader = ROWS.as_bytes();
     let mut writer = Narrow {
         taken: Vec::new(alloc),
         room,
         refusal,
     };
-    let fault = run(alloc, &words, &mut reader, &mut writer).err();
+    let error = run(alloc, &words, &mut reader, &mut writer).err();
     let whole = want.len() <= room;
     let begun = if whole { want } else { want.split_at(room).0 };
     let fails = !whole || refusal == Refusal::FailsToFlush;
     Ok(
-        fault.is_some() == fails
-            && fault.unwrap_or(Fault::Output) == Fault::Output
+        error.is_some() == fails
+            && error.unwrap_or(ListcutError::Output) == ListcutError::Output
             && writer.taken.as_slice() == begun,
     )
 }
@@ -158,12 +164,12 @@ fn each_write_fails(rt: HostRuntime) -> Result<(), Fail> {
 }
 
 /// What is wrong with so many bytes of the rows.
-fn fault_after(count: usize) -> Option<Fault> {
+fn error_after(count: usize) -> Option<ListcutError> {
     match count {
-        1..=4 => Some(Fault::Line(1)),
-        7..=9 => Some(Fault::Line(2)),
-        12 => Some(Fault::Line(3)),
-        15..=21 => Some(Fault::Line(4)),
+        1..=4 => Some(ListcutError::Line(1)),
+        7..=9 => Some(ListcutError::Line(2)),
+        12 => Some(ListcutError::Line(3)),
+        15..=21 => Some(ListcutError::Line(4)),
         _ => None,
     }
 }
@@ -172,7 +178,7 @@ fn fault_after(count: usize) -> Option<Fault> {
 fn input_ends_within_a_row(rt: HostRuntime) -> Result<(), Fail> {
     for count in 0..ROWS.len() + 1 {
         let (bytes, _) = ROWS.as_bytes().split_at(count);
-        let want = (fault_after(count), "");
+        let want = (error_after(count), "");
         let fine = reads_slowly(rt.alloc(), &["0", "0"], bytes, true, want)?;
         assert!(rt; fine, "{count}");
     }

@@ -19,7 +19,7 @@ fn text(alloc: Global, text: &str) -> Result<String, Error> {
     Ok(String::from_str(alloc, text)?)
 }
 
-/// Both values, or the first refusal.
+/// Both values, or the first error.
 fn both<A: Drop, B: Drop>(a: Result<A, Error>, b: Result<B, Error>) -> Result<(A, B), Error> {
     Ok((a?, b?))
 }
@@ -118,9 +118,9 @@ fn expect_copy(rt: &impl Abort, copy: Result<DataType, Error>, source: &DataType
     }
 }
 
-// Either every part is there, or memory was refused; the source keeps its parts.
+// Either every part is there, or an allocation failed; the source keeps its parts.
 #[test]
-fn a_refused_clone_leaves_its_source(rt: HostRuntime) {
+fn a_failed_clone_leaves_its_source(rt: HostRuntime) {
     match nested(rt.alloc()) {
         Ok(source) => {
             expect_copy(&rt, source.clone(rt.alloc()), &source);
@@ -130,7 +130,7 @@ fn a_refused_clone_leaves_its_source(rt: HostRuntime) {
     }
 }
 
-/// Whether another field, which is let go, is the same.
+/// Whether another field, which is dropped, is the same.
 fn is_same(field: &Field, other: Result<Field, Error>) -> Result<bool, Error> {
     match other {
         Ok(other) => {
@@ -142,6 +142,7 @@ fn is_same(field: &Field, other: Result<Field, Error>) -> Result<bool, Error> {
     }
 }
 
+/// Data types and fields differ in each of their parts, and a copy has them all.
 #[test]
 fn fields_differ_in_each_part(rt: HostRuntime) {
     let alloc = rt.alloc();
@@ -185,7 +186,7 @@ fn parts_of_lists(rt: HostRuntime) {
     assert!(rt; bytes.size() == Some(3));
 }
 
-/// The physical type of a data type, which is let go.
+/// The physical type of a data type, which is dropped.
 fn physical(t: DataType) -> PhysicalType {
     let physical = t.to_physical_type();
     drop(t);
@@ -262,7 +263,7 @@ fn native_data_types(rt: HostRuntime) {
 }
 
 #[test]
-fn texts_of_errors(rt: HostRuntime) {
+fn strings_of_errors(rt: HostRuntime) {
     let alloc = rt.alloc();
     for (error, text) in [
         (
@@ -293,7 +294,7 @@ fn parts_of_dictionaries(rt: HostRuntime) {
 }
 
 #[test]
-fn fields_that_are_taken_out(rt: HostRuntime) {
+fn fields_are_moved_out(rt: HostRuntime) {
     let entries = entries(rt.alloc()).expect(&rt, "a field of records");
     assert!(rt; entries.data_type().fields().len() == 2);
     let Field { data_type, .. } = entries;

@@ -17,6 +17,7 @@ fn expect_native<T: NativeType>(rt: &impl Abort, value: T, primitive: PrimitiveT
     assert!(rt; !are_same(value, T::zero()));
 }
 
+/// The number -1 of 256 bits has the high half -1 and a low half full of ones.
 #[test]
 fn halves_of_256_bits(rt: HostRuntime) {
     let number = minus_one();
@@ -24,6 +25,7 @@ fn halves_of_256_bits(rt: HostRuntime) {
     assert!(rt; number.low == 340282366920938463463374607431768211455);
 }
 
+/// Each native type is of its physical type, and equal to itself alone.
 #[test]
 fn native_types(rt: HostRuntime) {
     expect_native(&rt, -128i8, PrimitiveType::Int8);

@@ -1,4 +1,4 @@
-//! The happy path of each type, its refusals, and what a refused request for memory leaves.
+//! The happy path of each type, its errors, and what a rejected allocation leaves.
 mod bitmaps;
 mod growing;
 mod offsets;
@@ -9,8 +9,8 @@ use nest_memory::error::Error;
 use std::alloc::{AllocError, Global};
 use std::process::Abort;
 
-/// What a call gave, or `None` where memory was refused; nothing else may be.
-fn unless_refused<T>(rt: &impl Abort, outcome: Result<T, Error>) -> Option<T> {
+/// The result of a call, or `None` where an allocation failed; nothing else may be.
+fn unless_without_memory<T>(rt: &impl Abort, outcome: Result<T, Error>) -> Option<T> {
     match outcome {
         Ok(value) => Some(value),
         Err(error) => {
@@ -24,6 +24,7 @@ fn buffer_of(alloc: Global, items: &[u16]) -> Result<Buffer<u16>, Error> {
     Buffer::from_vec(alloc, Vec::from_slice(alloc, items)?)
 }
 
+/// Each call once with memory.
 #[test]
 fn buffers(rt: HostRuntime) {
     let none = Buffer::<u16>::new(rt.alloc()).expect(&rt, "no item");
@@ -34,7 +35,7 @@ fn buffers(rt: HostRuntime) {
 }
 
 #[test]
-fn cuts_of_a_shared_buffer(rt: HostRuntime) {
+fn slices_of_a_shared_buffer(rt: HostRuntime) {
     let whole = buffer_of(rt.alloc(), &[5, 6, 7, 8]).expect(&rt, "four items");
     let mut copy = whole.clone().expect(&rt, "a second owner");
     assert!(rt; whole.len() == 4);
@@ -46,13 +47,13 @@ fn cuts_of_a_shared_buffer(rt: HostRuntime) {
     assert!(rt; copy.as_slice() == [7, 8].as_slice());
 }
 
-// Passes whichever request for memory is refused.
+// Passes whichever allocation fails.
 #[test]
 fn buffers_without_memory(rt: HostRuntime) {
-    if let Some(none) = unless_refused(&rt, Buffer::<u8>::new(rt.alloc())) {
+    if let Some(none) = unless_without_memory(&rt, Buffer::<u8>::new(rt.alloc())) {
         assert!(rt; none.is_empty());
     }
-    if let Some(some) = unless_refused(&rt, buffer_of(rt.alloc(), &[1, 2])) {
+    if let Some(some) = unless_without_memory(&rt, buffer_of(rt.alloc(), &[1, 2])) {
         assert!(rt; some.len() == 2);
     }
 }

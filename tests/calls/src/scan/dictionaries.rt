@@ -1,7 +1,7 @@
-//! Dictionaries gone through from both ends, by their keys and by their texts.
+//! Dictionaries gone through from both ends, by their keys and by their strings.
 use crate::scan::maps::texts;
 use crate::scan::parts::{both, buffer, numbers, offsets_of, validity};
-use crate::scan::walks::{expect_spelled, walk, walked};
+use crate::scan::walks::{expect_decoded, walk, walked};
 use nest_array::{AnyArray, AnyKeys, DictionaryArray};
 use nest_flat::primitive::PrimitiveArray;
 use nest_flat::utf8::Utf8Array;
@@ -34,7 +34,7 @@ fn dictionary(
     }
 }
 
-/// The keys 0, 1, null and 2 over A, B and C; the null lies over a 1.
+/// The keys 0, 1, null and 2 over A, B and C; the null is over a 1.
 fn four_keys(alloc: Global) -> Result<DictionaryArray, Error> {
     let bits = [true, true, false, true].as_slice();
     let values = texts(alloc, &[0, 1, 2, 3], b"ABC");
@@ -46,7 +46,7 @@ fn slots(alloc: Global, array: &DictionaryArray, turns: &str) -> Result<String, 
     walked(alloc, array.iter(alloc), turns)
 }
 
-/// A walk over the values, also under nulls; of raw keys past the values nothing is spelled.
+/// A walk over the values, also under nulls; of raw keys past the values nothing is decoded.
 fn raw_values(alloc: Global, array: &DictionaryArray, turns: &str) -> Result<String, Error> {
     if array.all_in_range() {
         return walked(alloc, array.values_iter(alloc), turns);
@@ -54,7 +54,7 @@ fn raw_values(alloc: Global, array: &DictionaryArray, turns: &str) -> Result<Str
     Ok(String::new(alloc))
 }
 
-/// A walk over the raw keys; of those past the values nothing is spelled.
+/// A walk over the raw keys; of those past the values nothing is decoded.
 fn raw_keys(alloc: Global, array: &DictionaryArray, turns: &str) -> Result<String, Error> {
     if array.all_in_range() {
         return walked(alloc, array.keys_values_iter(), turns);
@@ -62,18 +62,21 @@ fn raw_keys(alloc: Global, array: &DictionaryArray, turns: &str) -> Result<Strin
     Ok(String::new(alloc))
 }
 
+/// Keys 0, 1, null, 2 over A, B, C, back, back, front, front: C, null, A, B; by their strings A, B, null, C; as keys 0, 1,
+/// none, 2.
 #[test]
 fn scalars_from_both_ends(rt: HostRuntime) {
     let alloc = rt.alloc();
     let array = four_keys(alloc).expect(&rt, "four keys");
-    expect_spelled(&rt, slots(alloc, &array, "<<#>>><"), "C null 2 A B - - ");
+    expect_decoded(&rt, slots(alloc, &array, "<<#>>><"), "C null 2 A B - - ");
 }
 
+/// Values by raw keys, also under a null; strings of keys without nulls.
 #[test]
 fn scalars_under_nulls(rt: HostRuntime) {
     let alloc = rt.alloc();
     let array = four_keys(alloc).expect(&rt, "four keys");
-    expect_spelled(&rt, raw_values(alloc, &array, "<<#"), "C B 2 ");
+    expect_decoded(&rt, raw_values(alloc, &array, "<<#"), "C B 2 ");
 }
 
 /// A walk over the keys.
@@ -96,11 +99,11 @@ fn keys_once_more(alloc: Global, array: &DictionaryArray) -> Result<String, Erro
 fn keys_and_nulls(rt: HostRuntime) {
     let alloc = rt.alloc();
     let array = four_keys(alloc).expect(&rt, "four keys");
-    expect_spelled(&rt, keys_once_more(alloc, &array), "0 2 2 1 null 1 2 - ");
-    expect_spelled(&rt, raw_keys(alloc, &array, "<<>#"), "2 1 0 1 ");
+    expect_decoded(&rt, keys_once_more(alloc, &array), "0 2 2 1 null 1 2 - ");
+    expect_decoded(&rt, raw_keys(alloc, &array, "<<>#"), "2 1 0 1 ");
 }
 
-/// A walk over the texts of a dictionary; the refusal of its values, where they are no such texts.
+/// A walk over the strings of a dictionary; the error of its values, where they are no such strings.
 fn typed<O: TextOffset>(
     alloc: Global,
     array: Result<DictionaryArray, Error>,
@@ -121,9 +124,9 @@ fn typed<O: TextOffset>(
     answer
 }
 
-const NO_TEXTS: Option<Error> = Some(Error::InvalidArgumentError(Argument::ValuesType));
+const NO_STRINGS: Option<Error> = Some(Error::InvalidArgumentError(Argument::ValuesType));
 
-fn large_texts(alloc: Global, offsets: &[i64], bytes: &[u8]) -> Result<AnyArray, Error> {
+fn large_strings(alloc: Global, offsets: &[i64], bytes: &[u8]) -> Result<AnyArray, Error> {
     match both(offsets_of(alloc, offsets), buffer(alloc, bytes)) {
         Ok((offsets, values)) => Utf8Array::try_new(DataType::LargeUtf8, offsets, values, None).map(
             |texts| AnyArray::LargeUtf8(texts),
@@ -132,7 +135,7 @@ fn large_texts(alloc: Global, offsets: &[i64], bytes: &[u8]) -> Result<AnyArray,
     }
 }
 
-/// What the values of a dictionary were refused for.
+/// What the values of a dictionary were rejected for.
 fn refusal(answer: Result<String, Error>) -> Option<Error> {
     match answer {
         Ok(text) => {
@@ -144,27 +147,28 @@ fn refusal(answer: Result<String, Error>) -> Option<Error> {
 }
 
 #[test]
-fn texts_and_nulls(rt: HostRuntime) {
+fn strings_and_nulls(rt: HostRuntime) {
     let alloc = rt.alloc();
-    expect_spelled(
+    expect_decoded(
         &rt,
         typed::<i32>(alloc, four_keys(alloc), ">>>>>"),
         "A B null C - ",
     );
-    assert!(rt; refusal(typed::<i64>(alloc, four_keys(alloc), ">")) == NO_TEXTS);
+    assert!(rt; refusal(typed::<i64>(alloc, four_keys(alloc), ">")) == NO_STRINGS);
 }
 
+/// Typed iteration over strings by other offsets, or over numbers, is rejected.
 #[test]
-fn values_of_other_types_are_refused(rt: HostRuntime) {
+fn values_of_other_types_are_rejected(rt: HostRuntime) {
     let alloc = rt.alloc();
-    let large = large_texts(alloc, &[0, 1], b"x");
+    let large = large_strings(alloc, &[0, 1], b"x");
     let over_large = dictionary(alloc, &[0], None, large);
-    assert!(rt; refusal(typed::<i32>(alloc, over_large, ">")) == NO_TEXTS);
+    assert!(rt; refusal(typed::<i32>(alloc, over_large, ">")) == NO_STRINGS);
     let over_numbers = dictionary(alloc, &[0], None, numbers(alloc, &[7]));
-    assert!(rt; refusal(typed::<i32>(alloc, over_numbers, ">")) == NO_TEXTS);
+    assert!(rt; refusal(typed::<i32>(alloc, over_numbers, ">")) == NO_STRINGS);
 }
 
-/// A walk over the texts of a dictionary without nulls.
+/// A walk over the strings of a dictionary without nulls.
 fn typed_values<O: TextOffset>(
     alloc: Global,
     array: Result<DictionaryArray, Error>,
@@ -186,17 +190,18 @@ fn typed_values<O: TextOffset>(
 }
 
 #[test]
-fn texts_without_nulls(rt: HostRuntime) {
+fn strings_without_nulls(rt: HostRuntime) {
     let alloc = rt.alloc();
     let small = dictionary(alloc, &[1, 0], None, texts(alloc, &[0, 1, 2], b"AB"));
-    expect_spelled(&rt, typed_values::<i32>(alloc, small, "<>#"), "A B 0 ");
-    let large = large_texts(alloc, &[0, 1, 2], b"AB");
+    expect_decoded(&rt, typed_values::<i32>(alloc, small, "<>#"), "A B 0 ");
+    let large = large_strings(alloc, &[0, 1, 2], b"AB");
     let large = dictionary(alloc, &[1, 0], None, large);
-    expect_spelled(&rt, typed_values::<i64>(alloc, large, "<>#"), "A B 0 ");
+    expect_decoded(&rt, typed_values::<i64>(alloc, large, "<>#"), "A B 0 ");
     let other = dictionary(alloc, &[1, 0], None, numbers(alloc, &[1, 2]));
-    assert!(rt; refusal(typed_values::<i32>(alloc, other, "<")) == NO_TEXTS);
+    assert!(rt; refusal(typed_values::<i32>(alloc, other, "<")) == NO_STRINGS);
 }
 
+/// Null keys past the values: null, null.
 #[test]
 fn null_keys_past_the_values(rt: HostRuntime) {
     let alloc = rt.alloc();
@@ -204,6 +209,6 @@ fn null_keys_past_the_values(rt: HostRuntime) {
     let values = texts(alloc, &[0, 1], b"x");
     let array = dictionary(alloc, &[9, 9], Some(bits), values).expect(&rt, "two null keys");
     assert!(rt; !array.all_in_range());
-    expect_spelled(&rt, slots(alloc, &array, ">>>"), "null null - ");
-    expect_spelled(&rt, keys_of(alloc, &array, "<#"), "null 1 ");
+    expect_decoded(&rt, slots(alloc, &array, ">>>"), "null null - ");
+    expect_decoded(&rt, keys_of(alloc, &array, "<#"), "null 1 ");
 }

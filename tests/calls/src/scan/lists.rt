@@ -1,6 +1,6 @@
 //! Lists gone through from both ends.
 use crate::scan::parts::{list_array, numbers};
-use crate::scan::walks::{expect_spelled, spell, walked};
+use crate::scan::walks::{expect_decoded, spell, walked};
 use nest_array::ListArray;
 use nest_memory::error::Error;
 use nest_scan::{ListIter, ListValuesIter, Scan, ScanValues, TryPlaces};
@@ -24,38 +24,41 @@ fn values(alloc: Global, lists: &ListArray, turns: &str) -> Result<String, Error
     walked(alloc, values, turns)
 }
 
+/// Lists [1,2], [], [3], [4,5], front, back, back, front: [1,2], [4,5], [3], []; 3, 2, 1, 0 are left; then nothing from both
+/// ends.
 #[test]
 fn values_from_both_ends(rt: HostRuntime) {
     let alloc = rt.alloc();
     let lists = four_lists(alloc, None).expect(&rt, "four lists");
     let wanted = "4 [1;2;] 3 [4;5;] 2 [3;] 1 [] 0 - - - ";
-    expect_spelled(&rt, values(alloc, &lists, "#>#<#<#>#><>"), wanted);
+    expect_decoded(&rt, values(alloc, &lists, "#>#<#<#>#><>"), wanted);
 }
 
+/// Nulls among lists, pairs, maps, records and byte strings come as `None` by `iter`, and what is under them by `values_iter`.
 #[test]
 fn nulls_among_lists(rt: HostRuntime) {
     let alloc = rt.alloc();
     let bits = [true, false, false, true].as_slice();
     let lists = four_lists(alloc, Some(bits)).expect(&rt, "four lists");
     let wanted = "[4;5;] null [1;2;] 1 null - - ";
-    expect_spelled(&rt, slots(alloc, &lists, "<<>#><>"), wanted);
-    expect_spelled(&rt, values(alloc, &lists, ">>>"), "[1;2;] [] [3;] ");
+    expect_decoded(&rt, slots(alloc, &lists, "<<>#><>"), wanted);
+    expect_decoded(&rt, values(alloc, &lists, ">>>"), "[1;2;] [] [3;] ");
 }
 
-/// The item of place i, spelled; a place that isn't there spells nothing.
+/// The item of index i, decoded; an index that isn't there encodes nothing.
 fn item(alloc: Global, lists: &ListArray, i: usize) -> Result<String, Error> {
-    let places = lists;
+    let indices = lists;
     let mut text = String::new(alloc);
-    if i < places.count() {
-        spell(Some(places.item(alloc, i)), &mut text)?;
+    if i < indices.count() {
+        spell(Some(indices.item(alloc, i)), &mut text)?;
     }
     Ok(text)
 }
 
 #[test]
-fn the_item_of_a_place(rt: HostRuntime) {
+fn the_item_of_a_index(rt: HostRuntime) {
     let alloc = rt.alloc();
     let lists = four_lists(alloc, None).expect(&rt, "four lists");
-    expect_spelled(&rt, item(alloc, &lists, 3), "[4;5;] ");
-    expect_spelled(&rt, item(alloc, &lists, 4), "");
+    expect_decoded(&rt, item(alloc, &lists, 3), "[4;5;] ");
+    expect_decoded(&rt, item(alloc, &lists, 4), "");
 }

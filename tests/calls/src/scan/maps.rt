@@ -1,6 +1,6 @@
 //! Maps gone through from both ends.
 use crate::scan::parts::{both, buffer, offsets_of, two, validity};
-use crate::scan::walks::{expect_spelled, walk, walked};
+use crate::scan::walks::{expect_decoded, walk, walked};
 use nest_array::{AnyArray, MapArray, StructArray};
 use nest_flat::utf8::Utf8Array;
 use nest_memory::datatypes::DataType;
@@ -9,7 +9,7 @@ use nest_memory::error::Error;
 use nest_scan::{MapValuesIter, Scan};
 use std::alloc::Global;
 
-/// Texts, as an array of any kind.
+/// Strings, as an array of any kind.
 pub(crate) fn texts(alloc: Global, offsets: &[i32], bytes: &[u8]) -> Result<AnyArray, Error> {
     match both(offsets_of(alloc, offsets), buffer(alloc, bytes)) {
         Ok((offsets, values)) => Utf8Array::try_new(DataType::Utf8, offsets, values, None).map(
@@ -72,11 +72,12 @@ fn values(alloc: Global, maps: &MapArray, turns: &str) -> Result<String, Error> 
     Ok(text)
 }
 
+/// Maps from both ends; a clone continues from the same index.
 #[test]
 fn maps_from_both_ends(rt: HostRuntime) {
     let alloc = rt.alloc();
     let maps = two_maps(alloc, None).expect(&rt, "two maps");
-    expect_spelled(&rt, values(alloc, &maps, "< # <>"), "{aa;bb;} 1 {a;b;} - ");
+    expect_decoded(&rt, values(alloc, &maps, "< # <>"), "{aa;bb;} 1 {a;b;} - ");
 }
 
 #[test]
@@ -84,6 +85,6 @@ fn nulls_among_maps(rt: HostRuntime) {
     let alloc = rt.alloc();
     let bits = [false, true].as_slice();
     let maps = two_maps(alloc, Some(bits)).expect(&rt, "two maps");
-    expect_spelled(&rt, slots(alloc, &maps, ">>>"), "null {aa;bb;} - ");
-    expect_spelled(&rt, values(alloc, &maps, ">#"), "{a;b;} 1 ");
+    expect_decoded(&rt, slots(alloc, &maps, ">>>"), "null {aa;bb;} - ");
+    expect_decoded(&rt, values(alloc, &maps, ">#"), "{a;b;} 1 ");
 }

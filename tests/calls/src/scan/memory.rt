@@ -1,5 +1,5 @@
-//! The tests pass whichever request for memory is refused: the place whose item found none gives one `Err` and is passed, and all
-//! other places give their items.
+//! The tests pass whichever allocation fails: the index whose item found none returns one `Err` and is passed, and all
+//! other indices return their items.
 use crate::scan::lists::four_lists;
 use crate::scan::parts::list_array;
 use crate::scan::records::four_records;
@@ -9,8 +9,8 @@ use nest_scan::{Scan, ScanValues};
 use std::alloc::{AllocError, Global};
 use std::process::Abort;
 
-/// What a call gave, or `None` where memory was refused; nothing else may be.
-fn unless_refused<T>(rt: &impl Abort, outcome: Result<T, Error>) -> Option<T> {
+/// The result of a call, or `None` where an allocation failed; nothing else may be.
+fn unless_without_memory<T>(rt: &impl Abort, outcome: Result<T, Error>) -> Option<T> {
     match outcome {
         Ok(value) => Some(value),
         Err(error) => {
@@ -30,17 +30,18 @@ fn lists_of_lists(alloc: Global) -> Result<ListArray, Error> {
 fn expect_lists(rt: &impl Abort, item: Option<Result<AnyArray, Error>>, n: usize) {
     assert!(rt; item.is_some());
     if let Some(item) = item {
-        if let Some(array) = unless_refused(rt, item) {
+        if let Some(array) = unless_without_memory(rt, item) {
             assert!(rt; array.len() == n);
             drop(array);
         }
     }
 }
 
+/// A index whose item finds no memory returns one `Err` and is passed, whichever request is rejected.
 #[test]
-fn a_refused_list_is_passed(rt: HostRuntime) {
+fn a_list_without_memory_is_skipped(rt: HostRuntime) {
     let alloc = rt.alloc();
-    let Some(lists) = unless_refused(&rt, lists_of_lists(alloc)) else {
+    let Some(lists) = unless_without_memory(&rt, lists_of_lists(alloc)) else {
         return;
     };
     let mut values = lists.values_iter(alloc);
@@ -55,18 +56,18 @@ fn a_refused_list_is_passed(rt: HostRuntime) {
     assert!(rt; values.next().is_none());
 }
 
-/// That a place came, or want of memory alone.
+/// That an index came, or want of memory alone.
 fn expect_item<T: Drop>(rt: &impl Abort, item: Option<Result<T, Error>>) {
     assert!(rt; item.is_some());
     if let Some(item) = item {
-        drop(unless_refused(rt, item));
+        drop(unless_without_memory(rt, item));
     }
 }
 
 #[test]
-fn a_refused_record_is_passed(rt: HostRuntime) {
+fn a_record_without_memory_is_skipped(rt: HostRuntime) {
     let alloc = rt.alloc();
-    let Some(records) = unless_refused(&rt, four_records(alloc, None)) else {
+    let Some(records) = unless_without_memory(&rt, four_records(alloc, None)) else {
         return;
     };
     let mut slots = records.iter(alloc);

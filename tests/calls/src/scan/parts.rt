@@ -10,7 +10,7 @@ use nest_memory::offset::Offset;
 use nest_memory::offsets::OffsetsBuffer;
 use std::alloc::Global;
 
-/// Both values, or the first refusal.
+/// Both values, or the first error.
 pub(crate) fn both<A: Drop, B: Drop>(
     a: Result<A, Error>,
     b: Result<B, Error>,
@@ -18,7 +18,7 @@ pub(crate) fn both<A: Drop, B: Drop>(
     Ok((a?, b?))
 }
 
-/// Both items, or the first refusal.
+/// Both items, or the first error.
 pub(crate) fn two<T: Drop>(
     alloc: Global,
     first: Result<T, Error>,

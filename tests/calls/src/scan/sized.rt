@@ -1,6 +1,6 @@
-//! Lists of one size, and byte strings of one size, gone through from both ends.
+//! Fixed-size lists, and fixed-size binary values, gone through from both ends.
 use crate::scan::parts::{both, buffer, numbers, validity};
-use crate::scan::walks::{expect_spelled, walked};
+use crate::scan::walks::{expect_decoded, walked};
 use nest_array::{AnyArray, FixedSizeBinaryArray, FixedSizeListArray};
 use nest_memory::error::Error;
 use nest_scan::{FixedSizeListValuesIter, Scan, ScanValues};
@@ -46,8 +46,8 @@ fn pairs_from_both_ends(rt: HostRuntime) {
     let bits = [true, false, true].as_slice();
     let array = pairs(alloc, Some(bits)).expect(&rt, "three pairs");
     let wanted = "[5;6;] [1;2;] 1 [3;4;] - - ";
-    expect_spelled(&rt, values(alloc, &array, "<>#<<>"), wanted);
-    expect_spelled(&rt, slots(alloc, &array, ">>>>"), "[1;2;] null [5;6;] - ");
+    expect_decoded(&rt, values(alloc, &array, "<>#<<>"), wanted);
+    expect_decoded(&rt, slots(alloc, &array, ">>>>"), "[1;2;] null [5;6;] - ");
 }
 
 /// The byte strings ab, cd and ef.
@@ -61,12 +61,13 @@ fn three_strings(alloc: Global, bits: Option<&[bool]>) -> Result<FixedSizeBinary
     }
 }
 
+/// Byte strings ab, cd and ef from both ends.
 #[test]
 fn values_of_byte_strings(rt: HostRuntime) {
     let alloc = rt.alloc();
     let bits = [true, false, true].as_slice();
     let array = three_strings(alloc, Some(bits)).expect(&rt, "three strings");
-    expect_spelled(
+    expect_decoded(
         &rt,
         walked(alloc, array.values_iter(alloc), "<#>>><"),
         "ef 2 ab cd - - ",
@@ -78,7 +79,7 @@ fn nulls_among_byte_strings(rt: HostRuntime) {
     let alloc = rt.alloc();
     let bits = [true, false, true].as_slice();
     let array = three_strings(alloc, Some(bits)).expect(&rt, "three strings");
-    expect_spelled(
+    expect_decoded(
         &rt,
         walked(alloc, array.iter(alloc), ">><#<"),
         "ab null ef 0 - ",

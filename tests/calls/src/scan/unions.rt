@@ -1,7 +1,7 @@
 //! What the slots of unions pick, one after another.
 use crate::scan::maps::texts;
 use crate::scan::parts::{both, buffer, numbers, two};
-use crate::scan::walks::{expect_spelled, spell};
+use crate::scan::walks::{expect_decoded, spell};
 use nest_array::{AnyArray, UnionArray};
 use nest_memory::datatypes::field::Field;
 use nest_memory::datatypes::{DataType, UnionMode};
@@ -57,13 +57,14 @@ fn picks(alloc: Global, slots: UnionIter<'_>, n: usize) -> Result<String, Error>
     Ok(text)
 }
 
+/// A sparse union of two fields of numbers by the ids 5 and 7: 11 items, from 11 down to none left.
 #[test]
-fn eleven_picks_and_none_left(rt: HostRuntime) {
+fn eleven_union_values_and_no_more(rt: HostRuntime) {
     let alloc = rt.alloc();
     let array = eleven(alloc).expect(&rt, "eleven slots");
     let wanted = "11 Int32(0) 10 Int32(101) 9 Int32(2) 8 Int32(103) 7 Int32(104) 6 Int32(105) \
         5 Int32(6) 4 Int32(107) 3 Int32(108) 2 Int32(9) 1 Int32(10) 0 - 0 - ";
-    expect_spelled(&rt, picks(alloc, UnionIter::new(alloc, &array), 13), wanted);
+    expect_decoded(&rt, picks(alloc, UnionIter::new(alloc, &array), 13), wanted);
 }
 
 /// The numbers from 10 to 13 and the letters from a to d in turn.
@@ -86,13 +87,14 @@ fn after_the_first(alloc: Global, array: &UnionArray) -> Result<String, Error> {
     Ok(text)
 }
 
+/// A slice of a union; a clone continues from the same slot.
 #[test]
-fn picks_of_a_cut(rt: HostRuntime) {
+fn unions_of_a_slice(rt: HostRuntime) {
     let alloc = rt.alloc();
     let array = in_turn(alloc).expect(&rt, "four slots");
     assert!(rt; array.len() == 4);
     let array = array.sliced(1, 2);
-    expect_spelled(
+    expect_decoded(
         &rt,
         after_the_first(alloc, &array),
         "b 1 Int32(12) 0 - 1 Int32(12) 0 - ",

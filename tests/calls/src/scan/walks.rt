@@ -1,4 +1,4 @@
-//! Walks over what is gone through from both ends, spelled as text.
+//! Walks over what is gone through from both ends, decoded as text.
 use nest_array::{AnyArray, AnyScalar, ScalarValue};
 use nest_flat::any_primitive::AnyPrimitive;
 use nest_memory::error::Error;
@@ -6,7 +6,7 @@ use nest_scan::{BothEnds, Places, PlacesIter};
 use std::alloc::Global;
 use std::process::Abort;
 
-/// What a place gives. Spelling it lets it go.
+/// What an index returns. Spelling it lets it go.
 pub(crate) trait Given: Drop {
     fn spell(self, text: &mut String) -> Result<(), Error>;
 }
@@ -36,27 +36,27 @@ impl<'a> Given for &'a [u8] {
 
 impl Given for AnyScalar {
     fn spell(self, text: &mut String) -> Result<(), Error> {
-        let spelled = spell_scalar(&self, text);
+        let decoded = spell_scalar(&self, text);
         drop(self);
-        spelled
+        decoded
     }
 }
 
 /// The scalars of a record in braces.
 impl Given for Vec<AnyScalar> {
     fn spell(self, text: &mut String) -> Result<(), Error> {
-        let spelled = spell_record(&self, text);
+        let decoded = spell_record(&self, text);
         drop(self);
-        spelled
+        decoded
     }
 }
 
 /// The slots of an array in brackets, of records their columns in braces, of other arrays how many they are.
 impl Given for AnyArray {
     fn spell(self, text: &mut String) -> Result<(), Error> {
-        let spelled = spell_array(&self, text);
+        let decoded = spell_array(&self, text);
         drop(self);
-        spelled
+        decoded
     }
 }
 
@@ -80,7 +80,7 @@ impl<T: Given> Given for Result<T, Error> {
 
 fn spell_scalar(scalar: &AnyScalar, text: &mut String) -> Result<(), Error> {
     match scalar.value() {
-        ScalarValue::Boolean(truth) => write!(text, "{truth}")?,
+        ScalarValue::Boolean(boolean) => write!(text, "{boolean}")?,
         ScalarValue::Native(native) => write!(text, "{native:?}")?,
         ScalarValue::Text(letters) => text.push_str(letters)?,
         _ => text.push_str("another kind")?,
@@ -163,7 +163,7 @@ where
     Ok(())
 }
 
-/// What a walk over these items spells.
+/// What a walk over these items encodes.
 pub(crate) fn walked<S: Places + BothEnds>(
     alloc: Global,
     items: PlacesIter<S>,
@@ -182,8 +182,8 @@ where
     }
 }
 
-/// That a walk spells this.
-pub(crate) fn expect_spelled(rt: &impl Abort, found: Result<String, Error>, wanted: &str) {
+/// That a walk encodes this.
+pub(crate) fn expect_decoded(rt: &impl Abort, found: Result<String, Error>, wanted: &str) {
     match found {
         Ok(text) => {
             assert!(rt; text.as_str() == wanted);

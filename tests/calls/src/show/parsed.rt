@@ -1,10 +1,10 @@
-//! Data types read back from their text: each there and back, each error with its byte, hostile texts, refused memory.
+//! Data types round-trip from their text: each there and back, each error with its byte, adversarial strings, without memory.
 use nest_memory::datatypes::{DataType, Field, UnionMode};
-use type_text::{DEPTH, ParseError, parse_type};
 use std::alloc::{AllocError, Global};
+use type_text::{MAX_DEPTH, ParseTypeError, parse_type};
 
-/// Texts of data types, one of each form at least.
-const TEXTS: [&str; 62] = [
+/// Strings of data types, one of each form at least.
+const TEXT_VALUES: [&str; 62] = [
     "null",
     "bool",
     "int8",
@@ -69,8 +69,8 @@ const TEXTS: [&str; 62] = [
     "struct<int32: int32, not null: int8 not null>",
 ];
 
-/// Texts that are no data type's, and the byte at which each stops.
-const REFUSED: [(&str, usize); 46] = [
+/// Strings that are no data type's, and the byte at which each stops.
+const REJECTED: [(&str, usize); 46] = [
     ("", 0),
     (" int32", 0),
     ("int", 0),
@@ -120,30 +120,31 @@ const REFUSED: [(&str, usize); 46] = [
 ];
 
 /// What a text is read as, printed again.
-fn again(alloc: Global, text: &str) -> Result<String, ParseError> {
+fn again(alloc: Global, text: &str) -> Result<String, ParseTypeError> {
     printed(alloc, &parse_type(alloc, text)?)
 }
 
-fn printed(alloc: Global, data_type: &DataType) -> Result<String, ParseError> {
-    format!(in alloc; "{}", *data_type).map_err(ParseError::Memory)
+fn printed(alloc: Global, data_type: &DataType) -> Result<String, ParseTypeError> {
+    format!(in alloc; "{}", *data_type).map_err(ParseTypeError::Memory)
 }
 
 /// So many lists in one another around a type.
-fn lists(alloc: Global, depth: u32) -> Result<String, ParseError> {
+fn lists(alloc: Global, depth: u32) -> Result<String, ParseTypeError> {
     let mut text = String::new(alloc);
     for _ in 0..depth {
-        text.push_str("list<item: ").map_err(ParseError::Memory)?;
+        text.push_str("list<item: ")
+            .map_err(ParseTypeError::Memory)?;
     }
-    text.push_str("int8").map_err(ParseError::Memory)?;
+    text.push_str("int8").map_err(ParseTypeError::Memory)?;
     for _ in 0..depth {
-        text.push_str(">").map_err(ParseError::Memory)?;
+        text.push_str(">").map_err(ParseTypeError::Memory)?;
     }
     Ok(text)
 }
 
 #[test]
-fn there_and_back(rt: HostRuntime) -> Result<(), ParseError> {
-    for text in TEXTS {
+fn there_and_back(rt: HostRuntime) -> Result<(), ParseTypeError> {
+    for text in TEXT_VALUES {
         assert_eq!(rt; again(rt.alloc(), text)?.as_str(), text);
     }
     Ok(())
@@ -151,21 +152,25 @@ fn there_and_back(rt: HostRuntime) -> Result<(), ParseError> {
 
 #[test]
 fn where_reading_stops(rt: HostRuntime) {
-    for (text, at) in REFUSED {
+    for (text, at) in REJECTED {
         let found = again(rt.alloc(), text);
-        assert!(rt; found == Err(ParseError::Text(at)), "{text}: {found:?}");
+        assert!(rt;
+            found == Err(ParseTypeError::Syntax(at)),
+            "{text}: {found:?}"
+        );
     }
 }
 
 #[test]
-fn hidden_parts(rt: HostRuntime) -> Result<(), ParseError> {
+fn hidden_parts(rt: HostRuntime) -> Result<(), ParseTypeError> {
     let alloc = rt.alloc();
     assert!(rt; parse_type(alloc, "int32")? == DataType::Int32);
     let list = DataType::List(boxed(alloc, "item", DataType::Utf8, true)?);
     assert!(rt; parse_type(alloc, "list<item: string>")? == list);
     let sized = DataType::FixedSizeList(boxed(alloc, "x: y", DataType::Null, false)?, 7);
     assert!(rt;
-        parse_type(alloc, "fixed_size_list<x: y: null not null>[7]") == Err(ParseError::Text(19))
+        parse_type(alloc, "fixed_size_list<x: y: null not null>[7]")
+            == Err(ParseTypeError::Syntax(19))
     );
     assert_eq!(rt;
         printed(alloc, &sized)?.as_str(),
@@ -180,17 +185,17 @@ fn boxed(
     name: &str,
     data_type: DataType,
     is_nullable: bool,
-) -> Result<Box<Field>, ParseError> {
-    let field = Field::new(alloc, name, data_type, is_nullable).map_err(|_| ParseError::Memory(
+) -> Result<Box<Field>, ParseTypeError> {
+    let field = Field::new(alloc, name, data_type, is_nullable).map_err(|_| ParseTypeError::Memory(
         AllocError,
     ))?;
-    Box::new(alloc, field).map_err(|_| ParseError::Memory(AllocError))
+    Box::new(alloc, field).map_err(|_| ParseTypeError::Memory(AllocError))
 }
 
-/// Without ids a union prints its fields' places, and is read with them as its ids. A map's entries and keys are read as
+/// Without ids a union prints its fields' indices, and is read with them as its ids. A map's entries and keys are read as
 /// never null, its values as null at will.
 #[test]
-fn ids_and_nulls(rt: HostRuntime) -> Result<(), ParseError> {
+fn ids_and_nulls(rt: HostRuntime) -> Result<(), ParseTypeError> {
     let alloc = rt.alloc();
     match parse_type(alloc, "sparse_union<a: int8=0, b: null=1>")? {
         DataType::Union(fields, Some(ids), UnionMode::Sparse) => {
@@ -215,28 +220,28 @@ fn ids_and_nulls(rt: HostRuntime) -> Result<(), ParseError> {
 }
 
 #[test]
-fn too_many_levels(rt: HostRuntime) -> Result<(), ParseError> {
+fn too_many_levels(rt: HostRuntime) -> Result<(), ParseTypeError> {
     let alloc = rt.alloc();
-    let most = lists(alloc, DEPTH - 1)?;
+    let most = lists(alloc, MAX_DEPTH - 1)?;
     assert_eq!(rt; again(alloc, &most)?.as_str(), most.as_str());
-    let at = 11 * DEPTH as usize;
-    assert!(rt; again(alloc, &lists(alloc, DEPTH)?) == Err(ParseError::Depth(at)));
-    assert!(rt; again(alloc, &lists(alloc, 100_000)?) == Err(ParseError::Depth(at)));
+    let at = 11 * MAX_DEPTH as usize;
+    assert!(rt; again(alloc, &lists(alloc, MAX_DEPTH)?) == Err(ParseTypeError::TooDeep(at)));
+    assert!(rt; again(alloc, &lists(alloc, 100_000)?) == Err(ParseTypeError::TooDeep(at)));
     Ok(())
 }
 
 /// Each front of each text is another type's text or stops at its end or before.
 #[test]
-fn fronts(rt: HostRuntime) -> Result<(), ParseError> {
+fn fronts(rt: HostRuntime) -> Result<(), ParseTypeError> {
     let alloc = rt.alloc();
-    for text in TEXTS {
+    for text in TEXT_VALUES {
         for end in 0..text.len() {
             let Some(front) = text.get(..end) else {
                 continue;
             };
             match again(alloc, front) {
                 Ok(found) => assert_eq!(rt; found.as_str(), front),
-                Err(ParseError::Text(at)) => assert!(rt; at <= end, "{front}: {at}"),
+                Err(ParseTypeError::Syntax(at)) => assert!(rt; at <= end, "{front}: {at}"),
                 Err(refused) => return Err(refused),
             }
         }
@@ -244,23 +249,23 @@ fn fronts(rt: HostRuntime) -> Result<(), ParseError> {
     Ok(())
 }
 
-/// Each text with each byte in turn put in place of each other one: what is read prints as what was given.
+/// Each text with each byte in turn put in index of each other one: what is read prints as what was given.
 #[test]
-fn changed_bytes(rt: HostRuntime) -> Result<(), ParseError> {
+fn changed_bytes(rt: HostRuntime) -> Result<(), ParseTypeError> {
     let alloc = rt.alloc();
     let mut count = 0;
-    for text in TEXTS {
+    for text in TEXT_VALUES {
         for at in 0..text.len() {
             for letter in [" ", ",", ":", ">", "<", "]", "(", "'", "0", "9", "a", "é"] {
                 let (Some(front), Some(back)) = (text.get(..at), text.get(at + 1..)) else {
                     continue;
                 };
                 let changed = format!(in alloc; "{front}{letter}{back}").map_err(
-                    ParseError::Memory,
+                    ParseTypeError::Memory,
                 )?;
                 match again(alloc, &changed) {
                     Ok(found) => assert_eq!(rt; found.as_str(), changed.as_str()),
-                    Err(ParseError::Text(stop)) => assert!(rt;
+                    Err(ParseTypeError::Syntax(stop)) => assert!(rt;
                         stop <= changed.len(),
                         "{changed}: {stop}"
                     ),

@@ -1,6 +1,8 @@
 //! The text of arrays of each kind.
 use crate::show::making::parts::{buffer, offsets, validity};
 use crate::show::making::{flat, nested, tagged};
+use json_write::struct_rows::{member_prefixes, write_struct_slot};
+use json_write::{Json, WriteJson, output};
 use nest_array::{AnyArray, NullArray, StructArray, Window, new_scalar};
 use nest_flat::any_primitive::AnyPrimitive;
 use nest_flat::primitive::PrimitiveArray;
@@ -8,8 +10,6 @@ use nest_flat::utf8::Utf8Array;
 use nest_memory::datatypes::{DataType, Field, IntervalUnit};
 use nest_memory::error::Error;
 use nest_memory::types::{days_ms, i256, months_days_ns};
-use json_write::records::{member_heads, write_record};
-use json_write::{Json, WriteJson, writing};
 use std::alloc::Global;
 use std::fmt::Formatter;
 
@@ -25,7 +25,7 @@ fn flat_arrays(rt: HostRuntime) -> Result<(), Error> {
         "[1,null,3,4]"
     );
     assert_eq!(rt;
-        text(rt.alloc(), AnyArray::Boolean(flat::truths(rt.alloc())?))?.as_str(),
+        text(rt.alloc(), AnyArray::Boolean(flat::booleans(rt.alloc())?))?.as_str(),
         "[true,null,false,true]"
     );
     assert_eq!(rt;
@@ -74,7 +74,7 @@ fn records_by_heads(rt: HostRuntime) -> Result<(), Error> {
     let alloc = rt.alloc();
     let mut array = nested::records(alloc)?;
     array.set_validity(validity(alloc, &[true, true, false, true])?)?;
-    let heads = member_heads(alloc, array.fields())?;
+    let heads = member_prefixes(alloc, array.fields())?;
     assert!(rt; heads.len() == 2);
     assert_eq!(rt; heads[0].as_str(), "\"number\":");
     assert_eq!(rt; heads[1].as_str(), ",\"text\":");
@@ -82,17 +82,17 @@ fn records_by_heads(rt: HostRuntime) -> Result<(), Error> {
     for i in 0..4 {
         let mark = if i == 0 { "[" } else { "," };
         assert!(rt; all.write_str(mark).is_ok());
-        assert!(rt; write_record(&mut all, &array, &heads, i).is_ok());
+        assert!(rt; write_struct_slot(&mut all, &array, &heads, i).is_ok());
     }
     assert!(rt; all.write_str("]").is_ok());
     assert_eq!(rt; all.into_inner().as_str(), text(alloc, array)?.as_str());
     let mut odd = Vec::new(alloc);
     odd.push(Field::new(alloc, "a\"b\n", DataType::Null, true)?)?;
     odd.push(Field::new(alloc, "", DataType::Null, true)?)?;
-    let heads = member_heads(alloc, &odd)?;
+    let heads = member_prefixes(alloc, &odd)?;
     assert_eq!(rt; heads[0].as_str(), "\"a\\\"b\\n\":");
     assert_eq!(rt; heads[1].as_str(), ",\"\":");
-    assert!(rt; member_heads(alloc, &[])?.is_empty());
+    assert!(rt; member_prefixes(alloc, &[])?.is_empty());
     Ok(())
 }
 
@@ -141,13 +141,13 @@ fn escapes(rt: HostRuntime) -> Result<(), Error> {
     let offsets = offsets(rt.alloc(), &[0, n])?;
     let values = buffer(rt.alloc(), bytes.as_bytes())?;
     let array = AnyArray::Utf8(Utf8Array::try_new(DataType::Utf8, offsets, values, None)?);
-    let text = writing::json_text(rt.alloc(), &array)?;
+    let text = output::to_json_string(rt.alloc(), &array)?;
     assert_eq!(rt;
         text.as_str(),
         "[\"a\\\"b\\\\c\\n\\u0001\u{7f}\u{e9}\u{1F600}\"]"
     );
     let mut out = Vec::new(rt.alloc());
-    let done = writing::write_json(&mut out, &array);
+    let done = output::write_json(&mut out, &array);
     assert!(rt; done.is_ok());
     assert_eq!(rt; out.as_slice(), text.as_bytes());
     Ok(())
@@ -161,7 +161,7 @@ fn typed_arrays(rt: HostRuntime) -> Result<(), Error> {
         "[1,null,3,4]"
     );
     assert_eq!(rt;
-        text(alloc, flat::truths(alloc)?)?.as_str(),
+        text(alloc, flat::booleans(alloc)?)?.as_str(),
         "[true,null,false,true]"
     );
     assert_eq!(rt;
@@ -246,9 +246,9 @@ fn scalars(rt: HostRuntime) -> Result<(), Error> {
         text(alloc, new_scalar(alloc, &bytes, 0)?)?.as_str(),
         "\"0102\""
     );
-    let truths = AnyArray::Boolean(flat::truths(alloc)?);
+    let booleans = AnyArray::Boolean(flat::booleans(alloc)?);
     assert_eq!(rt;
-        text(alloc, new_scalar(alloc, &truths, 2)?)?.as_str(),
+        text(alloc, new_scalar(alloc, &booleans, 2)?)?.as_str(),
         "false"
     );
     Ok(())

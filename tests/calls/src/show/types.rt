@@ -20,7 +20,7 @@ fn boxed(alloc: Global, data_type: DataType) -> Result<Box<DataType>, Error> {
     Ok(Box::new(alloc, data_type)?)
 }
 
-/// A map from texts to numbers, with these names of its entries and of their parts.
+/// A map from strings to numbers, with these names of its entries and of their parts.
 fn map(alloc: Global, names: [&str; 3], sorted: bool) -> Result<DataType, Error> {
     let mut parts = Vec::with_capacity(alloc, 2)?;
     parts.push(Field::new(alloc, names[1], DataType::Utf8, false)?)?;

@@ -1,4 +1,4 @@
-//! Arrays of each kind, each made of parts that may be refused.
+//! Arrays of each kind, each made of parts that may be rejected.
 
 use nest_array::{
     AnyArray, AnyKeys, DictionaryArray, FixedSizeBinaryArray, FixedSizeListArray, LargeListArray,
@@ -95,7 +95,7 @@ pub fn mask(alloc: Global, items: &[bool], bits: Option<&[bool]>) -> Result<Bool
 }
 
 /// Truths.
-pub fn truths(alloc: Global, items: &[bool], bits: Option<&[bool]>) -> Made {
+pub fn booleans(alloc: Global, items: &[bool], bits: Option<&[bool]>) -> Made {
     mask(alloc, items, bits).map(|array| AnyArray::Boolean(array))
 }
 
@@ -104,7 +104,7 @@ pub fn nulls(length: usize) -> Made {
     NullArray::try_new(DataType::Null, length).map(|array| array.boxed())
 }
 
-/// Texts, `None` a null.
+/// Strings, `None` a null.
 pub fn texts(alloc: Global, items: &[Option<&str>]) -> Made {
     let mut builder = MutableUtf8Array::<i32>::new(alloc)?;
     for item in items {
@@ -113,8 +113,8 @@ pub fn texts(alloc: Global, items: &[Option<&str>]) -> Made {
     builder.freeze().map(|texts| AnyArray::Utf8(texts))
 }
 
-/// Texts by wide offsets.
-pub fn wide_texts(alloc: Global, items: &[Option<&str>]) -> Made {
+/// Strings by wide offsets.
+pub fn wide_strings(alloc: Global, items: &[Option<&str>]) -> Made {
     let mut builder = MutableUtf8Array::<i64>::new(alloc)?;
     for item in items {
         builder.try_push(*item)?;
@@ -140,7 +140,7 @@ pub fn wide_bytes(alloc: Global, items: &[Option<&[u8]>]) -> Made {
     builder.freeze().map(|bytes| AnyArray::LargeBinary(bytes))
 }
 
-/// Byte strings of one size.
+/// Byte fixed-size binary values.
 pub fn sized_bytes(alloc: Global, size: usize, items: &[u8], bits: Option<&[bool]>) -> Made {
     match both(buffer(alloc, items), validity(alloc, bits)) {
         Ok((bytes, validity)) => {
@@ -258,7 +258,7 @@ fn shared(alloc: Global, offsets: Option<&[i32]>) -> Result<Option<Buffer<i32>>,
     }
 }
 
-/// Picks of two fields, dense where there are offsets.
+/// Unions of two fields, dense where there are offsets.
 pub fn picks(
     alloc: Global,
     types: &[i8],
@@ -295,7 +295,7 @@ pub fn keyed(alloc: Global, raw: &[i32], bits: Option<&[bool]>, values: Made) ->
     }
 }
 
-/// The n slots from place o of an array that has them.
+/// The n slots from index o of an array that has them.
 pub fn cut(array: Made, o: usize, n: usize) -> Made {
     match array {
         Ok(array) => {
@@ -310,16 +310,16 @@ pub fn cut(array: Made, o: usize, n: usize) -> Made {
     }
 }
 
-fn are_below(places: &[usize], len: usize) -> bool {
-    places.iter().all(|place| *place < len)
+fn are_below(indices: &[usize], len: usize) -> bool {
+    indices.iter().all(|index| *index < len)
 }
 
-/// The slots at places that are there.
-pub fn taken(alloc: Global, array: Made, places: &[usize]) -> Made {
+/// The slots at indices that are there.
+pub fn taken(alloc: Global, array: Made, indices: &[usize]) -> Made {
     match array {
         Ok(array) => {
-            let taken = if are_below(places, array.len()) {
-                nest_take::take(alloc, &array, places)
+            let taken = if are_below(indices, array.len()) {
+                nest_take::take(alloc, &array, indices)
             } else {
                 Err(Error::NotYetImplemented)
             };
@@ -341,12 +341,12 @@ fn is_equal(taken: Made, array: &AnyArray) -> bool {
     }
 }
 
-/// Whether taking all of an array's places refused memory or gave an equal array; in both cases the source equals its copy after.
-pub fn leaves_source(alloc: Global, array: Made, copy: Made, places: &[usize]) -> bool {
+/// Whether taking all of an array's indices without memory or gave an equal array; in both cases the source equals its copy after.
+pub fn leaves_source(alloc: Global, array: Made, copy: Made, indices: &[usize]) -> bool {
     match both(array, copy) {
         Ok((array, copy)) => {
-            let fine = are_below(places, array.len())
-                && is_equal(nest_take::take(alloc, &array, places), &copy);
+            let fine = are_below(indices, array.len())
+                && is_equal(nest_take::take(alloc, &array, indices), &copy);
             let same = array == copy;
             drop(copy);
             drop(array);
@@ -381,13 +381,13 @@ fn none_of(alloc: Global, array: &Made) -> Made {
     }
 }
 
-/// Whether an array at no place equals the empty array of its type.
-pub fn takes_nothing(alloc: Global, array: Made) -> bool {
+/// Whether an array at no index equals the empty array of its type.
+pub fn accepts_nothing(alloc: Global, array: Made) -> bool {
     let none = none_of(alloc, &array);
     are_same(taken(alloc, array, &[]), none)
 }
 
-/// Whether both arrays were made and are equal; they are let go.
+/// Whether both arrays were made and are equal; they are dropped.
 pub fn are_same(x: Made, y: Made) -> bool {
     match both(x, y) {
         Ok((x, y)) => {
@@ -400,7 +400,7 @@ pub fn are_same(x: Made, y: Made) -> bool {
     }
 }
 
-/// What a call refused.
+/// What a call rejected.
 pub fn refusal(array: Made) -> Option<Error> {
     match array {
         Ok(array) => {

@@ -1,4 +1,4 @@
-//! Too many items, and memory that is refused.
+//! Too many items, and memory that is rejected.
 use crate::take::arrays::{
     Made, are_same, keyed, leaves_source, lists, nulls, numbers, records, refusal, sized, taken,
     texts,
@@ -10,6 +10,7 @@ fn longest_list(alloc: Global, bits: Option<&[bool]>) -> Made {
     lists(alloc, nulls(2147483647), &[0, 2147483647], bits)
 }
 
+/// Twice 2^31 - 1 nulls are more than an offset can name, under a null row they count none.
 #[test]
 fn more_items_than_an_offset_names(rt: HostRuntime) {
     let alloc = rt.alloc();
@@ -20,6 +21,7 @@ fn more_items_than_an_offset_names(rt: HostRuntime) {
     assert!(rt; are_same(found, expected));
 }
 
+/// Fixed-size lists of nulls whose items are more than a length can be.
 #[test]
 fn more_items_than_a_length(rt: HostRuntime) {
     let alloc = rt.alloc();
@@ -31,18 +33,18 @@ fn more_items_than_a_length(rt: HostRuntime) {
     assert!(rt; refusal(found) == Some(Error::Overflow));
 }
 
-fn lists_and_texts(alloc: Global) -> Made {
+fn lists_and_strings(alloc: Global) -> Made {
     let items = numbers(alloc, &[1, 2, 3], None);
     let first = lists(alloc, items, &[0, 1, 3], None);
     let values = texts(alloc, &[Some("a"), Some("b")]);
     records(alloc, first, keyed(alloc, &[1, 0], None, values), None)
 }
 
-// Passes whichever request for memory is refused.
+// Passes whichever allocation fails.
 #[test]
-fn refused_memory(rt: HostRuntime) {
+fn without_memory(rt: HostRuntime) {
     let alloc = rt.alloc();
-    let array = lists_and_texts(alloc);
-    let copy = lists_and_texts(alloc);
+    let array = lists_and_strings(alloc);
+    let copy = lists_and_strings(alloc);
     assert!(rt; leaves_source(alloc, array, copy, &[0, 1]));
 }

@@ -1,21 +1,24 @@
-//! Arrays of each kind two deep, cut, at rising, falling and repeated places.
+//! Arrays of each kind two deep, cut, at rising, falling and repeated indices.
+//!
+//! Wide lists of strings, lists of pairs, fixed-size lists, records, maps, picks, dictionary-encoded values: cut and two deep,
+//! at rising, falling and repeated indices.
 use crate::take::arrays::{
-    Made, are_same, bytes, cut, filtered, keyed, lists, maps, mask, nulls, numbers, picks, records,
-    sized, sized_bytes, taken, texts, truths, wide_bytes, wide_lists, wide_texts,
+    Made, are_same, booleans, bytes, cut, filtered, keyed, lists, maps, mask, nulls, numbers,
+    picks, records, sized, sized_bytes, taken, texts, wide_bytes, wide_lists, wide_strings,
 };
 use std::alloc::Global;
 
 // ["a"], ["b", null], [], ["c"] by wide offsets
-fn wide_lists_of_texts(alloc: Global) -> Made {
-    let items = wide_texts(alloc, &[Some("a"), Some("b"), None, Some("c")]);
+fn wide_lists_of_strings(alloc: Global) -> Made {
+    let items = wide_strings(alloc, &[Some("a"), Some("b"), None, Some("c")]);
     wide_lists(alloc, items, &[0, 1, 3, 3, 4], None)
 }
 
 #[test]
 fn wide_lists_fall(rt: HostRuntime) {
     let alloc = rt.alloc();
-    let found = taken(alloc, cut(wide_lists_of_texts(alloc), 1, 3), &[2, 1, 0]);
-    let items = wide_texts(alloc, &[Some("c"), Some("b"), None]);
+    let found = taken(alloc, cut(wide_lists_of_strings(alloc), 1, 3), &[2, 1, 0]);
+    let items = wide_strings(alloc, &[Some("c"), Some("b"), None]);
     assert!(rt; are_same(found, wide_lists(alloc, items, &[0, 1, 1, 3], None)));
 }
 
@@ -45,7 +48,7 @@ fn records_of_lists(alloc: Global) -> Made {
 }
 
 #[test]
-fn cut_records_rise(rt: HostRuntime) {
+fn slice_records_rise(rt: HostRuntime) {
     let alloc = rt.alloc();
     let found = taken(alloc, cut(records_of_lists(alloc), 1, 3), &[0, 2]);
     let first = sized_bytes(alloc, 2, b"xxgh", None);
@@ -68,7 +71,7 @@ fn maps_of_lists(alloc: Global) -> Made {
 }
 
 #[test]
-fn cut_maps_repeat(rt: HostRuntime) {
+fn slice_maps_repeat(rt: HostRuntime) {
     let alloc = rt.alloc();
     let found = taken(alloc, cut(maps_of_lists(alloc), 1, 2), &[1, 1, 0]);
     let first = texts(alloc, &[Some("l"), Some("m"), Some("l"), Some("m")]);
@@ -84,7 +87,7 @@ fn cut_maps_repeat(rt: HostRuntime) {
 }
 
 // 1, "b" and "a", 2 in two lists
-fn lists_of_dense_picks(alloc: Global) -> Made {
+fn lists_of_dense_unions(alloc: Global) -> Made {
     let first = numbers(alloc, &[1, 2], None);
     let second = bytes(alloc, &[Some(b"a"), Some(b"b")]);
     let items = picks(alloc, &[0, 1, 1, 0], Some(&[0, 1, 0, 1]), first, second);
@@ -92,9 +95,9 @@ fn lists_of_dense_picks(alloc: Global) -> Made {
 }
 
 #[test]
-fn lists_of_dense_picks_fall(rt: HostRuntime) {
+fn lists_of_dense_unions_fall(rt: HostRuntime) {
     let alloc = rt.alloc();
-    let found = taken(alloc, lists_of_dense_picks(alloc), &[1, 0, 1]);
+    let found = taken(alloc, lists_of_dense_unions(alloc), &[1, 0, 1]);
     let first = numbers(alloc, &[2, 1, 2], None);
     let second = bytes(alloc, &[Some(b"a"), Some(b"b"), Some(b"a")]);
     let types = [1, 0, 0, 1, 1, 0];
@@ -103,7 +106,7 @@ fn lists_of_dense_picks_fall(rt: HostRuntime) {
 }
 
 // [1], 7, [2, 3], 8
-fn sparse_picks_of_lists(alloc: Global) -> Made {
+fn sparse_unions_of_lists(alloc: Global) -> Made {
     let items = numbers(alloc, &[1, 5, 2, 3, 6], None);
     let first = lists(alloc, items, &[0, 1, 2, 4, 5], None);
     let second = numbers(alloc, &[6, 7, 9, 8], None);
@@ -111,9 +114,9 @@ fn sparse_picks_of_lists(alloc: Global) -> Made {
 }
 
 #[test]
-fn cut_sparse_picks_fall(rt: HostRuntime) {
+fn slice_sparse_unions_fall(rt: HostRuntime) {
     let alloc = rt.alloc();
-    let found = taken(alloc, cut(sparse_picks_of_lists(alloc), 1, 3), &[2, 1, 0]);
+    let found = taken(alloc, cut(sparse_unions_of_lists(alloc), 1, 3), &[2, 1, 0]);
     let items = numbers(alloc, &[2, 3], None);
     let first = lists(alloc, items, &[0, 0, 2, 2], None);
     let second = numbers(alloc, &[8, 0, 7], None);
@@ -121,7 +124,7 @@ fn cut_sparse_picks_fall(rt: HostRuntime) {
 }
 
 // "x", null, "y" by keys, in records with wide bytes
-fn records_of_keyed(alloc: Global) -> Made {
+fn records_of_dictionary(alloc: Global) -> Made {
     let values = texts(alloc, &[Some("x"), Some("y")]);
     let first = keyed(alloc, &[0, 0, 1], Some(&[true, false, true]), values);
     let second = wide_bytes(alloc, &[Some(b"1"), None, Some(b"333")]);
@@ -129,9 +132,9 @@ fn records_of_keyed(alloc: Global) -> Made {
 }
 
 #[test]
-fn cut_records_of_keyed_fall(rt: HostRuntime) {
+fn slice_records_of_dictionary_fall(rt: HostRuntime) {
     let alloc = rt.alloc();
-    let found = taken(alloc, cut(records_of_keyed(alloc), 1, 2), &[1, 0, 1]);
+    let found = taken(alloc, cut(records_of_dictionary(alloc), 1, 2), &[1, 0, 1]);
     let values = texts(alloc, &[Some("x"), Some("y")]);
     let first = keyed(alloc, &[1, 0, 1], Some(&[true, false, true]), values);
     let second = wide_bytes(alloc, &[Some(b"333"), None, Some(b"333")]);
@@ -145,7 +148,7 @@ fn sized_lists_of_nulls(alloc: Global) -> Made {
 }
 
 #[test]
-fn cut_sized_lists_repeat(rt: HostRuntime) {
+fn slice_sized_lists_repeat(rt: HostRuntime) {
     let alloc = rt.alloc();
     let found = taken(alloc, cut(sized_lists_of_nulls(alloc), 1, 2), &[1, 0, 1]);
     let items = lists(alloc, nulls(4), &[0, 2, 2, 2, 2, 4, 4], None);
@@ -154,8 +157,8 @@ fn cut_sized_lists_repeat(rt: HostRuntime) {
 }
 
 // [true], {"b", 2}, {"a", 1}, [false, true]
-fn dense_picks_of_lists(alloc: Global) -> Made {
-    let items = truths(alloc, &[true, false, true], None);
+fn dense_unions_of_lists(alloc: Global) -> Made {
+    let items = booleans(alloc, &[true, false, true], None);
     let first = lists(alloc, items, &[0, 1, 3], None);
     let left = texts(alloc, &[Some("a"), Some("b")]);
     let second = records(alloc, left, numbers(alloc, &[1, 2], None), None);
@@ -163,10 +166,10 @@ fn dense_picks_of_lists(alloc: Global) -> Made {
 }
 
 #[test]
-fn cut_dense_picks_repeat(rt: HostRuntime) {
+fn slice_dense_unions_repeat(rt: HostRuntime) {
     let alloc = rt.alloc();
-    let found = taken(alloc, cut(dense_picks_of_lists(alloc), 1, 3), &[2, 0, 2]);
-    let items = truths(alloc, &[false, true, false, true], None);
+    let found = taken(alloc, cut(dense_unions_of_lists(alloc), 1, 3), &[2, 0, 2]);
+    let items = booleans(alloc, &[false, true, false, true], None);
     let first = lists(alloc, items, &[0, 2, 4], None);
     let left = texts(alloc, &[Some("b")]);
     let second = records(alloc, left, numbers(alloc, &[2], None), None);
@@ -175,7 +178,7 @@ fn cut_dense_picks_repeat(rt: HostRuntime) {
 }
 
 #[test]
-fn cut_keyed_lists_fall(rt: HostRuntime) {
+fn slice_dictionary_lists_fall(rt: HostRuntime) {
     let alloc = rt.alloc();
     let items = bytes(alloc, &[Some(b"a"), None, Some(b"b")]);
     let values = lists(alloc, items, &[0, 2, 3], None);
@@ -188,6 +191,7 @@ fn cut_keyed_lists_fall(rt: HostRuntime) {
     assert!(rt; are_same(found, expected));
 }
 
+/// A null row of lists takes no item; a mask of nulls chooses nothing; a slice is filtered.
 #[test]
 fn null_lists_take_no_item(rt: HostRuntime) {
     let alloc = rt.alloc();
@@ -212,10 +216,10 @@ fn a_mask_of_nulls_chooses_nothing(rt: HostRuntime) {
 }
 
 #[test]
-fn a_cut_is_filtered(rt: HostRuntime) {
+fn a_slice_is_filtered(rt: HostRuntime) {
     let alloc = rt.alloc();
     let bits = mask(alloc, &[true, false, true], Some(&[true, true, true]));
-    let found = filtered(alloc, cut(wide_lists_of_texts(alloc), 1, 3), bits);
-    let items = wide_texts(alloc, &[Some("b"), None, Some("c")]);
+    let found = filtered(alloc, cut(wide_lists_of_strings(alloc), 1, 3), bits);
+    let items = wide_strings(alloc, &[Some("b"), None, Some("c")]);
     assert!(rt; are_same(found, wide_lists(alloc, items, &[0, 2, 3], None)));
 }

@@ -1,7 +1,7 @@
 //! Worked rows of each kind.
 use crate::take::arrays::{
-    Made, are_same, cut, filtered, keyed, lists, maps, mask, numbers, picks, records, sized, taken,
-    texts, truths,
+    Made, are_same, booleans, cut, filtered, keyed, lists, maps, mask, numbers, picks, records,
+    sized, taken, texts,
 };
 use std::alloc::Global;
 
@@ -21,8 +21,9 @@ fn lists_in_lists(alloc: Global) -> Made {
     lists(alloc, inner, &[0, 2, 5, 6], None)
 }
 
+/// Four lists of numbers at the indices 3, 0, 0 and 1; where a mask with a null is true.
 #[test]
-fn lists_at_places(rt: HostRuntime) {
+fn lists_at_indices(rt: HostRuntime) {
     let alloc = rt.alloc();
     let found = taken(alloc, four_lists(alloc), &[3, 0, 0, 1]);
     let items = numbers(alloc, &[4, 5, 1, 2, 1, 2], None);
@@ -43,6 +44,7 @@ fn lists_by_a_mask(rt: HostRuntime) {
     assert!(rt; are_same(found, lists(alloc, items, &[0, 2, 4], None)));
 }
 
+/// Lists of lists in falling order; a slice of them.
 #[test]
 fn lists_of_lists(rt: HostRuntime) {
     let alloc = rt.alloc();
@@ -53,7 +55,7 @@ fn lists_of_lists(rt: HostRuntime) {
 }
 
 #[test]
-fn a_cut_of_lists_of_lists(rt: HostRuntime) {
+fn a_slice_of_lists_of_lists(rt: HostRuntime) {
     let alloc = rt.alloc();
     let found = taken(alloc, cut(lists_in_lists(alloc), 1, 2), &[1, 0, 1]);
     let items = numbers(alloc, &[9, 10, 5, 6, 7, 8, 9, 10], None);
@@ -63,16 +65,17 @@ fn a_cut_of_lists_of_lists(rt: HostRuntime) {
 
 // {false, 42}, {false, 28}, null, {true, 31}
 fn four_records(alloc: Global) -> Made {
-    let first = truths(alloc, &[false, false, true, true], None);
+    let first = booleans(alloc, &[false, false, true, true], None);
     let second = numbers(alloc, &[42, 28, 19, 31], None);
     records(alloc, first, second, Some(&[true, true, false, true]))
 }
 
+/// Records with a null row; a slice of values by keys; maps of pairs.
 #[test]
 fn null_records(rt: HostRuntime) {
     let alloc = rt.alloc();
     let found = taken(alloc, four_records(alloc), &[2, 0]);
-    let first = truths(alloc, &[false, false], None);
+    let first = booleans(alloc, &[false, false], None);
     let second = numbers(alloc, &[7, 42], None);
     let expected = records(alloc, first, second, Some(&[false, true]));
     assert!(rt; are_same(found, expected));
@@ -116,15 +119,16 @@ fn letters(alloc: Global) -> Made {
     texts(alloc, &[Some("a"), Some("b"), Some("c"), Some("d")])
 }
 
-fn four_picks(alloc: Global) -> Made {
+fn four_unions(alloc: Global) -> Made {
     let first = numbers(alloc, &[10, 11, 12, 13], None);
     picks(alloc, &[0, 1, 0, 1], None, first, letters(alloc))
 }
 
+/// A slice of a sparse union; a dense union; a dictionary whose keys are all null.
 #[test]
-fn sparse_picks(rt: HostRuntime) {
+fn sparse_unions(rt: HostRuntime) {
     let alloc = rt.alloc();
-    let found = taken(alloc, cut(four_picks(alloc), 1, 2), &[1, 0]);
+    let found = taken(alloc, cut(four_unions(alloc), 1, 2), &[1, 0]);
     let first = numbers(alloc, &[12, 0], None);
     let second = texts(alloc, &[None, Some("b")]);
     assert!(rt; are_same(found, picks(alloc, &[0, 1], None, first, second)));

@@ -1,8 +1,8 @@
 //! What each kind of array does by the trait of arrays.
 use super::{
-    are_same, both, buffer, int32s, lists_of_lists, numbers, offsets_of, sizes, structs, truths,
+    are_same, booleans, both, buffer, int32s, lists_of_lists, numbers, offsets_of, sizes, structs,
 };
-use crate::array::dictionaries::four_texts;
+use crate::array::dictionaries::four_strings;
 use crate::array::maps::two_maps;
 use nest_array::{Array, FixedSizeBinaryArray, NullArray};
 use nest_flat::binary::BinaryArray;
@@ -39,7 +39,7 @@ fn bytes<O: Offset>(
     }
 }
 
-/// The slots a and bc as texts.
+/// The slots a and bc as strings.
 fn texts<O: Offset>(
     alloc: Global,
     data_type: DataType,
@@ -54,11 +54,12 @@ fn texts<O: Offset>(
     }
 }
 
+/// A slice to nothing at the end, of each kind.
 #[test]
 fn flat_arrays_end_empty(rt: HostRuntime) {
     let alloc = rt.alloc();
     assert!(rt; ends_empty(NullArray::try_new(DataType::Null, 3)));
-    assert!(rt; ends_empty(truths(alloc, &[true, false])));
+    assert!(rt; ends_empty(booleans(alloc, &[true, false])));
     assert!(rt; ends_empty(int32s(alloc, &[1, 2], Some(&[true, false]))));
     assert!(rt; ends_empty(bytes(alloc, DataType::Binary, &[0i32, 1, 3])));
     assert!(rt; ends_empty(bytes(alloc, DataType::LargeBinary, &[0i64, 1, 3])));
@@ -75,7 +76,7 @@ fn nested_arrays_end_empty(rt: HostRuntime) {
     assert!(rt; ends_empty(super::lists::by_large_offsets(alloc)));
     assert!(rt; ends_empty(structs::four(alloc, &[1, 2, 3, 4])));
     assert!(rt; ends_empty(two_maps(alloc)));
-    assert!(rt; ends_empty(four_texts(alloc)));
+    assert!(rt; ends_empty(four_strings(alloc)));
     assert!(rt; ends_empty(numbers(alloc, &[1, 2])));
 }
 
@@ -84,7 +85,7 @@ fn counts<A: Array>(array: &A) -> (usize, usize) {
     (array.len(), array.null_count())
 }
 
-/// The counts of the array, let go.
+/// The counts of the array, dropped.
 fn counts_of<A: Array + Drop>(array: Result<A, Error>) -> Option<(usize, usize)> {
     match array {
         Ok(array) => Some(counts(&array)),

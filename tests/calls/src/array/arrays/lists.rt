@@ -38,6 +38,7 @@ fn of_five(alloc: Global, offsets: &[i32]) -> Result<ListArray, Error> {
     list_array(alloc, numbers(alloc, &[1, 2, 3, 4, 5]), offsets, None)
 }
 
+/// Offsets 0, 2 over five numbers are one list, 0, 6 are past the child.
 #[test]
 fn offsets_within_the_child(rt: HostRuntime) {
     let array = of_five(rt.alloc(), &[0, 2]).expect(&rt, "one list");
@@ -47,6 +48,7 @@ fn offsets_within_the_child(rt: HostRuntime) {
     assert!(rt; past == Some(Error::OutOfSpec(Spec::OffsetPastChild)));
 }
 
+/// Lists under the type of lists of numbers are rejected for their child's type.
 #[test]
 fn children_of_their_type(rt: HostRuntime) {
     let inner = any_list(of_five(rt.alloc(), &[0, 2, 2, 3, 5]));

@@ -1,4 +1,4 @@
-//! What lists lend, what lies under a null, and what types and offsets tell.
+//! What lists lend, what is under a null, and what types and offsets tell.
 use super::lists::by_large_offsets;
 use super::sizes::pairs;
 use super::structs::four;
@@ -9,7 +9,7 @@ use nest_memory::error::Error;
 use std::alloc::Global;
 
 #[test]
-fn lists_lend_their_items(rt: HostRuntime) {
+fn lists_borrow_their_items(rt: HostRuntime) {
     let array = lists_of_lists(rt.alloc()).expect(&rt, "three lists");
     assert!(rt; array.len() == 3);
     assert!(rt; array.window(1).offset() == 2);
@@ -17,7 +17,7 @@ fn lists_lend_their_items(rt: HostRuntime) {
 }
 
 #[test]
-fn lists_of_other_kinds_lend_their_items(rt: HostRuntime) {
+fn lists_of_other_kinds_borrow_their_items(rt: HostRuntime) {
     let array = by_large_offsets(rt.alloc()).expect(&rt, "three lists");
     assert!(rt; array.len() == 3);
     assert!(rt; array.window(2).len() == 2);
@@ -59,13 +59,13 @@ fn pairs_under_a_null(rt: HostRuntime) {
 }
 
 #[test]
-fn fields_that_types_tell(rt: HostRuntime) {
+fn fields_of_types(rt: HostRuntime) {
     let array = four(rt.alloc(), &[42, 28, 19, 31]).expect(&rt, "four records");
     assert!(rt; StructArray::get_fields(array.data_type()).len() == 2);
 }
 
 #[test]
-fn items_that_types_tell(rt: HostRuntime) {
+fn items_of_types(rt: HostRuntime) {
     let data_type = list_type(rt.alloc(), Ok(DataType::Int32)).expect(&rt, "a type");
     let nullable = match ListArray::try_get_child(&data_type) {
         Ok(field) => field.is_nullable,

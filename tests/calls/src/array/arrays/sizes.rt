@@ -1,4 +1,4 @@
-//! Lists of one size, and arrays of nulls.
+//! Fixed-size lists, and arrays of nulls.
 use super::{has_numbers, numbers, validity};
 use nest_array::{AnyArray, Array, FixedSizeListArray, NullArray};
 use nest_memory::datatypes::DataType;
@@ -26,8 +26,9 @@ pub(crate) fn pairs(alloc: Global) -> Result<FixedSizeListArray, Error> {
     items.and_then(|items| fixed_lists(alloc, items, 2))
 }
 
+/// Pairs of 1 to 6 cut to the last two under a validity: null, [5,6]; under the null is [3,4].
 #[test]
-fn cut_pairs_under_a_validity(rt: HostRuntime) {
+fn slice_pairs_under_a_validity(rt: HostRuntime) {
     let array = pairs(rt.alloc()).expect(&rt, "three pairs");
     assert!(rt; array.len() == 3);
     let mut cut = array.sliced(1, 2);
@@ -40,7 +41,7 @@ fn cut_pairs_under_a_validity(rt: HostRuntime) {
     assert!(rt; has_numbers(cut.value(rt.alloc(), 0), &[3, 4]));
 }
 
-/// The array, and why its new validity was refused.
+/// The array, and why its new validity was rejected.
 fn kept<A, B>(changed: Result<A, (A, B)>) -> (A, Option<B>) {
     match changed {
         Ok(array) => (array, None),
@@ -48,8 +49,9 @@ fn kept<A, B>(changed: Result<A, (A, B)>) -> (A, Option<B>) {
     }
 }
 
+/// The same under a validity that is too long: rejected, nothing changed, and the array handed back.
 #[test]
-fn long_validity_refused(rt: HostRuntime) {
+fn long_validity_rejected(rt: HostRuntime) {
     let array = pairs(rt.alloc()).expect(&rt, "three pairs");
     assert!(rt; array.len() == 3);
     let cut = array.sliced(1, 2);
@@ -65,7 +67,7 @@ fn long_validity_refused(rt: HostRuntime) {
     assert!(rt; has_numbers(cut.value(rt.alloc(), 0), &[3, 4]));
 }
 
-/// Why lists of so many of six numbers are refused.
+/// Why lists of so many of six numbers are rejected.
 fn refusal(alloc: Global, size: usize) -> Option<Error> {
     let items = numbers(alloc, &[1, 2, 3, 4, 5, 6]);
     items
@@ -75,7 +77,7 @@ fn refusal(alloc: Global, size: usize) -> Option<Error> {
 
 #[test]
 fn sizes_that_divide(rt: HostRuntime) {
-    let spec = |fault| Some(Error::OutOfSpec(fault));
+    let spec = |failure| Some(Error::OutOfSpec(failure));
     assert!(rt; refusal(rt.alloc(), 0) == spec(Spec::ZeroSize));
     assert!(rt; refusal(rt.alloc(), 4) == spec(Spec::NotMultiple));
     assert!(rt; refusal(rt.alloc(), 6).is_none());

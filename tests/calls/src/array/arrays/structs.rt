@@ -1,21 +1,21 @@
-//! Records of a truth and a number.
-use super::{are_same, both, numbers, truths, two, validity};
+//! Records of a boolean and a number.
+use super::{are_same, booleans, both, numbers, two, validity};
 use nest_array::{AnyArray, Array, StructArray};
 use nest_memory::datatypes::DataType;
 use nest_memory::datatypes::field::Field;
 use nest_memory::error::{Error, Spec};
 use std::alloc::Global;
 
-/// The type of records of a truth and a number.
+/// The type of records of a boolean and a number.
 fn record_type(alloc: Global) -> Result<DataType, Error> {
-    let truth = Field::new(alloc, "b", DataType::Boolean, false);
+    let boolean = Field::new(alloc, "b", DataType::Boolean, false);
     let number = Field::new(alloc, "i", DataType::Int32, false);
-    two(alloc, truth, number).map(|fields| DataType::Struct(fields))
+    two(alloc, boolean, number).map(|fields| DataType::Struct(fields))
 }
 
 /// Truths as an array of any kind.
-fn any_truths(alloc: Global, items: &[bool]) -> Result<AnyArray, Error> {
-    truths(alloc, items).map(|array| AnyArray::Boolean(array))
+fn any_booleans(alloc: Global, items: &[bool]) -> Result<AnyArray, Error> {
+    booleans(alloc, items).map(|array| AnyArray::Boolean(array))
 }
 
 /// Records under this type.
@@ -35,11 +35,11 @@ fn records_under(
 
 fn records(
     alloc: Global,
-    truths: &[bool],
+    booleans: &[bool],
     items: &[i32],
     bits: Option<&[bool]>,
 ) -> Result<StructArray, Error> {
-    let children = two(alloc, any_truths(alloc, truths), numbers(alloc, items));
+    let children = two(alloc, any_booleans(alloc, booleans), numbers(alloc, items));
     records_under(alloc, record_type(alloc), children, bits)
 }
 
@@ -74,7 +74,7 @@ fn numbers_under_a_null(rt: HostRuntime) {
 #[test]
 fn children_in_the_order_of_fields(rt: HostRuntime) {
     let alloc = rt.alloc();
-    let children = two(alloc, numbers(alloc, &[42]), any_truths(alloc, &[true]));
+    let children = two(alloc, numbers(alloc, &[42]), any_booleans(alloc, &[true]));
     let refused = records_under(alloc, record_type(alloc), children, None).err();
     assert!(rt; refused == Some(Error::OutOfSpec(Spec::ChildType)));
 }

@@ -3,6 +3,7 @@ use super::{any_list, list_array, numbers};
 use nest_array::Window;
 use nest_array::equal::{equal, equal_windows};
 
+/// Windows over arrays and in windows.
 #[test]
 fn windows_in_windows(rt: HostRuntime) {
     let bits = Some([true, true, false, true].as_slice());

@@ -1,5 +1,5 @@
-//! Slots that are looked up by keys are equal by their values: keys, unused values and the place of a null don't count.
-use super::{by_keys, int32_keys, texts, texts_by};
+//! Slots that are looked up by keys are equal by their values: keys, unused values and the index of a null don't count.
+use super::{by_keys, int32_keys, strings_by, texts};
 use crate::array::arrays::{are_same, both, buffer, offsets_of};
 use nest_array::{AnyArray, DictionaryArray};
 use nest_flat::utf8::Utf8Array;
@@ -7,7 +7,7 @@ use nest_memory::datatypes::{DataType, IntegerType};
 use nest_memory::error::Error;
 use std::alloc::Global;
 
-/// The n slots of an array from place o; a refusal where it hasn't them.
+/// The n slots of an array from index o; a error where it hasn't them.
 pub(super) fn cut(
     array: Result<DictionaryArray, Error>,
     o: usize,
@@ -26,44 +26,46 @@ pub(super) fn cut(
     }
 }
 
+/// Keys 0, 1, 0 over a and b cut to the last two, against keys 1, 0 over a, b, a: equal.
 #[test]
 fn other_keys_of_the_same_values(rt: HostRuntime) {
     let alloc = rt.alloc();
-    let x = texts_by(alloc, &[0, 1, 0], None, &[Some("a"), Some("b")]);
-    let y = texts_by(alloc, &[1, 0], None, &[Some("a"), Some("b"), Some("a")]);
+    let x = strings_by(alloc, &[0, 1, 0], None, &[Some("a"), Some("b")]);
+    let y = strings_by(alloc, &[1, 0], None, &[Some("a"), Some("b"), Some("a")]);
     assert!(rt; are_same(cut(x, 1, 2), y) == Ok(true));
-    let x = texts_by(alloc, &[0, 1], None, &[Some("a"), Some("b")]);
-    let y = texts_by(alloc, &[1, 0], None, &[Some("a"), Some("b")]);
+    let x = strings_by(alloc, &[0, 1], None, &[Some("a"), Some("b")]);
+    let y = strings_by(alloc, &[1, 0], None, &[Some("a"), Some("b")]);
     assert!(rt; are_same(x, y) == Ok(false));
 }
 
+/// A null key against a key to a null value, and the same below another key: equal, but only the key is a null index.
 #[test]
 fn a_null_key_and_a_null_value(rt: HostRuntime) {
     let alloc = rt.alloc();
-    let by_key = texts_by(alloc, &[0], Some(&[false]), &[Some("x")]).expect(&rt, "a null key");
-    let by_value = texts_by(alloc, &[0], None, &[None]).expect(&rt, "a null value");
+    let by_key = strings_by(alloc, &[0], Some(&[false]), &[Some("x")]).expect(&rt, "a null key");
+    let by_value = strings_by(alloc, &[0], None, &[None]).expect(&rt, "a null value");
     assert!(rt; by_key.len() == 1);
     assert!(rt; by_value.len() == 1);
     assert!(rt; by_key.is_null(0));
     assert!(rt; !by_value.is_null(0));
     assert!(rt; by_key == by_value);
     assert!(rt; by_value == by_key);
-    let text = texts_by(alloc, &[0], None, &[Some("x")]).expect(&rt, "a text");
+    let text = strings_by(alloc, &[0], None, &[Some("x")]).expect(&rt, "a text");
     assert!(rt; by_key != text);
     assert!(rt; text != by_value);
 }
 
-/// Texts by keys as an array of any kind.
+/// Strings by keys as an array of any kind.
 pub(super) fn inner(
     alloc: Global,
     raw: &[i32],
     bits: Option<&[bool]>,
     items: &[Option<&str>],
 ) -> Result<AnyArray, Error> {
-    texts_by(alloc, raw, bits, items).map(|array| array.boxed())
+    strings_by(alloc, raw, bits, items).map(|array| array.boxed())
 }
 
-/// Texts by keys into keys.
+/// Strings by keys into keys.
 pub(super) fn by_two_keys(
     alloc: Global,
     raw: &[i32],
@@ -100,8 +102,8 @@ fn null_inside(alloc: Global) -> Result<DictionaryArray, Error> {
     by_two_keys(alloc, &[0], None, values)
 }
 
-/// A text, or a null by the value, behind two keys.
-fn text_inside(alloc: Global, text: Option<&str>) -> Result<DictionaryArray, Error> {
+/// A text, or a null by the value, after two keys.
+fn string_inside(alloc: Global, text: Option<&str>) -> Result<DictionaryArray, Error> {
     by_two_keys(alloc, &[0], None, inner(alloc, &[0], None, &[text]))
 }
 
@@ -109,16 +111,16 @@ fn text_inside(alloc: Global, text: Option<&str>) -> Result<DictionaryArray, Err
 fn nulls_by_each_key_and_by_the_value(rt: HostRuntime) {
     let alloc = rt.alloc();
     assert!(rt; are_same(null_outside(alloc), null_inside(alloc)) == Ok(true));
-    assert!(rt; are_same(null_inside(alloc), text_inside(alloc, None)) == Ok(true));
-    assert!(rt; are_same(text_inside(alloc, None), null_outside(alloc)) == Ok(true));
-    let text = text_inside(alloc, Some("x"));
+    assert!(rt; are_same(null_inside(alloc), string_inside(alloc, None)) == Ok(true));
+    assert!(rt; are_same(string_inside(alloc, None), null_outside(alloc)) == Ok(true));
+    let text = string_inside(alloc, Some("x"));
     assert!(rt; are_same(null_outside(alloc), text) == Ok(false));
-    let text = text_inside(alloc, Some("x"));
+    let text = string_inside(alloc, Some("x"));
     assert!(rt; are_same(text, null_inside(alloc)) == Ok(false));
 }
 
-/// A type of the user's over texts.
-pub(super) fn named_texts(alloc: Global) -> Result<DataType, Error> {
+/// A type of the caller over strings.
+pub(super) fn named_strings(alloc: Global) -> Result<DataType, Error> {
     let name = String::from_str(alloc, "name")?;
     Ok(DataType::Extension(name, Box::new(alloc, DataType::Utf8)?, None))
 }
@@ -137,8 +139,8 @@ pub(super) fn x_under(
     }
 }
 
-/// A text by a key under the type of texts by keys, whatever the type of the values themselves.
-pub(super) fn as_texts(
+/// A text by a key under the type of strings by keys, whatever the type of the values themselves.
+pub(super) fn as_strings(
     alloc: Global,
     values: Result<AnyArray, Error>,
 ) -> Result<DictionaryArray, Error> {
@@ -152,10 +154,11 @@ pub(super) fn as_texts(
     }
 }
 
+/// Keys under the type of strings over values of a type of the caller over strings: equal.
 #[test]
-fn values_are_told_by_their_logical_type(rt: HostRuntime) {
+fn values_are_viewed_by_their_logical_type(rt: HostRuntime) {
     let alloc = rt.alloc();
-    let x = as_texts(alloc, texts(alloc, &[Some("x")]));
-    let y = as_texts(alloc, x_under(alloc, named_texts(alloc)));
+    let x = as_strings(alloc, texts(alloc, &[Some("x")]));
+    let y = as_strings(alloc, x_under(alloc, named_strings(alloc)));
     assert!(rt; are_same(x, y) == Ok(true));
 }

@@ -1,4 +1,4 @@
-//! What constructors of dictionaries refuse, and in which order.
+//! What constructors of dictionaries reject, and in which order.
 use super::{by_keys, int32_keys, keys, texts};
 use crate::array::arrays::both;
 use nest_array::{AnyArray, AnyKeys, DictionaryArray, DictionaryKey};
@@ -29,7 +29,7 @@ fn under(
     }
 }
 
-/// Why key 7, which names nothing, into a text is refused under this type.
+/// Why key 7, which names nothing, into a text is rejected under this type.
 fn refused(alloc: Global, data_type: Result<DataType, Error>) -> Option<Error> {
     under(
         alloc,
@@ -43,7 +43,7 @@ fn refused(alloc: Global, data_type: Result<DataType, Error>) -> Option<Error> {
 #[test]
 fn each_check_before_the_next(rt: HostRuntime) {
     let alloc = rt.alloc();
-    let spec = |fault| Some(Error::OutOfSpec(fault));
+    let spec = |failure| Some(Error::OutOfSpec(failure));
     assert!(rt; refused(alloc, Ok(DataType::Utf8)) == spec(Spec::WrongType));
     let other_keys = dictionary_type(alloc, IntegerType::Int8, DataType::LargeUtf8, false);
     assert!(rt; refused(alloc, other_keys) == spec(Spec::KeyType));
@@ -53,26 +53,27 @@ fn each_check_before_the_next(rt: HostRuntime) {
     assert!(rt; refused(alloc, of_texts) == spec(Spec::KeyRange));
 }
 
-/// Why these keys into one text are refused.
-fn refused_keys(alloc: Global, keys: Result<AnyKeys, Error>) -> Option<Error> {
+/// Why these keys into one text are rejected.
+fn rejected_keys(alloc: Global, keys: Result<AnyKeys, Error>) -> Option<Error> {
     by_keys(alloc, keys, texts(alloc, &[Some("x")])).err()
 }
 
+/// A raw key 9 under a null beside a valid key, the keys -1 and 2^64 - 1: rejected; each error before the next.
 #[test]
 fn raw_keys_under_nulls_and_negative_ones(rt: HostRuntime) {
     let alloc = rt.alloc();
     let past = Some(Error::OutOfSpec(Spec::KeyRange));
     let under_null = keys(alloc, &[0i8, 9], Some(&[true, false])).map(|keys| i8::wrap(keys));
-    assert!(rt; refused_keys(alloc, under_null) == past);
-    assert!(rt; refused_keys(alloc, int32_keys(alloc, &[-1], None)) == past);
-    assert!(rt; refused_keys(alloc, int32_keys(alloc, &[1], None)) == past);
-    assert!(rt; refused_keys(alloc, int32_keys(alloc, &[0], None)) == None);
+    assert!(rt; rejected_keys(alloc, under_null) == past);
+    assert!(rt; rejected_keys(alloc, int32_keys(alloc, &[-1], None)) == past);
+    assert!(rt; rejected_keys(alloc, int32_keys(alloc, &[1], None)) == past);
+    assert!(rt; rejected_keys(alloc, int32_keys(alloc, &[0], None)) == None);
     let largest = keys(alloc, &[u64::MAX], None).map(|keys| u64::wrap(keys));
-    assert!(rt; refused_keys(alloc, largest) == past);
+    assert!(rt; rejected_keys(alloc, largest) == past);
 }
 
-/// A text by a key, under a type that says whether texts are ordered.
-fn one_text(alloc: Global, ordered: bool) -> Result<DictionaryArray, Error> {
+/// A text by a key, under a type that says whether strings are ordered.
+fn one_string(alloc: Global, ordered: bool) -> Result<DictionaryArray, Error> {
     under(
         alloc,
         dictionary_type(alloc, IntegerType::Int32, DataType::Utf8, ordered),
@@ -84,8 +85,8 @@ fn one_text(alloc: Global, ordered: bool) -> Result<DictionaryArray, Error> {
 #[test]
 fn the_type_says_whether_values_are_ordered(rt: HostRuntime) {
     let alloc = rt.alloc();
-    let ordered = one_text(alloc, true).expect(&rt, "an ordered text");
-    let unordered = one_text(alloc, false).expect(&rt, "a text");
+    let ordered = one_string(alloc, true).expect(&rt, "an ordered text");
+    let unordered = one_string(alloc, false).expect(&rt, "a text");
     assert!(rt; ordered.is_ordered());
     assert!(rt; !unordered.is_ordered());
     assert!(rt; ordered != unordered);

@@ -1,5 +1,5 @@
 //! Keys of each width.
-use super::{by_keys, expect_texts, keys, texts};
+use super::{by_keys, expect_strings, keys, texts};
 use nest_array::{AnyKeys, DictionaryKey};
 use nest_memory::error::Error;
 use std::alloc::Global;
@@ -8,9 +8,10 @@ use std::process::Abort;
 /// b and a by these keys.
 fn expect_pair(rt: &impl Abort, alloc: Global, keys: Result<AnyKeys, Error>) {
     let array = by_keys(alloc, keys, texts(alloc, &[Some("a"), Some("b")]));
-    expect_texts(rt, alloc, array, " b a");
+    expect_strings(rt, alloc, array, " b a");
 }
 
+/// Keys of each width, the largest and negative ones.
 #[test]
 fn signed_keys_name_values(rt: HostRuntime) {
     let alloc = rt.alloc();

@@ -22,6 +22,7 @@ fn dictionary_of(array: Result<AnyArray, Error>) -> Option<DictionaryArray> {
     }
 }
 
+/// Keys of 8 bits over lists of numbers, two slots: two null keys over one null value; none: no value.
 #[test]
 fn null_keys_over_one_null_value(rt: HostRuntime) {
     let made = nulls(rt.alloc(), lists_by_keys(rt.alloc()), 2);
@@ -59,7 +60,7 @@ fn keys_of_each_width(rt: HostRuntime) {
 }
 
 #[test]
-fn values_are_looked_at(rt: HostRuntime) {
+fn values_are_viewed(rt: HostRuntime) {
     let alloc = rt.alloc();
     let floats = dictionary(alloc, IntegerType::Int8, Ok(DataType::Float64));
     assert!(rt; refusal(nulls(alloc, floats, 0)) == Some(Error::NotYetImplemented));
@@ -68,7 +69,7 @@ fn values_are_looked_at(rt: HostRuntime) {
     assert!(rt; DictionaryArray::new_empty(alloc, DataType::Int8).err() == wrong);
 }
 
-/// How long an array is, how many of its keys are null, and how many values it has; it is let go.
+/// How long an array is, how many of its keys are null, and how many values it has; it is dropped.
 fn counts(array: Result<DictionaryArray, Error>) -> Result<(usize, usize, usize), Error> {
     match array {
         Ok(array) => {
@@ -94,9 +95,9 @@ fn lists_and_names(alloc: Global) -> Result<DataType, Error> {
     records(two(alloc, list(alloc, Ok(DataType::Int32)), names))
 }
 
-// Passes whichever request for memory is refused.
+// Passes whichever allocation fails.
 #[test]
-fn refused_memory(rt: HostRuntime) {
+fn without_memory(rt: HostRuntime) {
     match nulls(rt.alloc(), lists_and_names(rt.alloc()), 3) {
         Ok(array) => {
             assert!(rt; array.len() == 3);

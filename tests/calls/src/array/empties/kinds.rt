@@ -1,4 +1,6 @@
-//! The constructors of each kind: another kind of type first, then the faults of the type.
+//! The constructors of each kind: another kind of type first, then the errors of the type.
+//!
+//! The constructors of each kind reject another kind first.
 use crate::array::empties::types::{
     extension, large_list, list, map, numbers, records, sized, two, union,
 };
@@ -12,7 +14,7 @@ use std::alloc::Global;
 
 const WRONG: Option<Error> = Some(Error::OutOfSpec(Spec::WrongType));
 
-/// What a call refused, or why its type wasn't there.
+/// What a call rejected, or why its type wasn't there.
 fn refused<A: Drop>(array: Result<A, Error>) -> Option<Error> {
     array.err()
 }

@@ -1,4 +1,4 @@
-//! Which types and lengths are refused, and which refusal is the first.
+//! Which types and lengths are rejected, and which error is the first.
 use crate::array::empties::types::{
     extension, list, map, none, nulls, numbers, one, records, refusal, sized, two,
 };
@@ -17,6 +17,7 @@ fn no_bytes(alloc: Global) -> Result<DataType, Error> {
     Ok(DataType::FixedSizeBinary(0))
 }
 
+/// Floats are rejected.
 #[test]
 fn floats(rt: HostRuntime) {
     let alloc = rt.alloc();
@@ -26,6 +27,8 @@ fn floats(rt: HostRuntime) {
     assert!(rt; refusal(none(alloc, list(alloc, Ok(DataType::Float64)))) == NO_FLOATS);
 }
 
+/// Lists of the size 2^33, 2^33 of them, are too many items; of the size 2^64 - 1 there is one, of as many nulls, but not two.
+/// Lists of the size 2 of byte strings of the size 0: 2^63 of them are too many items, one of them has no size.
 #[test]
 fn products_before_children(rt: HostRuntime) {
     let alloc = rt.alloc();
@@ -39,6 +42,7 @@ fn products_before_children(rt: HostRuntime) {
     assert!(rt; refusal(nulls(alloc, Ok(DataType::FixedSizeBinary(part)), part)) == TOO_LONG);
 }
 
+/// Lists and strings of 2^64 - 1 slots have too many offsets.
 #[test]
 fn one_offset_more_than_slots(rt: HostRuntime) {
     let alloc = rt.alloc();
@@ -48,6 +52,7 @@ fn one_offset_more_than_slots(rt: HostRuntime) {
     assert!(rt; refusal(nulls(alloc, Ok(DataType::LargeBinary), usize::MAX)) == TOO_LONG);
 }
 
+/// Records of a float and a byte string of the size 0: the float first; records of no field.
 #[test]
 fn children_from_the_left(rt: HostRuntime) {
     let alloc = rt.alloc();
@@ -60,6 +65,7 @@ fn children_from_the_left(rt: HostRuntime) {
     assert!(rt; refusal(none(alloc, records(numbers(alloc, 0)))) == no_fields);
 }
 
+/// Entries that are no records of two fields, also where they are an extension of such; extensions at every level.
 #[test]
 fn entries_of_maps(rt: HostRuntime) {
     let alloc = rt.alloc();

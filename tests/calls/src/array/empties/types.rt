@@ -1,4 +1,4 @@
-//! Data types, each made of parts that may be refused.
+//! Data types, each made of parts that may be rejected.
 use nest_array::AnyArray;
 use nest_memory::datatypes::field::Field;
 use nest_memory::datatypes::{DataType, IntegerType, UnionMode};
@@ -94,7 +94,7 @@ pub fn union(
     Ok(DataType::Union(fields, ids, mode))
 }
 
-/// What a call refused.
+/// What a call rejected.
 pub fn refusal(array: Result<AnyArray, Error>) -> Option<Error> {
     match array {
         Ok(array) => {
@@ -105,7 +105,7 @@ pub fn refusal(array: Result<AnyArray, Error>) -> Option<Error> {
     }
 }
 
-/// So many nulls of a type that may be refused.
+/// So many nulls of a type that may be rejected.
 pub fn nulls(
     alloc: Global,
     data_type: Result<DataType, Error>,
@@ -117,7 +117,7 @@ pub fn nulls(
     }
 }
 
-/// No slot of a type that may be refused.
+/// No slot of a type that may be rejected.
 pub fn none(alloc: Global, data_type: Result<DataType, Error>) -> Result<AnyArray, Error> {
     match data_type {
         Ok(data_type) => nest_array::new_empty_array(alloc, data_type),

@@ -1,4 +1,4 @@
-//! Unions of nulls: which field they pick, and which are refused.
+//! Unions of nulls: which field they pick, and which are rejected.
 use crate::array::empties::types::{
     extension, list, none, nulls, numbers, one, refusal, two, union,
 };
@@ -7,7 +7,7 @@ use nest_memory::datatypes::{DataType, UnionMode};
 use nest_memory::error::{Error, Spec};
 use std::alloc::Global;
 
-fn number_or_text(alloc: Global, ids: Option<&[i32]>) -> Result<DataType, Error> {
+fn number_or_string(alloc: Global, ids: Option<&[i32]>) -> Result<DataType, Error> {
     let fields = two(alloc, Ok(DataType::Int32), Ok(DataType::Utf8));
     union(alloc, fields, ids, UnionMode::Sparse)
 }
@@ -30,7 +30,7 @@ fn union_of(array: Result<AnyArray, Error>) -> Option<UnionArray> {
 }
 
 // The type of what slot i picks, where it is a null.
-fn picks_null_of(alloc: Global, union: &UnionArray, i: usize, data_type: &DataType) -> bool {
+fn union_null_of(alloc: Global, union: &UnionArray, i: usize, data_type: &DataType) -> bool {
     if i >= union.len() {
         return false;
     }
@@ -46,18 +46,19 @@ fn is_null_of(scalar: AnyScalar, data_type: &DataType) -> bool {
     null
 }
 
+/// A sparse union of numbers and strings by the ids 5 and 7, two slots: types 5 and 5, picks of null numbers, no null counted.
 #[test]
 fn the_first_id_is_the_type(rt: HostRuntime) {
-    let made = nulls(rt.alloc(), number_or_text(rt.alloc(), Some(&[5, 7])), 2);
+    let made = nulls(rt.alloc(), number_or_string(rt.alloc(), Some(&[5, 7])), 2);
     let union = union_of(made).expect(&rt, "a union");
     assert!(rt; union.types().as_slice() == [5, 5].as_slice());
     assert!(rt; union.null_count() == 0);
     assert!(rt; union.offsets().is_none());
-    assert!(rt; picks_null_of(rt.alloc(), &union, 0, &DataType::Int32));
-    assert!(rt; picks_null_of(rt.alloc(), &union, 1, &DataType::Int32));
+    assert!(rt; union_null_of(rt.alloc(), &union, 0, &DataType::Int32));
+    assert!(rt; union_null_of(rt.alloc(), &union, 1, &DataType::Int32));
 }
 
-/// How many slots a union has, and how many fields; it is let go.
+/// How many slots a union has, and how many fields; it is dropped.
 fn counts(array: Result<UnionArray, Error>) -> Result<(usize, usize), Error> {
     match array {
         Ok(array) => {
@@ -71,34 +72,36 @@ fn counts(array: Result<UnionArray, Error>) -> Result<(usize, usize), Error> {
 
 #[test]
 fn nulls_by_the_call_of_their_kind(rt: HostRuntime) {
-    let data_type = number_or_text(rt.alloc(), None).expect(&rt, "number or text");
+    let data_type = number_or_string(rt.alloc(), None).expect(&rt, "number or text");
     assert!(rt; counts(UnionArray::new_null(rt.alloc(), data_type, 3)) == Ok((3, 2)));
 }
 
+/// Two fields with the id 5: types 5 and 5, picks of a null text.
 #[test]
 fn the_later_of_two_fields_with_one_id(rt: HostRuntime) {
-    let made = nulls(rt.alloc(), number_or_text(rt.alloc(), Some(&[5, 5])), 2);
+    let made = nulls(rt.alloc(), number_or_string(rt.alloc(), Some(&[5, 5])), 2);
     let union = union_of(made).expect(&rt, "a union");
     assert!(rt; union.types().as_slice() == [5, 5].as_slice());
     if union.len() == 2 {
         assert!(rt; union.index(0) == (1, 0));
         assert!(rt; union.index(1) == (1, 1));
     }
-    assert!(rt; picks_null_of(rt.alloc(), &union, 1, &DataType::Utf8));
+    assert!(rt; union_null_of(rt.alloc(), &union, 1, &DataType::Utf8));
 }
 
 #[test]
 fn without_ids_the_first_field(rt: HostRuntime) {
     let made = nulls(
         rt.alloc(),
-        extension(rt.alloc(), number_or_text(rt.alloc(), None)),
+        extension(rt.alloc(), number_or_string(rt.alloc(), None)),
         1,
     );
     let union = union_of(made).expect(&rt, "a union");
     assert!(rt; union.types().as_slice() == [0].as_slice());
-    assert!(rt; picks_null_of(rt.alloc(), &union, 0, &DataType::Int32));
+    assert!(rt; union_null_of(rt.alloc(), &union, 0, &DataType::Int32));
 }
 
+/// A union of no field: without a slot it is there, with one it is rejected.
 #[test]
 fn without_fields(rt: HostRuntime) {
     let alloc = rt.alloc();
@@ -111,6 +114,7 @@ fn without_fields(rt: HostRuntime) {
     assert!(rt; refusal(nulls(alloc, empty, 1)) == nothing);
 }
 
+/// A dense union of numbers: 2^31 + 1 slots are too many, two are at 0 and 1.
 #[test]
 fn dense_slots_one_after_another(rt: HostRuntime) {
     let alloc = rt.alloc();
@@ -132,6 +136,7 @@ fn dense_slots_one_after_another(rt: HostRuntime) {
     assert!(rt; union.offsets().map(|offsets| offsets.as_slice()) == Some([0, 1].as_slice()));
 }
 
+/// 128 fields, two ids of one field, the id 200.
 #[test]
 fn refused_types(rt: HostRuntime) {
     let alloc = rt.alloc();

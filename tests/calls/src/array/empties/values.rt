@@ -46,6 +46,7 @@ fn is_of(array: &AnyArray, length: usize, nulls: usize) -> bool {
     array.len() == length && array.null_count() == nulls
 }
 
+/// Three dates are three nulls, and three are counted.
 #[test]
 fn three_dates(rt: HostRuntime) {
     let dates = nulls(rt.alloc(), Ok(DataType::Date32), 3).expect(&rt, "dates");
@@ -53,6 +54,7 @@ fn three_dates(rt: HostRuntime) {
     assert!(rt; *dates.data_type() == DataType::Date32);
 }
 
+/// 2^64 - 1 slots of nulls are counted.
 #[test]
 fn as_many_nulls_as_a_length_can_be(rt: HostRuntime) {
     let alloc = rt.alloc();
@@ -88,7 +90,7 @@ fn child_is_empty(array: &AnyArray) -> bool {
 }
 
 #[test]
-fn below_lists_and_maps_lies_nothing(rt: HostRuntime) {
+fn lists_and_maps_are_opaque(rt: HostRuntime) {
     let alloc = rt.alloc();
     let lists = nulls(alloc, list(alloc, Ok(DataType::Int32)), 5).expect(&rt, "lists");
     assert!(rt; is_of(&lists, 5, 5));
@@ -109,8 +111,9 @@ fn ends_empty(array: AnyArray, empty: AnyArray) -> bool {
     same
 }
 
+/// A slice to nothing of each kind is the empty array of its type, after no comparison.
 #[test]
-fn a_cut_to_nothing_is_the_empty_array(rt: HostRuntime) {
+fn a_slice_to_nothing_is_the_empty_array(rt: HostRuntime) {
     let alloc = rt.alloc();
     let array = nulls(alloc, deep(alloc), 2).expect(&rt, "two nulls");
     let empty = none(alloc, deep(alloc)).expect(&rt, "none");
@@ -134,9 +137,9 @@ fn every_kind_below_records(rt: HostRuntime) {
     assert!(rt; is_of(&array, 3, 3));
 }
 
-// Passes whichever request for memory is refused.
+// Passes whichever allocation fails.
 #[test]
-fn refused_memory(rt: HostRuntime) {
+fn without_memory(rt: HostRuntime) {
     match nulls(rt.alloc(), deep(rt.alloc()), 3) {
         Ok(array) => {
             assert!(rt; is_of(&array, 3, 3));

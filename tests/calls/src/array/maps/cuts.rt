@@ -1,11 +1,11 @@
-//! Cuts of maps, and new validities.
+//! Slices of maps, and new validities.
 use super::{entries, has_entry, maps_of, two_maps};
 use crate::array::arrays::validity;
 use nest_array::{Array, MapArray};
 use nest_memory::error::{Error, Spec};
 
 #[test]
-fn cut_to_the_second_map(rt: HostRuntime) {
+fn sliced_to_the_second_map(rt: HostRuntime) {
     let array = two_maps(rt.alloc()).expect(&rt, "two maps");
     assert!(rt; array.len() == 2);
     let cut = array.sliced(1, 1);
@@ -14,7 +14,7 @@ fn cut_to_the_second_map(rt: HostRuntime) {
 }
 
 #[test]
-fn cut_of_a_cut(rt: HostRuntime) {
+fn slice_of_a_slice(rt: HostRuntime) {
     let bits = [true, false, true, true].as_slice();
     let array = maps_of(
         rt.alloc(),
@@ -46,7 +46,7 @@ fn null_over_one_record(rt: HostRuntime) {
     assert!(rt; has_entry(array.value(rt.alloc(), 1), "aa", "bb"));
 }
 
-/// The array, and why its new validity was refused.
+/// The array, and why its new validity was rejected.
 fn kept<A, B>(changed: Result<A, (A, B)>) -> (A, Option<B>) {
     match changed {
         Ok(array) => (array, None),

@@ -1,11 +1,11 @@
-//! Equality of maps, whatever lies under a null or before the first offset.
+//! Equality of maps, whatever is under a null or before the first offset.
 use super::{entries, maps_of, pairs, texts, two_maps};
 use crate::array::arrays::are_same;
 use nest_array::{AnyArray, MapArray};
 use nest_memory::error::Error;
 use std::alloc::Global;
 
-/// The two maps over other parts: a record stands before their entries, and none after.
+/// The two maps over other parts: a record is before their entries, and none after.
 fn rebuilt(alloc: Global) -> Result<MapArray, Error> {
     let first = texts(alloc, &[0, 1, 2, 4], b"xaaa");
     let field = pairs(alloc, first, texts(alloc, &[0, 1, 2, 4], b"ybbb"));
@@ -29,6 +29,8 @@ fn null_over(alloc: Global, end: i32) -> Result<MapArray, Error> {
     maps_of(alloc, entries(alloc), &[0, 1, end], Some(&[true, false]))
 }
 
+/// Maps are the same whatever is under a null or before their first entry; each of their calls with memory, and with any one
+/// request rejected.
 #[test]
 fn entries_under_a_null(rt: HostRuntime) {
     let alloc = rt.alloc();

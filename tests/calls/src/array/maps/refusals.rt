@@ -1,5 +1,5 @@
-//! What the constructor of maps refuses, and which refusal is the first.
-use super::{entries, map_type, maps_of, maps_under, pair_type, text_field};
+//! What the constructor of maps rejects, and which error is the first.
+use super::{entries, map_type, maps_of, maps_under, pair_type, string_field};
 use crate::array::arrays::{list_type, numbers, two};
 use nest_memory::datatypes::DataType;
 use nest_memory::error::{Argument, Error, Spec};
@@ -16,6 +16,8 @@ fn extension(alloc: Global, inner: Result<DataType, Error>) -> Result<DataType, 
     }
 }
 
+/// Maps whose entries are under an extension of a struct of two fields, or a struct of three, are rejected for their inner
+/// type; a null over one record is a null.
 #[test]
 fn extension_of_records_inside(rt: HostRuntime) {
     let alloc = rt.alloc();
@@ -33,10 +35,10 @@ fn extension_of_maps(rt: HostRuntime) {
     assert!(rt; array.len() == 2);
 }
 
-/// The type of records of three texts.
+/// The type of records of three strings.
 fn triple_type(alloc: Global) -> Result<DataType, Error> {
-    let mut fields = two(alloc, text_field(alloc, "a"), text_field(alloc, "b"))?;
-    fields.push(text_field(alloc, "c")?)?;
+    let mut fields = two(alloc, string_field(alloc, "a"), string_field(alloc, "b"))?;
+    fields.push(string_field(alloc, "c")?)?;
     Ok(DataType::Struct(fields))
 }
 

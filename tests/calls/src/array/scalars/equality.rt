@@ -1,4 +1,6 @@
 //! Which scalars are equal: those of one data type and one slot.
+//!
+//! Scalars are equal by data type and slot, whatever the offsets, and whatever is under a null.
 use super::scalar_of;
 use crate::array::arrays::lists::by_large_offsets;
 use crate::array::arrays::structs::four;
@@ -22,7 +24,7 @@ fn same<A: Array + Drop, B: Array + Drop>(
     are_same(scalar_of(alloc, array, i), scalar_of(alloc, other, j))
 }
 
-/// Dates, told in the same numbers of 32 bits.
+/// Dates, pushed in the same numbers of 32 bits.
 fn dates(alloc: Global, days: &[i32]) -> Result<PrimitiveArray<i32>, Error> {
     match buffer(alloc, days) {
         Ok(values) => PrimitiveArray::try_new(DataType::Date32, values, None),
@@ -42,7 +44,7 @@ fn numbers_and_nulls(rt: HostRuntime) {
 }
 
 #[test]
-fn data_types_tell_scalars_apart(rt: HostRuntime) {
+fn scalars_of_other_types_differ(rt: HostRuntime) {
     let alloc = rt.alloc();
     let array = numbers(alloc, &[1]);
     assert!(rt; same(alloc, array, 0, dates(alloc, &[1]), 0) == Ok(false));

@@ -1,9 +1,9 @@
-//! The test passes whichever request for memory is refused: the refusal is told, and leaves the array.
+//! The test passes whichever allocation fails: the error is returned, and leaves the array.
 use super::scalar_at;
-use crate::array::arrays::memory::unless_refused;
+use crate::array::arrays::memory::unless_without_memory;
 use crate::array::arrays::structs::four;
 use crate::array::arrays::{any_list, lists_of_lists};
-use crate::array::dictionaries::four_texts;
+use crate::array::dictionaries::four_strings;
 use crate::array::maps::two_maps;
 use crate::array::unions::in_turn;
 use nest_array::{AnyArray, Array};
@@ -13,12 +13,12 @@ use std::process::Abort;
 
 /// Two scalars of slot 1, where memory is there for them, are equal.
 fn expect_same_twice(rt: &impl Abort, alloc: Global, array: Result<AnyArray, Error>) {
-    let Some(array) = unless_refused(rt, array) else {
+    let Some(array) = unless_without_memory(rt, array) else {
         return;
     };
     let n = array.len();
-    if let Some(scalar) = unless_refused(rt, scalar_at(alloc, &array, 1)) {
-        if let Some(again) = unless_refused(rt, scalar_at(alloc, &array, 1)) {
+    if let Some(scalar) = unless_without_memory(rt, scalar_at(alloc, &array, 1)) {
+        if let Some(again) = unless_without_memory(rt, scalar_at(alloc, &array, 1)) {
             assert!(rt; again == scalar);
             drop(again);
         }
@@ -29,13 +29,15 @@ fn expect_same_twice(rt: &impl Abort, alloc: Global, array: Result<AnyArray, Err
     drop(array);
 }
 
+/// Copies, values and scalars for which an allocation fails leave their array, of lists, records, maps, unions and
+/// dictionaries.
 #[test]
-fn refused_memory(rt: HostRuntime) {
+fn without_memory(rt: HostRuntime) {
     let alloc = rt.alloc();
     expect_same_twice(&rt, alloc, any_list(lists_of_lists(alloc)));
     let records = four(alloc, &[42, 28, 19, 31]);
     expect_same_twice(&rt, alloc, records.map(|records| records.boxed()));
     expect_same_twice(&rt, alloc, two_maps(alloc).map(|maps| maps.boxed()));
     expect_same_twice(&rt, alloc, in_turn(alloc).map(|picks| picks.boxed()));
-    expect_same_twice(&rt, alloc, four_texts(alloc).map(|keyed| keyed.boxed()));
+    expect_same_twice(&rt, alloc, four_strings(alloc).map(|keyed| keyed.boxed()));
 }

@@ -1,12 +1,12 @@
 //! Scalars of unions: a pick by itself, and the scalar of what is picked.
 use super::{in_turn, middle, sparse};
 use crate::array::arrays::are_same;
-use crate::array::scalars::{scalar_of, slot, spelled};
+use crate::array::scalars::{decoded, scalar_of, slot};
 use nest_array::{AnyScalar, UnionArray};
 use nest_memory::error::Error;
 use std::alloc::Global;
 
-/// The scalar of what slot i picks, `Overflow` where there is no such slot; the array is let go.
+/// The scalar of what slot i picks, `Overflow` where there is no such slot; the array is dropped.
 fn picked(alloc: Global, array: Result<UnionArray, Error>, i: usize) -> Result<AnyScalar, Error> {
     let array = array?;
     let scalar = match i < array.len() {
@@ -17,21 +17,22 @@ fn picked(alloc: Global, array: Result<UnionArray, Error>, i: usize) -> Result<A
     scalar
 }
 
+/// The scalar of what a slot picks, also after a slice, and of the pick itself, which pushes its field.
 #[test]
-fn what_is_picked(rt: HostRuntime) {
+fn projected_columns(rt: HostRuntime) {
     let alloc = rt.alloc();
     let first = picked(alloc, in_turn(alloc), 0);
-    assert!(rt; spelled(alloc, first).as_str() == "Int32(10)");
+    assert!(rt; decoded(alloc, first).as_str() == "Int32(10)");
     let last = picked(alloc, in_turn(alloc), 3);
-    assert!(rt; spelled(alloc, last).as_str() == "'d'");
+    assert!(rt; decoded(alloc, last).as_str() == "'d'");
     let text = picked(alloc, middle(alloc), 0);
-    assert!(rt; spelled(alloc, text).as_str() == "'b'");
+    assert!(rt; decoded(alloc, text).as_str() == "'b'");
     let number = picked(alloc, middle(alloc), 1);
-    assert!(rt; spelled(alloc, number).as_str() == "Int32(12)");
+    assert!(rt; decoded(alloc, number).as_str() == "Int32(12)");
 }
 
 #[test]
-fn picks_by_themselves(rt: HostRuntime) {
+fn unions_by_themselves(rt: HostRuntime) {
     let alloc = rt.alloc();
     assert!(rt; slot(alloc, in_turn(alloc), 0).as_str() == "field 0");
     assert!(rt; slot(alloc, middle(alloc), 0).as_str() == "field 1");
@@ -43,7 +44,7 @@ fn seven(alloc: Global, types: &[i8]) -> Result<UnionArray, Error> {
 }
 
 #[test]
-fn picks_are_told_apart_by_their_fields(rt: HostRuntime) {
+fn unions_differ_in_their_fields(rt: HostRuntime) {
     let alloc = rt.alloc();
     let pick = |types: &[i8]| scalar_of(alloc, seven(alloc, types), 0);
     assert!(rt; are_same(pick(&[0]), pick(&[0])) == Ok(true));

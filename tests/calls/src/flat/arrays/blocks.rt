@@ -1,4 +1,6 @@
-//! Blocks of raw values: what lies under a null counts, and whether a slot is null doesn't.
+//! Blocks of raw values: what is under a null counts, and whether a slot is null doesn't.
+//!
+//! Raw values in blocks: of 0, 1, 16 and 17 values, at other indices, under nulls.
 use super::numbers;
 use nest_flat::primitive::PrimitiveArray;
 use nest_memory::datatypes::DataType;

@@ -1,5 +1,5 @@
-//! Cuts, and new validities.
-use super::{binaries, numbers, texts, truths, validity};
+//! Slices, and new validities.
+use super::{binaries, booleans, numbers, texts, validity};
 use nest_flat::primitive::PrimitiveArray;
 use nest_memory::datatypes::DataType;
 use nest_memory::error::{Error, Spec};
@@ -12,7 +12,7 @@ fn three(alloc: Global) -> Result<PrimitiveArray<i32>, Error> {
 }
 
 #[test]
-fn cuts_of_numbers(rt: HostRuntime) {
+fn slices_of_numbers(rt: HostRuntime) {
     let array = three(rt.alloc()).expect(&rt, "three slots");
     assert!(rt; array.len() == 3);
     let mut cut = array.sliced(1, 2);
@@ -36,9 +36,9 @@ fn parts_of_numbers(rt: HostRuntime) {
 }
 
 #[test]
-fn cuts_of_truths(rt: HostRuntime) {
+fn slices_of_booleans(rt: HostRuntime) {
     let bits = Some([true, false, true].as_slice());
-    let array = truths(rt.alloc(), &[false, false, true], bits).expect(&rt, "three slots");
+    let array = booleans(rt.alloc(), &[false, false, true], bits).expect(&rt, "three slots");
     assert!(rt; array.len() == 3);
     let mut cut = array.sliced(1, 2);
     assert!(rt; cut.len() == 2);
@@ -48,7 +48,7 @@ fn cuts_of_truths(rt: HostRuntime) {
 }
 
 #[test]
-fn cuts_of_bytes(rt: HostRuntime) {
+fn slices_of_bytes(rt: HostRuntime) {
     let offsets = [0, 1, 1, 3].as_slice();
     let array = binaries(rt.alloc(), &[4, 5, 6], offsets, None).expect(&rt, "three slots");
     assert!(rt; array.len() == 3);
@@ -61,7 +61,7 @@ fn cuts_of_bytes(rt: HostRuntime) {
 }
 
 #[test]
-fn cuts_of_texts(rt: HostRuntime) {
+fn slices_of_strings(rt: HostRuntime) {
     let array = texts(rt.alloc(), b"onetwo", &[0, 3, 6], None).expect(&rt, "two slots");
     assert!(rt; array.len() == 2);
     let mut cut = array.sliced(1, 1);
@@ -72,7 +72,7 @@ fn cuts_of_texts(rt: HostRuntime) {
 }
 
 #[test]
-fn new_validity_taken(rt: HostRuntime) {
+fn new_validity_moved(rt: HostRuntime) {
     let mut array = three(rt.alloc()).expect(&rt, "three slots");
     let first = validity(rt.alloc(), Some(&[false, true, true])).expect(&rt, "three bits");
     assert!(rt; array.set_validity(first) == Ok(()));
@@ -84,7 +84,7 @@ fn new_validity_taken(rt: HostRuntime) {
 }
 
 #[test]
-fn short_validity_refused(rt: HostRuntime) {
+fn short_validity_rejected(rt: HostRuntime) {
     let mut array = three(rt.alloc()).expect(&rt, "three slots");
     let refused = Err(Error::OutOfSpec(Spec::ValidityLength));
     let short = validity(rt.alloc(), Some(&[false, false])).expect(&rt, "two bits");

@@ -1,5 +1,5 @@
 //! Slots and raw values from both ends, and how many are left.
-use super::{binaries, numbers, texts, truths};
+use super::{binaries, booleans, numbers, texts};
 use nest_flat::utf8::Utf8Array;
 use nest_flat::utf8::mutable::MutableUtf8Array;
 use nest_memory::datatypes::DataType;
@@ -25,9 +25,9 @@ fn numbers_from_both_ends(rt: HostRuntime) {
 }
 
 #[test]
-fn truths_from_both_ends(rt: HostRuntime) {
+fn booleans_from_both_ends(rt: HostRuntime) {
     let bits = Some([false, true].as_slice());
-    let array = truths(rt.alloc(), &[true, false], bits).expect(&rt, "two slots");
+    let array = booleans(rt.alloc(), &[true, false], bits).expect(&rt, "two slots");
     let mut slots = array.iter();
     assert!(rt; slots.next_back() == Some(Some(false)));
     assert!(rt; slots.len() == 1);
@@ -63,7 +63,7 @@ fn bytes_from_both_ends(rt: HostRuntime) {
 }
 
 #[test]
-fn texts_from_both_ends(rt: HostRuntime) {
+fn strings_from_both_ends(rt: HostRuntime) {
     let bits = Some([false, true].as_slice());
     let array = texts(rt.alloc(), b"onetwo", &[0, 3, 6], bits).expect(&rt, "two slots");
     let mut slots = array.iter();
@@ -79,10 +79,14 @@ const WORDS: [&str; 4] = ["", "é", "日本", "text"];
 
 /// The slot i of many.
 fn word(i: usize) -> Option<&'static str> {
-    if i % 10 == 9 { None } else { Some(WORDS[i % 4]) }
+    if i % 10 == 9 {
+        None
+    } else {
+        Some(WORDS[i % 4])
+    }
 }
 
-fn many_texts(alloc: Global, n: usize) -> Result<Utf8Array<i32>, Error> {
+fn many_strings(alloc: Global, n: usize) -> Result<Utf8Array<i32>, Error> {
     let mut builder = MutableUtf8Array::new(alloc)?;
     for i in 0..n {
         builder.try_push(word(i))?;
@@ -90,9 +94,10 @@ fn many_texts(alloc: Global, n: usize) -> Result<Utf8Array<i32>, Error> {
     builder.freeze()
 }
 
+/// Strings of many slots, of one to three bytes a character, from both ends and of slices.
 #[test]
-fn many_texts_from_both_ends(rt: HostRuntime) {
-    let array = many_texts(rt.alloc(), 200).expect(&rt, "200 slots");
+fn many_strings_from_both_ends(rt: HostRuntime) {
+    let array = many_strings(rt.alloc(), 200).expect(&rt, "200 slots");
     let mut slots = array.iter();
     for i in 0..100 {
         assert!(rt; slots.next() == Some(word(i)));
@@ -103,9 +108,9 @@ fn many_texts_from_both_ends(rt: HostRuntime) {
 }
 
 #[test]
-fn many_texts_of_cuts(rt: HostRuntime) {
+fn many_strings_of_slices(rt: HostRuntime) {
     for (o, n) in [(0, 64), (1, 64), (63, 2), (37, 130), (199, 1), (200, 0)] {
-        let array = many_texts(rt.alloc(), 200).expect(&rt, "200 slots");
+        let array = many_strings(rt.alloc(), 200).expect(&rt, "200 slots");
         let cut = array.sliced(o, n);
         let mut count = 0;
         for item in cut.iter() {

@@ -1,9 +1,10 @@
-//! The slots of each kind of array, and what lies under its nulls.
-use super::{binaries, numbers, texts, truths};
+//! The slots of each kind of array, and what is under its nulls.
+use super::{binaries, booleans, numbers, texts};
 use nest_flat::any_native::AnyNative;
 use nest_flat::any_primitive::{AnyPrimitive, NativeArray};
 use nest_memory::datatypes::DataType;
 
+/// Slots, and what is under a null, of each kind.
 #[test]
 fn slots_of_numbers(rt: HostRuntime) {
     let bits = Some([true, false].as_slice());
@@ -19,9 +20,9 @@ fn slots_of_numbers(rt: HostRuntime) {
 }
 
 #[test]
-fn slots_of_truths(rt: HostRuntime) {
+fn slots_of_booleans(rt: HostRuntime) {
     let bits = Some([true, true, false].as_slice());
-    let array = truths(rt.alloc(), &[true, false, true], bits).expect(&rt, "three slots");
+    let array = booleans(rt.alloc(), &[true, false, true], bits).expect(&rt, "three slots");
     assert!(rt; !array.is_empty());
     assert!(rt; array.len() == 3);
     assert!(rt; array.get(0) == Some(true));
@@ -51,7 +52,7 @@ fn slots_of_bytes(rt: HostRuntime) {
 }
 
 #[test]
-fn slots_of_texts(rt: HostRuntime) {
+fn slots_of_strings(rt: HostRuntime) {
     let bits = Some([false, true].as_slice());
     let array = texts(rt.alloc(), b"onetwo", &[0, 3, 6], bits).expect(&rt, "two slots");
     assert!(rt; !array.is_empty());

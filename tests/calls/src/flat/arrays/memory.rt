@@ -1,13 +1,13 @@
-//! Each test passes whichever request for memory is refused: a refused clone leaves its array.
-use super::{binaries, numbers, texts, truths};
+//! Each test passes whichever allocation fails: a rejected clone leaves its array.
+use super::{binaries, booleans, numbers, texts};
 use nest_flat::any_primitive::{AnyPrimitive, NativeArray};
 use nest_memory::datatypes::DataType;
 use nest_memory::error::Error;
 use std::alloc::{AllocError, Global};
 use std::process::Abort;
 
-/// What a call gave, or `None` where memory was refused; nothing else may be.
-fn unless_refused<T>(rt: &impl Abort, outcome: Result<T, Error>) -> Option<T> {
+/// The result of a call, or `None` where an allocation failed; nothing else may be.
+fn unless_without_memory<T>(rt: &impl Abort, outcome: Result<T, Error>) -> Option<T> {
     match outcome {
         Ok(value) => Some(value),
         Err(error) => {
@@ -18,15 +18,16 @@ fn unless_refused<T>(rt: &impl Abort, outcome: Result<T, Error>) -> Option<T> {
 }
 
 fn expect_same<A: PartialEq + Drop>(rt: &impl Abort, copy: Result<A, Error>, array: &A) {
-    if let Some(copy) = unless_refused(rt, copy) {
+    if let Some(copy) = unless_without_memory(rt, copy) {
         assert!(rt; copy == *array);
     }
 }
 
+/// Any one allocation fails: a clone leaves its array, a push its builder.
 #[test]
-fn refused_clone_of_numbers(rt: HostRuntime) {
+fn failed_clone_of_primitive(rt: HostRuntime) {
     let numbers = numbers(rt.alloc(), DataType::Int32, &[1, 2], Some(&[true, false]));
-    let Some(array) = unless_refused(&rt, numbers) else {
+    let Some(array) = unless_without_memory(&rt, numbers) else {
         return;
     };
     expect_same(&rt, array.clone(rt.alloc()), &array);
@@ -36,9 +37,9 @@ fn refused_clone_of_numbers(rt: HostRuntime) {
 }
 
 #[test]
-fn refused_clone_of_truths(rt: HostRuntime) {
-    let truths = truths(rt.alloc(), &[true, true], Some(&[true, false]));
-    let Some(array) = unless_refused(&rt, truths) else {
+fn failed_clone_of_booleans(rt: HostRuntime) {
+    let booleans = booleans(rt.alloc(), &[true, true], Some(&[true, false]));
+    let Some(array) = unless_without_memory(&rt, booleans) else {
         return;
     };
     expect_same(&rt, array.clone(rt.alloc()), &array);
@@ -48,9 +49,9 @@ fn refused_clone_of_truths(rt: HostRuntime) {
 }
 
 #[test]
-fn refused_clone_of_bytes(rt: HostRuntime) {
+fn failed_clone_of_binary(rt: HostRuntime) {
     let bytes = binaries(rt.alloc(), &[4, 5], &[0, 2, 2], Some(&[true, false]));
-    let Some(array) = unless_refused(&rt, bytes) else {
+    let Some(array) = unless_without_memory(&rt, bytes) else {
         return;
     };
     expect_same(&rt, array.clone(rt.alloc()), &array);
@@ -60,9 +61,9 @@ fn refused_clone_of_bytes(rt: HostRuntime) {
 }
 
 #[test]
-fn refused_clone_of_texts(rt: HostRuntime) {
+fn failed_clone_of_strings(rt: HostRuntime) {
     let texts = texts(rt.alloc(), b"ab", &[0, 2, 2], Some(&[true, false]));
-    let Some(array) = unless_refused(&rt, texts) else {
+    let Some(array) = unless_without_memory(&rt, texts) else {
         return;
     };
     expect_same(&rt, array.clone(rt.alloc()), &array);
@@ -77,11 +78,11 @@ fn any_of(alloc: Global) -> Result<AnyPrimitive, Error> {
 }
 
 #[test]
-fn refused_clone_of_any(rt: HostRuntime) {
-    let Some(array) = unless_refused(&rt, any_of(rt.alloc())) else {
+fn failed_clone_of_any(rt: HostRuntime) {
+    let Some(array) = unless_without_memory(&rt, any_of(rt.alloc())) else {
         return;
     };
-    if let Some(copy) = unless_refused(&rt, array.clone(rt.alloc())) {
+    if let Some(copy) = unless_without_memory(&rt, array.clone(rt.alloc())) {
         assert!(rt; copy.len() == 2);
         assert!(rt; copy.null_count() == 1);
     }

@@ -1,4 +1,6 @@
 //! Flat arrays of nulls, and such arrays without a slot.
+//!
+//! Nulls of each kind over zeros, false, no byte; none of each kind; rejected types and lengths.
 use nest_flat::binary::BinaryArray;
 use nest_flat::boolean::BooleanArray;
 use nest_flat::primitive::PrimitiveArray;
@@ -7,7 +9,7 @@ use nest_memory::datatypes::{DataType, IntervalUnit};
 use nest_memory::error::{Error, Spec};
 use nest_memory::types::{days_ms, months_days_ns};
 
-/// What a call refused.
+/// What a call rejected.
 fn refusal<A: Drop>(array: Result<A, Error>) -> Option<Error> {
     array.err()
 }
@@ -41,9 +43,9 @@ fn spans_are_zeros(rt: HostRuntime) {
 
 #[test]
 fn null_truths(rt: HostRuntime) {
-    let truths = BooleanArray::new_null(rt.alloc(), DataType::Boolean, 9).expect(&rt, "truths");
-    assert!(rt; truths.null_count() == 9);
-    assert!(rt; truths.values().unset_bits() == 9);
+    let booleans = BooleanArray::new_null(rt.alloc(), DataType::Boolean, 9).expect(&rt, "booleans");
+    assert!(rt; booleans.null_count() == 9);
+    assert!(rt; booleans.values().unset_bits() == 9);
 }
 
 #[test]
@@ -64,15 +66,15 @@ fn null_texts(rt: HostRuntime) {
 }
 
 #[test]
-fn truths_cut_to_nothing_are_the_empty_array(rt: HostRuntime) {
-    let truths = BooleanArray::new_null(rt.alloc(), DataType::Boolean, 2).expect(&rt, "truths");
-    let none = BooleanArray::new_empty(rt.alloc(), DataType::Boolean).expect(&rt, "no truth");
-    assert!(rt; truths.len() == 2);
-    assert!(rt; truths.sliced(2, 0) == none);
+fn booleans_sliced_to_nothing_are_the_empty_array(rt: HostRuntime) {
+    let booleans = BooleanArray::new_null(rt.alloc(), DataType::Boolean, 2).expect(&rt, "booleans");
+    let none = BooleanArray::new_empty(rt.alloc(), DataType::Boolean).expect(&rt, "no boolean");
+    assert!(rt; booleans.len() == 2);
+    assert!(rt; booleans.sliced(2, 0) == none);
 }
 
 #[test]
-fn bytes_cut_to_nothing_are_the_empty_array(rt: HostRuntime) {
+fn bytes_sliced_to_nothing_are_the_empty_array(rt: HostRuntime) {
     let bytes = BinaryArray::<i32>::new_null(rt.alloc(), DataType::Binary, 2).expect(&rt, "bytes");
     let none = BinaryArray::<i32>::new_empty(rt.alloc(), DataType::Binary).expect(&rt, "no bytes");
     assert!(rt; bytes.len() == 2);
@@ -80,7 +82,7 @@ fn bytes_cut_to_nothing_are_the_empty_array(rt: HostRuntime) {
 }
 
 #[test]
-fn texts_cut_to_nothing_are_the_empty_array(rt: HostRuntime) {
+fn strings_sliced_to_nothing_are_the_empty_array(rt: HostRuntime) {
     let texts = Utf8Array::<i64>::new_null(rt.alloc(), DataType::LargeUtf8, 2).expect(&rt, "texts");
     let none = Utf8Array::<i64>::new_empty(rt.alloc(), DataType::LargeUtf8).expect(&rt, "no text");
     assert!(rt; texts.len() == 2);

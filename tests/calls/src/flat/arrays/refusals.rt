@@ -1,24 +1,27 @@
-//! The first check that fails is the one that is answered.
-use super::{binaries, numbers, texts, truths};
+//! The first check that fails is the one that is decoded.
+use super::{binaries, booleans, numbers, texts};
 use nest_memory::datatypes::DataType;
 use nest_memory::error::{Error, Spec};
 
+/// Strings may not be cut inside a character: of a, é, b the offsets 0, 2, 4 are rejected as text, 0, 5 as past the bytes; 1, 3
+/// is the slot é.
 #[test]
-fn texts_end_with_characters(rt: HostRuntime) {
+fn strings_end_with_characters(rt: HostRuntime) {
     // a, é in two bytes, b
     let bytes = [0x61, 0xc3, 0xa9, 0x62].as_slice();
-    for (offsets, fault) in [
+    for (offsets, failure) in [
         ([0, 2, 4].as_slice(), Spec::Text),
         ([0, 5].as_slice(), Spec::OffsetPastChild),
     ] {
         let refused = texts(rt.alloc(), bytes, offsets, None).err();
-        assert!(rt; refused == Some(Error::OutOfSpec(fault)));
+        assert!(rt; refused == Some(Error::OutOfSpec(failure)));
     }
     let one = texts(rt.alloc(), bytes, &[1, 3], None).expect(&rt, "one slot");
     assert!(rt; one.len() == 1);
     assert!(rt; one.get(0) == Some("é"));
 }
 
+/// Days are numbers of 32 bits, 64-bit numbers are not; a validity that is too long comes first.
 #[test]
 fn natives_of_their_data_type(rt: HostRuntime) {
     let long = Some([true, true, true].as_slice());
@@ -33,12 +36,12 @@ fn natives_of_their_data_type(rt: HostRuntime) {
 }
 
 #[test]
-fn bytes_and_truths_refused(rt: HostRuntime) {
+fn binary_and_boolean_without_memory(rt: HostRuntime) {
     let long = Some([true, true, true].as_slice());
     let past = binaries(rt.alloc(), &[1, 2], &[0, 3], long).err();
     assert!(rt; past == Some(Error::OutOfSpec(Spec::OffsetPastChild)));
     let unlike = binaries(rt.alloc(), &[1, 2], &[0, 2], long).err();
     assert!(rt; unlike == Some(Error::OutOfSpec(Spec::ValidityLength)));
-    let unlike = truths(rt.alloc(), &[true], long).err();
+    let unlike = booleans(rt.alloc(), &[true], long).err();
     assert!(rt; unlike == Some(Error::OutOfSpec(Spec::ValidityLength)));
 }

@@ -1,9 +1,9 @@
-//! Arrays are equal where their data types and their slots are; what lies under a null does not count.
-use super::{binaries, numbers, texts, truths};
+//! Arrays are equal where their data types and their slots are; what is under a null does not count.
+use super::{binaries, booleans, numbers, texts};
 use nest_memory::datatypes::DataType;
 use nest_memory::error::Error;
 
-/// Whether both were made and are equal; both are let go.
+/// Whether both were made and are equal; both are dropped.
 fn are_same<A: PartialEq + Drop>(x: Result<A, Error>, y: Result<A, Error>) -> Result<bool, Error> {
     let (x, y) = super::both(x, y)?;
     Ok(x == y)
@@ -28,13 +28,13 @@ fn numbers_under_nulls(rt: HostRuntime) {
 }
 
 #[test]
-fn truths_under_nulls(rt: HostRuntime) {
+fn booleans_under_nulls(rt: HostRuntime) {
     let alloc = rt.alloc();
     let bits = Some([true, false].as_slice());
-    let array = truths(alloc, &[true, false], bits);
-    assert!(rt; are_same(array, truths(alloc, &[true, true], bits)) == Ok(true));
-    let array = truths(alloc, &[true, false], bits);
-    assert!(rt; are_same(array, truths(alloc, &[false, false], bits)) == Ok(false));
+    let array = booleans(alloc, &[true, false], bits);
+    assert!(rt; are_same(array, booleans(alloc, &[true, true], bits)) == Ok(true));
+    let array = booleans(alloc, &[true, false], bits);
+    assert!(rt; are_same(array, booleans(alloc, &[false, false], bits)) == Ok(false));
 }
 
 #[test]
@@ -50,7 +50,7 @@ fn bytes_by_other_offsets(rt: HostRuntime) {
 }
 
 #[test]
-fn texts_by_other_offsets(rt: HostRuntime) {
+fn strings_by_other_offsets(rt: HostRuntime) {
     let alloc = rt.alloc();
     let bits = Some([true, false].as_slice());
     let array = texts(alloc, b"ab", &[0, 1, 2], bits);
@@ -61,6 +61,7 @@ fn texts_by_other_offsets(rt: HostRuntime) {
     assert!(rt; are_same(array, other) == Ok(false));
 }
 
+/// Hello, null, null, world, null, null is not hello, foo, null, world, null, null; each is equal to itself.
 #[test]
 fn a_null_is_no_value(rt: HostRuntime) {
     let alloc = rt.alloc();
@@ -94,7 +95,7 @@ fn runs_of_slots(rt: HostRuntime) {
 #[test]
 fn runs_of_other_kinds(rt: HostRuntime) {
     let alloc = rt.alloc();
-    let x = truths(alloc, &[true, false, true], None).expect(&rt, "three truths");
+    let x = booleans(alloc, &[true, false, true], None).expect(&rt, "three booleans");
     if x.len() == 3 {
         assert!(rt; x.same_run(0, &x, 2, 1));
         assert!(rt; !x.same_run(0, &x, 1, 2));

@@ -1,5 +1,5 @@
 //! Bits, pushed and frozen.
-use super::unless_refused;
+use super::unless_without_memory;
 use nest_memory::bitmap::immutable::Bitmap;
 use nest_memory::bitmap::mutable::MutableBitmap;
 use nest_memory::error::{Error, Spec};
@@ -9,8 +9,9 @@ fn bitmap_of(alloc: Global, bytes: &[u8], len: usize) -> Result<Bitmap, Error> {
     Bitmap::try_new(alloc, Vec::from_slice(alloc, bytes)?, len)
 }
 
+/// Bit i is bit i % 8 of byte i / 8.
 #[test]
-fn bits_lie_least_significant_first(rt: HostRuntime) {
+fn bits_are_least_significant_first(rt: HostRuntime) {
     let bits = bitmap_of(rt.alloc(), &[0b0000_0101, 0b1000_0000], 16).expect(&rt, "two bytes");
     assert!(rt; !bits.is_empty());
     assert!(rt; bits.len() == 16);
@@ -23,7 +24,7 @@ fn bits_lie_least_significant_first(rt: HostRuntime) {
 }
 
 #[test]
-fn cuts_of_shared_bits(rt: HostRuntime) {
+fn slices_of_shared_bits(rt: HostRuntime) {
     let mut bits = bitmap_of(rt.alloc(), &[0b0000_0101, 0b1000_0000], 16).expect(&rt, "two bytes");
     let shared = bits.clone().expect(&rt, "a second owner");
     assert!(rt; bits.len() == 16);
@@ -48,8 +49,9 @@ fn many_bits(alloc: Global, n: usize) -> Result<Bitmap, Error> {
     bits.freeze()
 }
 
+/// The unset bits of a slice are as many, whether few bits were omitted or many.
 #[test]
-fn unset_bits_of_cuts(rt: HostRuntime) {
+fn unset_bits_of_slices(rt: HostRuntime) {
     let cuts = [
         (0, 1000),
         (1, 999),
@@ -77,6 +79,7 @@ fn unset_bits_of_cuts(rt: HostRuntime) {
     }
 }
 
+/// A bitmap of one byte has no nine bits.
 #[test]
 fn short_bitmap(rt: HostRuntime) {
     let refused = bitmap_of(rt.alloc(), &[1], 9).err();
@@ -100,9 +103,9 @@ fn bits_from_both_ends(rt: HostRuntime) {
 
 #[test]
 fn pushed_bits_from_both_ends(rt: HostRuntime) {
-    let mut grown = MutableBitmap::new(rt.alloc());
-    assert!(rt; grown.push(true) == Ok(()));
-    let mut iter = grown.iter();
+    let mut delta = MutableBitmap::new(rt.alloc());
+    assert!(rt; delta.push(true) == Ok(()));
+    let mut iter = delta.iter();
     assert!(rt; iter.next() == Some(true));
     assert!(rt; iter.next_back().is_none());
 }
@@ -116,7 +119,7 @@ fn grow(bits: &mut MutableBitmap) -> Result<(), Error> {
     bits.extend_constant(20, false)
 }
 
-fn grown(alloc: Global) -> Result<MutableBitmap, Error> {
+fn delta(alloc: Global) -> Result<MutableBitmap, Error> {
     let mut bits = MutableBitmap::with_capacity(alloc, 11)?;
     match grow(&mut bits) {
         Ok(()) => Ok(bits),
@@ -126,7 +129,7 @@ fn grown(alloc: Global) -> Result<MutableBitmap, Error> {
 
 #[test]
 fn growing_bitmaps(rt: HostRuntime) {
-    let mut bits = grown(rt.alloc()).expect(&rt, "61 bits");
+    let mut bits = delta(rt.alloc()).expect(&rt, "61 bits");
     assert!(rt; bits.len() == 61);
     assert!(rt; bits.unset_bits() == 27);
     bits.set(0, false);
@@ -141,50 +144,50 @@ fn growing_bitmaps(rt: HostRuntime) {
 
 #[test]
 fn frozen_bits(rt: HostRuntime) {
-    let mut bits = grown(rt.alloc()).expect(&rt, "61 bits");
+    let mut bits = delta(rt.alloc()).expect(&rt, "61 bits");
     let frozen = bits.freeze().expect(&rt, "the same bits");
     assert!(rt; bits.is_empty());
     assert!(rt; frozen.len() == 61);
     assert!(rt; frozen.unset_bits() == 27);
 }
 
-// The next three pass whichever request for memory is refused: a refused call changes nothing, and a freeze leaves its
+// The next three pass whichever allocation fails: a rejected call changes nothing, and a freeze leaves its
 // object empty.
 #[test]
 fn bits_grow_without_memory(rt: HostRuntime) {
-    let mut grown = MutableBitmap::new(rt.alloc());
+    let mut delta = MutableBitmap::new(rt.alloc());
     let mut accepted = 0usize;
     for _i in 0..40u32 {
-        if unless_refused(&rt, grown.push(true)).is_some() {
+        if unless_without_memory(&rt, delta.push(true)).is_some() {
             accepted = accepted.saturating_add(1);
         }
-        assert!(rt; grown.len() == accepted);
+        assert!(rt; delta.len() == accepted);
     }
-    unless_refused(&rt, grown.reserve(1000));
-    assert!(rt; grown.len() == accepted);
-    if unless_refused(&rt, grown.extend_constant(5000, false)).is_some() {
-        assert!(rt; grown.unset_bits() == 5000);
+    unless_without_memory(&rt, delta.reserve(1000));
+    assert!(rt; delta.len() == accepted);
+    if unless_without_memory(&rt, delta.extend_constant(5000, false)).is_some() {
+        assert!(rt; delta.unset_bits() == 5000);
     }
 }
 
 #[test]
 fn bits_freeze_without_memory(rt: HostRuntime) {
-    let mut grown = MutableBitmap::new(rt.alloc());
-    unless_refused(&rt, grown.extend_constant(40, true));
-    let before = grown.len();
-    if let Some(frozen) = unless_refused(&rt, grown.freeze()) {
+    let mut delta = MutableBitmap::new(rt.alloc());
+    unless_without_memory(&rt, delta.extend_constant(40, true));
+    let before = delta.len();
+    if let Some(frozen) = unless_without_memory(&rt, delta.freeze()) {
         assert!(rt; frozen.len() == before);
     }
-    assert!(rt; grown.is_empty());
+    assert!(rt; delta.is_empty());
 }
 
 #[test]
 fn bitmaps_without_memory(rt: HostRuntime) {
-    drop(unless_refused(&rt, MutableBitmap::with_capacity(rt.alloc(), 9)));
-    if let Some(bits) = unless_refused(&rt, Bitmap::from_bools(rt.alloc(), &[true, false])) {
+    drop(unless_without_memory(&rt, MutableBitmap::with_capacity(rt.alloc(), 9)));
+    if let Some(bits) = unless_without_memory(&rt, Bitmap::from_bools(rt.alloc(), &[true, false])) {
         assert!(rt; bits.unset_bits() == 1);
     }
-    if let Some(bits) = unless_refused(&rt, bitmap_of(rt.alloc(), &[], 0)) {
+    if let Some(bits) = unless_without_memory(&rt, bitmap_of(rt.alloc(), &[], 0)) {
         assert!(rt; bits.is_empty());
     }
 }

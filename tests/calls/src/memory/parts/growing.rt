@@ -1,5 +1,5 @@
 //! Offsets that are pushed, cut off and frozen.
-use super::unless_refused;
+use super::unless_without_memory;
 use nest_memory::error::Error;
 use nest_memory::offsets::Offsets;
 use std::alloc::Global;
@@ -25,7 +25,7 @@ fn grow(offsets: &mut Offsets<i64>) -> Result<(), Error> {
     offsets.extend_constant(2)
 }
 
-fn grown(alloc: Global) -> Result<Offsets<i64>, Error> {
+fn delta(alloc: Global) -> Result<Offsets<i64>, Error> {
     let mut offsets = Offsets::with_capacity(alloc, 7)?;
     match grow(&mut offsets) {
         Ok(()) => Ok(offsets),
@@ -35,7 +35,7 @@ fn grown(alloc: Global) -> Result<Offsets<i64>, Error> {
 
 #[test]
 fn growing_offsets(rt: HostRuntime) {
-    let mut offsets = grown(rt.alloc()).expect(&rt, "five slots");
+    let mut offsets = delta(rt.alloc()).expect(&rt, "five slots");
     assert!(rt; offsets.capacity() >= 1);
     assert!(rt; offsets.extend_constant(usize::MAX) == Err(Error::Overflow));
     assert!(rt; size(&offsets) == (5, 5));
@@ -46,7 +46,7 @@ fn growing_offsets(rt: HostRuntime) {
 
 #[test]
 fn joined_offsets(rt: HostRuntime) {
-    let more = grown(rt.alloc()).expect(&rt, "five slots");
+    let more = delta(rt.alloc()).expect(&rt, "five slots");
     let mut joined = Offsets::<i64>::new(rt.alloc()).expect(&rt, "no slot");
     assert!(rt; joined.try_push_usize(4) == Ok(()));
     assert!(rt; joined.try_extend_from_self(&more) == Ok(()));
@@ -55,7 +55,7 @@ fn joined_offsets(rt: HostRuntime) {
 
 #[test]
 fn frozen_offsets(rt: HostRuntime) {
-    let mut offsets = grown(rt.alloc()).expect(&rt, "five slots");
+    let mut offsets = delta(rt.alloc()).expect(&rt, "five slots");
     assert!(rt; offsets.reserve(10) == Ok(()));
     assert!(rt; offsets.len_proxy() == 5);
     offsets.truncate(3);
@@ -65,54 +65,54 @@ fn frozen_offsets(rt: HostRuntime) {
     assert!(rt; frozen.as_slice() == [0, 2, 2, 5].as_slice());
 }
 
-/// A refused call changes neither the number of slots nor the last offset.
+/// A rejected call changes neither the number of slots nor the last offset.
 fn expect_kept(
     rt: &impl Abort,
     done: Result<(), Error>,
     before: (usize, usize),
     after: (usize, usize),
 ) {
-    if unless_refused(rt, done).is_none() {
+    if unless_without_memory(rt, done).is_none() {
         assert!(rt; after == before);
     }
 }
 
-// The next four pass whichever request for memory is refused: a refused call changes nothing, and a freeze leaves its
+// The next four pass whichever allocation fails: a rejected call changes nothing, and a freeze leaves its
 // object empty.
 #[test]
 fn offsets_are_pushed_without_memory(rt: HostRuntime) {
-    let Some(mut grown) = unless_refused(&rt, Offsets::<i64>::new(rt.alloc())) else {
+    let Some(mut delta) = unless_without_memory(&rt, Offsets::<i64>::new(rt.alloc())) else {
         return;
     };
     for length in 0..9usize {
-        let before = grown.len_proxy();
-        let pushed = unless_refused(&rt, grown.try_push_usize(length)).is_some();
-        assert!(rt; grown.len_proxy() == before.saturating_add(usize::from(pushed)));
+        let before = delta.len_proxy();
+        let pushed = unless_without_memory(&rt, delta.try_push_usize(length)).is_some();
+        assert!(rt; delta.len_proxy() == before.saturating_add(usize::from(pushed)));
     }
 }
 
 #[test]
 fn offsets_grow_without_memory(rt: HostRuntime) {
-    let Some(mut grown) = unless_refused(&rt, Offsets::<i64>::new(rt.alloc())) else {
+    let Some(mut delta) = unless_without_memory(&rt, Offsets::<i64>::new(rt.alloc())) else {
         return;
     };
-    let before = size(&grown);
-    let done = grown.try_extend_from_lengths(&[1, 2, 3, 4, 5, 6, 7, 8, 9, 10, 11]);
-    expect_kept(&rt, done, before, size(&grown));
-    let before = size(&grown);
-    let done = grown.extend_constant(100);
-    expect_kept(&rt, done, before, size(&grown));
-    let before = size(&grown);
-    let done = grown.reserve(1000);
-    expect_kept(&rt, done, before, size(&grown));
+    let before = size(&delta);
+    let done = delta.try_extend_from_lengths(&[1, 2, 3, 4, 5, 6, 7, 8, 9, 10, 11]);
+    expect_kept(&rt, done, before, size(&delta));
+    let before = size(&delta);
+    let done = delta.extend_constant(100);
+    expect_kept(&rt, done, before, size(&delta));
+    let before = size(&delta);
+    let done = delta.reserve(1000);
+    expect_kept(&rt, done, before, size(&delta));
 }
 
 #[test]
 fn offsets_are_joined_without_memory(rt: HostRuntime) {
-    let Some(more) = unless_refused(&rt, grown(rt.alloc())) else {
+    let Some(more) = unless_without_memory(&rt, delta(rt.alloc())) else {
         return;
     };
-    if let Some(mut joined) = unless_refused(&rt, Offsets::with_capacity(rt.alloc(), 1)) {
+    if let Some(mut joined) = unless_without_memory(&rt, Offsets::with_capacity(rt.alloc(), 1)) {
         let done = joined.try_extend_from_self(&more);
         expect_kept(&rt, done, (0, 0), size(&joined));
     }
@@ -120,12 +120,12 @@ fn offsets_are_joined_without_memory(rt: HostRuntime) {
 
 #[test]
 fn offsets_freeze_without_memory(rt: HostRuntime) {
-    let Some(mut grown) = unless_refused(&rt, grown(rt.alloc())) else {
+    let Some(mut delta) = unless_without_memory(&rt, delta(rt.alloc())) else {
         return;
     };
-    let before = size(&grown);
-    if let Some(frozen) = unless_refused(&rt, grown.freeze()) {
+    let before = size(&delta);
+    if let Some(frozen) = unless_without_memory(&rt, delta.freeze()) {
         assert!(rt; (frozen.len_proxy(), frozen.last()) == before);
     }
-    assert!(rt; size(&grown) == (0, 0));
+    assert!(rt; size(&delta) == (0, 0));
 }

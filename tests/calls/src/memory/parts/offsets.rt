@@ -1,5 +1,5 @@
-//! Offsets that never change, and what their constructors refuse.
-use super::unless_refused;
+//! Offsets that never change, and what their constructors reject.
+use super::unless_without_memory;
 use nest_memory::error::{Error, Spec};
 use nest_memory::offset::Offset;
 use nest_memory::offsets::{Offsets, OffsetsBuffer};
@@ -26,8 +26,9 @@ fn offset_types(rt: HostRuntime) {
     assert!(rt; 7i64.to_usize() == 7);
 }
 
+/// Offsets that are none, negative or falling are rejected, and those of a builder that begin past 0; `[2,2]` is one slot.
 #[test]
-fn refused_offsets(rt: HostRuntime) {
+fn rejected_offsets(rt: HostRuntime) {
     for parts in [[].as_slice(), [-1, 0].as_slice(), [2, 1].as_slice()] {
         assert!(rt; offsets_of(rt.alloc(), parts).err() == WRONG);
     }
@@ -47,7 +48,7 @@ fn offsets_of_one_slot(rt: HostRuntime) {
 }
 
 #[test]
-fn cuts_of_shared_offsets(rt: HostRuntime) {
+fn slices_of_shared_offsets(rt: HostRuntime) {
     let mut shared = offsets_of(rt.alloc(), &[0, 4, 6, 6]).expect(&rt, "three slots");
     assert!(rt; shared.len() == 4);
     shared.slice(1, 3);
@@ -58,13 +59,13 @@ fn cuts_of_shared_offsets(rt: HostRuntime) {
     assert!(rt; shared.len() == 3);
 }
 
-// Passes whichever request for memory is refused.
+// Passes whichever allocation fails.
 #[test]
 fn offsets_without_memory(rt: HostRuntime) {
-    if let Some(none) = unless_refused(&rt, OffsetsBuffer::<i32>::new(rt.alloc())) {
+    if let Some(none) = unless_without_memory(&rt, OffsetsBuffer::<i32>::new(rt.alloc())) {
         assert!(rt; none.len() == 1);
     }
-    if let Some(one) = unless_refused(&rt, offsets_of(rt.alloc(), &[0, 3])) {
+    if let Some(one) = unless_without_memory(&rt, offsets_of(rt.alloc(), &[0, 3])) {
         assert!(rt; one.last() == 3);
     }
 }

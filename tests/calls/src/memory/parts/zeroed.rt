@@ -1,5 +1,7 @@
 //! Bits, offsets and values that are all alike, as null arrays need them.
-use super::unless_refused;
+//!
+//! Bits, offsets and values that are all alike: of no length, of some, and too long for memory.
+use super::unless_without_memory;
 use nest_memory::bitmap::immutable::Bitmap;
 use nest_memory::buffer::Buffer;
 use nest_memory::error::Error;
@@ -33,7 +35,7 @@ fn offsets_that_are_0(rt: HostRuntime) {
 }
 
 #[test]
-fn values_that_are_alike(rt: HostRuntime) {
+fn values_that_are_equal(rt: HostRuntime) {
     let none = Buffer::filled(rt.alloc(), 7u8, 0).expect(&rt, "no value");
     assert!(rt; none.is_empty());
     let three = Buffer::filled(rt.alloc(), -1i64, 3).expect(&rt, "three values");
@@ -46,16 +48,16 @@ fn too_long_for_memory(rt: HostRuntime) {
     assert!(rt; Offsets::<i64>::new_zeroed(rt.alloc(), usize::MAX - 1).is_err());
 }
 
-// Passes whichever request for memory is refused.
+// Passes whichever allocation fails.
 #[test]
 fn zeros_without_memory(rt: HostRuntime) {
-    if let Some(bits) = unless_refused(&rt, Bitmap::new_zeroed(rt.alloc(), 70)) {
+    if let Some(bits) = unless_without_memory(&rt, Bitmap::new_zeroed(rt.alloc(), 70)) {
         assert!(rt; bits.unset_bits() == 70);
     }
-    if let Some(offsets) = unless_refused(&rt, zero_offsets(rt.alloc(), 2)) {
+    if let Some(offsets) = unless_without_memory(&rt, zero_offsets(rt.alloc(), 2)) {
         assert!(rt; offsets.last() == 0);
     }
-    if let Some(values) = unless_refused(&rt, Buffer::filled(rt.alloc(), 5u16, 4)) {
+    if let Some(values) = unless_without_memory(&rt, Buffer::filled(rt.alloc(), 5u16, 4)) {
         assert!(rt; values.len() == 4);
     }
 }

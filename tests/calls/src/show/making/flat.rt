@@ -12,7 +12,7 @@ use nest_memory::datatypes::DataType;
 use nest_memory::error::Error;
 use std::alloc::Global;
 
-/// The numbers 1, null, 3, 4. What lies under the null, here 2, is in no slot.
+/// The numbers 1, null, 3, 4. What is under the null, here 2, is in no slot.
 pub fn numbers(alloc: Global) -> Result<PrimitiveArray<i64>, Error> {
     let values = buffer(alloc, &[1, 2, 3, 4])?;
     let validity = validity(alloc, &[true, false, true, true])?;
@@ -27,14 +27,14 @@ pub fn any_numbers(alloc: Global) -> Result<AnyArray, Error> {
     }
 }
 
-/// The truths true, null, false, true.
-pub fn truths(alloc: Global) -> Result<BooleanArray, Error> {
+/// The booleans true, null, false, true.
+pub fn booleans(alloc: Global) -> Result<BooleanArray, Error> {
     let values = Bitmap::from_bools(alloc, &[true, true, false, true])?;
     let validity = validity(alloc, &[true, false, true, true])?;
     BooleanArray::try_new(DataType::Boolean, values, validity)
 }
 
-/// The texts "ab", "", null, "c": their bytes one after another, and where each begins.
+/// The strings "ab", "", null, "c": their bytes one after another, and where each begins.
 pub fn texts(alloc: Global) -> Result<Utf8Array<i32>, Error> {
     let offsets = offsets(alloc, &[0, 2, 2, 2, 3])?;
     let bytes = buffer(alloc, &[97u8, 98, 99])?;

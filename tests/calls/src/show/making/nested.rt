@@ -1,5 +1,5 @@
-//! Arrays over other arrays, from parts. What holds a child is made last, and what has a data type is let go by name where
-//! a later part is refused.
+//! Arrays over other arrays, from parts. What holds a child is made last, and what has a data type is dropped by name where
+//! a later part is rejected.
 
 use crate::show::making::flat::{any_numbers, texts};
 use crate::show::making::parts::{buffer, offsets, validity};
@@ -122,11 +122,11 @@ pub fn picks(alloc: Global) -> Result<UnionArray, Error> {
     }
 }
 
-/// The texts "c", null, "ab", "c", by keys that name them in `texts`.
+/// The strings "c", null, "ab", "c", by keys that name them in `texts`.
 pub fn keyed(alloc: Global) -> Result<DictionaryArray, Error> {
-    let places = buffer(alloc, &[3i32, 0, 0, 3])?;
+    let indices = buffer(alloc, &[3i32, 0, 0, 3])?;
     let validity = validity(alloc, &[true, false, true, true])?;
-    let keys = PrimitiveArray::try_new(DataType::Int32, places, validity)?;
+    let keys = PrimitiveArray::try_new(DataType::Int32, indices, validity)?;
     match texts(alloc) {
         Ok(values) => {
             DictionaryArray::try_from_keys(alloc, AnyKeys::Int32(keys), AnyArray::Utf8(values))

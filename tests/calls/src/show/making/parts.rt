@@ -18,6 +18,6 @@ pub fn validity(alloc: Global, valid: &[bool]) -> Result<Option<Bitmap>, Error> 
 
 #[tactic(auto, unfolding(nest_memory::specs::Rising::numbers))]
 /// Offsets of 32 bits: where each row begins, and where the last one ends.
-pub fn offsets(alloc: Global, places: &[i32]) -> Result<OffsetsBuffer<i32>, Error> {
-    OffsetsBuffer::try_new(alloc, Vec::from_slice(alloc, places)?)
+pub fn offsets(alloc: Global, indices: &[i32]) -> Result<OffsetsBuffer<i32>, Error> {
+    OffsetsBuffer::try_new(alloc, Vec::from_slice(alloc, indices)?)
 }

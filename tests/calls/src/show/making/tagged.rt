@@ -9,7 +9,7 @@ use nest_memory::datatypes::{DataType, IntegerType};
 use nest_memory::error::Error;
 use std::alloc::Global;
 
-/// The type of texts by keys of 32 bits.
+/// The type of strings by keys of 32 bits.
 fn tag_type(alloc: Global) -> Result<DataType, Error> {
     let texts = Box::new(alloc, DataType::Utf8)?;
     Ok(DataType::Dictionary(IntegerType::Int32, texts, false))
